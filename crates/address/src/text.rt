@@ -1,0 +1,96 @@
+// The text of an address, and what reads it.
+ghost use Rattle.std.specs.Prelude.{Some, IfOk, MatchOption, length, ◌≡◌};
+ghost use Rattle.address.specs.Text.{entry_text, text_of};
+ghost use Rattle.address.specs.Reading.{HasNoText, IsTextOf, IsDigitsEnd, ReadsEntry, ReadsNumber, BeginsNoEntry, IsNoNumber};
+ghost use Rattle.std.specs.Str.Parse.{AllDigits};
+
+use crate::{Address, Entry};
+use std::alloc::{AllocError, Global};
+use std::fmt;
+
+impl fmt::Display for Entry {
+    ghost output = { λ e. Some (entry_text e) };
+
+    fn fmt<W: fmt::Write>(&self, f: &mut fmt::Formatter<W>) -> fmt::Result {
+        match self {
+            Entry::Ordered(number) => write!(f, ".{number}"),
+            Entry::Branch(number) => write!(f, "/{number}"),
+        }
+    }
+}
+
+impl fmt::Display for Address {
+    ghost output = { λ a. Some (text_of a) };
+
+    fn fmt<W: fmt::Write>(&self, f: &mut fmt::Formatter<W>) -> fmt::Result {
+        for entry in self.entries() {
+            write!(f, "{entry}")?;
+        }
+        Ok(())
+    }
+}
+
+/// The address with this text, or `None` if no address has it: one with a leading zero, with a
+/// number of 2^32 and more, or with no number. It is an error if there is no memory for it.
+pub fn read(alloc: Global, text: &[u8]) -> Result<Option<Address>, AllocError>
+    ensures { IfOk result (λ r. MatchOption r (HasNoText text.now) (λ a. IsTextOf a text.now)) }
+{
+    let mut entries = Vec::new(alloc);
+    let mut rest = text;
+    while !rest.is_empty() {
+        let Some((entry, after)) = read_entry(rest) else {
+            return Ok(None);
+        };
+        entries.push(entry)?;
+        rest = after;
+    }
+    Ok(Some(Address::from_vec(entries)))
+}
+
+// The entry at the start of `text` and what follows it.
+fn read_entry(text: &[u8]) -> Option<(Entry, &[u8])>
+    ensures { MatchOption result (BeginsNoEntry text.entry.now) (λ r. ReadsEntry text.entry.now r.0 r.1.now) }
+{
+    let (mark, rest) = text.split_first()?;
+    let (digits, after) = rest.split_at(count_digits(rest));
+    let number = read_number(digits)?;
+    match mark {
+        b'.' => Some((Entry::Ordered(number), after)),
+        b'/' => Some((Entry::Branch(number), after)),
+        _ => None,
+    }
+}
+
+// How many digits `text` starts with.
+fn count_digits(text: &[u8]) -> usize
+    ensures { IsDigitsEnd text.now result }
+{
+    for (i, byte) in text.iter().enumerate() {
+        if !byte.is_ascii_digit() {
+            return i;
+        }
+    }
+    text.len()
+}
+
+// The number of 32 bits that `digits` are the decimal text of, if there is one.
+fn read_number(digits: &[u8]) -> Option<u32>
+    requires { AllDigits 10 digits.now }
+    ensures { MatchOption result (IsNoNumber digits.now) (λ n. ReadsNumber digits.now n) }
+{
+    if digits.is_empty() {
+        return None;
+    }
+    if digits[0] == b'0' && digits.len() > 1 {
+        return None;
+    }
+    let mut number: u32 = 0;
+    for digit in digits {
+        let wider = number as u64 * 10 + (*digit - b'0') as u64;
+        if wider > u32::MAX as u64 {
+            return None;
+        }
+        number = wider as u32;
+    }
+    Some(number)
+}
