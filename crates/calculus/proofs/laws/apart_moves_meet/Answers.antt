@@ -1,0 +1,6 @@
+-- Moves at places apart can be made one after the other.
+use Rattle.calculus.proofs.Together.{together}
+use Rattle.calculus.proofs.laws.apart_moves_meet.Goals as goal
+
+pub returns : goal.returns
+returns c = together

@@ -1,0 +1,15 @@
+pub mod After
+pub mod AllowedEvents
+pub mod Choices
+pub mod Dependence
+pub mod Events
+pub mod Laws
+pub mod Made
+pub mod Moves
+pub mod Opening
+pub mod Related
+pub mod Runs
+pub mod StepOf
+pub mod Steps
+pub mod Tests
+pub mod WellFormed

@@ -1,0 +1,28 @@
+-- One event, taken in a state.
+use Rattle.std.specs.Prelude.{◌≡◌, List, [], ◌∷◌}
+use Rattle.elaborate.specs.Expression.{Store}
+use Rattle.elaborate.specs.Residual.{Residual}
+use Rattle.calculus.specs.Moves.{Local}
+use Rattle.calculus.specs.Events.{Located, Makes, store_after}
+use Rattle.calculus.specs.declared.event.Event.{Event}
+
+-- a residual, and the values of the variables
+pub record State : Type 0 where
+  pub residual : Residual
+  pub store : Store
+
+-- the residual q comes of r by these moves in turn
+abbrev pub Moves : Residual → List Located → Residual → Type 0
+Moves r [] q = r ≡ q
+Moves r (l ∷ ls) q = (t : Residual) × Local r l.place l.move t × Moves t ls q
+
+-- the event e is possible in S, and leads to T
+pub record Step (S : State) (e : Event) (T : State) : Type 0 where
+  pub moves : List Located
+  pub makes : Makes S.store moves e
+  pub moved : Moves S.residual moves T.residual
+  pub stored : T.store ≡ store_after e S.store
+
+-- the event e is possible in S
+abbrev pub Allowed : State → Event → Type 0
+Allowed S e = (T : State) × Step S e T

@@ -1,0 +1,75 @@
+// The laws of runs, each the contract of a function that does nothing.
+ghost use Rattle.calculus.specs.Laws.{NeighboursSwap, RunsWithout, RunsWithoutConsequences, CausesAlone, RespectingOrdersRun, OneState, EventsAreDistinct, ActingOnce, RelatedAreOrdered, SameEventsRespect, OpeningIsWellFormed, OneChoice, AllowedAreListed, ApartMovesMeet};
+
+/// Two neighbours of a run swap unless the second depends directly on the first.
+pub fn neighbours_swap()
+    ensures { NeighboursSwap }
+{}
+
+/// A list that runs still runs without an event on which nothing after it depends directly, and
+/// that event then leads on to the same state.
+pub fn runs_without()
+    ensures { RunsWithout }
+{}
+
+/// A list that runs, runs without an event and all that depends on it.
+pub fn runs_without_consequences()
+    ensures { RunsWithoutConsequences }
+{}
+
+/// An event on which nothing after it depends directly causes itself alone.
+pub fn causes_alone()
+    ensures { CausesAlone }
+{}
+
+/// Every respecting order of a list that runs, runs to the same state.
+pub fn respecting_orders()
+    ensures { RespectingOrdersRun }
+{}
+
+/// A list that runs, runs to one state.
+pub fn one_state()
+    ensures { OneState }
+{}
+
+/// No two events of a run are equal.
+pub fn events_are_distinct()
+    ensures { EventsAreDistinct }
+{}
+
+/// No two events of a run have one acting address.
+pub fn acting_once()
+    ensures { ActingOnce }
+{}
+
+/// Under the rule on sharing, of two events of a run on one channel, or on one variable that is not
+/// shared and that one of them writes, the earlier has an address before an address of the later.
+pub fn ordered()
+    ensures { RelatedAreOrdered }
+{}
+
+/// Under the rule on sharing, two lists that run and have the same events, with any two that are on
+/// one shared variable in the same order, are respecting orders of each other.
+pub fn same_events()
+    ensures { SameEventsRespect }
+{}
+
+/// What every system opens with is well formed.
+pub fn opening_is_well_formed()
+    ensures { OpeningIsWellFormed }
+{}
+
+/// Under the rule on sharing, of the events allowed in one state of a run no two have one choice.
+pub fn one_choice()
+    ensures { OneChoice }
+{}
+
+/// An event is allowed in a state of a run exactly where it is in the list of allowed events.
+pub fn allowed_are_listed()
+    ensures { AllowedAreListed }
+{}
+
+/// Two moves that are offered at places apart can be made one after the other, in either order.
+pub fn apart_moves_meet()
+    ensures { ApartMovesMeet }
+{}
