@@ -13,3 +13,13 @@ pub mod StepOf
 pub mod Steps
 pub mod Tests
 pub mod WellFormed
+pub mod Refusals
+pub mod Ready
+pub mod InOrder
+pub mod Live
+pub mod Object
+pub mod Does
+pub mod Answered
+pub mod Sound
+pub mod BackAndForth
+pub mod ObjectLaws

@@ -1,0 +1,174 @@
+-- The laws of the object of one execution.
+use Rattle.std.specs.Prelude.{◌≡◌, ◌≢◌, ◌⊎◌, ◌↔◌, ℕ, suc, ◌+◌, ◌<◌, ◌≤◌, List, [], ◌∷◌, ◌++◌, length, Some}
+use Rattle.elaborate.specs.Lists.{In}
+use Rattle.elaborate.specs.Expression.{get}
+use Rattle.elaborate.specs.declared.system.System.{System}
+use Rattle.sharing_check.specs.Rule.{SharesWell}
+use Rattle.calculus.specs.Steps.{State, Step, Allowed}
+use Rattle.calculus.specs.Runs.{Run}
+use Rattle.calculus.specs.Dependence.{Causes, Kept, Respecting}
+use Rattle.calculus.specs.Opening.{opening}
+use Rattle.calculus.specs.Choices.{choice_of}
+use Rattle.calculus.specs.InOrder.{InOrder}
+use Rattle.calculus.specs.Ready.{ReadyList, Chosen}
+use Rattle.calculus.specs.Live.{Live, events, LiveAt, Follows, NoWriter}
+use Rattle.calculus.specs.Object.{Object, Reaches, most_live, last_ticket, new_object}
+use Rattle.calculus.specs.Does.{CanStep, Does, Answers}
+use Rattle.calculus.specs.Answered.{Answered, Done}
+use Rattle.calculus.specs.BackAndForth.{back_and_forth, back_and_forth_replies}
+use Rattle.calculus.specs.Sound.{Sound}
+use Rattle.calculus.specs.declared.event.Event.{Event}
+use Rattle.calculus.specs.declared.event.Choice.{Choice}
+use Rattle.calculus.specs.declared.command.Command.{Command}
+use Rattle.calculus.specs.declared.command.Reply.{Reply}
+use Rattle.calculus.specs.declared.command.Refusal.TheVariants.{NotReady, HistoryFull, NeededBy, Spent}
+
+-- before its first command an object is sound
+abbrev pub BeginsSound : Type 0
+BeginsSound = (system : System) → Sound (new_object (opening system))
+
+-- each command leaves a sound object sound
+abbrev pub StaysSound : Type 0
+StaysSound = (o o' : Object) (c : Command) (reply : Reply) → Sound o → Answers o c reply o' → Sound o'
+
+-- and so does each list of commands
+abbrev pub StaysSoundOverLists : Type 0
+StaysSoundOverLists = (o o' : Object) (cs : List Command) (replies : List Reply) → Sound o → Answered o cs replies o' → Sound o'
+
+-- a list that is answered, and then another, is the two joined
+abbrev pub AnsweredJoins : Type 0
+AnsweredJoins = (o m o' : Object) (cs ds : List Command) (rs qs : List Reply) →
+    Answered o cs rs m → Answered m ds qs o' → Answered o (cs ++ ds) (rs ++ qs) o'
+
+-- there is one state
+abbrev pub OneState : Object → Type 0
+OneState o = (T : State) × Reaches o T × ((U : State) → Reaches o U → U ≡ T)
+
+-- the live events, in every order that respects dependence, give the state and no other
+abbrev pub InEveryOrder : Object → Type 0
+InEveryOrder o = (g : List Event) (U : State) → Respecting (events o.live) g → (Run o.opening g U ↔ Reaches o U)
+
+-- the state is what the live events give in every order that respects dependence
+abbrev pub StateInEveryOrder : Type 0
+StateInEveryOrder = (o : Object) → Sound o → OneState o × InEveryOrder o
+
+-- and so it is after any commands on any system
+abbrev pub StateAfterAnyCommands : Type 0
+StateAfterAnyCommands = (system : System) (o : Object) (cs : List Command) (replies : List Reply) →
+    Answered (new_object (opening system)) cs replies o → OneState o × InEveryOrder o
+
+-- the first event of the ready list with a choice is the one that the choice means
+abbrev pub FirstIsChosen : Type 0
+FirstIsChosen = (S : State) (c : Choice) (before after : List Event) (e : Event) → ReadyList S (before ++ e ∷ after) → choice_of e ≡ c →
+    ((f : Event) → In f before → choice_of f ≡ c → ⊥) → Chosen S c e
+
+-- a step is taken exactly where an event with the choice is allowed, and one more event and one more ticket may be
+abbrev pub StepsExactly : Type 0
+StepsExactly = (o : Object) (c : Choice) → Sound o →
+    ((e : Event) × (o' : Object) × Does o (Command.Step c) (Reply.Stepped o.next e) o')
+    ↔ (CanStep o c × (length o.live < most_live) × (o.next ≤ last_ticket))
+
+-- a step that is taken makes an event with the choice that was allowed, which is then live under the next ticket
+abbrev pub StepMakes : Type 0
+StepMakes = (o o' : Object) (c : Choice) (t : ℕ) (e : Event) → Sound o → Does o (Command.Step c) (Reply.Stepped t e) o' →
+    (t ≡ o.next) × (choice_of e ≡ c) × (o'.live ≡ o.live ++ (t, e) ∷ [])
+    × ((T : State) × (U : State) × Reaches o T × Step T e U × Reaches o' U)
+
+-- a step is refused as not ready exactly where no event with the choice is allowed
+abbrev pub NotReadyExactly : Type 0
+NotReadyExactly = (o : Object) (c : Choice) → Sound o →
+    Does o (Command.Step c) (Reply.Refused NotReady) o
+    ↔ ((T : State) (e : Event) → Reaches o T → Allowed T e → choice_of e ≡ c → ⊥)
+
+-- a step that is allowed is refused exactly where as many events are live as may be, or else the tickets are spent
+abbrev pub LimitsExactly : Type 0
+LimitsExactly = (o : Object) (c : Choice) → Sound o → CanStep o c →
+    (Does o (Command.Step c) (Reply.Refused HistoryFull) o ↔ (length o.live ≡ most_live))
+    × (Does o (Command.Step c) (Reply.Refused Spent) o ↔ ((length o.live < most_live) × (o.next ≡ suc last_ticket)))
+
+-- a step and then its undo leave the live events and the state as they were
+abbrev pub StepThenUndo : Type 0
+StepThenUndo = (o m : Object) (c : Choice) (t : ℕ) (e : Event) → Sound o → Does o (Command.Step c) (Reply.Stepped t e) m →
+    (o' : Object) × Does m (Command.Undo t) (Reply.Undone t e) o' × (o'.live ≡ o.live)
+    × ((T : State) → Reaches o' T ↔ Reaches o T)
+
+-- an event is undone exactly where no other live event depends on it
+abbrev pub UndoesExactly : Type 0
+UndoesExactly = (o : Object) (t : ℕ) (e : Event) → Sound o → LiveAt o.live t e →
+    ((o' : Object) × Does o (Command.Undo t) (Reply.Undone t e) o')
+    ↔ ((f : Event) → In f (events o.live) → Causes (events o.live) e f → f ≡ e)
+
+-- an undo takes that event out, and leaves the others as they are
+abbrev pub UndoTakesOne : Type 0
+UndoTakesOne = (o o' : Object) (t u : ℕ) (e : Event) → Sound o → Does o (Command.Undo t) (Reply.Undone u e) o' →
+    (before : Live) × (after : Live) × (o.live ≡ before ++ (t, e) ∷ after) × (o'.live ≡ before ++ after)
+
+-- u is the least ticket of a live event other than e that depends on e
+pub record LeastDependent (l : Live) (e : Event) (u : ℕ) : Type 0 where
+  pub event : Event
+  pub live : LiveAt l u event
+  pub other : event ≢ e
+  pub depends : Causes (events l) e event
+  pub least : (v : ℕ) (g : Event) → LiveAt l v g → g ≢ e → Causes (events l) e g → u ≤ v
+
+-- where an event is not undone, the least ticket of another that depends on it is named
+abbrev pub NeededExactly : Type 0
+NeededExactly = (o : Object) (t u : ℕ) (e : Event) → Sound o → LiveAt o.live t e →
+    Does o (Command.Undo t) (Reply.Refused (NeededBy u)) o ↔ LeastDependent o.live e u
+
+-- a rollback leaves exactly the events that do not depend on its event, answers how many are gone, and the rest runs
+abbrev pub RollsExactly : Type 0
+RollsExactly = (o o' : Object) (t n : ℕ) → Sound o → Does o (Command.Roll t) (Reply.Rolled n) o' →
+    (e : Event) × LiveAt o.live t e × Kept (Causes (events o.live) e) (events o.live) (events o'.live)
+    × ((u : ℕ) (f : Event) → LiveAt o'.live u f ↔ (LiveAt o.live u f × (Causes (events o.live) e f → ⊥)))
+    × (n + length o'.live ≡ length o.live) × ((T : State) × Reaches o' T)
+
+-- a rollback of a variable is that of its last writer
+abbrev pub RollsValueExactly : Type 0
+RollsValueExactly = (o o' : Object) (x n : ℕ) →
+    Does o (Command.RollValue x) (Reply.Rolled n) o'
+    ↔ ((t : ℕ) × Does o (Command.Blame x) (Reply.Blamed t) o × Does o (Command.Roll t) (Reply.Rolled n) o')
+
+-- tickets only grow, and no ticket names an event that is not the one it named
+abbrev pub TicketsGrow : Type 0
+TicketsGrow = (o o' : Object) (cs : List Command) (replies : List Reply) → Sound o → Answered o cs replies o' →
+    (o.next ≤ o'.next) × ((t : ℕ) (e : Event) → LiveAt o'.live t e → LiveAt o.live t e ⊎ (o.next ≤ t))
+
+-- after any commands after which a live event is no longer live, no event that depended on it is live
+abbrev pub LeastRollback : Type 0
+LeastRollback = (o o' : Object) (cs : List Command) (replies : List Reply) (t u : ℕ) (e f : Event) → Sound o → Answered o cs replies o' →
+    LiveAt o.live t e → (LiveAt o'.live t e → ⊥) → LiveAt o.live u f → Causes (events o.live) e f → LiveAt o'.live u f → ⊥
+
+-- in a system that shares its channels and variables as it should, any commands amount to undos from the greatest
+-- ticket down, and then steps in order of tickets, each of which makes that very event: the same events are live, in
+-- the same order, and the state is the same
+abbrev pub BackThenForth : Type 0
+BackThenForth = (system : System) (o o' : Object) (cs : List Command) (replies : List Reply) →
+    SharesWell system → o.opening ≡ opening system → Sound o → Answered o cs replies o' →
+    (p : Object) × Done o (back_and_forth o.live o'.live) (back_and_forth_replies o.next o.live o'.live) p
+    × (events p.live ≡ events o'.live) × ((T : State) → Reaches p T ↔ Reaches o' T)
+
+-- a rollback of a variable leaves it with the value that it had before its last live writer
+abbrev pub RolledValue : Type 0
+RolledValue = (o o' : Object) (x n : ℕ) → Sound o → Does o (Command.RollValue x) (Reply.Rolled n) o' →
+    (before : Live) × (t : ℕ) × (e : Event) × (after : Live) × (o.live ≡ before ++ (t, e) ∷ after) × (e.written ≡ Some x) × NoWriter after x
+    × ((S T : State) → Run o.opening (events before) S → Reaches o' T → get T.store x ≡ get S.store x)
+
+-- dependence by tickets is dependence in the list of the live events
+abbrev pub FollowsIsCauses : Type 0
+FollowsIsCauses = (o : Object) (t u : ℕ) (e f : Event) → Sound o → LiveAt o.live t e → LiveAt o.live u f →
+    Follows o.live t u ↔ Causes (events o.live) e f
+
+-- the consequences of an event are the tickets of the live events that depend on it, ascending
+abbrev pub ConsequencesExactly : Type 0
+ConsequencesExactly = (o o' : Object) (t : ℕ) (ts : List ℕ) → Sound o → Does o (Command.Consequences t) (Reply.Consequences ts) o' →
+    (e : Event) × LiveAt o.live t e × InOrder ◌<◌ ts
+    × ((u : ℕ) → In u ts ↔ ((f : Event) × LiveAt o.live u f × Causes (events o.live) e f))
+
+-- a command has at most one reply, and that determines the object after it
+abbrev pub OneReply : Type 0
+OneReply = (o p q : Object) (c : Command) (reply other : Reply) → Sound o → Does o c reply p → Does o c other q → (reply ≡ other) × (p ≡ q)
+
+-- each command has a reply
+abbrev pub SomeReply : Type 0
+SomeReply = (o : Object) (c : Command) → Sound o → (reply : Reply) × (o' : Object) × Does o c reply o'

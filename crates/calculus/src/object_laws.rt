@@ -1,0 +1,79 @@
+// The laws of one execution as an object, each a contract of a function that does nothing.
+ghost use Rattle.calculus.specs.ObjectLaws.{BeginsSound, StaysSound, StaysSoundOverLists, AnsweredJoins, StateInEveryOrder, StepsExactly, StepMakes, NotReadyExactly, LimitsExactly, StepThenUndo, UndoesExactly, UndoTakesOne, NeededExactly, RollsExactly, TicketsGrow, LeastRollback, BackThenForth, RolledValue, FollowsIsCauses, OneReply, SomeReply, StateAfterAnyCommands, FirstIsChosen, RollsValueExactly, ConsequencesExactly};
+
+/// What holds of an execution at its beginning holds after any commands.
+pub fn soundness_laws()
+    ensures begins { BeginsSound }
+    ensures stays { StaysSound }
+    ensures lists { StaysSoundOverLists }
+    ensures joins { AnsweredJoins }
+{}
+
+/// The state is what the live events give in every order that respects dependence.
+pub fn state_laws()
+    ensures sound { StateInEveryOrder }
+    ensures after { StateAfterAnyCommands }
+{}
+
+/// Where several events have one choice it means the first of them in the ready list. (In a system
+/// that shares its channels as it should, no two have.)
+pub fn ready_law()
+    ensures { FirstIsChosen }
+{}
+
+/// A step is taken exactly where the semantics allows it, within the limits.
+pub fn step_laws()
+    ensures taken { StepsExactly }
+    ensures makes { StepMakes }
+    ensures not_ready { NotReadyExactly }
+    ensures limits { LimitsExactly }
+{}
+
+/// A step and its undo leave everything as it was; an event is undone exactly where no other live
+/// event depends on it, else the first that does is named.
+pub fn undo_laws()
+    ensures restores { StepThenUndo }
+    ensures exactly { UndoesExactly }
+    ensures one { UndoTakesOne }
+    ensures needed { NeededExactly }
+{}
+
+/// A rollback leaves exactly the events that do not depend on its event; that of a variable is the
+/// rollback of the event that is blamed for it.
+pub fn roll_laws()
+    ensures exactly { RollsExactly }
+    ensures value { RollsValueExactly }
+{}
+
+/// Tickets only grow, and none is used again.
+pub fn ticket_law()
+    ensures { TicketsGrow }
+{}
+
+/// No commands get rid of an event and keep one that depended on it.
+pub fn least_rollback_law()
+    ensures { LeastRollback }
+{}
+
+/// Any commands amount to going back and then forth.
+pub fn back_then_forth_law()
+    ensures { BackThenForth }
+{}
+
+/// A rollback of a variable leaves it with the value that it had before its last writer.
+pub fn rolled_value_law()
+    ensures { RolledValue }
+{}
+
+/// Dependence by tickets is dependence in the list of the live events, and the consequences of an
+/// event are the live events that depend on it.
+pub fn dependence_laws()
+    ensures same { FollowsIsCauses }
+    ensures listed { ConsequencesExactly }
+{}
+
+/// Each command has exactly one reply, which determines what is live after it.
+pub fn reply_laws()
+    ensures one { OneReply }
+    ensures some { SomeReply }
+{}
