@@ -1,0 +1,97 @@
+-- What is read of a source, and how it goes on.
+use Rattle.std.proofs.Common.{◌≡◌, ℕ, ◌+◌, ◌≤◌, ◌<◌, List, [], ◌∷◌, ◌++◌, length, take, drop, true, inl, inr, ◌-◌, refl, sym, ◌∙◌, ap, append_assoc, length-append, arith}
+use Rattle.std.specs.Option.{option_to_list}
+use Rattle.std.specs.Prelude.{Option}
+use Rattle.std.proofs.lemmas.List.{append-nil, take-append-drop, take-take}
+use Rattle.std.proofs.Math.Seq.{take-add}
+use Rattle.std.proofs.lemmas.Bool.{cases_lt}
+use Rattle.std.specs.Prelude.{IsTrue}
+use Rattle.lexer.specs.Comment.{is_opening, is_nested_comment, IsOpenComment}
+use Rattle.lexer.specs.declared.class.Class.TheVariants.{NestedComment, OpenComment, Number}
+use Rattle.lexer.specs.declared.fault.Fault.TheVariants as fault
+use Rattle.lexer.proofs.MarkLemmas.{mark_extends}
+use Rattle.lexer.specs.Bytes.{Text}
+use Rattle.lexer.specs.Cut.{IsCut, IsFront, Piece, joined}
+use Rattle.lexer.specs.Refusal.{IsDueAt, IsPieceFault, IsRefused}
+use Rattle.lexer.specs.Tokens.{AreReadable, AreTokens, IsReadable, IsReadTo, behind, first_place, token_at, token_of, tokens_from}
+use Rattle.lexer.specs.declared.class.Class.{Class}
+use Rattle.lexer.specs.declared.fault.Fault.{Fault}
+use Rattle.lexer.specs.declared.place.Place.{Place}
+use Rattle.lexer.specs.declared.token.Kind.TheVariants.{EndOfSource}
+use Rattle.lexer.specs.declared.token.Token.{Token}
+
+-- The source is read to `end`, and its tokens are those given and then those of the later pieces, which begin
+-- at the place.
+pub record Reading (source : Text) (tokens : List Token) (place : Place) (later : List Piece) (end : Text) : Type 0 where
+  pub pieces : List Piece
+  pub read : IsReadTo source pieces end
+  pub same : tokens_from first_place pieces ≡ tokens ++ tokens_from place later
+  pub offset : length (joined pieces) ≡ place.offset + length (joined later)
+
+-- The source is read up to `rest`, with these tokens: to read on there is to read the source.
+pub record Reaches (source : Text) (tokens : List Token) (place : Place) (rest : Text) : Type 0 where
+  pub onward : (later : List Piece) (end : Text) → IsReadTo rest later end → Reading source tokens place later end
+
+-- at the beginning
+pub reaches_first : (source : Text) → Reaches source [] first_place source
+reaches_first source = record {
+  onward = λ later end read. record { pieces = later; read = read; same = refl; offset = omega arith };
+}
+
+-- one piece on
+pub reaches_next : (source : Text) (tokens : List Token) (place : Place) (rest : Text) (class : Class) (n : ℕ) → Reaches source tokens place rest → IsFront class n rest → IsReadable class (take n rest) → Reaches source (tokens ++ option_to_list (token_of place class (take n rest))) (behind place (take n rest)) (drop n rest)
+reaches_next source tokens place rest class n reached front readable = record {
+  onward = λ later end read.
+      let piece : Piece = record { class = class; text = take n rest } in
+      let whole : rest ≡ joined (piece ∷ later) ++ end =
+      sym (take-append-drop n rest) ∙ ap (λ t. take n rest ++ t) read.whole ∙ sym (append_assoc (take n rest) (joined later) end) in
+      let cut : IsCut (piece ∷ later) end = (rw (← read.whole) front.1, read.cut) in
+      let before = reached.onward (piece ∷ later) end (record { whole = whole; cut = cut; readable = (readable, read.readable) }) in
+      record {
+        pieces = before.pieces;
+        read = before.read;
+        same = before.same ∙ sym (append_assoc tokens (option_to_list (token_of place class (take n rest))) (tokens_from (behind place (take n rest)) later));
+        offset = before.offset ∙ omega (arith, length-append (take n rest) (joined later));
+      };
+}
+
+-- where the source ends
+pub reaches_end : (source : Text) (tokens : List Token) (place : Place) → Reaches source tokens place [] → AreTokens source (tokens ++ token_at place EndOfSource [] 0 ∷ [])
+reaches_end source tokens place reached =
+    let all = reached.onward [] [] (record { whole = refl; cut = tt; readable = tt }) in
+    (all.pieces, all.read, sym all.same)
+
+-- where a fault is due
+pub reaches_fault : (source : Text) (tokens : List Token) (place : Place) (rest : Text) (fault : Fault) → Reaches source tokens place rest → IsDueAt place.offset rest fault → IsRefused source fault
+reaches_fault source tokens place rest fault reached due =
+    let all = reached.onward [] rest (record { whole = refl; cut = tt; readable = tt }) in
+    let here : length (joined all.pieces) ≡ place.offset = all.offset ∙ omega arith in
+    (all.pieces, rest, all.read, rw here due)
+
+-- a front that is an open comment is so to the end
+open_rest : (rest : Text) (n : ℕ) → IsFront OpenComment n rest → IsOpenComment rest
+open_rest rest n front = (opens, none)
+  where
+    opens : is_opening rest ≡ true
+    opens = rw (take-append-drop n rest) at (mark_extends (40 ∷ 45 ∷ 45 ∷ []) (take n rest) (drop n rest) front.1.spelled.0)
+
+    none : (m : ℕ) → ¬ IsTrue (is_nested_comment (take m rest))
+    none m whole = elim (cases_lt n m) [
+      | inl longer ↦
+          let e : m ≡ n + (m - n) = omega arith in
+          let split : take m rest ≡ take n rest ++ take (m - n) (drop n rest) = ap (λ k. take k rest) e ∙ take-add n (m - n) rest in
+          front.1.longest (take (m - n) (drop n rest)) (drop (m - n) (drop n rest)) (sym (take-append-drop (m - n) (drop n rest)))
+          (λ nothing. front.1.spelled.1 n (rw (take-take n n rest (omega arith)) (rw (split, nothing, append-nil (take n rest)) at whole))) NestedComment (rw split at whole)
+      | inr within ↦ front.1.spelled.1 m (rw (take-take m n rest within) whole)
+    ]
+
+-- a fault of the piece at the front is due there
+pub piece_fault_due : (at : ℕ) (class : Class) (n : ℕ) (rest : Text) (fault : Fault) → IsFront class n rest → IsPieceFault at class (take n rest) fault → IsDueAt at rest fault
+piece_fault_due at class n rest fault.Memory front none = none
+piece_fault_due at class n rest (fault.BadCharacter offset) front none = absurd none
+piece_fault_due at class n rest (fault.OpenComment offset) front still =
+    let here : IsFront OpenComment n rest = rw still.1 at front in
+    (still.0, open_rest rest n here)
+piece_fault_due at class n rest (fault.NumberTooLarge offset) front large =
+    let here : IsFront Number n rest = rw large.1 at front in
+    (large.0, record { number = take n rest; after = drop n rest; front = sym (take-append-drop n rest); piece = here.1; large = large.2 })

@@ -1,0 +1,15 @@
+-- Bytes by what they may stand for.
+use Rattle.std.specs.Prelude.{ℕ, Bool, ◌||◌, ◌==◌, List}
+use Rattle.std.specs.Char.{is_ascii_alphanumeric}
+
+-- a text, as the list of its bytes
+abbrev pub Text : Type 0
+Text = List ℕ
+
+-- a tab, the two ends of a line, a space
+abbrev pub is_blank : ℕ → Bool
+is_blank b = ((b == 9 || b == 10) || b == 13) || b == 32
+
+-- what may stand in a name behind its first letter
+abbrev pub is_name_byte : ℕ → Bool
+is_name_byte b = is_ascii_alphanumeric b || b == 95

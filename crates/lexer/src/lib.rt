@@ -1,0 +1,55 @@
+//! The lexer of Balsa descriptions: it cuts a source into tokens.
+#![tactic(auto)]
+
+ghost use Rattle.std.specs.Prelude.{◌≡◌, List, ◌⊎◌, IfOk, IfErr, MatchResult};
+ghost use Rattle.lexer.specs.Refusal.{IsRefused};
+ghost use Rattle.lexer.specs.Tokens.{AreTokens};
+ghost use Rattle.lexer.specs.declared.fault.Fault.{Fault};
+ghost use Rattle.lexer.specs.declared.fault.Fault.TheVariants.{Memory};
+ghost use Rattle.lexer.specs.declared.token.Token.{Token};
+
+mod class;
+mod fault;
+mod number;
+mod piece;
+mod place;
+mod table;
+#[cfg(test)]
+mod tests;
+mod token;
+
+pub use fault::Fault;
+use piece::longest_piece;
+use place::Place;
+use std::alloc::Global;
+use syntax::Name;
+use token::push_token;
+pub use token::{Kind, Token};
+
+/// The tokens of `source`, with one of the kind `EndOfSource` behind them.
+///
+/// A source that is no list of tokens is refused at the first byte where that shows.
+pub fn lex(alloc: Global, source: &[u8]) -> Result<Vec<Token>, Fault>
+    ensures tokens { IfOk result (λ tokens. AreTokens source.now tokens.items) }
+    ensures fault { IfErr result (λ fault. (fault ≡ Memory) ⊎ IsRefused source.now fault) }
+    // Whatever the source is cut into, the answer is that one, or memory is out.
+    ensures every_source { (tokens : List Token) → AreTokens source.now tokens
+        → MatchResult result (λ given. given.items ≡ tokens) (λ fault. fault ≡ Memory) }
+    ensures every_fault { (due : Fault) → IsRefused source.now due
+        → MatchResult result (λ _. ⊥) (λ fault. (fault ≡ Memory) ⊎ (fault ≡ due)) }
+{
+    let mut tokens = Vec::new(alloc);
+    let mut place = Place { offset: 0, line: 1 };
+    let mut rest = source;
+    while !rest.is_empty() {
+        let Some(found) = longest_piece(rest) else {
+            return Err(Fault::BadCharacter(place.offset));
+        };
+        let (text, after) = rest.split_at(found.length);
+        push_token(alloc, &mut tokens, place, found.class, text)?;
+        place = place.behind(text);
+        rest = after;
+    }
+    tokens.push(Token::new(alloc, place, Kind::EndOfSource, b"", 0)?)?;
+    Ok(tokens)
+}

@@ -1,0 +1,40 @@
+ghost use Rattle.std.specs.Prelude.{◌≡◌, ◌+◌, ◌<◌, ◌^◌, length};
+ghost use Rattle.lexer.specs.Tokens.{behind};
+
+use syntax::Span;
+
+/// Where a piece begins.
+#[derive(Clone, Copy)]
+pub struct Place {
+    /// In bytes, from 0.
+    pub offset: u64,
+    /// From 1.
+    pub line: u64,
+}
+
+impl Place {
+    /// The place behind `text`, which begins here.
+    pub fn behind(self, text: &[u8]) -> Place
+        requires offset { self.offset + length text.now < 2 ^ 64 }
+        requires line { self.line + length text.now < 2 ^ 64 }
+        ensures { result ≡ behind self text.now }
+    {
+        let line_ends = text.iter().filter(|byte| **byte == b'\n').count();
+        Place {
+            offset: self.offset + text.len() as u64,
+            line: self.line + line_ends as u64,
+        }
+    }
+
+    /// The span of so many bytes that begin here.
+    pub fn span(self, length: usize) -> Span
+        requires { self.offset + length < 2 ^ 64 }
+        ensures { result ≡ record { start = self.offset; stop = self.offset + length; line = self.line } }
+    {
+        Span {
+            start: self.offset,
+            stop: self.offset + length as u64,
+            line: self.line,
+        }
+    }
+}

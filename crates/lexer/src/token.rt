@@ -1,0 +1,198 @@
+ghost use Rattle.std.specs.Prelude.{◌≡◌, ◌≤◌, ◌<◌, ◌+◌, ◌^◌, length, ◌++◌, ◌⊎◌, IfOk, IfErr, OnOk};
+ghost use Rattle.std.specs.Option.{option_to_list};
+ghost use Rattle.lexer.specs.Refusal.{IsPieceFault};
+ghost use Rattle.lexer.specs.Tokens.{IsReadable, token_at, token_of};
+ghost use Rattle.lexer.specs.declared.fault.Fault.TheVariants.{Memory};
+
+use crate::Fault;
+use crate::class::Class;
+use crate::number::value;
+use crate::place::Place;
+use crate::table::{symbol, word};
+use std::alloc::{AllocError, Global};
+use syntax::{Name, Span};
+
+/// What a token is, without its text.
+#[derive(Clone, Copy, Debug, PartialEq, Eq)]
+pub enum Kind {
+    Name,
+    Number,
+    /// `and`
+    AndWord,
+    /// `arbitrate`
+    ArbitrateWord,
+    /// `as`
+    AsWord,
+    /// `begin`
+    BeginWord,
+    /// `bits`
+    BitsWord,
+    /// `case`
+    CaseWord,
+    /// `channel`
+    ChannelWord,
+    /// `continue`
+    ContinueWord,
+    /// `else`
+    ElseWord,
+    /// `end`
+    EndWord,
+    /// `enumeration`
+    EnumerationWord,
+    /// `halt`
+    HaltWord,
+    /// `if`
+    IfWord,
+    /// `input`
+    InputWord,
+    /// `is`
+    IsWord,
+    /// `loop`
+    LoopWord,
+    /// `not`
+    NotWord,
+    /// `of`
+    OfWord,
+    /// `or`
+    OrWord,
+    /// `output`
+    OutputWord,
+    /// `procedure`
+    ProcedureWord,
+    /// `select`
+    SelectWord,
+    /// `shared`
+    SharedWord,
+    /// `sync`
+    SyncWord,
+    /// `then`
+    ThenWord,
+    /// `type`
+    TypeWord,
+    /// `variable`
+    VariableWord,
+    /// `while`
+    WhileWord,
+    /// `xor`
+    XorWord,
+    /// `:=`
+    AssignSign,
+    /// `<-`
+    SendSign,
+    /// `->`
+    ReceiveSign,
+    /// `||`
+    DoubleBar,
+    /// `|`
+    Bar,
+    /// `;`
+    Semicolon,
+    /// `:`
+    Colon,
+    /// `,`
+    Comma,
+    /// `(`
+    LeftParenthesis,
+    /// `)`
+    RightParenthesis,
+    /// `[`
+    LeftBracket,
+    /// `]`
+    RightBracket,
+    /// `+`
+    PlusSign,
+    /// `-`
+    MinusSign,
+    /// `=`
+    EqualSign,
+    /// `/=`
+    NotEqualSign,
+    /// `<`
+    LessSign,
+    /// `>`
+    GreaterSign,
+    /// `<=`
+    LessOrEqualSign,
+    /// `>=`
+    GreaterOrEqualSign,
+    /// What ends each list of tokens. Its text is empty.
+    EndOfSource,
+}
+
+/// A part of the source that is neither blank nor comment.
+#[derive(Debug, Drop)]
+pub struct Token {
+    pub kind: Kind,
+    /// Its bytes, as they stand in the source.
+    pub text: Name,
+    /// The value of a `Kind::Number`, and 0 for every other kind.
+    pub number: u64,
+    pub span: Span,
+}
+
+impl Token {
+    /// The token of this kind whose text begins at `place`.
+    pub(crate) fn new(
+        alloc: Global,
+        place: Place,
+        kind: Kind,
+        text: &[u8],
+        number: u64,
+    ) -> Result<Token, AllocError>
+        requires { place.offset + length text.now < 2 ^ 64 }
+        ensures { IfOk result (λ token. token ≡ token_at place kind text.now number) }
+    {
+        Ok(Token {
+            kind,
+            text: Name::new(alloc, text)?,
+            number,
+            span: place.span(text.len()),
+        })
+    }
+}
+
+/// The token of a piece that begins at `place`. None: it is blank or a comment.
+pub(crate) fn token_of(
+    alloc: Global,
+    place: Place,
+    class: Class,
+    text: &[u8],
+) -> Result<Option<Token>, Fault>
+    requires { place.offset + length text.now < 2 ^ 64 }
+    ensures ok { IfOk result (λ token. IsReadable class text.now × (token ≡ token_of place class text.now)) }
+    ensures err { IfErr result (λ fault. (fault ≡ Memory) ⊎ IsPieceFault place.offset class text.now fault) }
+{
+    let (kind, number) = match class {
+        Class::Blank | Class::LineComment | Class::NestedComment => return Ok(None),
+        Class::OpenComment => return Err(Fault::OpenComment(place.offset)),
+        Class::Word => (word(text).unwrap_or(Kind::Name), 0),
+        Class::Number => {
+            let number = value(text).ok_or(Fault::NumberTooLarge(place.offset))?;
+            (Kind::Number, number)
+        }
+        Class::Symbol => match symbol(text) {
+            Some(kind) => (kind, 0),
+            None => return Ok(None),
+        },
+    };
+    Ok(Some(Token::new(alloc, place, kind, text, number)?))
+}
+
+/// Adds the token of a piece that begins at `place`, unless it is blank or a comment.
+pub(crate) fn push_token(
+    alloc: Global,
+    tokens: &mut Vec<Token>,
+    place: Place,
+    class: Class,
+    text: &[u8],
+) -> Result<(), Fault>
+    requires { place.offset + length text.now < 2 ^ 64 }
+    ensures readable { OnOk result (IsReadable class text.now) }
+    ensures tokens { OnOk result (tokens.new.items ≡ tokens.old.items ++ option_to_list (token_of place class text.now)) }
+    ensures err { IfErr result (λ fault. (fault ≡ Memory) ⊎ IsPieceFault place.offset class text.now fault) }
+{
+    if let Some(token) = token_of(alloc, place, class, text)? {
+        tokens.push(token)?;
+    }
+    Ok(())
+}
