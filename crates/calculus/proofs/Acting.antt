@@ -11,7 +11,7 @@ use Rattle.calculus.proofs.Options.{some-injective}
 use Rattle.calculus.proofs.WellFormed.{WellFormed}
 use Rattle.calculus.proofs.SameCommand.{SameCommand, same_command}
 use Rattle.calculus.proofs.OneEvent.{OneArm}
-use Rattle.calculus.proofs.Offers.{OffersAll, offered}
+use Rattle.calculus.proofs.AtOnce.{OffersAll, offered}
 
 -- what a move on the acting side tells of the event
 abbrev Tells : Move → Event → Type 0

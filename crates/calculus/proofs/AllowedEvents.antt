@@ -12,7 +12,7 @@ use Rattle.calculus.specs.AllowedEvents.{offers, received_by, meets, those, even
 use Rattle.calculus.specs.WellFormed.{WellFormed}
 use Rattle.calculus.specs.declared.event.Event.{Event}
 use Rattle.calculus.proofs.Made.{made-found, made-only}
-use Rattle.calculus.proofs.Offers.{offered, OffersAll}
+use Rattle.calculus.proofs.AtOnce.{offered, OffersAll}
 use Rattle.calculus.proofs.Together.{together}
 use Rattle.calculus.proofs.Offered.{unvalued, Decided, all-offered, possible, offer-unvalued}
 use Rattle.calculus.proofs.Lists.{in-left, in-right, in-parts}

@@ -17,7 +17,7 @@ use Rattle.calculus.proofs.Adding.{sums}
 use Rattle.calculus.proofs.Most.{only_least}
 use Rattle.calculus.proofs.Clash.{count, clash}
 use Rattle.calculus.proofs.Three.{three}
-use Rattle.calculus.proofs.Offers.{Offers, OffersAll, offered, apart_now}
+use Rattle.calculus.proofs.AtOnce.{Offers, OffersAll, offered, apart_now}
 use Rattle.calculus.proofs.Uses.{only_left}
 use Rattle.calculus.proofs.OneEvent.{OneArm, one_event}
 use Rattle.calculus.proofs.Acting.{one_acting}

@@ -5,7 +5,7 @@ use Rattle.sharing_check.specs.Rule.{is_sync, is_shared}
 use Rattle.calculus.specs.Choices.{opened_arm, choice_of}
 use Rattle.calculus.specs.Dependence.{Directly}
 use Rattle.calculus.specs.Events.{Located, Makes, assigning, testing, turning, meeting, opening as opens_with_data, opening_without_data, shutting, syncing}
-use Rattle.calculus.specs.Laws.{NeighboursSwap, RunsWithout, RunsWithoutConsequences, RespectingOrdersRun, OneState, EventsAreDistinct, ActingOnce, RelatedAreOrdered, SameEventsRespect, OneChoice, AllowedAreListed}
+use Rattle.calculus.specs.Laws.{NeighboursSwap, RunsWithout, RunsWithoutConsequences, RespectingOrdersRun, OneState, EventsAreDistinct, ActingOnce, RelatedAreOrdered, SameEventsRespect, OneChoice, AllowedAreListed, RunAsFunction}
 use Rattle.calculus.specs.Opening.{opening}
 use Rattle.calculus.specs.declared.event.Choice.{Choice}
 use Rattle.calculus.specs.declared.event.Event.{Event}
@@ -18,7 +18,7 @@ use Rattle.calculus.proofs.Swap.{swap}
 use Rattle.calculus.proofs.Orders.{without, run-formed, run-part, run-join}
 use Rattle.calculus.proofs.Rollback.{rolled}
 use Rattle.calculus.proofs.Respecting.{respecting-runs}
-use Rattle.calculus.proofs.StepOf.{run-determined}
+use Rattle.calculus.proofs.StepOf.{run-determined, run-of}
 use Rattle.calculus.proofs.Once.{acting-once, events-differ}
 use Rattle.calculus.proofs.OrderingLaw as law
 use Rattle.calculus.proofs.SameEvents.{same-events-both}
@@ -108,3 +108,7 @@ one_choice system h S e f rule r (T, one) (U, other) same =
 pub allowed_are_listed : AllowedAreListed
 allowed_are_listed system h S e r =
     (listed.events-complete S (run-formed (opening system) S h (opening-formed system) r) e, listed.events-sound S e)
+
+-- the run as a function is the run
+pub run_as_function : RunAsFunction
+run_as_function system h T = run-of (opening system) h T (opening-formed system)

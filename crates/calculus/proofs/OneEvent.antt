@@ -1,5 +1,5 @@
 -- Of the events that are possible in one state, no two have the same places and the same arm.
-use Rattle.calculus.proofs.Offers.{OffersAll, offered}
+use Rattle.calculus.proofs.AtOnce.{OffersAll, offered}
 use Rattle.std.proofs.Common.{◌≡◌, List, [], ◌∷◌, Some, None, refl, sym, ap, subst, ◌∙◌}
 use Rattle.calculus.specs.Moves.{Place, Local}
 use Rattle.elaborate.specs.Expression.{Store, variables, decide, decision_variables, ascending}

@@ -22,7 +22,7 @@ use Rattle.calculus.proofs.Lists.{every-in, in-right}
 use Rattle.calculus.proofs.Later.{later_of}
 use Rattle.calculus.proofs.Clash.{count, clash}
 use Rattle.calculus.proofs.Three.{three}
-use Rattle.calculus.proofs.Offers.{offered_before}
+use Rattle.calculus.proofs.AtOnce.{offered_before}
 use Rattle.calculus.proofs.Uses.{Uses, sender, two, writer, user}
 
 -- the first move is before a later one, or their counts add up

@@ -1,5 +1,6 @@
 -- The laws of runs: of any system, from its opening state.
-use Rattle.std.specs.Prelude.{◌≡◌, ◌↔◌, List, ◌∷◌, ◌++◌}
+use Rattle.std.specs.Prelude.{◌≡◌, ◌↔◌, List, ◌∷◌, ◌++◌, Some}
+use Rattle.calculus.specs.StepOf.{run_of}
 use Rattle.address.specs.Places.{Apart}
 use Rattle.elaborate.specs.Residual.{Residual}
 use Rattle.calculus.specs.AllowedEvents.{allowed_events}
@@ -102,3 +103,8 @@ abbrev pub ApartMovesMeet : Type 0
 ApartMovesMeet =
     (r : Residual) (a b : Place) (m n : Move) (s t : Residual) → Apart a b → Local r a m s → Local r b n t →
     (q : Residual) × Local s b n q
+
+-- the run as a function, by which `replay` is proved, is the run
+abbrev pub RunAsFunction : Type 0
+RunAsFunction =
+    (system : System) (h : List Event) (T : State) → (run_of (opening system) h ≡ Some T) ↔ Run (opening system) h T

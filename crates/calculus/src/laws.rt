@@ -1,5 +1,5 @@
 // The laws of runs, each the contract of a function that does nothing.
-ghost use Rattle.calculus.specs.Laws.{NeighboursSwap, RunsWithout, RunsWithoutConsequences, CausesAlone, RespectingOrdersRun, OneState, EventsAreDistinct, ActingOnce, RelatedAreOrdered, SameEventsRespect, OpeningIsWellFormed, OneChoice, AllowedAreListed, ApartMovesMeet};
+ghost use Rattle.calculus.specs.Laws.{NeighboursSwap, RunsWithout, RunsWithoutConsequences, CausesAlone, RespectingOrdersRun, OneState, EventsAreDistinct, ActingOnce, RelatedAreOrdered, SameEventsRespect, OpeningIsWellFormed, OneChoice, AllowedAreListed, ApartMovesMeet, RunAsFunction};
 
 /// Two neighbours of a run swap unless the second depends directly on the first.
 pub fn neighbours_swap()
@@ -72,4 +72,9 @@ pub fn allowed_are_listed()
 /// Two moves that are offered at places apart can be made one after the other, in either order.
 pub fn apart_moves_meet()
     ensures { ApartMovesMeet }
+{}
+
+/// The run as a function, by which `replay` is proved, is the run.
+pub fn run_as_function()
+    ensures { RunAsFunction }
 {}

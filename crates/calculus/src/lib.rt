@@ -1,22 +1,40 @@
 //! What a run of a description is: local moves, events, steps, runs, dependence, and the laws of them;
-//! and what one execution is: its live events, what each command answers and leaves, and the laws of it.
+//! what one execution is: its live events, what each command answers and leaves, and the laws of it;
+//! and the slow replay, which runs a list of events step by step.
 #![tactic(auto)]
 
+mod answers;
+mod apart;
 mod command;
 #[cfg(test)]
 mod command_tests;
 mod event;
 mod laws;
+mod left;
+mod making;
+mod moves;
 mod object_laws;
+mod offers;
+mod place;
+mod plain;
+mod same;
+mod slow;
+mod start;
+mod step;
+#[cfg(test)]
+mod tests;
+mod translate;
 
 pub use command::{Command, LAST_TICKET, MOST_LIVE_EVENTS, Refusal, Reply};
 pub use event::{Choice, Event, Kind};
 pub use laws::{
     acting_once, allowed_are_listed, apart_moves_meet, causes_alone, events_are_distinct,
     neighbours_swap, one_choice, one_state, opening_is_well_formed, ordered, respecting_orders,
-    runs_without, runs_without_consequences, same_events,
+    run_as_function, runs_without, runs_without_consequences, same_events,
 };
 pub use object_laws::{
     back_then_forth_law, dependence_laws, least_rollback_law, ready_law, reply_laws, roll_laws,
     rolled_value_law, soundness_laws, state_laws, step_laws, ticket_law, undo_laws,
 };
+pub use plain::Plain;
+pub use slow::replay;

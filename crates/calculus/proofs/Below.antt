@@ -1,0 +1,63 @@
+-- What a part of a place says of the answer there.
+use Rattle.std.proofs.Common.{◌≡◌, ℕ, ◌*◌, ◌/◌, ◌%◌, ◌==◌, ◌&&◌, List, [], ◌∷◌, Bool, true, false, cond, Option, Some, None, refl, sym, ap, ◌∙◌, arith, Decides}
+use Rattle.std.proofs.lemmas.Bool.Decides.{Decides-eqb, Decides-and, Decides-like}
+use Rattle.address.specs.declared.Entry.TheVariants.{Ordered, Branch}
+use Rattle.calculus.specs.Moves.{Place}
+use Rattle.calculus.specs.EventLaws.{decided}
+use Rattle.calculus.specs.After.{Answer, at_place, at_act, in_child, in_branch}
+use Rattle.calculus.specs.Below.{below_child, below_branch, act_of, is_number, is_act, is_here}
+
+-- an answer at the command's own place
+pub at_place_is : (a : Place) (answer : Answer) → at_place a answer ≡ cond (is_here a) answer None
+at_place_is [] answer = refl
+at_place_is (x ∷ a) answer = refl
+
+-- an answer at an act
+pub at_act_is : (n : ℕ) (a : Place) (answer : Answer) → at_act n a answer ≡ cond (is_act n a) answer None
+at_act_is n [] answer = refl
+at_act_is n (Ordered i ∷ []) answer = refl
+at_act_is n (Ordered i ∷ x ∷ a) answer = refl
+at_act_is n (Branch i ∷ a) answer = refl
+
+-- the child's answer at a place below it
+below : (Place → Answer) → Option Place → Answer → Answer
+below child None rest = rest
+below child (Some b) rest = child b
+
+in_child_is : (n : ℕ) (a : Place) (child : Place → Answer) → in_child n a child ≡ below child (below_child n a) None
+unfolding below
+in_child_is n [] child = refl
+in_child_is n (Ordered i ∷ a) child =
+    elim (i == n) as (λ b. cond b (child a) None ≡ below child (cond b (Some a) None) None) [ true ↦ refl | false ↦ refl ]
+in_child_is n (Branch i ∷ a) child = refl
+
+pub in_child_found : (n : ℕ) (a b : Place) (child : Place → Answer) → below_child n a ≡ Some b → in_child n a child ≡ child b
+unfolding below
+in_child_found n a b child h = in_child_is n a child ∙ ap (λ o. below child o None) h
+
+pub in_child_none : (n : ℕ) (a : Place) (child : Place → Answer) → below_child n a ≡ None → in_child n a child ≡ None
+unfolding below
+in_child_none n a child h = in_child_is n a child ∙ ap (λ o. below child o None) h
+
+in_branch_is : (n : ℕ) (a : Place) (child : Place → Answer) (rest : Answer) → in_branch n a child rest ≡ below child (below_branch n a) rest
+unfolding below
+in_branch_is n [] child rest = refl
+in_branch_is n (Ordered i ∷ a) child rest = refl
+in_branch_is n (Branch i ∷ a) child rest =
+    elim (i == n) as (λ b. cond b (child a) rest ≡ below child (cond b (Some a) None) rest) [ true ↦ refl | false ↦ refl ]
+
+pub in_branch_found : (n : ℕ) (a b : Place) (child : Place → Answer) (rest : Answer) → below_branch n a ≡ Some b → in_branch n a child rest ≡ child b
+unfolding below
+in_branch_found n a b child rest h = in_branch_is n a child rest ∙ ap (λ o. below child o rest) h
+
+pub in_branch_none : (n : ℕ) (a : Place) (child : Place → Answer) (rest : Answer) → below_branch n a ≡ None → in_branch n a child rest ≡ rest
+unfolding below
+in_branch_none n a child rest h = in_branch_is n a child rest ∙ ap (λ o. below child o rest) h
+
+-- an even number is twice its half
+pub even_half : (i k : ℕ) → ((i % 2 == 0) && (i / 2 == k)) ≡ (i == 2 * k)
+even_half i k =
+    decided ((i % 2 == 0) && (i / 2 == k)) (i == 2 * k) (i ≡ 2 * k)
+      (Decides-like ((i % 2 == 0) && (i / 2 == k)) (λ h. let p = h.0 in let q = h.1 in omega arith) (λ (h : i ≡ 2 * k). (omega arith, omega arith))
+        (Decides-and (i % 2 == 0) (i / 2 == k) (Decides-eqb (i % 2) 0) (Decides-eqb (i / 2) k)))
+      (Decides-eqb i (2 * k))

@@ -1,0 +1,28 @@
+-- Trees in memory as arms.
+use Rattle.std.proofs.Common.{◌≡◌, ℕ, zero, suc, List, [], ◌∷◌, ◌++◌, map, slice_get, None, Some, refl, sym, ap, ◌∙◌}
+use Rattle.std.proofs.lemmas.List.{map-append}
+use Rattle.elaborate.specs.Residual.{Residual, done, arm_at}
+use Rattle.elaborate.specs.Translation.{arms_of}
+use Rattle.calculus.specs.declared.left.Left.{Left}
+use Rattle.calculus.specs.Left.{residual_of_left}
+use Rattle.calculus.proofs.Arms.{arms_of_last}
+use Rattle.calculus.proofs.Options.{none-some, some-injective}
+
+-- an else is the last arm
+pub arms_with_last : (xs : List Left) (x : Left)
+    → arms_of (map residual_of_left (xs ++ x ∷ [])) None ≡ arms_of (map residual_of_left xs) (Some (residual_of_left x))
+arms_with_last xs x =
+    let f : Left → Residual = residual_of_left in
+    ap (λ rs. arms_of rs None) (map-append f xs (x ∷ [])) ∙ arms_of_last (map f xs) (f x)
+
+-- an arm by its number
+pub arm_found : (xs : List Left) (k : ℕ) (x : Left) → slice_get xs k ≡ Some x → arm_at (arms_of (map residual_of_left xs) None) k ≡ residual_of_left x
+arm_found [] k x h = none-some x h
+arm_found (y ∷ xs) zero x h = ap residual_of_left (some-injective y x h)
+arm_found (y ∷ xs) (suc k) x h = arm_found xs k x h
+
+-- past the last arm there is nothing to do
+pub arm_past : (xs : List Left) (k : ℕ) → slice_get xs k ≡ None → arm_at (arms_of (map residual_of_left xs) None) k ≡ done
+arm_past [] k h = refl
+arm_past (y ∷ xs) zero h = none-some y (sym h)
+arm_past (y ∷ xs) (suc k) h = arm_past xs k h

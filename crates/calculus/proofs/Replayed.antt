@@ -1,0 +1,31 @@
+-- The answer of a replay in terms of runs.
+use Rattle.std.proofs.Common.{◌≡◌, List, Option, Some, None, Result, sym, ap, ◌∙◌}
+use Rattle.std.specs.Prelude.{IfOk, MatchOption}
+use Rattle.std.specs.Option.{option_map}
+use Rattle.std.proofs.lemmas.Result.{IfOk-weaker}
+use Rattle.elaborate.specs.declared.system.System.{System}
+use Rattle.calculus.specs.Steps.{State}
+use Rattle.calculus.specs.Runs.{Run}
+use Rattle.calculus.specs.StepOf.{run_of}
+use Rattle.calculus.specs.Opening.{opening}
+use Rattle.calculus.specs.Plain.{state_of}
+use Rattle.calculus.specs.declared.event.Event.{Event}
+use Rattle.calculus.specs.declared.plain.Plain.{Plain}
+use Rattle.calculus.proofs.Options.{none-some}
+use Rattle.calculus.proofs.StepOf.{run-found, run-only}
+use Rattle.calculus.proofs.Opening.{opening-formed}
+
+-- a state is answered where the events run to it, and none where they do not run
+answered : (system : System) (h : List Event) (r : Option Plain) → option_map state_of r ≡ run_of (opening system) h
+    → MatchOption r ((T : State) → Run (opening system) h T → ⊥) (λ p. Run (opening system) h (state_of p))
+answered system h None e = λ T run. none-some T (e ∙ run-found (opening system) h T (opening-formed system) run)
+answered system h (Some p) e = run-only (opening system) h (state_of p) (sym e)
+
+-- the same of a result, of a system that is the one given
+pub replayed : {E : Type 0} (system given : System) (h : List Event) (r : Result (Option Plain) E) → given ≡ system
+    → IfOk r (λ o. option_map state_of o ≡ run_of (opening given) h)
+    → IfOk r (λ o. MatchOption o ((T : State) → Run (opening system) h T → ⊥) (λ p. Run (opening system) h (state_of p)))
+replayed system given h r g i =
+    IfOk-weaker r (λ o. option_map state_of o ≡ run_of (opening given) h)
+      (λ o. MatchOption o ((T : State) → Run (opening system) h T → ⊥) (λ p. Run (opening system) h (state_of p)))
+      (λ o e. answered system h o (e ∙ ap (λ s. run_of (opening s) h) g)) i

@@ -1,0 +1,88 @@
+-- What a tree in memory answers, from the answers of its children.
+use Rattle.std.proofs.Common.{◌≡◌, ℕ, List, map, slice_get, Option, Some, None, Result, sym, ap, ◌∙◌}
+use Rattle.std.specs.Prelude.{IfOk}
+use Rattle.std.proofs.lemmas.Result.{IfOk-weaker}
+use Rattle.elaborate.specs.Residual.{Residual, done, inside, beside, within, along, arm_at}
+use Rattle.elaborate.specs.Translation.{arms_of}
+use Rattle.calculus.specs.Moves.{Place}
+use Rattle.calculus.specs.After.{Ask, Answer, around, after}
+use Rattle.calculus.specs.Below.{below_child, below_branch}
+use Rattle.calculus.specs.Answers.{answer_of}
+use Rattle.calculus.specs.declared.left.Left.{Left}
+use Rattle.calculus.specs.declared.left.Left.TheVariants.{Inside, Beside, rolls-Inside, rolls-Beside}
+use Rattle.calculus.specs.declared.left.Left.TheOpen.{Left-F}
+use Rattle.calculus.specs.declared.left.Left.TheFolds.{fold-roll-Left}
+use Rattle.calculus.specs.declared.moves.Moved.{Moved}
+use Rattle.calculus.specs.Left.{left_layer, residual_of_left}
+use Rattle.calculus.proofs.Below.{in_child_found, in_branch_found, in_branch_none}
+use Rattle.calculus.proofs.Lefts.{arm_found, arm_past}
+
+-- what a child in order is to do
+left_inside : (n : ℕ) (child next : Left) → residual_of_left (Inside n child next) ≡ inside n (residual_of_left child) (residual_of_left next)
+left_inside n child next = ap residual_of_left (sym (rolls-Inside n child next)) ∙ fold-roll-Left Residual left_layer (Left-F.Inside n child next)
+
+-- what a child in a branch is to do
+left_beside : (n : ℕ) (child rest : Left) → residual_of_left (Beside n child rest) ≡ beside n (residual_of_left child) (residual_of_left rest)
+left_beside n child rest = ap residual_of_left (sym (rolls-Beside n child rest)) ∙ fold-roll-Left Residual left_layer (Left-F.Beside n child rest)
+
+-- at a place below a child in order the child answers
+pub inside_answers : {E : Type 0} (r : Result (Option Moved) E) (k : Ask) (self child next g h : Left) (n : ℕ) (a b : Place) (answer : Option Moved)
+    → self ≡ Inside n child next → g ≡ child → h ≡ next → Some b ≡ below_child n a → answer_of answer ≡ after k (residual_of_left g) b
+    → IfOk r (λ x. answer_of x ≡ around (λ t. within n t (residual_of_left h)) (answer_of answer))
+    → IfOk r (λ x. answer_of x ≡ after k (residual_of_left self) a)
+inside_answers r k self child next g h n a b answer es eg eh eb ea i =
+    let f : Left → Residual = residual_of_left in
+    let w : Residual → Residual = λ t. within n t (f next) in
+    let e : around (λ t. within n t (f h)) (answer_of answer) ≡ after k (f self) a =
+    ap (λ z. around (λ t. within n t (f z)) (answer_of answer)) eh
+    ∙ ap (around w) (ea ∙ ap (λ z. after k (f z) b) eg)
+    ∙ sym (in_child_found n a b (λ c. around w (after k (f child) c)) (sym eb))
+    ∙ sym (ap (λ z. after k z a) (left_inside n child next))
+    ∙ sym (ap (λ z. after k (f z) a) es) in
+    IfOk-weaker r (λ x. answer_of x ≡ around (λ t. within n t (f h)) (answer_of answer)) (λ x. answer_of x ≡ after k (f self) a) (λ x p. p ∙ e) i
+
+-- at a place below a branch the branch answers
+pub branch_answers : {E : Type 0} (r : Result (Option Moved) E) (k : Ask) (self child rest g h : Left) (n : ℕ) (a b : Place) (answer : Option Moved)
+    → self ≡ Beside n child rest → g ≡ child → h ≡ rest → Some b ≡ below_branch n a → answer_of answer ≡ after k (residual_of_left g) b
+    → IfOk r (λ x. answer_of x ≡ around (λ t. along n t (residual_of_left h)) (answer_of answer))
+    → IfOk r (λ x. answer_of x ≡ after k (residual_of_left self) a)
+branch_answers r k self child rest g h n a b answer es eg eh eb ea i =
+    let f : Left → Residual = residual_of_left in
+    let w : Residual → Residual = λ t. along n t (f rest) in
+    let e : around (λ t. along n t (f h)) (answer_of answer) ≡ after k (f self) a =
+    ap (λ z. around (λ t. along n t (f z)) (answer_of answer)) eh
+    ∙ ap (around w) (ea ∙ ap (λ z. after k (f z) b) eg)
+    ∙ sym (in_branch_found n a b (λ c. around w (after k (f child) c)) (around (λ t. along n (f child) t) (after k (f rest) a)) (sym eb))
+    ∙ sym (ap (λ z. after k z a) (left_beside n child rest))
+    ∙ sym (ap (λ z. after k (f z) a) es) in
+    IfOk-weaker r (λ x. answer_of x ≡ around (λ t. along n t (f h)) (answer_of answer)) (λ x. answer_of x ≡ after k (f self) a) (λ x p. p ∙ e) i
+
+-- elsewhere the other branches answer
+pub rest_answers : {E : Type 0} (r : Result (Option Moved) E) (k : Ask) (self child rest g h : Left) (n : ℕ) (a : Place) (answer : Option Moved)
+    → self ≡ Beside n child rest → g ≡ rest → h ≡ child → None ≡ below_branch n a → answer_of answer ≡ after k (residual_of_left g) a
+    → IfOk r (λ x. answer_of x ≡ around (λ t. along n (residual_of_left h) t) (answer_of answer))
+    → IfOk r (λ x. answer_of x ≡ after k (residual_of_left self) a)
+rest_answers r k self child rest g h n a answer es eg eh eb ea i =
+    let f : Left → Residual = residual_of_left in
+    let w : Residual → Residual = λ t. along n (f child) t in
+    let e : around (λ t. along n (f h) t) (answer_of answer) ≡ after k (f self) a =
+    ap (λ z. around (λ t. along n (f z) t) (answer_of answer)) eh
+    ∙ ap (around w) (ea ∙ ap (λ z. after k (f z) a) eg)
+    ∙ sym (in_branch_none n a (λ c. around (λ t. along n t (f rest)) (after k (f child) c)) (around w (after k (f rest) a)) (sym eb))
+    ∙ sym (ap (λ z. after k z a) (left_beside n child rest))
+    ∙ sym (ap (λ z. after k (f z) a) es) in
+    IfOk-weaker r (λ x. answer_of x ≡ around (λ t. along n (f h) t) (answer_of answer)) (λ x. answer_of x ≡ after k (f self) a) (λ x p. p ∙ e) i
+
+-- a copy of an arm that there is
+pub arm_copied : {E : Type 0} (r : Result Left E) (xs : List Left) (k : ℕ) (x y : Left) → slice_get xs k ≡ Some x → y ≡ x
+    → IfOk r (λ made. made ≡ y) → IfOk r (λ made. residual_of_left made ≡ arm_at (arms_of (map residual_of_left xs) None) k)
+arm_copied r xs k x y h e i =
+    IfOk-weaker r (λ made. made ≡ y) (λ made. residual_of_left made ≡ arm_at (arms_of (map residual_of_left xs) None) k)
+    (λ made p. ap residual_of_left (p ∙ e) ∙ sym (arm_found xs k x h)) i
+
+-- nothing past the last arm
+pub arm_missed : {E : Type 0} (r : Result Left E) (xs : List Left) (k : ℕ) → slice_get xs k ≡ None
+    → IfOk r (λ made. residual_of_left made ≡ done) → IfOk r (λ made. residual_of_left made ≡ arm_at (arms_of (map residual_of_left xs) None) k)
+arm_missed r xs k h i =
+    IfOk-weaker r (λ made. residual_of_left made ≡ done) (λ made. residual_of_left made ≡ arm_at (arms_of (map residual_of_left xs) None) k)
+    (λ made p. p ∙ sym (arm_past xs k h)) i

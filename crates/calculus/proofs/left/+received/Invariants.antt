@@ -1,0 +1,10 @@
+use Rattle.std.proofs.Common.{◌≡◌, ◌++◌, drop, map}
+use Rattle.elaborate.specs.Residual.{put_residual}
+use Rattle.calculus.specs.Left.{residual_of_left}
+use Rattle.calculus.proofs.left.+received.Given as goal
+
+-- the copies are the arms that are passed, with the value put
+abbrev pub invariant-all_with_received-loop-arm : goal.invariant-all_with_received-loop-arm
+invariant-all_with_received-loop-arm l =
+    map residual_of_left l.copies ++ map (put_residual l.channel l.value) (map residual_of_left (drop l.arm-index l.arms))
+    ≡ map (put_residual l.channel l.value) (map residual_of_left l.arms)

@@ -1,0 +1,8 @@
+use Rattle.std.proofs.Common.{◌≡◌, drop}
+use Rattle.calculus.specs.StepOf.{run_of}
+use Rattle.calculus.specs.Plain.{state_of}
+use Rattle.calculus.specs.Opening.{opening}
+use Rattle.calculus.proofs.slow.state_after.Given as goal
+
+abbrev pub invariant-loop-event : goal.invariant-loop-event
+invariant-loop-event l = run_of (state_of l.state) (drop l.event-index l.events) ≡ run_of (opening l.system) l.events

@@ -1,0 +1,10 @@
+use Rattle.std.proofs.Common.{◌≡◌, ◌++◌, drop, map}
+use Rattle.elaborate.specs.Expression.{constant}
+use Rattle.elaborate.specs.Residual.{send}
+use Rattle.calculus.specs.Left.{residual_of_left}
+use Rattle.calculus.proofs.start.sends_of.Given as goal
+
+abbrev pub invariant-loop-value : goal.invariant-loop-value
+invariant-loop-value l =
+    map residual_of_left l.sends ++ map (λ v. send l.channel l.width (constant v)) (drop l.value-index l.values)
+    ≡ map (λ v. send l.channel l.width (constant v)) l.values

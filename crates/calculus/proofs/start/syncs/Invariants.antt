@@ -1,0 +1,10 @@
+use Rattle.std.proofs.Common.{◌≡◌, ◌≤◌, ◌-◌}
+use Rattle.elaborate.specs.Translation.{syncs_from}
+use Rattle.calculus.specs.Left.{residual_of_left}
+use Rattle.calculus.proofs.start.syncs.Given as goal
+
+abbrev pub invariant-loop-number : goal.invariant-loop-number
+invariant-loop-number l = (l.number ≤ l.count) × (residual_of_left l.left ≡ syncs_from l.number l.channel (l.count - l.number))
+
+abbrev pub decreases-loop-number : goal.decreases-loop-number
+decreases-loop-number l = l.number

@@ -1,0 +1,7 @@
+use Rattle.std.proofs.Common.{◌≡◌, ◌++◌, drop, map}
+use Rattle.calculus.specs.Translate.{arm_of}
+use Rattle.calculus.proofs.translate.choose_left.Given as goal
+
+abbrev pub invariant-loop-arm : goal.invariant-loop-arm
+invariant-loop-arm l =
+    l.channels ++ map (λ a. a.channel) (map arm_of (drop l.arm-index l.arms)) ≡ map (λ a. a.channel) (map arm_of l.arms)

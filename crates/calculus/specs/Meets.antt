@@ -1,0 +1,23 @@
+-- The event of a send and what meets it, from the value that is sent and the variables that are read.
+use Rattle.std.specs.Prelude.{ℕ, ◌==◌, ◌&&◌, List, cond, Option, Some, None}
+use Rattle.value.specs.Word.{Word}
+use Rattle.calculus.specs.Moves.{Place, Move, receives, opens}
+use Rattle.calculus.specs.Tests.{same_option, same_word}
+use Rattle.calculus.specs.declared.event.Event.{Event}
+use Rattle.calculus.specs.declared.event.Kind.TheVariants.{Meet, Open}
+
+-- of a send
+abbrev pub met : Place → Place → ℕ → Word → List ℕ → Move → Option Event
+met a b c v read (receives d x) =
+    cond (c == d)
+    (Some (record { kind = Meet; first = a; second = Some b; arm = None; channel = Some c; value = Some v; written = x; read = read }))
+    None
+met a b c v read _ = None
+
+-- of a send that is held
+abbrev pub opened_by_send : Place → Place → ℕ → Word → List ℕ → Move → Option Event
+opened_by_send a b c v read (opens d k u) =
+    cond ((c == d) && same_option same_word (Some v) u)
+    (Some (record { kind = Open; first = a; second = Some b; arm = Some k; channel = Some c; value = u; written = None; read = read }))
+    None
+opened_by_send a b c v read _ = None

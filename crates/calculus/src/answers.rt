@@ -1,0 +1,467 @@
+// What each form of command answers to what is asked at a place.
+ghost use Rattle.std.specs.Prelude.{◌≡◌, ◌+◌, ◌*◌, ◌<◌, ◌^◌, [], ◌∷◌, map, slice_get, Some, None, false, IfOk};
+ghost use Rattle.elaborate.specs.Expression as expression;
+ghost use Rattle.elaborate.specs.Residual as residual;
+ghost use Rattle.elaborate.specs.Translation.{expression_of, arms_of};
+ghost use Rattle.elaborate.specs.Decisions.{decision_of};
+ghost use Rattle.calculus.specs.After as model;
+ghost use Rattle.calculus.specs.Left.{residual_of_left};
+ghost use Rattle.calculus.specs.Answers.{ask_of, move_of, answer_of};
+
+use crate::left::{Left, along, within};
+use crate::moves::{Ask, Move, Moved};
+use crate::place::{is_act, is_here, is_turn};
+use address::Entry;
+use elaborate::{Decision, Expression};
+use std::alloc::{AllocError, Global};
+use syntax::{Boxed, Items};
+use value::{Value, Width};
+
+/// The answer of a move and what is left after it.
+fn moved(alloc: Global, by: Move, left: Boxed<Left>) -> Result<Option<Moved>, AllocError>
+    ensures { IfOk result (λ r. answer_of r ≡ Some (move_of by, residual_of_left left)) }
+{
+    let by = Boxed::new(alloc, by)?;
+    Ok(Some(Moved { by, left }))
+}
+
+/// An answer inside the child at a place in order, with what comes after the child.
+pub(crate) fn inside(
+    alloc: Global,
+    number: u64,
+    answer: Option<Moved>,
+    next: &Left,
+) -> Result<Option<Moved>, AllocError>
+    ensures { IfOk result (λ r. answer_of r ≡ model.around (λ t. residual.within number t (residual_of_left next.now)) (answer_of answer)) }
+{
+    match answer {
+        Some(moved) => {
+            let Moved { by, left } = moved;
+            let left = within(alloc, number, left, next.copy(alloc)?)?;
+            Ok(Some(Moved { by, left }))
+        }
+        None => Ok(None),
+    }
+}
+
+/// An answer inside a branch, with the other branches.
+pub(crate) fn in_branch(
+    alloc: Global,
+    number: u64,
+    answer: Option<Moved>,
+    rest: &Left,
+) -> Result<Option<Moved>, AllocError>
+    ensures { IfOk result (λ r. answer_of r ≡ model.around (λ t. residual.along number t (residual_of_left rest.now)) (answer_of answer)) }
+{
+    match answer {
+        Some(moved) => {
+            let Moved { by, left } = moved;
+            let left = along(alloc, number, left, rest.copy(alloc)?)?;
+            Ok(Some(Moved { by, left }))
+        }
+        None => Ok(None),
+    }
+}
+
+/// An answer in the other branches, with the branch.
+pub(crate) fn beside(
+    alloc: Global,
+    number: u64,
+    child: &Left,
+    answer: Option<Moved>,
+) -> Result<Option<Moved>, AllocError>
+    ensures { IfOk result (λ r. answer_of r ≡ model.around (λ t. residual.along number (residual_of_left child.now) t) (answer_of answer)) }
+{
+    match answer {
+        Some(moved) => {
+            let Moved { by, left } = moved;
+            let left = along(alloc, number, child.copy(alloc)?, left)?;
+            Ok(Some(Moved { by, left }))
+        }
+        None => Ok(None),
+    }
+}
+
+/// The answer of an assignment.
+#[tactic(auto, using(crate::proofs::Below::at_place_is, crate::proofs::Asked::not_assign))]
+pub(crate) fn assign(
+    alloc: Global,
+    ask: Ask,
+    place: &[Entry],
+    variable: u32,
+    width: Width,
+    value: &Expression,
+) -> Result<Option<Moved>, AllocError>
+    ensures { IfOk result (λ r. answer_of r ≡ model.at_place place.now (model.after_assign variable width (expression_of value.now) (ask_of ask))) }
+{
+    if !is_here(place) {
+        return Ok(None);
+    }
+    match ask {
+        Ask::Assign => {
+            let value = value.copy(alloc)?;
+            let done = Left::done(alloc)?;
+            moved(alloc, Move::Assigns(variable, width, value), done)
+        }
+        _ => Ok(None),
+    }
+}
+
+/// The answer of a send.
+#[tactic(auto, using(crate::proofs::Below::at_act_is, crate::proofs::Asked::not_send))]
+pub(crate) fn send(
+    alloc: Global,
+    ask: Ask,
+    place: &[Entry],
+    channel: u32,
+    width: Width,
+    value: &Expression,
+) -> Result<Option<Moved>, AllocError>
+    ensures { IfOk result (λ r. answer_of r ≡ model.at_act 0 place.now (model.after_send channel width (expression_of value.now) (ask_of ask))) }
+{
+    if !is_act(place, 0) {
+        return Ok(None);
+    }
+    match ask {
+        Ask::Send => {
+            let value = value.copy(alloc)?;
+            let done = Left::done(alloc)?;
+            moved(alloc, Move::Sends(channel, width, value, false), done)
+        }
+        Ask::Hold => {
+            let value = value.copy(alloc)?;
+            let held = Boxed::new(alloc, Left::Held(channel))?;
+            moved(alloc, Move::Sends(channel, width, value, true), held)
+        }
+        _ => Ok(None),
+    }
+}
+
+/// The answer of a receive.
+#[tactic(auto, using(crate::proofs::Below::at_place_is, crate::proofs::Asked::not_receive))]
+pub(crate) fn receive(
+    alloc: Global,
+    ask: Ask,
+    place: &[Entry],
+    channel: u32,
+    variable: u32,
+) -> Result<Option<Moved>, AllocError>
+    ensures { IfOk result (λ r. answer_of r ≡ model.at_place place.now (model.after_receive channel variable (ask_of ask))) }
+{
+    if !is_here(place) {
+        return Ok(None);
+    }
+    match ask {
+        Ask::Receive => {
+            let done = Left::done(alloc)?;
+            moved(alloc, Move::Receives(channel, Some(variable)), done)
+        }
+        _ => Ok(None),
+    }
+}
+
+/// The answer of a handshake without data.
+#[tactic(auto, using(crate::proofs::Below::at_act_is, crate::proofs::Asked::not_sync))]
+pub(crate) fn sync(
+    alloc: Global,
+    ask: Ask,
+    place: &[Entry],
+    channel: u32,
+) -> Result<Option<Moved>, AllocError>
+    ensures { IfOk result (λ r. answer_of r ≡ model.at_act 0 place.now (model.after_sync channel (ask_of ask))) }
+{
+    if !is_act(place, 0) {
+        return Ok(None);
+    }
+    match ask {
+        Ask::Sync => {
+            let done = Left::done(alloc)?;
+            moved(alloc, Move::Syncs(channel, false), done)
+        }
+        Ask::Hold => {
+            let held = Boxed::new(alloc, Left::Held(channel))?;
+            moved(alloc, Move::Syncs(channel, true), held)
+        }
+        _ => Ok(None),
+    }
+}
+
+/// The answer of what is held.
+#[tactic(auto, using(crate::proofs::Below::at_act_is, crate::proofs::Asked::not_release))]
+pub(crate) fn held(
+    alloc: Global,
+    ask: Ask,
+    place: &[Entry],
+    channel: u32,
+) -> Result<Option<Moved>, AllocError>
+    ensures { IfOk result (λ r. answer_of r ≡ model.at_act 1 place.now (model.after_held channel (ask_of ask))) }
+{
+    if !is_act(place, 1) {
+        return Ok(None);
+    }
+    match ask {
+        Ask::Release => {
+            let done = Left::done(alloc)?;
+            moved(alloc, Move::Releases(channel), done)
+        }
+        _ => Ok(None),
+    }
+}
+
+/// The answer of a loop before a turn.
+#[tactic(auto, using(crate::proofs::Below::at_act_is, crate::proofs::Asked::not_turn))]
+pub(crate) fn repeat(
+    alloc: Global,
+    ask: Ask,
+    place: &[Entry],
+    turn: u64,
+    body: &Left,
+) -> Result<Option<Moved>, AllocError>
+    ensures { IfOk result (λ r. answer_of r ≡ model.at_act (2 * turn) place.now (model.after_loop turn (residual_of_left body.now) (ask_of ask))) }
+{
+    if !is_turn(place, turn) {
+        return Ok(None);
+    }
+    match ask {
+        Ask::Turn => {
+            let left = in_turn(alloc, turn, body)?;
+            moved(alloc, Move::Turns, left)
+        }
+        _ => Ok(None),
+    }
+}
+
+/// A loop in a turn.
+fn in_turn(alloc: Global, turn: u64, body: &Left) -> Result<Boxed<Left>, AllocError>
+    requires { turn < 2 ^ 32 }
+    ensures { IfOk result (λ made. residual_of_left made ≡ residual.within (2 * turn + 1) (residual_of_left body.now) (residual.loop (turn + 1) (residual_of_left body.now))) }
+{
+    let again = body.copy(alloc)?;
+    let next = Boxed::new(alloc, Left::Loop(turn + 1, again))?;
+    within(alloc, 2 * turn + 1, body.copy(alloc)?, next)
+}
+
+/// The answer of a while loop before a test.
+#[tactic(auto, using(crate::proofs::Below::at_act_is, crate::proofs::Asked::not_while))]
+pub(crate) fn repeat_while(
+    alloc: Global,
+    ask: Ask,
+    place: &[Entry],
+    turn: u64,
+    guard: &Expression,
+    body: &Left,
+) -> Result<Option<Moved>, AllocError>
+    ensures { IfOk result (λ r. answer_of r ≡ model.at_act (2 * turn) place.now (model.after_while turn (expression_of guard.now) (residual_of_left body.now) (ask_of ask))) }
+{
+    if !is_turn(place, turn) {
+        return Ok(None);
+    }
+    match ask {
+        Ask::Test(None) => {
+            let decision = one_guard(alloc, guard)?;
+            let done = Left::done(alloc)?;
+            moved(alloc, Move::Tests(decision, None), done)
+        }
+        Ask::Test(Some(arm)) => {
+            if arm != 0 {
+                return Ok(None);
+            }
+            let decision = one_guard(alloc, guard)?;
+            let left = in_test(alloc, turn, guard, body)?;
+            moved(alloc, Move::Tests(decision, Some(0)), left)
+        }
+        _ => Ok(None),
+    }
+}
+
+/// A while loop after a test that went on.
+fn in_test(
+    alloc: Global,
+    turn: u64,
+    guard: &Expression,
+    body: &Left,
+) -> Result<Boxed<Left>, AllocError>
+    requires { turn < 2 ^ 32 }
+    ensures { IfOk result (λ made. residual_of_left made ≡ residual.within (2 * turn + 1) (residual_of_left body.now) (residual.while (turn + 1) (expression_of guard.now) (residual_of_left body.now))) }
+{
+    let guard = guard.copy(alloc)?;
+    let again = body.copy(alloc)?;
+    let next = Boxed::new(alloc, Left::While(turn + 1, guard, again))?;
+    within(alloc, 2 * turn + 1, body.copy(alloc)?, next)
+}
+
+/// The test of a while loop.
+fn one_guard(alloc: Global, guard: &Expression) -> Result<Decision, AllocError>
+    ensures { IfOk result (λ made. decision_of made ≡ expression.by_guards (expression_of guard.now ∷ []) false) }
+{
+    let mut guards = Items::with_capacity(alloc, 1)?;
+    guards.push(guard.copy(alloc)?)?;
+    Ok(Decision::Guards(guards, false))
+}
+
+/// The answer of a test with arms.
+#[tactic(auto, using(crate::proofs::Below::at_act_is, crate::proofs::Asked::not_test))]
+pub(crate) fn test(
+    alloc: Global,
+    ask: Ask,
+    place: &[Entry],
+    decision: &Decision,
+    arms: &Items<Boxed<Left>>,
+) -> Result<Option<Moved>, AllocError>
+    ensures { IfOk result (λ r. answer_of r ≡ model.at_act 0 place.now (model.after_test (decision_of decision.now) (arms_of (map residual_of_left arms.now) None) (ask_of ask))) }
+{
+    if !is_act(place, 0) {
+        return Ok(None);
+    }
+    match ask {
+        Ask::Test(None) => {
+            let decision = decision.copy(alloc)?;
+            let done = Left::done(alloc)?;
+            moved(alloc, Move::Tests(decision, None), done)
+        }
+        Ask::Test(Some(arm)) => {
+            let decision = decision.copy(alloc)?;
+            let body = arm_at(alloc, arms, arm)?;
+            let done = Left::done(alloc)?;
+            let left = within(alloc, 1, body, done)?;
+            moved(alloc, Move::Tests(decision, Some(arm)), left)
+        }
+        _ => Ok(None),
+    }
+}
+
+/// A copy of the arm of this number; nothing past the last.
+fn arm_at(alloc: Global, arms: &Items<Boxed<Left>>, arm: u32) -> Result<Boxed<Left>, AllocError>
+    ensures { IfOk result (λ made. residual_of_left made ≡ residual.arm_at (arms_of (map residual_of_left arms.now) None) arm) }
+{
+    match arms.get(arm as usize) {
+        Some(body) => body.get().copy(alloc),
+        None => Left::done(alloc),
+    }
+}
+
+/// The answer of arms that wait on their channels.
+#[tactic(auto, using(crate::proofs::Below::at_act_is, crate::proofs::Asked::not_open))]
+pub(crate) fn choose(
+    alloc: Global,
+    ask: Ask,
+    place: &[Entry],
+    channels: &[u32],
+    arms: &Items<Boxed<Left>>,
+) -> Result<Option<Moved>, AllocError>
+    ensures { IfOk result (λ r. answer_of r ≡ model.at_act 0 place.now (model.after_choose channels.now (arms_of (map residual_of_left arms.now) None) (ask_of ask))) }
+{
+    if !is_act(place, 0) {
+        return Ok(None);
+    }
+    match ask {
+        Ask::Open(arm, received) => open(alloc, channels, arms, arm, received),
+        _ => Ok(None),
+    }
+}
+
+/// The answer of an arm that opens on its channel, if there is one.
+fn open(
+    alloc: Global,
+    channels: &[u32],
+    arms: &Items<Boxed<Left>>,
+    arm: u32,
+    received: Option<Value>,
+) -> Result<Option<Moved>, AllocError>
+    ensures { IfOk result (λ r. answer_of r ≡ model.after_open (slice_get channels.now arm) (arms_of (map residual_of_left arms.now) None) arm received) }
+{
+    match channels.get(arm as usize) {
+        None => Ok(None),
+        Some(channel) => open_on(alloc, *channel, arms, arm, received),
+    }
+}
+
+/// The answer of an arm that opens on the channel.
+fn open_on(
+    alloc: Global,
+    channel: u32,
+    arms: &Items<Boxed<Left>>,
+    arm: u32,
+    received: Option<Value>,
+) -> Result<Option<Moved>, AllocError>
+    ensures { IfOk result (λ r. answer_of r ≡ model.after_open (Some channel) (arms_of (map residual_of_left arms.now) None) arm received) }
+{
+    let left = in_arm(alloc, channel, arms, arm, &received)?;
+    moved(alloc, Move::Opens(channel, arm, received), left)
+}
+
+/// An arm that is opened, and after it the close on the channel.
+fn in_arm(
+    alloc: Global,
+    channel: u32,
+    arms: &Items<Boxed<Left>>,
+    arm: u32,
+    received: &Option<Value>,
+) -> Result<Boxed<Left>, AllocError>
+    ensures { IfOk result (λ made. residual_of_left made ≡ residual.within 1 (residual.opened channel received.now (residual.arm_at (arms_of (map residual_of_left arms.now) None) arm)) (residual.closing channel)) }
+{
+    let body = arm_at(alloc, arms, arm)?;
+    let body = opened(alloc, channel, received, body)?;
+    let closing = Boxed::new(alloc, Left::Closing(channel))?;
+    within(alloc, 1, body, closing)
+}
+
+/// The arm opened on the channel, with what was received, if anything.
+fn opened(
+    alloc: Global,
+    channel: u32,
+    received: &Option<Value>,
+    body: Boxed<Left>,
+) -> Result<Boxed<Left>, AllocError>
+    ensures { IfOk result (λ made. residual_of_left made ≡ residual.opened channel received.now (residual_of_left body)) }
+{
+    match received {
+        None => Ok(body),
+        Some(value) => body.get().with_received(alloc, channel, *value),
+    }
+}
+
+/// The answer of what comes after an opened arm.
+#[tactic(auto, using(crate::proofs::Below::at_act_is, crate::proofs::Asked::not_close))]
+pub(crate) fn close(
+    alloc: Global,
+    ask: Ask,
+    place: &[Entry],
+    channel: u32,
+) -> Result<Option<Moved>, AllocError>
+    ensures { IfOk result (λ r. answer_of r ≡ model.at_act 2 place.now (model.after_closing channel (ask_of ask))) }
+{
+    if !is_act(place, 2) {
+        return Ok(None);
+    }
+    match ask {
+        Ask::Close => {
+            let done = Left::done(alloc)?;
+            moved(alloc, Move::Closes(channel), done)
+        }
+        _ => Ok(None),
+    }
+}
+
+/// The answer of the receives on an output port, before an act.
+#[tactic(auto, using(crate::proofs::Below::at_act_is, crate::proofs::Asked::not_drain))]
+pub(crate) fn drain(
+    alloc: Global,
+    ask: Ask,
+    place: &[Entry],
+    channel: u32,
+    act: u64,
+) -> Result<Option<Moved>, AllocError>
+    ensures { IfOk result (λ r. answer_of r ≡ model.at_act act place.now (model.after_drain channel act (ask_of ask))) }
+{
+    if !is_act(place, act) {
+        return Ok(None);
+    }
+    match ask {
+        Ask::Receive => {
+            let left = Boxed::new(alloc, Left::Drain(channel, act + 1))?;
+            moved(alloc, Move::Receives(channel, None), left)
+        }
+        _ => Ok(None),
+    }
+}

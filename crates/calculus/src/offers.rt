@@ -1,0 +1,64 @@
+// Local moves in memory: the move that is asked for at a place, and what is left after it.
+ghost use Rattle.std.specs.Prelude.{◌≡◌, IfOk};
+ghost use Rattle.calculus.specs.After as model;
+ghost use Rattle.calculus.specs.Left.{residual_of_left};
+ghost use Rattle.calculus.specs.Answers.{ask_of, answer_of};
+
+use crate::answers;
+use crate::left::Left;
+use crate::moves::{Ask, Moved};
+use crate::place::{below_branch, below_child};
+use address::Entry;
+use std::alloc::{AllocError, Global};
+
+/// The move that is asked of the tree at the place, and what is left after it. `None` where there is no such move.
+pub(crate) fn after(
+    alloc: Global,
+    ask: Ask,
+    left: &Left,
+    place: &[Entry],
+) -> Result<Option<Moved>, AllocError>
+    ensures { IfOk result (λ r. answer_of r ≡ model.after (ask_of ask) (residual_of_left left.now) place.now) }
+{
+    match left {
+        Left::Done | Left::Halted => Ok(None),
+        Left::Inside(number, child, next) => match below_child(place, *number) {
+            Some(below) => {
+                let answer = after(alloc, ask, child.get(), below)?;
+                answers::inside(alloc, *number, answer, next.get())
+            }
+            None => Ok(None),
+        },
+        Left::Beside(number, child, rest) => match below_branch(place, *number) {
+            Some(below) => {
+                let answer = after(alloc, ask, child.get(), below)?;
+                answers::in_branch(alloc, *number, answer, rest.get())
+            }
+            None => {
+                let answer = after(alloc, ask, rest.get(), place)?;
+                answers::beside(alloc, *number, child.get(), answer)
+            }
+        },
+        Left::Assign(variable, width, value) => {
+            answers::assign(alloc, ask, place, *variable, *width, value)
+        }
+        Left::Send(channel, width, value) => {
+            answers::send(alloc, ask, place, *channel, *width, value)
+        }
+        Left::Receive(channel, variable) => {
+            answers::receive(alloc, ask, place, *channel, *variable)
+        }
+        Left::Sync(channel) => answers::sync(alloc, ask, place, *channel),
+        Left::Held(channel) => answers::held(alloc, ask, place, *channel),
+        Left::Loop(turn, body) => answers::repeat(alloc, ask, place, *turn, body.get()),
+        Left::While(turn, guard, body) => {
+            answers::repeat_while(alloc, ask, place, *turn, guard, body.get())
+        }
+        Left::Test(decision, arms) => { answers::test(alloc, ask, place, decision, arms) }
+        Left::Choose(channels, arms) => {
+            answers::choose(alloc, ask, place, channels.as_slice(), arms)
+        }
+        Left::Closing(channel) => answers::close(alloc, ask, place, *channel),
+        Left::Drain(channel, act) => answers::drain(alloc, ask, place, *channel, *act),
+    }
+}

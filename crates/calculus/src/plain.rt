@@ -1,0 +1,22 @@
+ghost use Rattle.std.specs.Prelude.{◌≡◌, slice_get};
+ghost use Rattle.calculus.specs.Plain.{state_of};
+
+use crate::left::Left;
+use syntax::Boxed;
+use value::Value;
+
+/// The state of a run as the slow replay holds it: what is still to do, and the values of the variables.
+#[derive(Drop)]
+pub struct Plain {
+    pub(crate) left: Boxed<Left>,
+    pub(crate) values: Vec<Value>,
+}
+
+impl Plain {
+    /// The value of the variable of this number; `None` past the last.
+    pub fn value(&self, variable: u32) -> Option<Value>
+        ensures { result ≡ slice_get (state_of self.now).store variable }
+    {
+        self.values.get(variable as usize).copied()
+    }
+}

@@ -1,0 +1,47 @@
+ghost use Rattle.std.specs.Prelude.{◌≡◌, IfOk, MatchOption};
+ghost use Rattle.std.specs.Option.{option_map};
+ghost use Rattle.calculus.specs.Steps.{State};
+ghost use Rattle.calculus.specs.Runs.{Run};
+ghost use Rattle.calculus.specs.StepOf.{run_of};
+ghost use Rattle.calculus.specs.Plain.{state_of};
+ghost use Rattle.calculus.specs.Opening.{opening};
+
+use crate::start::opening;
+use crate::step::step;
+use crate::{Event, Plain};
+use elaborate::System;
+use sharing_check::Checked;
+use std::alloc::{AllocError, Global};
+
+/// The state to which the events lead in their order, from the state before the first event. `None` where one of them
+/// is not possible when its turn comes.
+///
+/// It copies all that is still to do at each event: it is slow, and is there to be compared with.
+pub fn replay(
+    alloc: Global,
+    system: &Checked,
+    events: &[Event],
+) -> Result<Option<Plain>, AllocError>
+    ensures computed { IfOk result (λ r. option_map state_of r ≡ run_of (opening system.now) events.now) }
+    ensures run { IfOk result (λ r. MatchOption r ((T : State) → Run (opening system.now) events.now T → ⊥) (λ p. Run (opening system.now) events.now (state_of p))) }
+{
+    state_after(alloc, system.system(), events)
+}
+
+/// The state after the events in their order, if they are possible.
+fn state_after(
+    alloc: Global,
+    system: &System,
+    events: &[Event],
+) -> Result<Option<Plain>, AllocError>
+    ensures { IfOk result (λ r. option_map state_of r ≡ run_of (opening system.now) events.now) }
+{
+    let mut state = opening(alloc, system)?;
+    for event in events {
+        match step(alloc, &state, event)? {
+            Some(next) => state = next,
+            None => return Ok(None),
+        }
+    }
+    Ok(Some(state))
+}

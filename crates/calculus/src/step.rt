@@ -1,0 +1,197 @@
+// One event, taken in a state.
+ghost use Rattle.std.specs.Prelude.{◌≡◌, Option, Some, IfOk, cond, None};
+ghost use Rattle.std.specs.Option.{option_map, option_and_then};
+ghost use Rattle.elaborate.specs.Expression as expression;
+ghost use Rattle.calculus.specs.Left.{residual_of_left};
+ghost use Rattle.calculus.specs.Answers.{ask_of, move_of};
+ghost use Rattle.calculus.specs.After as after;
+ghost use Rattle.calculus.specs.Events.{store_after};
+ghost use Rattle.calculus.specs.Made.{made_together};
+ghost use Rattle.calculus.specs.Tests.{apart};
+ghost use Rattle.calculus.specs.StepOf.{step_of, agreed};
+ghost use Rattle.calculus.specs.Sides as sides;
+ghost use Rattle.calculus.specs.Plain.{state_of};
+
+use crate::apart::are_apart;
+use crate::left::Left;
+use crate::making::{made_alone, made_together};
+use crate::moves::{Ask, Move, Moved};
+use crate::offers::after;
+use crate::{Event, Kind, Plain};
+use address::Address;
+use std::alloc::{AllocError, Global};
+use syntax::Boxed;
+use value::Value;
+
+/// The state after the event. `None` where the event is not possible.
+pub(crate) fn step(alloc: Global, state: &Plain, event: &Event) -> Result<Option<Plain>, AllocError>
+    ensures { IfOk result (λ r. option_map state_of r ≡ step_of (state_of state.now) event.now) }
+{
+    match event.kind {
+        Kind::Assign => alone(alloc, state, event, Ask::Assign),
+        Kind::Test => alone(alloc, state, event, Ask::Test(event.arm)),
+        Kind::Turn => alone(alloc, state, event, Ask::Turn),
+        Kind::Meet => together(alloc, state, event, Ask::Send, Ask::Receive),
+        Kind::Open => match event.arm {
+            Some(arm) => together(alloc, state, event, Ask::Hold, Ask::Open(arm, event.value)),
+            None => Ok(None),
+        },
+        Kind::Close => together(alloc, state, event, Ask::Release, Ask::Close),
+        Kind::Sync => together(alloc, state, event, Ask::Sync, Ask::Sync),
+    }
+}
+
+/// The state after an event with one side.
+fn alone(alloc: Global, state: &Plain, event: &Event, ask: Ask) -> Result<Option<Plain>, AllocError>
+    ensures { IfOk result (λ r. option_map state_of r ≡ sides.alone (state_of state.now) event.now (ask_of ask)) }
+{
+    match after(alloc, ask, state.left.get(), event.first.entries())? {
+        Some(moved) => {
+            let Moved { by, left } = moved;
+            let made = made_alone(alloc, state.values.as_slice(), &event.first, by.get())?;
+            agreed(alloc, state, event, left, made)
+        }
+        None => Ok(None),
+    }
+}
+
+/// The state after an event with two sides.
+fn together(
+    alloc: Global,
+    state: &Plain,
+    event: &Event,
+    first_ask: Ask,
+    second_ask: Ask,
+) -> Result<Option<Plain>, AllocError>
+    ensures { IfOk result (λ r. option_map state_of r ≡ sides.together (state_of state.now) event.now (ask_of first_ask) (ask_of second_ask)) }
+{
+    match &event.second {
+        Some(second) => together_at(alloc, state, event, first_ask, second_ask, second),
+        None => Ok(None),
+    }
+}
+
+/// The state after an event with two sides, the second at this place.
+fn together_at(
+    alloc: Global,
+    state: &Plain,
+    event: &Event,
+    first_ask: Ask,
+    second_ask: Ask,
+    second: &Address,
+) -> Result<Option<Plain>, AllocError>
+    ensures { IfOk result (λ r. option_map state_of r ≡ sides.together_at (state_of state.now) event.now (ask_of first_ask) (ask_of second_ask) second.now) }
+{
+    match after(alloc, first_ask, state.left.get(), event.first.entries())? {
+        Some(moved) => {
+            let Moved { by, left } = moved;
+            second_side(
+                alloc,
+                state,
+                event,
+                second_ask,
+                second,
+                by.get(),
+                left.get(),
+            )
+        }
+        None => Ok(None),
+    }
+}
+
+/// The state after an event whose first side did this move, which left this.
+fn second_side(
+    alloc: Global,
+    state: &Plain,
+    event: &Event,
+    ask: Ask,
+    second: &Address,
+    one: &Move,
+    left: &Left,
+) -> Result<Option<Plain>, AllocError>
+    ensures { IfOk result (λ r. option_map state_of r ≡ option_and_then (λ y. agreed (state_of state.now) event.now y.1 (cond (apart event.now.first second.now) (made_together (state_of state.now).store event.now.first (move_of one.now) second.now y.0) None)) (after.after (ask_of ask) (residual_of_left left.now) second.now)) }
+{
+    match after(alloc, ask, left, second.entries())? {
+        Some(moved) => {
+            let Moved { by, left } = moved;
+            let made = made_apart(
+                alloc,
+                state.values.as_slice(),
+                &event.first,
+                one,
+                second,
+                by.get(),
+            )?;
+            agreed(alloc, state, event, left, made)
+        }
+        None => Ok(None),
+    }
+}
+
+/// The event of two moves at places that are apart, if they make one.
+fn made_apart(
+    alloc: Global,
+    values: &[Value],
+    first: &Address,
+    one: &Move,
+    second: &Address,
+    other: &Move,
+) -> Result<Option<Event>, AllocError>
+    ensures { IfOk result (λ r. r ≡ cond (apart first.now second.now) (made_together values.now first.now (move_of one.now) second.now (move_of other.now)) None) }
+{
+    if are_apart(first.entries(), second.entries()) {
+        made_together(alloc, values, first, one, second, other)
+    } else {
+        Ok(None)
+    }
+}
+
+/// The state after the event with this left to do, where the event is the one that was made.
+fn agreed(
+    alloc: Global,
+    state: &Plain,
+    event: &Event,
+    left: Boxed<Left>,
+    made: Option<Event>,
+) -> Result<Option<Plain>, AllocError>
+    ensures { IfOk result (λ r. option_map state_of r ≡ agreed (state_of state.now) event.now (residual_of_left left) made) }
+{
+    match made {
+        Some(made) => {
+            if !made.equals(event) {
+                return Ok(None);
+            }
+            let values = values_after(alloc, event, state.values.as_slice())?;
+            Ok(Some(Plain { left, values }))
+        }
+        None => Ok(None),
+    }
+}
+
+/// The values of the variables after the event.
+fn values_after(alloc: Global, event: &Event, values: &[Value]) -> Result<Vec<Value>, AllocError>
+    ensures { IfOk result (λ made. made.items ≡ store_after event.now values.now) }
+{
+    let mut values = Vec::from_slice(alloc, values)?;
+    match event.written {
+        Some(variable) => match event.value {
+            Some(value) => {
+                write(&mut values, variable, value);
+                Ok(values)
+            }
+            None => Ok(values),
+        },
+        None => Ok(values),
+    }
+}
+
+/// Writes the value, cut or widened to the variable's width. Past the last variable nothing changes.
+fn write(values: &mut Vec<Value>, variable: u32, value: Value)
+    ensures { values.new.items ≡ expression.put values.old.items variable value }
+{
+    let index = variable as usize;
+    if index < values.len() {
+        let width = values[index].width();
+        values[index] = value::resize(value, width);
+    }
+}

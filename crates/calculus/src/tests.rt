@@ -1,0 +1,4 @@
+//! Tests of `replay` on systems built by hand.
+
+mod building;
+mod runs;

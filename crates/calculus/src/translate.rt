@@ -1,0 +1,263 @@
+// What a system is to do, as a tree in memory.
+ghost use Rattle.std.specs.Prelude.{◌≡◌, List, [], ◌∷◌, map, is_some, IfOk, None};
+ghost use Rattle.std.specs.Option.{option_map};
+ghost use Rattle.elaborate.specs.Expression as expression;
+ghost use Rattle.elaborate.specs.Residual as residual;
+ghost use Rattle.elaborate.specs.Translation as translation;
+ghost use Rattle.calculus.specs.Left.{residual_of_left};
+ghost use Rattle.calculus.specs.Translate.{guarded_of, labelled_of, arm_of};
+
+use crate::left::{Left, along, within};
+use elaborate::{Action, Arm, Command, Decision, Expression, Guarded, Labelled};
+use std::alloc::{AllocError, Global};
+use syntax::{Boxed, Items};
+
+/// What the command is to do.
+#[cycle(left_of)]
+pub(crate) fn left_of(alloc: Global, command: &Command) -> Result<Boxed<Left>, AllocError>
+    ensures { IfOk result (λ made. residual_of_left made ≡ translation.residual_of command.now) }
+{
+    match &command.action {
+        Action::Continue => Boxed::new(alloc, Left::Done),
+        Action::Halt => Boxed::new(alloc, Left::Halted),
+        Action::Assign(variable, width, value) => {
+            let value = value.copy(alloc)?;
+            Boxed::new(alloc, Left::Assign(variable.number, *width, value))
+        }
+        Action::Send(channel, width, value) => {
+            let value = value.copy(alloc)?;
+            Boxed::new(alloc, Left::Send(channel.number, *width, value))
+        }
+        Action::Receive(channel, variable) => {
+            Boxed::new(alloc, Left::Receive(channel.number, variable.number))
+        }
+        Action::Sync(channel) => Boxed::new(alloc, Left::Sync(channel.number)),
+        Action::Loop(body) => {
+            let body = left_of(alloc, body.get())?;
+            Boxed::new(alloc, Left::Loop(0, body))
+        }
+        Action::While(guard, body) => {
+            let guard = guard.copy(alloc)?;
+            let body = left_of(alloc, body.get())?;
+            Boxed::new(alloc, Left::While(0, guard, body))
+        }
+        Action::If(arms, last) => {
+            let bodies = bodies_of_if(alloc, arms.as_slice())?;
+            let last = left_of_last(alloc, last)?;
+            if_left(alloc, arms.as_slice(), bodies, last)
+        }
+        Action::Case(subject, arms, last) => {
+            let bodies = bodies_of_case(alloc, arms.as_slice())?;
+            let last = left_of_last(alloc, last)?;
+            case_left(alloc, subject, arms.as_slice(), bodies, last)
+        }
+        Action::Input(channel, body) => {
+            let body = left_of(alloc, body.get())?;
+            input_left(alloc, channel.number, body)
+        }
+        Action::Select(arms) | Action::Arbitrate(arms) => {
+            let bodies = bodies_of_arms(alloc, arms.as_slice())?;
+            choose_left(alloc, arms.as_slice(), bodies)
+        }
+        Action::Sequence(children) => {
+            let children = lefts_of(alloc, children.as_slice())?;
+            in_sequence(alloc, children)
+        }
+        Action::Parallel(children) => {
+            let children = lefts_of(alloc, children.as_slice())?;
+            in_parallel(alloc, children)
+        }
+    }
+}
+
+/// What each of the commands is to do.
+#[cycle(left_of)]
+fn lefts_of(alloc: Global, commands: &[Command]) -> Result<Items<Boxed<Left>>, AllocError>
+    ensures { IfOk result (λ made. map residual_of_left made ≡ map translation.residual_of commands.now) }
+{
+    let mut lefts = Items::with_capacity(alloc, commands.len())?;
+    for command in commands {
+        lefts.push(left_of(alloc, command)?)?;
+    }
+    Ok(lefts)
+}
+
+/// What the body of each arm of an `if` is to do.
+#[cycle(left_of)]
+fn bodies_of_if(alloc: Global, arms: &[Guarded]) -> Result<Items<Boxed<Left>>, AllocError>
+    ensures { IfOk result (λ made. map residual_of_left made ≡ map (λ a. a.body) (map guarded_of arms.now)) }
+{
+    let mut lefts = Items::with_capacity(alloc, arms.len())?;
+    for arm in arms {
+        lefts.push(left_of(alloc, &arm.body)?)?;
+    }
+    Ok(lefts)
+}
+
+/// What the body of each arm of a `case` is to do.
+#[cycle(left_of)]
+fn bodies_of_case(alloc: Global, arms: &[Labelled]) -> Result<Items<Boxed<Left>>, AllocError>
+    ensures { IfOk result (λ made. map residual_of_left made ≡ map (λ a. a.body) (map labelled_of arms.now)) }
+{
+    let mut lefts = Items::with_capacity(alloc, arms.len())?;
+    for arm in arms {
+        lefts.push(left_of(alloc, &arm.body)?)?;
+    }
+    Ok(lefts)
+}
+
+/// What the body of each arm that waits on a channel is to do.
+#[cycle(left_of)]
+fn bodies_of_arms(alloc: Global, arms: &[Arm]) -> Result<Items<Boxed<Left>>, AllocError>
+    ensures { IfOk result (λ made. map residual_of_left made ≡ map (λ a. a.body) (map arm_of arms.now)) }
+{
+    let mut lefts = Items::with_capacity(alloc, arms.len())?;
+    for arm in arms {
+        lefts.push(left_of(alloc, &arm.body)?)?;
+    }
+    Ok(lefts)
+}
+
+/// What the `else` is to do, if there is one.
+#[cycle(left_of)]
+fn left_of_last(
+    alloc: Global,
+    last: &Option<Boxed<Command>>,
+) -> Result<Option<Boxed<Left>>, AllocError>
+    ensures { IfOk result (λ made. option_map residual_of_left made ≡ option_map translation.residual_of last.now) }
+{
+    match last {
+        Some(body) => Ok(Some(left_of(alloc, body.get())?)),
+        None => Ok(None),
+    }
+}
+
+/// The guards of the arms of an `if`.
+fn guards_of(alloc: Global, arms: &[Guarded]) -> Result<Items<Expression>, AllocError>
+    ensures { IfOk result (λ made. map translation.expression_of made ≡ map (λ a. a.guard) (map guarded_of arms.now)) }
+{
+    let mut guards = Items::with_capacity(alloc, arms.len())?;
+    for arm in arms {
+        guards.push(arm.guard.copy(alloc)?)?;
+    }
+    Ok(guards)
+}
+
+/// The labels of the arms of a `case`.
+fn labels_of(alloc: Global, arms: &[Labelled]) -> Result<Items<Items<u64>>, AllocError>
+    ensures { IfOk result (λ made. made ≡ map (λ a. a.labels) (map labelled_of arms.now)) }
+{
+    let mut labels = Items::with_capacity(alloc, arms.len())?;
+    for arm in arms {
+        let copy = Vec::from_slice(alloc, arm.labels.as_slice())?;
+        labels.push(Items::from_vec(copy))?;
+    }
+    Ok(labels)
+}
+
+/// An `if` before its test, with these bodies.
+fn if_left(
+    alloc: Global,
+    arms: &[Guarded],
+    bodies: Items<Boxed<Left>>,
+    last: Option<Boxed<Left>>,
+) -> Result<Boxed<Left>, AllocError>
+    ensures { IfOk result (λ made. residual_of_left made ≡ residual.test (expression.by_guards (map (λ a. a.guard) (map guarded_of arms.now)) (is_some last)) (translation.arms_of (map residual_of_left bodies) (option_map residual_of_left last))) }
+{
+    let guards = guards_of(alloc, arms)?;
+    let decision = Decision::Guards(guards, last.is_some());
+    let bodies = with_last(bodies, last)?;
+    Left::test(alloc, decision, bodies)
+}
+
+/// A `case` before its test, with these bodies.
+fn case_left(
+    alloc: Global,
+    subject: &Expression,
+    arms: &[Labelled],
+    bodies: Items<Boxed<Left>>,
+    last: Option<Boxed<Left>>,
+) -> Result<Boxed<Left>, AllocError>
+    ensures { IfOk result (λ made. residual_of_left made ≡ residual.test (expression.by_labels (translation.expression_of subject.now) (map (λ a. a.labels) (map labelled_of arms.now)) (is_some last)) (translation.arms_of (map residual_of_left bodies) (option_map residual_of_left last))) }
+{
+    let labels = labels_of(alloc, arms)?;
+    let decision = Decision::Labels(subject.copy(alloc)?, labels, last.is_some());
+    let bodies = with_last(bodies, last)?;
+    Left::test(alloc, decision, bodies)
+}
+
+/// The arms with the `else` as the last.
+#[tactic(auto, using(crate::proofs::Lefts::arms_with_last))]
+fn with_last(
+    arms: Items<Boxed<Left>>,
+    last: Option<Boxed<Left>>,
+) -> Result<Items<Boxed<Left>>, AllocError>
+    ensures { IfOk result (λ made. translation.arms_of (map residual_of_left made) None ≡ translation.arms_of (map residual_of_left arms) (option_map residual_of_left last)) }
+{
+    match last {
+        Some(last) => {
+            let mut arms = arms;
+            arms.push(last)?;
+            Ok(arms)
+        }
+        None => Ok(arms),
+    }
+}
+
+/// A command that waits for the channel to enclose it.
+fn input_left(alloc: Global, channel: u32, body: Boxed<Left>) -> Result<Boxed<Left>, AllocError>
+    ensures { IfOk result (λ made. residual_of_left made ≡ residual.choose (channel ∷ []) (residual.arm (residual_of_left body) residual.no_arms)) }
+{
+    let mut channels = Items::with_capacity(alloc, 1)?;
+    channels.push(channel)?;
+    let mut arms = Items::with_capacity(alloc, 1)?;
+    arms.push(body)?;
+    Boxed::new(alloc, Left::Choose(channels, arms))
+}
+
+/// Arms that wait on their channels, with these bodies.
+fn choose_left(
+    alloc: Global,
+    arms: &[Arm],
+    bodies: Items<Boxed<Left>>,
+) -> Result<Boxed<Left>, AllocError>
+    ensures { IfOk result (λ made. residual_of_left made ≡ residual.choose (map (λ a. a.channel) (map arm_of arms.now)) (translation.arms_of (map residual_of_left bodies) None)) }
+{
+    let mut channels = Items::with_capacity(alloc, arms.len())?;
+    for arm in arms {
+        channels.push(arm.channel.number)?;
+    }
+    Boxed::new(alloc, Left::Choose(channels, bodies))
+}
+
+/// The children one after another.
+#[tactic(auto, using(crate::proofs::Children::sequence_begins))]
+pub(crate) fn in_sequence(
+    alloc: Global,
+    children: Items<Boxed<Left>>,
+) -> Result<Boxed<Left>, AllocError>
+    ensures { IfOk result (λ made. residual_of_left made ≡ translation.in_sequence 0 (map residual_of_left children)) }
+{
+    let mut left = Left::done(alloc)?;
+    let mut children = children;
+    while let Some(child) = children.pop() {
+        left = within(alloc, children.len() as u64, child, left)?;
+    }
+    Ok(left)
+}
+
+/// The children beside one another.
+#[tactic(auto, using(crate::proofs::Children::parallel_begins))]
+pub(crate) fn in_parallel(
+    alloc: Global,
+    children: Items<Boxed<Left>>,
+) -> Result<Boxed<Left>, AllocError>
+    ensures { IfOk result (λ made. residual_of_left made ≡ translation.in_parallel 0 (map residual_of_left children)) }
+{
+    let mut left = Left::done(alloc)?;
+    let mut children = children;
+    while let Some(child) = children.pop() {
+        left = along(alloc, children.len() as u64, child, left)?;
+    }
+    Ok(left)
+}
