@@ -58,6 +58,6 @@ in_branch_none n a child rest h = in_branch_is n a child rest ∙ ap (λ o. belo
 pub even_half : (i k : ℕ) → ((i % 2 == 0) && (i / 2 == k)) ≡ (i == 2 * k)
 even_half i k =
     decided ((i % 2 == 0) && (i / 2 == k)) (i == 2 * k) (i ≡ 2 * k)
-      (Decides-like ((i % 2 == 0) && (i / 2 == k)) (λ h. let p = h.0 in let q = h.1 in omega arith) (λ (h : i ≡ 2 * k). (omega arith, omega arith))
-        (Decides-and (i % 2 == 0) (i / 2 == k) (Decides-eqb (i % 2) 0) (Decides-eqb (i / 2) k)))
-      (Decides-eqb i (2 * k))
+    (Decides-like ((i % 2 == 0) && (i / 2 == k)) (λ h. let p = h.0 in let q = h.1 in omega arith) (λ (h : i ≡ 2 * k). (omega arith, omega arith))
+    (Decides-and (i % 2 == 0) (i / 2 == k) (Decides-eqb (i % 2) 0) (Decides-eqb (i / 2) k)))
+    (Decides-eqb i (2 * k))

@@ -50,6 +50,7 @@ pub mod Rule
 pub mod RuleExamples
 pub mod SameCommand
 pub mod SameEvents
+pub mod Sameness
 pub mod Smart
 pub mod SomeReplies
 pub mod SortedLists
@@ -58,7 +59,6 @@ pub mod StepOf
 pub mod Stepping
 pub mod Stores
 pub mod Swap
-pub mod Tests
 pub mod Three
 pub mod Tickets
 pub mod Together

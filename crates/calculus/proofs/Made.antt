@@ -12,7 +12,7 @@ use Rattle.elaborate.specs.Expression.{Expression, Store, variables, decide, asc
 use Rattle.calculus.specs.Events.{Located, at, sent, Makes, assigning, testing, turning, meeting, opening, opening_without_data, shutting, syncing}
 use Rattle.calculus.specs.Made.{asked, all_ask, event_of, made_alone, made_together, made_by_send, made_by_held_send, made_by_held_sync, made_by_release, made_by_sync}
 use Rattle.calculus.specs.Tests.{apart, same_option, same_word}
-use Rattle.calculus.proofs.Tests.{apart-decides, same_number-decides, same_option-decides, same_word-decides}
+use Rattle.calculus.proofs.Sameness.{apart-decides, same_number-decides, same_option-decides, same_word-decides}
 use Rattle.calculus.proofs.Options.{none-some, some-injective, cond-some, cond-at}
 use Rattle.calculus.specs.declared.event.Event.{Event}
 use Rattle.calculus.specs.declared.event.Kind.TheVariants.{Open}

@@ -27,5 +27,5 @@ pub replayed : {E : Type 0} (system given : System) (h : List Event) (r : Result
     → IfOk r (λ o. MatchOption o ((T : State) → Run (opening system) h T → ⊥) (λ p. Run (opening system) h (state_of p)))
 replayed system given h r g i =
     IfOk-weaker r (λ o. option_map state_of o ≡ run_of (opening given) h)
-      (λ o. MatchOption o ((T : State) → Run (opening system) h T → ⊥) (λ p. Run (opening system) h (state_of p)))
-      (λ o e. answered system h o (e ∙ ap (λ s. run_of (opening s) h) g)) i
+    (λ o. MatchOption o ((T : State) → Run (opening system) h T → ⊥) (λ p. Run (opening system) h (state_of p)))
+    (λ o e. answered system h o (e ∙ ap (λ s. run_of (opening s) h) g)) i

@@ -14,7 +14,7 @@ use Rattle.calculus.proofs.Options.{none-some, some-injective, cond-some, cond-a
 use Rattle.calculus.proofs.WellFormed.{WellFormed}
 use Rattle.calculus.proofs.Kept.{formed}
 use Rattle.calculus.proofs.Swap.{step-formed}
-use Rattle.calculus.proofs.Tests.{same_event-decides}
+use Rattle.calculus.proofs.Sameness.{same_event-decides}
 use Rattle.calculus.proofs.After.{found, only}
 use Rattle.calculus.proofs.Made.{asked-is, made-found, made-only}
 use Rattle.calculus.specs.declared.event.Event.{Event}

@@ -19,7 +19,7 @@ module _ {X : Type 0} (same : X → X → Bool) (tells : (x y : X) → Decides (
   same_list-decides (x ∷ xs) [] = (λ e. cc, λ e. cc)
   same_list-decides (x ∷ xs) (y ∷ ys) =
       Decides-like (same x y && same_list same xs ys) (λ h. let p = h.0 in let q = h.1 in cc) (λ h. (cc, cc))
-        (Decides-and (same x y) (same_list same xs ys) (tells x y) (same_list-decides xs ys))
+      (Decides-and (same x y) (same_list same xs ys) (tells x y) (same_list-decides xs ys))
 
   -- the test of options decides whether they are equal
   pub same_option-decides : (x y : Option X) → Decides (same_option same x y) (x ≡ y)
@@ -47,8 +47,8 @@ word-by_parts v u h = λ i. record { bits = h.0 i; width = h.1 i }
 pub same_word-decides : (v u : Word) → Decides (same_word v u) (v ≡ u)
 same_word-decides v u =
     Decides-like ((v.bits == u.bits) && (v.width == u.width)) (word-by_parts v u)
-      (λ e. (ap (λ (x : Word). x.bits) e, ap (λ (x : Word). x.width) e))
-      (Decides-and (v.bits == u.bits) (v.width == u.width) (Decides-eqb v.bits u.bits) (Decides-eqb v.width u.width))
+    (λ e. (ap (λ (x : Word). x.bits) e, ap (λ (x : Word). x.width) e))
+    (Decides-and (v.bits == u.bits) (v.width == u.width) (Decides-eqb v.bits u.bits) (Decides-eqb v.width u.width))
 
 -- the test of kinds decides whether they are equal
 pub same_kind-decides : (x y : Kind) → Decides (same_kind x y) (x ≡ y)
@@ -69,42 +69,55 @@ same_number-decides x y = same_option-decides ◌==◌ Decides-eqb x y
 EqualParts : Event → Event → Type 0
 EqualParts e f =
     (e.kind ≡ f.kind) × ((e.first ≡ f.first) × ((e.second ≡ f.second) × ((e.arm ≡ f.arm) × ((e.channel ≡ f.channel)
-      × ((e.value ≡ f.value) × ((e.written ≡ f.written) × (e.read ≡ f.read)))))))
+    × ((e.value ≡ f.value) × ((e.written ≡ f.written) × (e.read ≡ f.read)))))))
 
 -- two events are equal where their parts are
 event-by_parts : (e f : Event) → EqualParts e f → e ≡ f
 unfolding EqualParts
 event-by_parts e f h = λ i. record {
-    kind = h.0 i;
-    first = h.1.0 i;
-    second = h.1.1.0 i;
-    arm = h.1.1.1.0 i;
-    channel = h.1.1.1.1.0 i;
-    value = h.1.1.1.1.1.0 i;
-    written = h.1.1.1.1.1.1.0 i;
-    read = h.1.1.1.1.1.1.1 i
-  }
+  kind = h.0 i;
+  first = h.1.0 i;
+  second = h.1.1.0 i;
+  arm = h.1.1.1.0 i;
+  channel = h.1.1.1.1.0 i;
+  value = h.1.1.1.1.1.0 i;
+  written = h.1.1.1.1.1.1.0 i;
+  read = h.1.1.1.1.1.1.1 i;
+}
 
 -- equal events have equal parts
 parts-of_event : (e f : Event) → e ≡ f → EqualParts e f
 unfolding EqualParts
-parts-of_event e f p =
-    (λ i. (p i).kind, (λ i. (p i).first, (λ i. (p i).second, (λ i. (p i).arm, (λ i. (p i).channel,
-      (λ i. (p i).value, (λ i. (p i).written, λ i. (p i).read)))))))
+parts-of_event e f p = (
+  λ i. (p i).kind,
+  (
+    λ i. (p i).first,
+    (
+      λ i. (p i).second,
+      (
+        λ i. (p i).arm,
+        (
+          λ i. (p i).channel,
+          (λ i. (p i).value, (λ i. (p i).written, λ i. (p i).read)),
+        ),
+      ),
+    ),
+  ),
+)
 
 -- the test of events decides whether they are equal
 pub same_event-decides : (e f : Event) → Decides (same_event e f) (e ≡ f)
 unfolding EqualParts
 same_event-decides e f =
     Decides-like (same_event e f) (event-by_parts e f) (parts-of_event e f)
-      (Decides-and _ _ (same_kind-decides e.kind f.kind)
-      (Decides-and _ _ (same_place-decides e.first f.first)
-      (Decides-and _ _ (same_option-decides same_place same_place-decides e.second f.second)
-      (Decides-and _ _ (same_number-decides e.arm f.arm)
-      (Decides-and _ _ (same_number-decides e.channel f.channel)
-      (Decides-and _ _ (same_option-decides same_word same_word-decides e.value f.value)
-      (Decides-and _ _ (same_number-decides e.written f.written)
-        (same_list-decides ◌==◌ Decides-eqb e.read f.read))))))))
+    (Decides-and _ _ (same_kind-decides e.kind f.kind)
+    (Decides-and _ _ (same_place-decides e.first f.first)
+    (Decides-and _ _ (same_option-decides same_place same_place-decides e.second f.second)
+    (Decides-and _ _ (same_number-decides e.arm f.arm)
+    (Decides-and _ _ (same_number-decides e.channel f.channel)
+    (Decides-and _ _ (same_option-decides same_word same_word-decides e.value f.value)
+    (Decides-and _ _ (same_number-decides e.written f.written)
+    (same_list-decides ◌==◌ Decides-eqb e.read f.read))))))))
 
 -- two tests that decide one fact are equal
 pub decided : (b c : Bool) (P : Type 0) → Decides b P → Decides c P → b ≡ c
@@ -116,8 +129,8 @@ decided false false P h g = refl
 -- the test of events is reflexive, symmetric and transitive
 pub same_event-equivalence : IsEquivalence same_event
 same_event-equivalence = record {
-    refl = λ e. (same_event-decides e e).1 refl;
-    symm = λ e f. decided (same_event e f) (same_event f e) (e ≡ f) (same_event-decides e f)
+  refl = λ e. (same_event-decides e e).1 refl;
+  symm = λ e f. decided (same_event e f) (same_event f e) (e ≡ f) (same_event-decides e f)
       (λ h. sym ((same_event-decides f e).0 h), λ h. (same_event-decides f e).1 (sym h));
-    congr = λ e f g h. ap (λ x. same_event x g) ((same_event-decides e f).0 h);
-  }
+  congr = λ e f g h. ap (λ x. same_event x g) ((same_event-decides e f).0 h);
+}

@@ -5,4 +5,4 @@ use Rattle.calculus.proofs.event.EventPartialEq.eq.Goals as goal
 pub returns-clause-equal : goal.returns-clause-equal
 returns-clause-equal c =
     subst (λ (b : Bool). Decides b (c.args.self.now ≡ c.args.other.now)) (sym c.equals.ensures)
-      (same_event-decides c.args.self.now c.args.other.now)
+    (same_event-decides c.args.self.now c.args.other.now)

@@ -13,9 +13,9 @@ pub use Rattle.calculus.specs.EventLaws.{same_list-decides, same_option-decides,
 branch_forward : (i j : ℕ) (a b : Place) → (i ≢ j) ⊎ Apart a b → (i ≢ j) ⊎ ((i ≡ j) × Apart a b)
 branch_forward i j a b h =
     elim (cases_eq i j) [
-        inl e ↦ ⊎_elim (λ n. inl n) (λ p. inr (e, p)) h
+      | inl e ↦ ⊎_elim (λ n. inl n) (λ p. inr (e, p)) h
       | inr n ↦ inl n
-      ]
+    ]
 
 -- the test of apart places decides whether they are apart
 pub apart-decides : (a b : Place) → Decides (apart a b) (Apart a b)
@@ -26,5 +26,5 @@ apart-decides (Ordered i ∷ a) (Branch j ∷ b) = (λ e. cc, λ h. absurd h)
 apart-decides (Branch i ∷ a) (Ordered j ∷ b) = (λ e. cc, λ h. absurd h)
 apart-decides (Branch i ∷ a) (Branch j ∷ b) =
     Decides-like (not (i == j) || apart a b) (branch_forward i j a b)
-      (⊎_elim (λ n. inl n) (λ m. inr m.1))
-      (Decides-or (not (i == j)) (apart a b) (Decides-not (i == j) (Decides-eqb i j)) (apart-decides a b))
+    (⊎_elim (λ n. inl n) (λ m. inr m.1))
+    (Decides-or (not (i == j)) (apart a b) (Decides-not (i == j) (Decides-eqb i j)) (apart-decides a b))

@@ -1,4 +1,0 @@
-//! Tests of `replay` on systems built by hand.
-
-mod building;
-mod runs;
