@@ -17,7 +17,7 @@ use syntax::{Boxed, Items};
 pub(crate) fn left_of(alloc: Global, command: &Command) -> Result<Boxed<Left>, AllocError>
     ensures { IfOk result (λ made. residual_of_left made ≡ translation.residual_of command.now) }
 {
-    match &command.action {
+    match command.action.get() {
         Action::Continue => Boxed::new(alloc, Left::Done),
         Action::Halt => Boxed::new(alloc, Left::Halted),
         Action::Assign(variable, width, value) => {
@@ -33,12 +33,12 @@ pub(crate) fn left_of(alloc: Global, command: &Command) -> Result<Boxed<Left>, A
         }
         Action::Sync(channel) => Boxed::new(alloc, Left::Sync(channel.number)),
         Action::Loop(body) => {
-            let body = left_of(alloc, body.get())?;
+            let body = left_of(alloc, body)?;
             Boxed::new(alloc, Left::Loop(0, body))
         }
         Action::While(guard, body) => {
             let guard = guard.copy(alloc)?;
-            let body = left_of(alloc, body.get())?;
+            let body = left_of(alloc, body)?;
             Boxed::new(alloc, Left::While(0, guard, body))
         }
         Action::If(arms, last) => {
@@ -52,7 +52,7 @@ pub(crate) fn left_of(alloc: Global, command: &Command) -> Result<Boxed<Left>, A
             case_left(alloc, subject, arms.as_slice(), bodies, last)
         }
         Action::Input(channel, body) => {
-            let body = left_of(alloc, body.get())?;
+            let body = left_of(alloc, body)?;
             input_left(alloc, channel.number, body)
         }
         Action::Select(arms) | Action::Arbitrate(arms) => {
@@ -122,12 +122,12 @@ fn bodies_of_arms(alloc: Global, arms: &[Arm]) -> Result<Items<Boxed<Left>>, All
 #[cycle(left_of)]
 fn left_of_last(
     alloc: Global,
-    last: &Option<Boxed<Command>>,
+    last: &Option<Command>,
 ) -> Result<Option<Boxed<Left>>, AllocError>
     ensures { IfOk result (λ made. option_map residual_of_left made ≡ option_map translation.residual_of last.now) }
 {
     match last {
-        Some(body) => Ok(Some(left_of(alloc, body.get())?)),
+        Some(body) => Ok(Some(left_of(alloc, body)?)),
         None => Ok(None),
     }
 }

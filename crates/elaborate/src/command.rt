@@ -1,4 +1,7 @@
+ghost use Rattle.std.specs.Prelude.{◌≡◌, IfOk};
+
 use crate::{Expression, Use};
+use std::alloc::{AllocError, Global};
 use syntax::{Boxed, Items};
 use value::Width;
 
@@ -7,7 +10,7 @@ use value::Width;
 #[derive(Drop)]
 pub struct Command {
     pub line: u64,
-    pub action: Action,
+    pub action: Boxed<Action>,
 }
 
 /// What a command does. A sequence and a parallel have at least two children.
@@ -24,19 +27,31 @@ pub enum Action {
     Receive(Use, Use),
     /// a handshake without data on the channel
     Sync(Use),
-    Loop(Boxed<Command>),
+    Loop(Command),
     /// `loop while guard then body end`
-    While(Expression, Boxed<Command>),
+    While(Expression, Command),
     /// the first guarded body whose guard is true, else the last
-    If(Items<Guarded>, Option<Boxed<Command>>),
+    If(Items<Guarded>, Option<Command>),
     /// the first body with a label equal to the expression's value, else the last
-    Case(Expression, Items<Labelled>, Option<Boxed<Command>>),
+    Case(Expression, Items<Labelled>, Option<Command>),
     /// `c -> then body end`: the handshake is completed when the body has ended
-    Input(Use, Boxed<Command>),
+    Input(Use, Command),
     Select(Items<Arm>),
     Arbitrate(Items<Arm>),
     Sequence(Items<Command>),
     Parallel(Items<Command>),
+}
+
+impl Command {
+    /// The command on `line` that does `action`. Without memory the action is dropped.
+    pub fn new(alloc: Global, line: u64, action: Action) -> Result<Command, AllocError>
+        ensures { IfOk result (λ made. made ≡ record { line = line; action = action }) }
+    {
+        Ok(Command {
+            line,
+            action: Boxed::new(alloc, action)?,
+        })
+    }
 }
 
 /// An arm of `if`.
