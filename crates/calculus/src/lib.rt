@@ -21,6 +21,8 @@ mod same;
 mod slow;
 mod start;
 mod step;
+#[cfg(test)]
+mod tests;
 mod translate;
 
 pub use command::{Command, LAST_TICKET, MOST_LIVE_EVENTS, Refusal, Reply};

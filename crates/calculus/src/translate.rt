@@ -120,10 +120,7 @@ fn bodies_of_arms(alloc: Global, arms: &[Arm]) -> Result<Items<Boxed<Left>>, All
 
 /// What the `else` is to do, if there is one.
 #[cycle(left_of)]
-fn left_of_last(
-    alloc: Global,
-    last: &Option<Command>,
-) -> Result<Option<Boxed<Left>>, AllocError>
+fn left_of_last(alloc: Global, last: &Option<Command>) -> Result<Option<Boxed<Left>>, AllocError>
     ensures { IfOk result (λ made. option_map residual_of_left made ≡ option_map translation.residual_of last.now) }
 {
     match last {

@@ -1,6 +1,7 @@
 //! Runs whose states are known, for the forms of the language and the kinds of event, and lists that are no runs.
 
 use super::building::*;
+use super::told::*;
 use crate::replay;
 use elaborate::{Action, Branch, Command, Expression, Guarded, Labelled, Operator};
 use sharing_check::Checked;
@@ -9,25 +10,24 @@ use std::test::Fail;
 use syntax::{Boxed, Items};
 use value::Comparison;
 
-/// Whether the events run, and leave this number in the variable.
-fn leaves(
+/// The number in the variable after the events, `None` where they do not run.
+fn number_after(
     alloc: Global,
-    checked: &Checked,
-    story: &Story,
+    checked: Checked,
+    told: &[Told],
     variable: u32,
-    bits: u64,
-) -> Result<bool, Fail> {
-    let Some(plain) = replay(alloc, checked, story.events())? else {
-        return Ok(false);
+) -> Result<Option<u64>, Fail> {
+    let events = events(alloc, told)?;
+    let Some(plain) = replay(alloc, &checked, events.as_slice())? else {
+        return Ok(None);
     };
-    let Some(value) = plain.value(variable) else {
-        return Ok(false);
-    };
-    Ok(value.bits() == bits)
+    Ok(plain.value(variable).map(|value| value.bits()))
 }
 
-fn runs(alloc: Global, checked: &Checked, story: &Story) -> Result<bool, Fail> {
-    Ok(replay(alloc, checked, story.events())?.is_some())
+/// Whether the events run.
+fn runs(alloc: Global, checked: Checked, told: &[Told]) -> Result<bool, Fail> {
+    let events = events(alloc, told)?;
+    Ok(replay(alloc, &checked, events.as_slice())?.is_some())
 }
 
 /// A feed of 5 and 7 on channel 0, and a drain of channel 1.
@@ -54,77 +54,63 @@ fn buffer(alloc: Global) -> Result<Checked, Fail> {
 #[test]
 fn the_buffer_reads_and_writes(rt: HostRuntime) -> Result<(), Fail> {
     let alloc = rt.alloc();
-    let checked = buffer(alloc)?;
-    let mut story = Story::new(alloc);
-    story.turn(b"/0.0")?;
-    story.receive(b"/1.0.0", b"/0.1.0", 0, 5, 0)?;
-    story.send(b"/0.1.1.0", b"/2.0", 1, 5, None)?;
-    assert!(rt; leaves(alloc, &checked, &story, 0, 5)?);
+    let told = [
+        turn(b"/0.0"),
+        into(meet(b"/1.0.0", b"/0.1.0", 0, 5), 0),
+        reading(meet(b"/0.1.1.0", b"/2.0", 1, 5)),
+    ];
+    assert_eq!(rt; number_after(alloc, buffer(alloc)?, &told, 0)?, Some(5));
     Ok(())
 }
 
 #[test]
 fn another_order_is_no_run(rt: HostRuntime) -> Result<(), Fail> {
     let alloc = rt.alloc();
-    let checked = buffer(alloc)?;
-    let mut story = Story::new(alloc);
-    story.receive(b"/1.0.0", b"/0.1.0", 0, 5, 0)?;
-    story.turn(b"/0.0")?;
-    assert!(rt; !runs(alloc, &checked, &story)?);
+    let told = [into(meet(b"/1.0.0", b"/0.1.0", 0, 5), 0), turn(b"/0.0")];
+    assert!(rt; !runs(alloc, buffer(alloc)?, &told)?);
     Ok(())
 }
 
 #[test]
 fn a_wrong_value_is_no_run(rt: HostRuntime) -> Result<(), Fail> {
     let alloc = rt.alloc();
-    let checked = buffer(alloc)?;
-    let mut story = Story::new(alloc);
-    story.turn(b"/0.0")?;
-    story.receive(b"/1.0.0", b"/0.1.0", 0, 6, 0)?;
-    assert!(rt; !runs(alloc, &checked, &story)?);
+    let told = [turn(b"/0.0"), into(meet(b"/1.0.0", b"/0.1.0", 0, 6), 0)];
+    assert!(rt; !runs(alloc, buffer(alloc)?, &told)?);
     Ok(())
 }
 
 #[test]
 fn a_wrong_channel_is_no_run(rt: HostRuntime) -> Result<(), Fail> {
     let alloc = rt.alloc();
-    let checked = buffer(alloc)?;
-    let mut story = Story::new(alloc);
-    story.turn(b"/0.0")?;
-    story.receive(b"/1.0.0", b"/0.1.0", 1, 5, 0)?;
-    assert!(rt; !runs(alloc, &checked, &story)?);
+    let told = [turn(b"/0.0"), into(meet(b"/1.0.0", b"/0.1.0", 1, 5), 0)];
+    assert!(rt; !runs(alloc, buffer(alloc)?, &told)?);
     Ok(())
 }
 
 #[test]
 fn a_wrong_written_variable_is_no_run(rt: HostRuntime) -> Result<(), Fail> {
     let alloc = rt.alloc();
-    let checked = buffer(alloc)?;
-    let mut story = Story::new(alloc);
-    story.turn(b"/0.0")?;
-    story.receive(b"/1.0.0", b"/0.1.0", 0, 5, 1)?;
-    assert!(rt; !runs(alloc, &checked, &story)?);
+    let told = [turn(b"/0.0"), into(meet(b"/1.0.0", b"/0.1.0", 0, 5), 1)];
+    assert!(rt; !runs(alloc, buffer(alloc)?, &told)?);
     Ok(())
 }
 
 #[test]
 fn a_wrong_read_variable_is_no_run(rt: HostRuntime) -> Result<(), Fail> {
     let alloc = rt.alloc();
-    let checked = buffer(alloc)?;
-    let mut story = Story::new(alloc);
-    story.turn(b"/0.0")?;
-    story.send(b"/1.0.0", b"/0.1.0", 0, 5, Some(0))?;
-    assert!(rt; !runs(alloc, &checked, &story)?);
+    let told = [
+        turn(b"/0.0"),
+        reading(into(meet(b"/1.0.0", b"/0.1.0", 0, 5), 0)),
+    ];
+    assert!(rt; !runs(alloc, buffer(alloc)?, &told)?);
     Ok(())
 }
 
 #[test]
 fn a_second_turn_waits(rt: HostRuntime) -> Result<(), Fail> {
     let alloc = rt.alloc();
-    let checked = buffer(alloc)?;
-    let mut story = Story::new(alloc);
-    story.turn(b"/0.2")?;
-    assert!(rt; !runs(alloc, &checked, &story)?);
+    let told = [turn(b"/0.2")];
+    assert!(rt; !runs(alloc, buffer(alloc)?, &told)?);
     Ok(())
 }
 
@@ -135,22 +121,19 @@ fn two_buffers(alloc: Global) -> Result<Checked, Fail> {
     system(alloc, parallel(alloc, left, right)?, ports(alloc)?)
 }
 
-/// Both turns, and a value read.
-fn both_begun(alloc: Global) -> Result<Story, Fail> {
-    let mut story = Story::new(alloc);
-    story.turn(b"/0/0.0")?;
-    story.turn(b"/0/1.0")?;
-    story.receive(b"/1.0.0", b"/0/0.1.0", 0, 5, 0)?;
-    Ok(story)
-}
-
 #[test]
 fn two_buffers_pass_a_value_on(rt: HostRuntime) -> Result<(), Fail> {
     let alloc = rt.alloc();
-    let checked = two_buffers(alloc)?;
-    let mut story = both_begun(alloc)?;
-    story.send(b"/0/0.1.1.0", b"/0/1.1.0", 2, 5, Some(1))?;
-    assert!(rt; leaves(alloc, &checked, &story, 1, 5)?);
+    let told = [
+        turn(b"/0/0.0"),
+        turn(b"/0/1.0"),
+        into(meet(b"/1.0.0", b"/0/0.1.0", 0, 5), 0),
+        into(reading(meet(b"/0/0.1.1.0", b"/0/1.1.0", 2, 5)), 1),
+    ];
+    assert_eq!(rt;
+        number_after(alloc, two_buffers(alloc)?, &told, 1)?,
+        Some(5)
+    );
     Ok(())
 }
 
@@ -165,35 +148,29 @@ fn fork(alloc: Global) -> Result<Checked, Fail> {
     system(alloc, sequence(alloc, held, last)?, environment)
 }
 
-/// The open, and both sends of the arm.
-fn fork_opened(alloc: Global) -> Result<Story, Fail> {
-    let mut story = Story::new(alloc);
-    story.open(b"/1.0.0", b"/0.0.0", 0, 0, Some(number(5, 8)?))?;
-    story.meet(b"/0.0.1/0.0", b"/2.0", 1, 5)?;
-    story.meet(b"/0.0.1/1.0", b"/3.0", 2, 5)?;
-    Ok(story)
-}
-
 #[test]
 fn an_enclosed_input_holds_its_sender(rt: HostRuntime) -> Result<(), Fail> {
     let alloc = rt.alloc();
-    let checked = fork(alloc)?;
-    let mut story = fork_opened(alloc)?;
-    story.close(b"/1.0.1", b"/0.0.2", 0)?;
-    story.receive(b"/1.1.0", b"/0.1", 0, 7, 0)?;
-    assert!(rt; leaves(alloc, &checked, &story, 0, 7)?);
+    let told = [
+        open(b"/1.0.0", b"/0.0.0", 0, 0, Some(5)),
+        meet(b"/0.0.1/0.0", b"/2.0", 1, 5),
+        meet(b"/0.0.1/1.0", b"/3.0", 2, 5),
+        close(b"/1.0.1", b"/0.0.2", 0),
+        into(meet(b"/1.1.0", b"/0.1", 0, 7), 0),
+    ];
+    assert_eq!(rt; number_after(alloc, fork(alloc)?, &told, 0)?, Some(7));
     Ok(())
 }
 
 #[test]
 fn the_close_waits_for_both_branches(rt: HostRuntime) -> Result<(), Fail> {
     let alloc = rt.alloc();
-    let checked = fork(alloc)?;
-    let mut story = Story::new(alloc);
-    story.open(b"/1.0.0", b"/0.0.0", 0, 0, Some(number(5, 8)?))?;
-    story.meet(b"/0.0.1/0.0", b"/2.0", 1, 5)?;
-    story.close(b"/1.0.1", b"/0.0.2", 0)?;
-    assert!(rt; !runs(alloc, &checked, &story)?);
+    let told = [
+        open(b"/1.0.0", b"/0.0.0", 0, 0, Some(5)),
+        meet(b"/0.0.1/0.0", b"/2.0", 1, 5),
+        close(b"/1.0.1", b"/0.0.2", 0),
+    ];
+    assert!(rt; !runs(alloc, fork(alloc)?, &told)?);
     Ok(())
 }
 
@@ -210,38 +187,52 @@ fn arbiter(alloc: Global) -> Result<Checked, Fail> {
 #[test]
 fn an_arbiter_takes_either_arm(rt: HostRuntime) -> Result<(), Fail> {
     let alloc = rt.alloc();
-    let checked = arbiter(alloc)?;
-    let mut story = Story::new(alloc);
-    story.open(b"/3.0.0", b"/0.0", 2, 1, Some(number(7, 8)?))?;
-    story.meet(b"/0.1.0", b"/2.0", 1, 7)?;
-    story.close(b"/3.0.1", b"/0.2", 2)?;
-    assert!(rt; runs(alloc, &checked, &story)?);
+    let told = [
+        open(b"/3.0.0", b"/0.0", 2, 1, Some(7)),
+        meet(b"/0.1.0", b"/2.0", 1, 7),
+        close(b"/3.0.1", b"/0.2", 2),
+    ];
+    assert!(rt; runs(alloc, arbiter(alloc)?, &told)?);
     Ok(())
 }
 
 #[test]
 fn a_wrong_arm_is_no_run(rt: HostRuntime) -> Result<(), Fail> {
     let alloc = rt.alloc();
-    let checked = arbiter(alloc)?;
-    let mut story = Story::new(alloc);
-    story.open(b"/3.0.0", b"/0.0", 2, 0, Some(number(7, 8)?))?;
-    assert!(rt; !runs(alloc, &checked, &story)?);
+    let told = [open(b"/3.0.0", b"/0.0", 2, 0, Some(7))];
+    assert!(rt; !runs(alloc, arbiter(alloc)?, &told)?);
+    Ok(())
+}
+
+/// `loop x := 1 || y := 2 end`
+fn two_setters(alloc: Global) -> Result<Checked, Fail> {
+    let left = set(alloc, 0, 1)?;
+    let right = set(alloc, 1, 2)?;
+    let body = repeated(alloc, parallel(alloc, left, right)?)?;
+    system(alloc, body, Items::new(alloc))
+}
+
+#[test]
+fn the_branches_of_a_turn_take_any_order(rt: HostRuntime) -> Result<(), Fail> {
+    let alloc = rt.alloc();
+    let told = [
+        turn(b"/0.0"),
+        assign(b"/0.1/1", 1, 2),
+        assign(b"/0.1/0", 0, 1),
+        turn(b"/0.2"),
+    ];
+    assert_eq!(rt;
+        number_after(alloc, two_setters(alloc)?, &told, 1)?,
+        Some(2)
+    );
     Ok(())
 }
 
 #[test]
 fn a_turn_waits_for_both_branches(rt: HostRuntime) -> Result<(), Fail> {
     let alloc = rt.alloc();
-    let left = set(alloc, 0, 1)?;
-    let right = set(alloc, 1, 2)?;
-    let body = repeated(alloc, parallel(alloc, left, right)?)?;
-    let checked = system(alloc, body, Items::new(alloc))?;
-    let mut story = Story::new(alloc);
-    story.turn(b"/0.0")?;
-    story.assign(b"/0.1/1", 1, 2)?;
-    assert!(rt; leaves(alloc, &checked, &story, 1, 2)?);
-    story.turn(b"/0.2")?;
-    assert!(rt; !runs(alloc, &checked, &story)?);
+    let told = [turn(b"/0.0"), assign(b"/0.1/1", 1, 2), turn(b"/0.2")];
+    assert!(rt; !runs(alloc, two_setters(alloc)?, &told)?);
     Ok(())
 }
 
@@ -279,33 +270,25 @@ fn next_number(alloc: Global) -> Result<Command, Fail> {
     Ok(command(alloc, Action::Assign(used(0), width(8)?, cast))?)
 }
 
-/// Two turns of the counter.
-fn two_counted(alloc: Global) -> Result<Story, Fail> {
-    let mut story = Story::new(alloc);
-    story.test(b"/0.0", Some(0))?;
-    story.count(b"/0.1", 1)?;
-    story.test(b"/0.2", Some(0))?;
-    story.count(b"/0.3", 2)?;
-    Ok(story)
-}
-
 #[test]
 fn a_while_loop_ends(rt: HostRuntime) -> Result<(), Fail> {
     let alloc = rt.alloc();
-    let checked = counter(alloc)?;
-    let mut story = two_counted(alloc)?;
-    story.test(b"/0.4", None)?;
-    assert!(rt; leaves(alloc, &checked, &story, 0, 2)?);
+    let told = [
+        test(b"/0.0", Some(0)),
+        count(b"/0.1", 1),
+        test(b"/0.2", Some(0)),
+        count(b"/0.3", 2),
+        test(b"/0.4", None),
+    ];
+    assert_eq!(rt; number_after(alloc, counter(alloc)?, &told, 0)?, Some(2));
     Ok(())
 }
 
 #[test]
 fn a_while_loop_does_not_end_early(rt: HostRuntime) -> Result<(), Fail> {
     let alloc = rt.alloc();
-    let checked = counter(alloc)?;
-    let mut story = Story::new(alloc);
-    story.test(b"/0.0", None)?;
-    assert!(rt; !runs(alloc, &checked, &story)?);
+    let told = [test(b"/0.0", None)];
+    assert!(rt; !runs(alloc, counter(alloc)?, &told)?);
     Ok(())
 }
 
@@ -315,10 +298,7 @@ fn choice(alloc: Global) -> Result<Checked, Fail> {
     labels.push(1)?;
     let body = command(alloc, Action::Halt)?;
     let mut arms = Items::with_capacity(alloc, 1)?;
-    arms.push(Labelled {
-        labels,
-        body,
-    })?;
+    arms.push(Labelled { labels, body })?;
     let last = set(alloc, 0, 4)?;
     let subject = Expression::Variable(used(0), width(8)?);
     system(
@@ -331,11 +311,8 @@ fn choice(alloc: Global) -> Result<Checked, Fail> {
 #[test]
 fn a_case_takes_its_else(rt: HostRuntime) -> Result<(), Fail> {
     let alloc = rt.alloc();
-    let checked = choice(alloc)?;
-    let mut story = Story::new(alloc);
-    story.test(b"/0.0", Some(1))?;
-    story.assign(b"/0.1", 0, 4)?;
-    assert!(rt; leaves(alloc, &checked, &story, 0, 4)?);
+    let told = [test(b"/0.0", Some(1)), assign(b"/0.1", 0, 4)];
+    assert_eq!(rt; number_after(alloc, choice(alloc)?, &told, 0)?, Some(4));
     Ok(())
 }
 
@@ -364,48 +341,73 @@ fn conditional(
     system(alloc, main, Items::new(alloc))
 }
 
-/// The arm is taken, and assigns the number.
-fn taken(alloc: Global, arm: u32, bits: u64) -> Result<Story, Fail> {
-    let mut story = Story::new(alloc);
-    story.test(b"/0.0", Some(arm))?;
-    story.assign(b"/0.1", 0, bits)?;
-    Ok(story)
-}
-
 #[test]
 fn an_if_takes_its_first_true_guard(rt: HostRuntime) -> Result<(), Fail> {
     let alloc = rt.alloc();
-    let checked = conditional(alloc, 0, 0, None)?;
-    assert!(rt; leaves(alloc, &checked, &taken(alloc, 0, 1)?, 0, 1)?);
-    assert!(rt; !runs(alloc, &checked, &taken(alloc, 1, 2)?)?);
+    let told = [test(b"/0.0", Some(0)), assign(b"/0.1", 0, 1)];
+    assert_eq!(rt;
+        number_after(alloc, conditional(alloc, 0, 0, None)?, &told, 0)?,
+        Some(1)
+    );
+    Ok(())
+}
+
+#[test]
+fn an_if_takes_no_later_true_guard(rt: HostRuntime) -> Result<(), Fail> {
+    let alloc = rt.alloc();
+    let told = [test(b"/0.0", Some(1)), assign(b"/0.1", 0, 2)];
+    assert!(rt; !runs(alloc, conditional(alloc, 0, 0, None)?, &told)?);
     Ok(())
 }
 
 #[test]
 fn an_if_passes_a_false_guard(rt: HostRuntime) -> Result<(), Fail> {
     let alloc = rt.alloc();
-    let checked = conditional(alloc, 7, 0, Some(set(alloc, 0, 3)?))?;
-    assert!(rt; leaves(alloc, &checked, &taken(alloc, 1, 2)?, 0, 2)?);
-    assert!(rt; !runs(alloc, &checked, &taken(alloc, 2, 3)?)?);
+    let told = [test(b"/0.0", Some(1)), assign(b"/0.1", 0, 2)];
+    assert_eq!(rt;
+        number_after(
+            alloc,
+            conditional(alloc, 7, 0, Some(set(alloc, 0, 3)?))?,
+            &told,
+            0
+        )?,
+        Some(2)
+    );
     Ok(())
 }
 
 #[test]
 fn an_if_takes_its_else(rt: HostRuntime) -> Result<(), Fail> {
     let alloc = rt.alloc();
-    let checked = conditional(alloc, 7, 8, Some(set(alloc, 0, 3)?))?;
-    assert!(rt; leaves(alloc, &checked, &taken(alloc, 2, 3)?, 0, 3)?);
+    let told = [test(b"/0.0", Some(2)), assign(b"/0.1", 0, 3)];
+    assert_eq!(rt;
+        number_after(
+            alloc,
+            conditional(alloc, 7, 8, Some(set(alloc, 0, 3)?))?,
+            &told,
+            0
+        )?,
+        Some(3)
+    );
     Ok(())
 }
 
 #[test]
 fn an_if_without_else_takes_none(rt: HostRuntime) -> Result<(), Fail> {
     let alloc = rt.alloc();
-    let checked = conditional(alloc, 7, 8, None)?;
-    let mut story = Story::new(alloc);
-    story.test(b"/0.0", None)?;
-    assert!(rt; leaves(alloc, &checked, &story, 0, 0)?);
-    assert!(rt; !runs(alloc, &checked, &taken(alloc, 2, 3)?)?);
+    let told = [test(b"/0.0", None)];
+    assert_eq!(rt;
+        number_after(alloc, conditional(alloc, 7, 8, None)?, &told, 0)?,
+        Some(0)
+    );
+    Ok(())
+}
+
+#[test]
+fn an_if_without_else_has_no_third_arm(rt: HostRuntime) -> Result<(), Fail> {
+    let alloc = rt.alloc();
+    let told = [test(b"/0.0", Some(2))];
+    assert!(rt; !runs(alloc, conditional(alloc, 7, 8, None)?, &told)?);
     Ok(())
 }
 
@@ -421,11 +423,11 @@ fn selecting(alloc: Global) -> Result<Checked, Fail> {
 #[test]
 fn a_select_opens_on_a_sync(rt: HostRuntime) -> Result<(), Fail> {
     let alloc = rt.alloc();
-    let checked = selecting(alloc)?;
-    let mut story = Story::new(alloc);
-    story.open(b"/0/0.0", b"/0/1.0", 0, 0, None)?;
-    story.close(b"/0/0.1", b"/0/1.2", 0)?;
-    assert!(rt; runs(alloc, &checked, &story)?);
+    let told = [
+        open(b"/0/0.0", b"/0/1.0", 0, 0, None),
+        close(b"/0/0.1", b"/0/1.2", 0),
+    ];
+    assert!(rt; runs(alloc, selecting(alloc)?, &told)?);
     Ok(())
 }
 
@@ -440,44 +442,49 @@ fn pulse(alloc: Global) -> Result<Checked, Fail> {
 #[test]
 fn a_sync_port_meets_once(rt: HostRuntime) -> Result<(), Fail> {
     let alloc = rt.alloc();
-    let checked = pulse(alloc)?;
-    let mut story = Story::new(alloc);
-    story.turn(b"/0.0")?;
-    story.sync(b"/0.1.0", b"/1.0.0", 0)?;
-    story.turn(b"/0.2")?;
-    assert!(rt; runs(alloc, &checked, &story)?);
+    let told = [turn(b"/0.0"), sync(b"/0.1.0", b"/1.0.0", 0), turn(b"/0.2")];
+    assert!(rt; runs(alloc, pulse(alloc)?, &told)?);
+    Ok(())
+}
+
+#[test]
+fn a_sync_port_does_not_meet_twice(rt: HostRuntime) -> Result<(), Fail> {
+    let alloc = rt.alloc();
+    let told = [
+        turn(b"/0.0"),
+        sync(b"/0.1.0", b"/1.0.0", 0),
+        turn(b"/0.2"),
+        sync(b"/0.3.0", b"/1.1.0", 0),
+    ];
+    assert!(rt; !runs(alloc, pulse(alloc)?, &told)?);
     Ok(())
 }
 
 #[test]
 fn syncs_turned_round_are_no_run(rt: HostRuntime) -> Result<(), Fail> {
     let alloc = rt.alloc();
-    let checked = pulse(alloc)?;
-    let mut story = Story::new(alloc);
-    story.turn(b"/0.0")?;
-    story.sync(b"/1.0.0", b"/0.1.0", 0)?;
-    assert!(rt; !runs(alloc, &checked, &story)?);
+    let told = [turn(b"/0.0"), sync(b"/1.0.0", b"/0.1.0", 0)];
+    assert!(rt; !runs(alloc, pulse(alloc)?, &told)?);
     Ok(())
 }
 
 #[test]
 fn a_copy_is_equal(rt: HostRuntime) -> Result<(), Fail> {
     let alloc = rt.alloc();
-    let mut story = Story::new(alloc);
-    story.send(b"/0.1.0", b"/2.0", 1, 5, Some(0))?;
-    let copy = story.last()?.copy(alloc)?;
-    assert!(rt; copy.equals(story.last()?));
-    story.send(b"/0.1.0", b"/2.0", 1, 5, Some(1))?;
-    assert!(rt; !copy.equals(story.last()?));
+    let told = reading(meet(b"/0.1.0", b"/2.0", 1, 5));
+    let met = event(alloc, told)?;
+    let copy = met.copy(alloc)?;
+    assert!(rt; copy.equals(&met));
+    let other = event(alloc, into(told, 1))?;
+    assert!(rt; !copy.equals(&other));
     Ok(())
 }
 
 #[test]
 fn an_opening_is_chosen_by_its_arm(rt: HostRuntime) -> Result<(), Fail> {
     let alloc = rt.alloc();
-    let mut story = Story::new(alloc);
-    story.open(b"/3.0.0", b"/0.0", 2, 1, None)?;
-    let choice = story.last()?.choice(alloc)?;
+    let opening = event(alloc, open(b"/3.0.0", b"/0.0", 2, 1, None))?;
+    let choice = opening.choice(alloc)?;
     assert!(rt; choice.place == place(alloc, b"/0.0")?);
     assert_eq!(rt; choice.arm, 1);
     Ok(())
@@ -486,9 +493,7 @@ fn an_opening_is_chosen_by_its_arm(rt: HostRuntime) -> Result<(), Fail> {
 #[test]
 fn a_test_is_chosen_by_its_place(rt: HostRuntime) -> Result<(), Fail> {
     let alloc = rt.alloc();
-    let mut story = Story::new(alloc);
-    story.test(b"/0.0", Some(1))?;
-    let choice = story.last()?.choice(alloc)?;
+    let choice = event(alloc, test(b"/0.0", Some(1)))?.choice(alloc)?;
     assert!(rt; choice.place == place(alloc, b"/0.0")?);
     assert_eq!(rt; choice.arm, 0);
     Ok(())
