@@ -1,3 +1,6 @@
+pub mod Laws
 pub mod Measure
+pub mod Refused
 pub mod Rule
 pub mod Sharing
+pub mod Uses

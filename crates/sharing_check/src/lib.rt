@@ -2,5 +2,7 @@
 #![tactic(auto)]
 
 mod checked;
+mod laws;
 
 pub use checked::Checked;
+pub use laws::clash_free_keeps_the_rule;

@@ -1,0 +1,4 @@
+mod FitsLists
+mod FitsParts
+mod NamesRead
+mod NoClash
