@@ -11,6 +11,7 @@ use Rattle.calculus.specs.Events.{Located, Makes, assigning, testing, turning, m
 use Rattle.calculus.specs.Steps.{Moves}
 use Rattle.calculus.specs.declared.event.Event.{Event}
 use Rattle.address.proofs.Places.{before-not-apart}
+use Rattle.calculus.specs.Laws.{ApartMovesWereOffered}
 use Rattle.calculus.proofs.Pair.{pair}
 use Rattle.calculus.proofs.Kept.{branches-place}
 
@@ -31,6 +32,11 @@ offered_before r s q l k w p h g =
       | inl b ↦ absurd (before-not-apart l.place k.place b p)
       | inr x ↦ (x.between, x.first)
     ]
+
+-- the same, in the words of the law
+pub was_offered : ApartMovesWereOffered
+was_offered r a b m n s q w p h g =
+    offered_before r s q (record { place = a; move = m }) (record { place = b; move = n }) w p h g
 
 -- two moves in turn, at places apart, are offered at once
 two_offered : (r q : Residual) (l k : Located) → WellFormed r → Apart l.place k.place → Moves r (l ∷ k ∷ []) q

@@ -5,7 +5,7 @@ use Rattle.sharing_check.specs.Rule.{is_sync, is_shared}
 use Rattle.calculus.specs.Choices.{opened_arm, choice_of}
 use Rattle.calculus.specs.Dependence.{Directly}
 use Rattle.calculus.specs.Events.{Located, Makes, assigning, testing, turning, meeting, opening as opens_with_data, opening_without_data, shutting, syncing}
-use Rattle.calculus.specs.Laws.{NeighboursSwap, RunsWithout, RunsWithoutConsequences, RespectingOrdersRun, OneState, EventsAreDistinct, ActingOnce, RelatedAreOrdered, SameEventsRespect, OneChoice, AllowedAreListed, RunAsFunction}
+use Rattle.calculus.specs.Laws.{NeighboursSwap, RunsWithout, RunsWithoutConsequences, RespectingOrdersRun, OneState, EventsAreDistinct, ActingOnce, EarlierPlaces, StatesAreWellFormed, RelatedAreOrdered, SameEventsRespect, OneChoice, AllowedAreListed, RunAsFunction}
 use Rattle.calculus.specs.Opening.{opening}
 use Rattle.calculus.specs.declared.event.Choice.{Choice}
 use Rattle.calculus.specs.declared.event.Event.{Event}
@@ -19,7 +19,7 @@ use Rattle.calculus.proofs.Orders.{without, run-formed, run-part, run-join}
 use Rattle.calculus.proofs.Rollback.{rolled}
 use Rattle.calculus.proofs.Respecting.{respecting-runs}
 use Rattle.calculus.proofs.StepOf.{run-determined, run-of}
-use Rattle.calculus.proofs.Once.{acting-once, events-differ}
+use Rattle.calculus.proofs.Once.{acting-once, events-differ, clear-of}
 use Rattle.calculus.proofs.OrderingLaw as law
 use Rattle.calculus.proofs.SameEvents.{same-events-both}
 use Rattle.calculus.proofs.OneEvent.{OneArm}
@@ -61,6 +61,14 @@ events_are_distinct system h T e f r i = events-differ (opening system) T e f h 
 -- and so are their acting addresses
 pub acting_once : ActingOnce
 acting_once system h T e f r i = acting-once (opening system) T e f h (opening-formed system) r i
+
+-- addresses of a run are before or apart
+pub earlier_places : EarlierPlaces
+earlier_places system h T e f a b r i ia ib = clear-of (opening system) T e f h (opening-formed system) r i a b ia ib
+
+-- states of a run are well formed
+pub states_are_well_formed : StatesAreWellFormed
+states_are_well_formed system h T r = run-formed (opening system) T h (opening-formed system) r
 
 -- related events are ordered by their addresses
 pub ordered : RelatedAreOrdered

@@ -66,4 +66,5 @@ pub mod TreeAnswers
 pub mod UndoLaws
 pub mod Uses
 pub mod VariableRule
+pub mod Walking
 pub mod WellFormed

@@ -18,11 +18,11 @@ use Rattle.calculus.proofs.Below.{in_child_found, in_branch_found, in_branch_non
 use Rattle.calculus.proofs.Lefts.{arm_found, arm_past}
 
 -- what a child in order is to do
-left_inside : (n : ℕ) (child next : Left) → residual_of_left (Inside n child next) ≡ inside n (residual_of_left child) (residual_of_left next)
+pub left_inside : (n : ℕ) (child next : Left) → residual_of_left (Inside n child next) ≡ inside n (residual_of_left child) (residual_of_left next)
 left_inside n child next = ap residual_of_left (sym (rolls-Inside n child next)) ∙ fold-roll-Left Residual left_layer (Left-F.Inside n child next)
 
 -- what a child in a branch is to do
-left_beside : (n : ℕ) (child rest : Left) → residual_of_left (Beside n child rest) ≡ beside n (residual_of_left child) (residual_of_left rest)
+pub left_beside : (n : ℕ) (child rest : Left) → residual_of_left (Beside n child rest) ≡ beside n (residual_of_left child) (residual_of_left rest)
 left_beside n child rest = ap residual_of_left (sym (rolls-Beside n child rest)) ∙ fold-roll-Left Residual left_layer (Left-F.Beside n child rest)
 
 -- at a place below a child in order the child answers

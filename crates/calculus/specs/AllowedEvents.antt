@@ -43,6 +43,7 @@ abbrev pub received_by : Store → Move → Move → Move
 received_by s (sends c w e true) (opens d k v) = opens d k (Some (sent s w e))
 received_by s m n = n
 
+-- the second move at its place, as the first one meets it
 abbrev pub meets : Store → Located → Located → Located
 meets s l k = at k.place (received_by s l.move k.move)
 

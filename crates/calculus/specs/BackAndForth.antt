@@ -6,6 +6,7 @@ use Rattle.calculus.specs.Choices.{choice_of}
 use Rattle.calculus.specs.declared.command.Command.{Command}
 use Rattle.calculus.specs.declared.command.Reply.{Reply}
 
+-- the tickets of live events
 abbrev pub tickets : Live → List ℕ
 tickets [] = []
 tickets (x ∷ l) = x.0 ∷ tickets l

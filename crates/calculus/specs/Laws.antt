@@ -1,7 +1,7 @@
 -- The laws of runs: of any system, from its opening state.
-use Rattle.std.specs.Prelude.{◌≡◌, ◌↔◌, List, ◌∷◌, ◌++◌, Some}
+use Rattle.std.specs.Prelude.{◌≡◌, ◌↔◌, ◌⊎◌, List, ◌∷◌, ◌++◌, Some}
 use Rattle.calculus.specs.StepOf.{run_of}
-use Rattle.address.specs.Places.{Apart}
+use Rattle.address.specs.Places.{Apart, Before}
 use Rattle.elaborate.specs.Residual.{Residual}
 use Rattle.calculus.specs.AllowedEvents.{allowed_events}
 use Rattle.calculus.specs.Moves.{Place, Move, Local}
@@ -11,7 +11,7 @@ use Rattle.elaborate.specs.declared.system.System.{System}
 use Rattle.sharing_check.specs.Rule.{is_shared, SharesWell}
 use Rattle.calculus.specs.Choices.{choice_of}
 use Rattle.calculus.specs.Dependence.{SomeBefore, Directly, Earlier, Causes, Kept, Rearranged, Respecting}
-use Rattle.calculus.specs.Events.{acting}
+use Rattle.calculus.specs.Events.{acting, places}
 use Rattle.calculus.specs.Opening.{opening}
 use Rattle.calculus.specs.Related.{Related, OnOneShared}
 use Rattle.calculus.specs.Runs.{Run}
@@ -66,6 +66,12 @@ ActingOnce =
     (system : System) (h : List Event) (T : State) (e f : Event) →
     Run (opening system) h T → Earlier h e f → acting e ≡ acting f → ⊥
 
+-- of two events of a run, each address of the earlier is before each address of the later, or apart from it
+abbrev pub EarlierPlaces : Type 0
+EarlierPlaces =
+    (system : System) (h : List Event) (T : State) (e f : Event) (a b : Place) →
+    Run (opening system) h T → Earlier h e f → In a (places e) → In b (places f) → Before a b ⊎ Apart a b
+
 -- of two events of a run on one channel, or on one variable that is not shared and that one of them writes,
 -- the earlier has an address before an address of the later
 abbrev pub RelatedAreOrdered : Type 0
@@ -86,6 +92,11 @@ SameEventsRespect =
 abbrev pub OpeningIsWellFormed : Type 0
 OpeningIsWellFormed = (system : System) → WellFormed (opening_residual system)
 
+-- and so is every state of a run
+abbrev pub StatesAreWellFormed : Type 0
+StatesAreWellFormed =
+    (system : System) (h : List Event) (T : State) → Run (opening system) h T → WellFormed T.residual
+
 -- of the events allowed in one state of a run, no two have one choice
 abbrev pub OneChoice : Type 0
 OneChoice =
@@ -103,6 +114,12 @@ abbrev pub ApartMovesMeet : Type 0
 ApartMovesMeet =
     (r : Residual) (a b : Place) (m n : Move) (s t : Residual) → Apart a b → Local r a m s → Local r b n t →
     (q : Residual) × Local s b n q
+
+-- of two moves that are made one after the other at places apart, the second was offered before the first
+abbrev pub ApartMovesWereOffered : Type 0
+ApartMovesWereOffered =
+    (r : Residual) (a b : Place) (m n : Move) (s q : Residual) → WellFormed r → Apart a b → Local r a m s → Local s b n q →
+    (t : Residual) × Local r b n t
 
 -- the run as a function, by which `replay` is proved, is the run
 abbrev pub RunAsFunction : Type 0

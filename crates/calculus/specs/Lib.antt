@@ -31,4 +31,5 @@ pub mod StepOf
 pub mod Steps
 pub mod Tests
 pub mod Translate
+pub mod Walk
 pub mod WellFormed

@@ -6,6 +6,7 @@ use Rattle.calculus.specs.Runs.{Run}
 use Rattle.calculus.specs.Live.{Live, events}
 use Rattle.calculus.specs.declared.event.Event.{Event}
 
+-- one execution, which began in a state
 pub record Object : Type 0 where
   -- the state in which it began
   pub opening : State

@@ -21,6 +21,7 @@ other_at Close a b = a
 other_at Sync a (Some b) = b
 other_at _ a b = []
 
+-- the address of the side of an event that does not act
 abbrev pub other : Event → Place
 other e = other_at e.kind e.first e.second
 

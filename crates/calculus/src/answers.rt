@@ -291,7 +291,7 @@ fn in_test(
 }
 
 /// The test of a while loop.
-fn one_guard(alloc: Global, guard: &Expression) -> Result<Decision, AllocError>
+pub(crate) fn one_guard(alloc: Global, guard: &Expression) -> Result<Decision, AllocError>
     ensures { IfOk result (λ made. decision_of made ≡ expression.by_guards (expression_of guard.now ∷ []) false) }
 {
     let mut guards = Items::with_capacity(alloc, 1)?;

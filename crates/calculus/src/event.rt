@@ -98,12 +98,19 @@ impl Event {
         let place = self.acting_place().copy(alloc)?;
         Ok(Choice {
             place,
-            arm: opened_arm(self.kind, self.arm),
+            arm: self.arm_to_open(),
         })
     }
 
+    /// The arm that is opened, 0 where none is.
+    pub fn arm_to_open(&self) -> u32
+        ensures { result ≡ (choice_of self.now).arm }
+    {
+        opened_arm(self.kind, self.arm)
+    }
+
     /// The place of the receiving side where two sides differ, else the first place.
-    fn acting_place(&self) -> &Address
+    pub fn acting_place(&self) -> &Address
         ensures { result.now ≡ acting self.now }
     {
         match (self.kind, &self.second) {

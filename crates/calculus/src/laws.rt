@@ -1,5 +1,5 @@
 // The laws of runs, each the contract of a function that does nothing.
-ghost use Rattle.calculus.specs.Laws.{NeighboursSwap, RunsWithout, RunsWithoutConsequences, CausesAlone, RespectingOrdersRun, OneState, EventsAreDistinct, ActingOnce, RelatedAreOrdered, SameEventsRespect, OpeningIsWellFormed, OneChoice, AllowedAreListed, ApartMovesMeet, RunAsFunction};
+ghost use Rattle.calculus.specs.Laws.{NeighboursSwap, RunsWithout, RunsWithoutConsequences, CausesAlone, RespectingOrdersRun, OneState, EventsAreDistinct, ActingOnce, EarlierPlaces, RelatedAreOrdered, SameEventsRespect, OpeningIsWellFormed, StatesAreWellFormed, OneChoice, AllowedAreListed, ApartMovesMeet, ApartMovesWereOffered, RunAsFunction};
 
 /// Two neighbours of a run swap unless the second depends directly on the first.
 pub fn neighbours_swap()
@@ -42,6 +42,11 @@ pub fn acting_once()
     ensures { ActingOnce }
 {}
 
+/// Of two events of a run, each address of the earlier is before each address of the later, or apart from it.
+pub fn earlier_places()
+    ensures { EarlierPlaces }
+{}
+
 /// Under the rule on sharing, of two events of a run on one channel, or on one variable that is not
 /// shared and that one of them writes, the earlier has an address before an address of the later.
 pub fn ordered()
@@ -54,9 +59,10 @@ pub fn same_events()
     ensures { SameEventsRespect }
 {}
 
-/// What every system opens with is well formed.
+/// What every system opens with is well formed, and so is every state of a run.
 pub fn opening_is_well_formed()
-    ensures { OpeningIsWellFormed }
+    ensures opening { OpeningIsWellFormed }
+    ensures states { StatesAreWellFormed }
 {}
 
 /// Under the rule on sharing, of the events allowed in one state of a run no two have one choice.
@@ -69,9 +75,11 @@ pub fn allowed_are_listed()
     ensures { AllowedAreListed }
 {}
 
-/// Two moves that are offered at places apart can be made one after the other, in either order.
+/// Two moves that are offered at places apart can be made one after the other, in either order; and of two that are
+/// made so, the second was offered before the first.
 pub fn apart_moves_meet()
-    ensures { ApartMovesMeet }
+    ensures made { ApartMovesMeet }
+    ensures offered { ApartMovesWereOffered }
 {}
 
 /// The run as a function, by which `replay` is proved, is the run.

@@ -3,6 +3,7 @@
 //! and the slow replay, which runs a list of events step by step.
 #![tactic(auto)]
 
+mod allowed;
 mod answers;
 mod apart;
 mod command;
@@ -24,17 +25,18 @@ mod step;
 #[cfg(test)]
 mod tests;
 mod translate;
+mod walk;
 
 pub use command::{Command, LAST_TICKET, MOST_LIVE_EVENTS, Refusal, Reply};
 pub use event::{Choice, Event, Kind};
 pub use laws::{
-    acting_once, allowed_are_listed, apart_moves_meet, causes_alone, events_are_distinct,
-    neighbours_swap, one_choice, one_state, opening_is_well_formed, ordered, respecting_orders,
-    run_as_function, runs_without, runs_without_consequences, same_events,
+    acting_once, allowed_are_listed, apart_moves_meet, causes_alone, earlier_places,
+    events_are_distinct, neighbours_swap, one_choice, one_state, opening_is_well_formed, ordered,
+    respecting_orders, run_as_function, runs_without, runs_without_consequences, same_events,
 };
 pub use object_laws::{
     back_then_forth_law, dependence_laws, least_rollback_law, ready_law, reply_laws, roll_laws,
     rolled_value_law, soundness_laws, state_laws, step_laws, ticket_law, undo_laws,
 };
 pub use plain::Plain;
-pub use slow::replay;
+pub use slow::{replay, replay_live};

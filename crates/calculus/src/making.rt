@@ -17,7 +17,7 @@ use std::alloc::{AllocError, Global};
 use value::{Value, Width};
 
 /// What is sent, at the channel's width.
-fn sent(values: &[Value], width: Width, value: &Expression) -> Value
+pub(crate) fn sent(values: &[Value], width: Width, value: &Expression) -> Value
     ensures { result ≡ sent values.now width (expression_of value.now) }
 {
     value::resize(value.value(values), width.bits())

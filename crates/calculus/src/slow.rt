@@ -5,6 +5,7 @@ ghost use Rattle.calculus.specs.Runs.{Run};
 ghost use Rattle.calculus.specs.StepOf.{run_of};
 ghost use Rattle.calculus.specs.Plain.{state_of};
 ghost use Rattle.calculus.specs.Opening.{opening};
+ghost use Rattle.calculus.specs.Live.{events};
 
 use crate::start::opening;
 use crate::step::step;
@@ -38,6 +39,24 @@ fn state_after(
 {
     let mut state = opening(alloc, system)?;
     for event in events {
+        match step(alloc, &state, event)? {
+            Some(next) => state = next,
+            None => return Ok(None),
+        }
+    }
+    Ok(Some(state))
+}
+
+/// The same for events with their tickets.
+pub fn replay_live(
+    alloc: Global,
+    system: &Checked,
+    live: &[(u64, Event)],
+) -> Result<Option<Plain>, AllocError>
+    ensures { IfOk result (λ r. option_map state_of r ≡ run_of (opening system.now) (events live.now)) }
+{
+    let mut state = opening(alloc, system.system())?;
+    for (_, event) in live {
         match step(alloc, &state, event)? {
             Some(next) => state = next,
             None => return Ok(None),

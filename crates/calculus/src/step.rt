@@ -129,7 +129,7 @@ fn second_side(
 }
 
 /// The event of two moves at places that are apart, if they make one.
-fn made_apart(
+pub(crate) fn made_apart(
     alloc: Global,
     values: &[Value],
     first: &Address,

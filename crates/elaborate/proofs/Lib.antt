@@ -1,1 +1,9 @@
 pub mod Insertions
+pub mod Weights
+pub mod Cuts
+pub mod Numbers
+pub mod Readings
+pub mod Entries
+pub mod Lines
+pub mod Sizes
+pub mod Calls

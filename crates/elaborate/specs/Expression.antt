@@ -86,10 +86,12 @@ first_of_tests n [] true = Some n
 first_of_tests n [] false = None
 first_of_tests n (t ∷ ts) otherwise = cond t (Some n) (first_of_tests (suc n) ts otherwise)
 
+-- which of the guards are true over a store
 abbrev pub guards_hold : Store → List Expression → List Bool
 guards_hold s [] = []
 guards_hold s (g ∷ gs) = ((value s g).bits == 1) ∷ guards_hold s gs
 
+-- which of the lists of labels have the number
 abbrev pub labels_hold : ℕ → List (List ℕ) → List Bool
 labels_hold n [] = []
 labels_hold n (ls ∷ rest) = is_in n ls ∷ labels_hold n rest
@@ -99,6 +101,7 @@ abbrev pub decide : Store → Decision → Option ℕ
 decide s (by_guards gs otherwise) = first_of_tests 0 (guards_hold s gs) otherwise
 decide s (by_labels e labels otherwise) = first_of_tests 0 (labels_hold (value s e).bits labels) otherwise
 
+-- the variables that stand in the expressions, in the order of the source
 abbrev pub variables_of_all : List Expression → List ℕ
 variables_of_all [] = []
 variables_of_all (e ∷ es) = variables e ++ variables_of_all es
@@ -108,10 +111,12 @@ abbrev pub decision_variables : Decision → List ℕ
 decision_variables (by_guards gs otherwise) = variables_of_all gs
 decision_variables (by_labels e labels otherwise) = variables e
 
+-- the expressions with the value v put for the name of channel c
 abbrev pub put_all : ℕ → Word → List Expression → List Expression
 put_all c v [] = []
 put_all c v (e ∷ es) = put_value c v e ∷ put_all c v es
 
+-- the test with the value v put for the name of channel c
 abbrev pub put_decision : ℕ → Word → Decision → Decision
 put_decision c v (by_guards gs otherwise) = by_guards (put_all c v gs) otherwise
 put_decision c v (by_labels e labels otherwise) = by_labels (put_value c v e) labels otherwise

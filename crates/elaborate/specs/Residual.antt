@@ -77,6 +77,7 @@ abbrev mutual
   put_residual c v (closing d) = closing d
   put_residual c v (drain d k) = drain d k
 
+  -- the same in each arm
   pub put_arms : ℕ → Word → Arms → Arms
   put_arms c v no_arms = no_arms
   put_arms c v (arm r rest) = arm (put_residual c v r) (put_arms c v rest)

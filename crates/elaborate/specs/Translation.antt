@@ -58,12 +58,15 @@ arms_of [] None = no_arms
 arms_of [] (Some last) = arm last no_arms
 arms_of (r ∷ rs) last = arm r (arms_of rs last)
 
+-- an `if` before its test
 abbrev pub if_of : List OnGuard → Option Residual → Residual
 if_of arms last = test (by_guards (map (λ a. a.guard) arms) (is_some last)) (arms_of (map (λ a. a.body) arms) last)
 
+-- a `case` before its test
 abbrev pub case_of : model.Expression → List OnLabels → Option Residual → Residual
 case_of e arms last = test (by_labels e (map (λ a. a.labels) arms) (is_some last)) (arms_of (map (λ a. a.body) arms) last)
 
+-- a `select` or `arbitrate` before it opens
 abbrev pub choose_of : List OnChannel → Residual
 choose_of arms = choose (map (λ a. a.channel) arms) (arms_of (map (λ a. a.body) arms) None)
 
@@ -85,15 +88,19 @@ action_layer (Action-F.Arbitrate arms) = choose_of arms
 action_layer (Action-F.Sequence children) = in_sequence 0 children
 action_layer (Action-F.Parallel children) = in_parallel 0 children
 
+-- one layer of an arm of `select` or `arbitrate`
 abbrev pub arm_layer : Arm-F Residual OnChannel Residual OnGuard OnLabels → OnChannel
 arm_layer a = record { channel = a.channel.number; body = a.body }
 
+-- one layer of a command: its action, without its line
 abbrev pub command_layer : Command-F Residual OnChannel Residual OnGuard OnLabels → Residual
 command_layer c = c.action
 
+-- one layer of an arm of `if`
 abbrev pub guarded_layer : Guarded-F Residual OnChannel Residual OnGuard OnLabels → OnGuard
 guarded_layer a = record { guard = expression_of a.guard; body = a.body }
 
+-- one layer of an arm of `case`
 abbrev pub labelled_layer : Labelled-F Residual OnChannel Residual OnGuard OnLabels → OnLabels
 labelled_layer a = record { labels = a.labels; body = a.body }
 

@@ -1,4 +1,7 @@
+ghost use Rattle.std.specs.Prelude.{◌≡◌};
+
 use crate::Command;
+use crate::names::variable_named;
 use syntax::{Items, Name};
 use value::{Value, Width};
 
@@ -51,4 +54,36 @@ pub struct System {
     pub variables: Items<Variable>,
     /// by number
     pub channels: Items<Channel>,
+}
+
+impl System {
+    ghost use Rattle.std.specs.Option.{option_copied};
+    ghost use Rattle.elaborate.specs.Named as named;
+
+    /// The number of the first variable of this name.
+    pub fn variable(&self, name: &[u8]) -> Option<u32>
+        ensures { result ≡ named.variable_from 0 self.now.variables name.now }
+    {
+        variable_named(self.variables.as_slice(), name)
+    }
+
+    /// The name of the variable of this number.
+    pub fn variable_name(&self, number: u32) -> Option<&Name>
+        ensures { option_copied result ≡ named.variable_name_at self.now.variables number }
+    {
+        match self.variables.as_slice().get(number as usize) {
+            Some(variable) => Some(&variable.name),
+            None => None,
+        }
+    }
+
+    /// The name of the channel of this number.
+    pub fn channel_name(&self, number: u32) -> Option<&Name>
+        ensures { option_copied result ≡ named.channel_name_at self.now.channels number }
+    {
+        match self.channels.as_slice().get(number as usize) {
+            Some(channel) => Some(&channel.name),
+            None => None,
+        }
+    }
 }

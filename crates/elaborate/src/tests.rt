@@ -1,4 +1,4 @@
-use crate::{Decision, Expression, Operator, Use, Variables};
+use crate::{Action, Command, Decision, Expression, Operator, Use, Variables};
 use std::alloc::{AllocError, Global};
 use std::test::Fail;
 use syntax::{Boxed, Items};
@@ -153,5 +153,13 @@ fn the_first_arm_with_the_label_is_taken(rt: HostRuntime) -> Result<(), Fail> {
         closed.with_received(alloc, 6, word(1, 4)?)?.decide(&[]),
         Some(0)
     );
+    Ok(())
+}
+
+#[test]
+fn a_command_has_its_line_and_its_action(rt: HostRuntime) -> Result<(), Fail> {
+    let command = Command::new(rt.alloc(), 7, Action::Halt)?;
+    assert_eq!(rt; command.line, 7);
+    assert!(rt; matches!(command.action.get(), Action::Halt));
     Ok(())
 }

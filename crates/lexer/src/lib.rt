@@ -10,6 +10,7 @@ ghost use Rattle.lexer.specs.declared.token.Token.{Token};
 
 mod class;
 mod fault;
+mod name;
 mod number;
 mod piece;
 mod place;
@@ -19,6 +20,7 @@ mod tests;
 mod token;
 
 pub use fault::Fault;
+pub use name::is_name;
 use piece::longest_piece;
 use place::Place;
 use std::alloc::Global;

@@ -1,0 +1,107 @@
+-- Moves below a place, and what the forms of a tree offer there.
+use Rattle.std.proofs.Common.{◌≡◌, ℕ, List, [], ◌∷◌, ◌++◌, true, false, refl, sym, ◌∙◌, ap, append_assoc, map, Result}
+use Rattle.std.specs.Prelude.{IfOk}
+use Rattle.std.proofs.lemmas.Result.{IfOk-weaker}
+use Rattle.address.specs.declared.Entry.{Entry}
+use Rattle.address.specs.declared.Entry.TheVariants.{Ordered, Branch}
+use Rattle.elaborate.specs.declared.expression.Expression.{Expression}
+use Rattle.elaborate.specs.Expression.{Store}
+use Rattle.elaborate.specs.Residual.{Residual}
+use Rattle.elaborate.specs.Translation.{expression_of}
+use Rattle.calculus.specs.Moves.{Place, sends, syncs}
+use Rattle.calculus.specs.Events.{Located, at}
+use Rattle.calculus.specs.AllowedEvents.{behind, offers, events_among, allowed_events}
+use Rattle.calculus.specs.Left.{left_layer, residual_of_left}
+use Rattle.calculus.specs.Walk.{located_of, below}
+use Rattle.calculus.specs.Plain.{state_of}
+use Rattle.calculus.specs.declared.plain.Plain.{Plain}
+use Rattle.calculus.specs.declared.walk.Offer.{Offer}
+use Rattle.calculus.specs.declared.left.Left.{Left}
+use Rattle.calculus.specs.declared.left.Left.TheVariants.{Inside, Beside, Send, Sync, rolls-Send, rolls-Sync}
+use Rattle.calculus.specs.declared.left.Left.TheOpen.{Left-F}
+use Rattle.calculus.specs.declared.left.Left.TheFolds.{fold-roll-Left}
+use Rattle.calculus.proofs.TreeAnswers.{left_inside, left_beside}
+
+pub below_root : (ls : List Located) → below [] ls ≡ ls
+below_root [] = refl
+below_root (l ∷ ls) = ap (λ (ks : List Located). l ∷ ks) (below_root ls)
+
+pub below_join : (p : Place) (ls ks : List Located) → below p (ls ++ ks) ≡ below p ls ++ below p ks
+below_join p [] ks = refl
+below_join p (l ∷ ls) ks = ap (λ (os : List Located). at (p ++ l.place) l.move ∷ os) (below_join p ls ks)
+
+place_join : (p : Place) (x : Entry) (a : Place) → (p ++ x ∷ []) ++ a ≡ p ++ x ∷ a
+place_join [] x a = refl
+place_join (y ∷ p) x a = ap (λ (b : Place). y ∷ b) (place_join p x a)
+
+pub below_entry : (p : Place) (x : Entry) (ls : List Located) → below (p ++ x ∷ []) ls ≡ below p (behind x ls)
+below_entry p x [] = refl
+below_entry p x (l ∷ ls) = λ i. at (place_join p x l.place i) l.move ∷ below_entry p x ls i
+
+-- what a child in order offers
+pub inside_offers : (s : Store) (left child next given : Left) (n : ℕ) (p inner : Place) (old : List Located)
+    → left ≡ Inside n child next → given ≡ child → inner ≡ p ++ Ordered n ∷ []
+    → old ++ below inner (offers s (residual_of_left given)) ≡ old ++ below p (offers s (residual_of_left left))
+inside_offers s left child next given n p inner old es eg ei =
+    let f : Left → Residual = residual_of_left in
+    ap (λ ls. old ++ ls)
+    (ap (λ z. below inner (offers s (f z))) eg
+    ∙ ap (λ q. below q (offers s (f child))) ei
+    ∙ below_entry p (Ordered n) (offers s (f child))
+    ∙ ap (λ r. below p (offers s r)) (sym (left_inside n child next))
+    ∙ ap (λ z. below p (offers s (f z))) (sym es))
+
+-- what a child in a branch and the other branches offer
+pub beside_offers : (s : Store) (left child rest given other : Left) (n : ℕ) (p inner : Place) (old between : List Located)
+    → left ≡ Beside n child rest → given ≡ child → other ≡ rest → inner ≡ p ++ Branch n ∷ []
+    → between ≡ old ++ below inner (offers s (residual_of_left given))
+    → between ++ below p (offers s (residual_of_left other)) ≡ old ++ below p (offers s (residual_of_left left))
+beside_offers s left child rest given other n p inner old between es eg eh ei eb =
+    let f : Left → Residual = residual_of_left in
+    let a : List Located = below p (behind (Branch n) (offers s (f child))) in
+    let first : below inner (offers s (f given)) ≡ a =
+    ap (λ z. below inner (offers s (f z))) eg
+    ∙ ap (λ q. below q (offers s (f child))) ei
+    ∙ below_entry p (Branch n) (offers s (f child)) in
+    ap (λ ls. ls ++ below p (offers s (f other))) (eb ∙ ap (λ ls. old ++ ls) first)
+    ∙ ap (λ z. (old ++ a) ++ below p (offers s (f z))) eh
+    ∙ append_assoc old a (below p (offers s (f rest)))
+    ∙ ap (λ ls. old ++ ls)
+    (sym (below_join p (behind (Branch n) (offers s (f child))) (offers s (f rest)))
+    ∙ ap (λ r. below p (offers s r)) (sym (left_beside n child rest))
+    ∙ ap (λ z. below p (offers s (f z))) (sym es))
+
+-- two offers added one after the other
+pub added_two : (old between ls : List Located) (a b : Located) → between ≡ old ++ a ∷ [] → ls ≡ a ∷ b ∷ [] → between ++ b ∷ [] ≡ old ++ ls
+added_two old between ls a b h g = ap (λ ks. ks ++ b ∷ []) h ∙ append_assoc old (a ∷ []) (b ∷ []) ∙ ap (λ ks. old ++ ks) (sym g)
+
+pub send_offers : (s : Store) (left : Left) (c : ℕ) (w : ℕ) (e : Expression) (p : Place) → left ≡ Send c w e
+    → below p (offers s (residual_of_left left))
+    ≡ at (p ++ Ordered 0 ∷ []) (sends c w (expression_of e) false) ∷ at (p ++ Ordered 0 ∷ []) (sends c w (expression_of e) true) ∷ []
+send_offers s left c w e p es =
+    ap (λ z. below p (offers s (residual_of_left z))) es
+    ∙ ap (λ r. below p (offers s r)) (ap residual_of_left (sym (rolls-Send c w e)) ∙ fold-roll-Left Residual left_layer (Left-F.Send c w e))
+
+pub sync_offers : (s : Store) (left : Left) (c : ℕ) (p : Place) → left ≡ Sync c
+    → below p (offers s (residual_of_left left)) ≡ at (p ++ Ordered 0 ∷ []) (syncs c false) ∷ at (p ++ Ordered 0 ∷ []) (syncs c true) ∷ []
+sync_offers s left c p es =
+    ap (λ z. below p (offers s (residual_of_left z))) es
+    ∙ ap (λ r. below p (offers s r)) (ap residual_of_left (sym (rolls-Sync c)) ∙ fold-roll-Left Residual left_layer (Left-F.Sync c))
+
+-- what is found below the root are the offers of the whole
+pub found_all : (p : Plain) (values : Store) (given : Left) (root : Place) (none found slice : List Offer)
+    → values ≡ p.values.items → given ≡ p.left → root ≡ [] → none ≡ []
+    → map located_of found ≡ map located_of none ++ below root (offers values (residual_of_left given)) → slice ≡ found
+    → events_among values (map located_of slice) ≡ allowed_events (state_of p)
+found_all p values given root none found slice ev eg er en ef es =
+    let all : map located_of slice ≡ offers (state_of p).store (state_of p).residual =
+    ap (map located_of) es ∙ ef
+    ∙ ap (λ o. map located_of o ++ below root (offers values (residual_of_left given))) en
+    ∙ ap (λ q. below q (offers values (residual_of_left given))) er
+    ∙ below_root (offers values (residual_of_left given))
+    ∙ (λ i. offers (ev i) (residual_of_left (eg i))) in
+    λ i. events_among (ev i) (all i)
+
+-- a result that is one list is an equal one
+pub answered_equal : {X E : Type 0} (r : Result X E) (a b : X) → a ≡ b → IfOk r (λ x. x ≡ a) → IfOk r (λ x. x ≡ b)
+answered_equal r a b h i = IfOk-weaker r (λ x. x ≡ a) (λ x. x ≡ b) (λ x g. g ∙ h) i

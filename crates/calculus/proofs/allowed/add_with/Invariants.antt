@@ -1,0 +1,9 @@
+use Rattle.std.proofs.Common.{◌≡◌, ◌++◌, drop, map}
+use Rattle.calculus.specs.AllowedEvents.{events_with}
+use Rattle.calculus.specs.Walk.{located_of}
+use Rattle.calculus.proofs.allowed.add_with.Given as goal
+
+abbrev pub invariant-loop-other : goal.invariant-loop-other
+invariant-loop-other l =
+    l.events ++ events_with l.values (located_of l.one) (map located_of (drop l.other-index l.others))
+    ≡ l.initial.events ++ events_with l.values (located_of l.one) (map located_of l.others)

@@ -1,0 +1,110 @@
+// The events that are allowed now.
+ghost use Rattle.std.specs.Prelude.{◌≡◌, [], ◌∷◌, ◌++◌, map, IfOk, OnOk};
+ghost use Rattle.calculus.specs.Made as made;
+ghost use Rattle.calculus.specs.AllowedEvents as model;
+ghost use Rattle.calculus.specs.Plain.{state_of};
+ghost use Rattle.calculus.specs.Walk.{located_of};
+
+use crate::making::{made_alone, sent};
+use crate::moves::Move;
+use crate::step::made_apart;
+use crate::walk::{Offer, add_offers};
+use crate::{Event, Plain};
+use address::Address;
+use std::alloc::{AllocError, Global};
+use syntax::Items;
+use value::Value;
+
+impl Plain {
+    /// The events that are allowed in this state, in no order. A place with a number of 2^32 and more is answered as
+    /// want of memory: a description that has one, or a run that gets to one, takes more than there is.
+    pub fn allowed(&self, alloc: Global) -> Result<Items<Event>, AllocError>
+        ensures { IfOk result (λ events. events ≡ model.allowed_events (state_of self.now)) }
+    {
+        let values = self.values.as_slice();
+        let root = Address::from_vec(Vec::new(alloc));
+        let mut offers = Items::new(alloc);
+        add_offers(alloc, values, self.left.get(), &root, &mut offers)?;
+        events_among(alloc, values, offers.as_slice())
+    }
+}
+
+/// The events that these moves make.
+fn events_among(
+    alloc: Global,
+    values: &[Value],
+    offers: &[Offer],
+) -> Result<Items<Event>, AllocError>
+    ensures { IfOk result (λ events. events ≡ model.events_among values.now (map located_of offers.now)) }
+{
+    let mut events = Items::new(alloc);
+    add_alone(alloc, values, offers, &mut events)?;
+    for offer in offers {
+        add_with(alloc, values, offer, offers, &mut events)?;
+    }
+    Ok(events)
+}
+
+/// Adds the events of one move alone.
+fn add_alone(
+    alloc: Global,
+    values: &[Value],
+    offers: &[Offer],
+    events: &mut Items<Event>,
+) -> Result<(), AllocError>
+    ensures { IfOk result (λ _. events.new ≡ events.old ++ model.events_alone values.now (map located_of offers.now)) }
+{
+    for offer in offers {
+        add(
+            made_alone(alloc, values, &offer.place, offer.by.get())?,
+            events,
+        )?;
+    }
+    Ok(())
+}
+
+/// Adds the events of this move with each of the others.
+fn add_with(
+    alloc: Global,
+    values: &[Value],
+    one: &Offer,
+    others: &[Offer],
+    events: &mut Items<Event>,
+) -> Result<(), AllocError>
+    ensures { IfOk result (λ _. events.new ≡ events.old ++ model.events_with values.now (located_of one.now) (map located_of others.now)) }
+{
+    for other in others {
+        add(event_of_two(alloc, values, one, other)?, events)?;
+    }
+    Ok(())
+}
+
+/// The event of this move and another that meets it, if they make one.
+fn event_of_two(
+    alloc: Global,
+    values: &[Value],
+    one: &Offer,
+    other: &Offer,
+) -> Result<Option<Event>, AllocError>
+    ensures { IfOk result (λ r. r ≡ made.event_of values.now (located_of one.now ∷ model.meets values.now (located_of one.now) (located_of other.now) ∷ [])) }
+{
+    let by = one.by.get();
+    let met = other.by.get();
+    match (by, met) {
+        (Move::Sends(_, width, value, true), Move::Opens(channel, arm, _)) => {
+            let opens = Move::Opens(*channel, *arm, Some(sent(values, *width, value)));
+            made_apart(alloc, values, &one.place, by, &other.place, &opens)
+        }
+        _ => made_apart(alloc, values, &one.place, by, &other.place, met),
+    }
+}
+
+/// Adds the event, if there is one.
+fn add(made: Option<Event>, events: &mut Items<Event>) -> Result<(), AllocError>
+    ensures { OnOk result (events.new ≡ events.old ++ model.those made []) }
+{
+    match made {
+        Some(event) => events.push(event),
+        None => Ok(()),
+    }
+}

@@ -1,0 +1,59 @@
+use Rattle.std.proofs.Common.{ℕ, ◌≡◌, ◌+◌, ◌≤◌, [], length, drop, map}
+use Rattle.elaborate.proofs.Weights.{total, weight, weight_of_guarded, weight_of_labelled, weight_of_arm, weights, last_weight}
+use Rattle.std.specs.Option.{option_map}
+use Rattle.elaborate.specs.Body.{meaning_of, meanings, all_onto, called, after_call}
+use Rattle.elaborate.specs.BodyParts.{meaning_of_guarded, meaning_of_labelled, meaning_of_arm}
+use Rattle.elaborate.proofs.body.+body.Given as goal
+
+abbrev pub decreases-command_of : goal.decreases-command_of
+decreases-command_of l = weight l.command.now + weights l.earlier.now
+
+abbrev pub decreases-commands_of : goal.decreases-commands_of
+decreases-commands_of l = total (map weight l.commands.now) + weights l.earlier.now + 1
+
+abbrev pub decreases-guarded_of : goal.decreases-guarded_of
+decreases-guarded_of l = total (map weight_of_guarded l.arms.now) + weights l.earlier.now + 1
+
+abbrev pub decreases-labelled_of : goal.decreases-labelled_of
+decreases-labelled_of l = total (map weight_of_labelled l.arms.now) + weights l.earlier.now + 1
+
+abbrev pub decreases-arms_of : goal.decreases-arms_of
+decreases-arms_of l = total (map weight_of_arm l.arms.now) + weights l.earlier.now + 1
+
+abbrev pub decreases-last_of : goal.decreases-last_of
+decreases-last_of l = last_weight (option_map weight l.last.now) + weights l.earlier.now + 1
+
+abbrev pub decreases-called_body : goal.decreases-called_body
+decreases-called_body l = weights l.earlier.now + 1
+
+-- what is made from here on is what is made of all
+abbrev pub invariant-commands_of-loop-command : goal.invariant-commands_of-loop-command
+invariant-commands_of-loop-command l =
+    all_onto l.children (map (meaning_of (meanings l.earlier)) (drop l.command-index l.commands)) l.scope l.made
+    ≡ all_onto [] (map (meaning_of (meanings l.earlier)) l.commands) l.scope l.initial.made
+
+abbrev pub invariant-guarded_of-loop-arm : goal.invariant-guarded_of-loop-arm
+invariant-guarded_of-loop-arm l =
+    all_onto l.children (map (meaning_of_guarded (meanings l.earlier)) (drop l.arm-index l.arms)) l.scope l.made
+    ≡ all_onto [] (map (meaning_of_guarded (meanings l.earlier)) l.arms) l.scope l.initial.made
+
+abbrev pub invariant-labelled_of-loop-arm : goal.invariant-labelled_of-loop-arm
+invariant-labelled_of-loop-arm l =
+    all_onto l.children (map (meaning_of_labelled (meanings l.earlier)) (drop l.arm-index l.arms)) l.scope l.made
+    ≡ all_onto [] (map (meaning_of_labelled (meanings l.earlier)) l.arms) l.scope l.initial.made
+
+abbrev pub invariant-arms_of-loop-arm : goal.invariant-arms_of-loop-arm
+invariant-arms_of-loop-arm l =
+    all_onto l.children (map (meaning_of_arm (meanings l.earlier)) (drop l.arm-index l.arms)) l.scope l.made
+    ≡ all_onto [] (map (meaning_of_arm (meanings l.earlier)) l.arms) l.scope l.initial.made
+
+-- the procedure that is gone along to makes what the first one makes
+abbrev pub invariant-called_body-loop-procedure : goal.invariant-called_body-loop-procedure
+invariant-called_body-loop-procedure l = record {
+  less : weights l.earlier ≤ weights l.fn.earlier;
+  same : after_call 0 (called (meanings l.earlier) l.called l.entrance l.made)
+      ≡ after_call 0 (called (meanings l.fn.earlier) l.fn.procedure l.fn.entrance l.fn.made);
+}
+
+abbrev pub decreases-called_body-loop-procedure : goal.decreases-called_body-loop-procedure
+decreases-called_body-loop-procedure l = length l.earlier

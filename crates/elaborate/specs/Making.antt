@@ -1,0 +1,56 @@
+-- The variables and channels of a system as they are made.
+use Rattle.std.specs.Prelude.{ℕ, ◌+◌, List, [], ◌∷◌, ◌++◌, false, length}
+use Rattle.types.specs.declared.typed.Local.{Local}
+use Rattle.types.specs.declared.typed.LocalKind.{LocalKind}
+use Rattle.types.specs.declared.typed.LocalKind.TheVariants as local
+use Rattle.types.specs.declared.typed.Port.{Port}
+use Rattle.elaborate.specs.Environment.{number_of}
+use Rattle.elaborate.specs.PortKinds.{kind_of_port}
+use Rattle.elaborate.specs.declared.made.Made.{Made}
+use Rattle.elaborate.specs.declared.system.Variable.{Variable}
+use Rattle.elaborate.specs.declared.system.Channel.{Channel}
+use Rattle.elaborate.specs.declared.system.ChannelKind.{ChannelKind}
+use Rattle.elaborate.specs.declared.system.ChannelKind.TheVariants as kind
+
+-- numbers that were given, and what is made then
+pub record Numbered : Type 0 where
+  pub numbers : List ℕ
+  pub made : Made
+
+-- one channel more
+abbrev pub with_channel : Made → List ℕ → ChannelKind → ℕ → Made
+with_channel made name k declared =
+    record made { channels = made.channels ++ record { name = name; kind = k; declared = declared } ∷ [] }
+
+-- one variable more
+abbrev pub with_variable : Made → List ℕ → ℕ → Made
+with_variable made name width =
+    record made { variables = made.variables ++ record { name = name; width = width; shared = false } ∷ [] }
+
+-- the number that a local gets
+abbrev pub number_for : Made → LocalKind → ℕ
+number_for made (local.Variable width) = number_of (length made.variables)
+number_for made (local.Channel width) = number_of (length made.channels)
+number_for made local.Sync = number_of (length made.channels)
+
+-- what is made with a local of this name
+abbrev pub with_local : Made → List ℕ → ℕ → LocalKind → Made
+with_local made name declared (local.Variable width) = with_variable made name width
+with_local made name declared (local.Channel width) = with_channel made name (kind.Data width) declared
+with_local made name declared local.Sync = with_channel made name kind.Sync declared
+
+-- the locals of a procedure in order, the prefix before the name of each
+abbrev pub locals_onto : List ℕ → List ℕ → Made → List Local → Numbered
+locals_onto numbers prefix made [] = record { numbers = numbers; made = made }
+locals_onto numbers prefix made (l ∷ ls) =
+    locals_onto (numbers ++ number_for made l.kind ∷ []) prefix (with_local made (prefix ++ l.name) l.declared l.kind) ls
+
+-- the channels of the root's ports in order
+abbrev pub ports_onto : List ℕ → Made → List Port → Numbered
+ports_onto numbers made [] = record { numbers = numbers; made = made }
+ports_onto numbers made (p ∷ ps) =
+    ports_onto (numbers ++ number_of (length made.channels) ∷ []) (with_channel made p.name (kind_of_port p.kind) p.declared) ps
+
+-- before anything is made
+abbrev pub nothing_made : Made
+nothing_made = record { variables = []; channels = []; calls = 0 }

@@ -1,0 +1,11 @@
+-- What passes over a port.
+use Rattle.types.specs.declared.typed.PortKind.{PortKind}
+use Rattle.types.specs.declared.typed.PortKind.TheVariants as port
+use Rattle.elaborate.specs.declared.system.ChannelKind.{ChannelKind}
+use Rattle.elaborate.specs.declared.system.ChannelKind.TheVariants as kind
+
+-- values of the port's width, or nothing
+abbrev pub kind_of_port : PortKind → ChannelKind
+kind_of_port (port.Input width) = kind.Data width
+kind_of_port (port.Output width) = kind.Data width
+kind_of_port port.Sync = kind.Sync

@@ -1,0 +1,214 @@
+// The body of a procedure with its calls replaced and its names by numbers.
+ghost use Rattle.std.specs.Prelude.{◌≡◌, [], map, IfOk, OnOk};
+ghost use Rattle.std.specs.Option.{option_map};
+ghost use Rattle.elaborate.specs.Body as body;
+ghost use Rattle.elaborate.specs.BodyParts.{meaning_of_guarded, meaning_of_labelled, meaning_of_arm};
+
+use crate::forms::{
+    arbitrate_command, if_command, loop_command, parallel_command, select_command, sequence_command,
+};
+use crate::made::Made;
+use crate::scope::{Entrance, Scope};
+use crate::{Action, Arm, Command, Guarded, Labelled};
+use std::alloc::{AllocError, Global};
+use syntax::Items;
+use types::Procedure;
+
+/// The command with numbers for its names and bodies for its calls. `earlier` has the procedures that it may call.
+#[cycle(body)]
+fn command_of(
+    alloc: Global,
+    command: &types::Command,
+    scope: &Scope,
+    earlier: &[Procedure],
+    made: &mut Made,
+) -> Result<Command, AllocError>
+    ensures tree { IfOk result (λ tree. tree ≡ (body.meaning_of (body.meanings earlier.now) command.now scope.now made.old).0) }
+    ensures made { OnOk result (made.new ≡ (body.meaning_of (body.meanings earlier.now) command.now scope.now made.old).1) }
+{
+    let line = command.line;
+    match command.action.get() {
+        types::Action::Call(procedure, arguments) => {
+            let call = made.calls.saturating_add(1);
+            let entrance = scope.entrance(alloc, arguments.as_slice(), call)?;
+            let body = called_body(alloc, *procedure as usize, entrance, earlier, made)?;
+            made.calls = call;
+            Ok(body)
+        }
+        types::Action::Loop(body) => {
+            let body = command_of(alloc, body, scope, earlier, made)?;
+            loop_command(alloc, line, body)
+        }
+        types::Action::While(guard, body) => {
+            let body = command_of(alloc, body, scope, earlier, made)?;
+            scope.while_command(alloc, line, guard, body)
+        }
+        types::Action::If(arms, last) => {
+            let arms = guarded_of(alloc, arms.as_slice(), scope, earlier, made)?;
+            let last = last_of(alloc, last, scope, earlier, made)?;
+            if_command(alloc, line, arms, last)
+        }
+        types::Action::Case(subject, arms, last) => {
+            let arms = labelled_of(alloc, arms.as_slice(), scope, earlier, made)?;
+            let last = last_of(alloc, last, scope, earlier, made)?;
+            scope.case_command(alloc, line, subject, arms, last)
+        }
+        types::Action::Input(channel, body) => {
+            let body = command_of(alloc, body, scope, earlier, made)?;
+            scope.input_command(alloc, line, *channel, body)
+        }
+        types::Action::Select(arms) => {
+            let arms = arms_of(alloc, arms.as_slice(), scope, earlier, made)?;
+            select_command(alloc, line, arms)
+        }
+        types::Action::Arbitrate(arms) => {
+            let arms = arms_of(alloc, arms.as_slice(), scope, earlier, made)?;
+            arbitrate_command(alloc, line, arms)
+        }
+        types::Action::Sequence(children) => {
+            let children = commands_of(alloc, children.as_slice(), scope, earlier, made)?;
+            sequence_command(alloc, line, children)
+        }
+        types::Action::Parallel(children) => {
+            let children = commands_of(alloc, children.as_slice(), scope, earlier, made)?;
+            parallel_command(alloc, line, children)
+        }
+        leaf => scope.leaf_command(alloc, line, leaf),
+    }
+}
+
+/// The commands in order.
+#[cycle(body)]
+fn commands_of(
+    alloc: Global,
+    commands: &[types::Command],
+    scope: &Scope,
+    earlier: &[Procedure],
+    made: &mut Made,
+) -> Result<Items<Command>, AllocError>
+    ensures tree { IfOk result (λ tree. tree ≡ (body.all_onto [] (map (body.meaning_of (body.meanings earlier.now)) commands.now) scope.now made.old).0) }
+    ensures made { OnOk result (made.new ≡ (body.all_onto [] (map (body.meaning_of (body.meanings earlier.now)) commands.now) scope.now made.old).1) }
+{
+    let mut children = Items::with_capacity(alloc, commands.len())?;
+    for command in commands {
+        children.push(command_of(alloc, command, scope, earlier, made)?)?;
+    }
+    Ok(children)
+}
+
+/// The arms of an `if`.
+#[cycle(body)]
+fn guarded_of(
+    alloc: Global,
+    arms: &[types::Guarded],
+    scope: &Scope,
+    earlier: &[Procedure],
+    made: &mut Made,
+) -> Result<Items<Guarded>, AllocError>
+    ensures tree { IfOk result (λ tree. tree ≡ (body.all_onto [] (map (meaning_of_guarded (body.meanings earlier.now)) arms.now) scope.now made.old).0) }
+    ensures made { OnOk result (made.new ≡ (body.all_onto [] (map (meaning_of_guarded (body.meanings earlier.now)) arms.now) scope.now made.old).1) }
+{
+    let mut children = Items::with_capacity(alloc, arms.len())?;
+    for arm in arms {
+        let guard = scope.expression(alloc, &arm.guard)?;
+        let body = command_of(alloc, &arm.body, scope, earlier, made)?;
+        children.push(Guarded { guard, body })?;
+    }
+    Ok(children)
+}
+
+/// The arms of a `case`.
+#[cycle(body)]
+fn labelled_of(
+    alloc: Global,
+    arms: &[types::Labelled],
+    scope: &Scope,
+    earlier: &[Procedure],
+    made: &mut Made,
+) -> Result<Items<Labelled>, AllocError>
+    ensures tree { IfOk result (λ tree. tree ≡ (body.all_onto [] (map (meaning_of_labelled (body.meanings earlier.now)) arms.now) scope.now made.old).0) }
+    ensures made { OnOk result (made.new ≡ (body.all_onto [] (map (meaning_of_labelled (body.meanings earlier.now)) arms.now) scope.now made.old).1) }
+{
+    let mut children = Items::with_capacity(alloc, arms.len())?;
+    for arm in arms {
+        let labels = Items::from_vec(Vec::from_slice(alloc, arm.labels.as_slice())?);
+        let body = command_of(alloc, &arm.body, scope, earlier, made)?;
+        children.push(Labelled { labels, body })?;
+    }
+    Ok(children)
+}
+
+/// The arms of a `select` or an `arbitrate`.
+#[cycle(body)]
+fn arms_of(
+    alloc: Global,
+    arms: &[types::Arm],
+    scope: &Scope,
+    earlier: &[Procedure],
+    made: &mut Made,
+) -> Result<Items<Arm>, AllocError>
+    ensures tree { IfOk result (λ tree. tree ≡ (body.all_onto [] (map (meaning_of_arm (body.meanings earlier.now)) arms.now) scope.now made.old).0) }
+    ensures made { OnOk result (made.new ≡ (body.all_onto [] (map (meaning_of_arm (body.meanings earlier.now)) arms.now) scope.now made.old).1) }
+{
+    let mut children = Items::with_capacity(alloc, arms.len())?;
+    for arm in arms {
+        let channel = scope.channel_use(arm.channel);
+        let body = command_of(alloc, &arm.body, scope, earlier, made)?;
+        children.push(Arm { channel, body })?;
+    }
+    Ok(children)
+}
+
+/// What stands behind an `else`, if there is one.
+#[cycle(body)]
+fn last_of(
+    alloc: Global,
+    last: &Option<types::Command>,
+    scope: &Scope,
+    earlier: &[Procedure],
+    made: &mut Made,
+) -> Result<Option<Command>, AllocError>
+    ensures tree { IfOk result (λ tree. tree ≡ (body.last_of (option_map (body.meaning_of (body.meanings earlier.now)) last.now) scope.now made.old).0) }
+    ensures made { OnOk result (made.new ≡ (body.last_of (option_map (body.meaning_of (body.meanings earlier.now)) last.now) scope.now made.old).1) }
+{
+    match last {
+        Some(body) => Ok(Some(command_of(alloc, body, scope, earlier, made)?)),
+        None => Ok(None),
+    }
+}
+
+/// The body of the procedure that is entered so, with locals of its own. A body that is a call alone is gone along, so
+/// that long chains of such calls take no stack. A procedure that is not there does nothing.
+#[cycle(body)]
+pub fn called_body(
+    alloc: Global,
+    procedure: usize,
+    entrance: Entrance,
+    earlier: &[Procedure],
+    made: &mut Made,
+) -> Result<Command, AllocError>
+    ensures tree { IfOk result (λ tree. tree ≡ (body.after_call 0 (body.called (body.meanings earlier.now) procedure entrance made.old)).0) }
+    ensures made { OnOk result (made.new ≡ (body.after_call 0 (body.called (body.meanings earlier.now) procedure entrance made.old)).1) }
+{
+    let mut earlier = earlier;
+    let mut called = procedure;
+    let mut entrance = entrance;
+    while let Some(procedure) = earlier.get(called) {
+        earlier = &earlier[..called];
+        let scope = made.scope(alloc, entrance, procedure.locals.as_slice())?;
+        match procedure.body.action.get() {
+            types::Action::Call(next, arguments) => {
+                called = *next as usize;
+                entrance = scope.into_entrance(alloc, arguments.as_slice())?;
+            }
+            _ => {
+                let body = command_of(alloc, &procedure.body, &scope, earlier, made)?;
+                made.calls = 0;
+                return Ok(body);
+            }
+        }
+    }
+    let nothing = Command::new(alloc, 0, Action::Continue)?;
+    made.calls = 0;
+    Ok(nothing)
+}

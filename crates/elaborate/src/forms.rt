@@ -1,0 +1,140 @@
+// Commands made of their parts. Each is a function of its own, so that the recursion that calls them takes little stack.
+ghost use Rattle.std.specs.Prelude.{◌≡◌, IfOk};
+
+use crate::scope::Scope;
+use crate::{Action, Arm, Command, Guarded, Labelled};
+use std::alloc::{AllocError, Global};
+use syntax::Items;
+use types::ChannelUse;
+
+#[inline(never)]
+pub fn loop_command(alloc: Global, line: u64, body: Command) -> Result<Command, AllocError>
+    ensures { IfOk result (λ made. made ≡ record { line = line; action = Action.Loop body }) }
+{
+    Command::new(alloc, line, Action::Loop(body))
+}
+
+#[inline(never)]
+pub fn if_command(
+    alloc: Global,
+    line: u64,
+    arms: Items<Guarded>,
+    last: Option<Command>,
+) -> Result<Command, AllocError>
+    ensures { IfOk result (λ made. made ≡ record { line = line; action = Action.If arms last }) }
+{
+    Command::new(alloc, line, Action::If(arms, last))
+}
+
+#[inline(never)]
+pub fn select_command(alloc: Global, line: u64, arms: Items<Arm>) -> Result<Command, AllocError>
+    ensures { IfOk result (λ made. made ≡ record { line = line; action = Action.Select arms }) }
+{
+    Command::new(alloc, line, Action::Select(arms))
+}
+
+#[inline(never)]
+pub fn arbitrate_command(alloc: Global, line: u64, arms: Items<Arm>) -> Result<Command, AllocError>
+    ensures { IfOk result (λ made. made ≡ record { line = line; action = Action.Arbitrate arms }) }
+{
+    Command::new(alloc, line, Action::Arbitrate(arms))
+}
+
+#[inline(never)]
+pub fn sequence_command(
+    alloc: Global,
+    line: u64,
+    children: Items<Command>,
+) -> Result<Command, AllocError>
+    ensures { IfOk result (λ made. made ≡ record { line = line; action = Action.Sequence children }) }
+{
+    Command::new(alloc, line, Action::Sequence(children))
+}
+
+#[inline(never)]
+pub fn parallel_command(
+    alloc: Global,
+    line: u64,
+    children: Items<Command>,
+) -> Result<Command, AllocError>
+    ensures { IfOk result (λ made. made ≡ record { line = line; action = Action.Parallel children }) }
+{
+    Command::new(alloc, line, Action::Parallel(children))
+}
+
+impl Scope {
+    ghost use Rattle.elaborate.specs.Scopes as scopes;
+    ghost use Rattle.elaborate.specs.Leaf.{leaf_in};
+
+    #[inline(never)]
+    pub fn while_command(
+        &self,
+        alloc: Global,
+        line: u64,
+        guard: &types::Expression,
+        body: Command,
+    ) -> Result<Command, AllocError>
+        ensures { IfOk result (λ made. made ≡ record { line = line; action = Action.While (scopes.expression_in self.now guard.now) body }) }
+    {
+        let guard = self.expression(alloc, guard)?;
+        Command::new(alloc, line, Action::While(guard, body))
+    }
+
+    #[inline(never)]
+    pub fn case_command(
+        &self,
+        alloc: Global,
+        line: u64,
+        subject: &types::Expression,
+        arms: Items<Labelled>,
+        last: Option<Command>,
+    ) -> Result<Command, AllocError>
+        ensures { IfOk result (λ made. made ≡ record { line = line; action = Action.Case (scopes.expression_in self.now subject.now) arms last }) }
+    {
+        let subject = self.expression(alloc, subject)?;
+        Command::new(alloc, line, Action::Case(subject, arms, last))
+    }
+
+    #[inline(never)]
+    pub fn input_command(
+        &self,
+        alloc: Global,
+        line: u64,
+        channel: ChannelUse,
+        body: Command,
+    ) -> Result<Command, AllocError>
+        ensures { IfOk result (λ made. made ≡ record { line = line; action = Action.Input (scopes.channel_use self.now channel) body }) }
+    {
+        Command::new(alloc, line, Action::Input(self.channel_use(channel), body))
+    }
+
+    /// A command without commands in it. Any other is taken for `continue`.
+    #[inline(never)]
+    pub fn leaf_command(
+        &self,
+        alloc: Global,
+        line: u64,
+        action: &types::Action,
+    ) -> Result<Command, AllocError>
+        ensures { IfOk result (λ made. made ≡ record { line = line; action = leaf_in self.now action.now }) }
+    {
+        let action = match action {
+            types::Action::Halt => Action::Halt,
+            types::Action::Assign(variable, width, value) => {
+                let value = self.expression(alloc, value)?;
+                Action::Assign(self.variable_use(*variable), *width, value)
+            }
+            types::Action::Send(channel, width, value) => {
+                let value = self.expression(alloc, value)?;
+                Action::Send(self.channel_use(*channel), *width, value)
+            }
+            types::Action::Receive(channel, variable) => Action::Receive(
+                self.channel_use(*channel),
+                self.variable_use(*variable),
+            ),
+            types::Action::Sync(channel) => Action::Sync(self.channel_use(*channel)),
+            _ => Action::Continue,
+        };
+        Command::new(alloc, line, action)
+    }
+}

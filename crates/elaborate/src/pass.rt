@@ -1,0 +1,104 @@
+ghost use Rattle.std.specs.Prelude.{◌≡◌, ◌⊎◌, ◌↔◌, IsTrue, IfOk, IfErr, OnOk};
+ghost use Rattle.elaborate.specs.Root as root;
+ghost use Rattle.elaborate.specs.Elaboration as model;
+ghost use Rattle.elaborate.specs.Size.{IsSmall};
+ghost use Rattle.elaborate.specs.declared.fault.Fault.TheVariants.{Memory};
+
+use crate::body::called_body;
+use crate::count::is_small;
+use crate::environment::branches;
+use crate::made::Made;
+use crate::ports::{misfit, value_count};
+use crate::scope::Entrance;
+use crate::stimulus::Entry;
+use crate::{Fault, Stimulus, System};
+use std::alloc::{AllocError, Global};
+use syntax::Items;
+use types::{Port, Procedure, Typed};
+
+/// The one system that the description and the stimulus give: its last procedure is the root, whose body is the main
+/// part, and the environment has a branch for each port of it.
+///
+/// Refused is, first, the least line of the stimulus that names no port of the root or one of another kind, names a port
+/// again, or has a value that its port does not hold; and then a system of more than 16,384 nodes, or with a command
+/// inside more than 1,024 others. That is counted before the system is made.
+pub fn elaborate(alloc: Global, typed: &Typed, stimulus: &Stimulus) -> Result<System, Fault>
+    ensures system { IfOk result (λ system. system ≡ model.system_of typed.now stimulus.now.entries) }
+    ensures accepted { OnOk result (model.IsAccepted typed.now stimulus.now.entries) }
+    ensures fault { IfErr result (λ fault. (fault ≡ Memory) ⊎ model.IsRefused typed.now stimulus.now.entries fault) }
+{
+    system_of(alloc, typed.procedures(), stimulus.entries.as_slice())
+}
+
+/// The system that the procedures and the entries of a stimulus give.
+pub(crate) fn system_of(
+    alloc: Global,
+    procedures: &[Procedure],
+    entries: &[Entry],
+) -> Result<System, Fault>
+    ensures system { IfOk result (λ system. system ≡ model.system_of procedures.now entries.now) }
+    ensures accepted { OnOk result (model.IsAccepted procedures.now entries.now) }
+    ensures fault { IfErr result (λ fault. (fault ≡ Memory) ⊎ model.IsRefused procedures.now entries.now fault) }
+{
+    if let Some(line) = misfit(root_ports(procedures), entries) {
+        return Err(Fault::BadStimulus(line));
+    }
+    if !is_within_limits(alloc, procedures, entries)? {
+        return Err(Fault::TooManyNodes);
+    }
+    let system = made_system(alloc, procedures, entries)?;
+    Ok(system)
+}
+
+/// Whether the system is within the limits.
+fn is_within_limits(
+    alloc: Global,
+    procedures: &[Procedure],
+    entries: &[Entry],
+) -> Result<bool, AllocError>
+    ensures { IfOk result (λ small. IsTrue small ↔ IsSmall (model.whole_size procedures.now entries.now)) }
+{
+    let ports = root_ports(procedures).len();
+    let small = is_small(alloc, procedures, ports, value_count(entries))?;
+    Ok(small)
+}
+
+/// The ports of the root.
+fn root_ports(procedures: &[Procedure]) -> &[Port]
+    ensures { result.now ≡ root.root_ports procedures.entry.now }
+{
+    match procedures.get(procedures.len().saturating_sub(1)) {
+        Some(root) => root.ports.as_slice(),
+        None => &[],
+    }
+}
+
+/// The system, which is known to be within its limits.
+fn made_system(
+    alloc: Global,
+    procedures: &[Procedure],
+    entries: &[Entry],
+) -> Result<System, AllocError>
+    ensures { IfOk result (λ system. system ≡ model.system_of procedures.now entries.now) }
+{
+    let ports = root_ports(procedures);
+    let environment = branches(alloc, ports, entries)?;
+    let mut made = Made::nothing(alloc);
+    let entrance = Entrance {
+        ports: made.ports(alloc, ports)?,
+        prefix: Items::new(alloc),
+    };
+    let root = procedures.len().saturating_sub(1);
+    let main = called_body(alloc, root, entrance, procedures, &mut made)?;
+    let Made {
+        variables,
+        channels,
+        calls: _,
+    } = made;
+    Ok(System {
+        main,
+        environment,
+        variables,
+        channels,
+    })
+}

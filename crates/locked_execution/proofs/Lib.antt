@@ -1,0 +1,10 @@
+pub mod Direct
+pub mod Entries
+pub mod Found
+pub mod Gathering
+pub mod HeadlineLaws
+pub mod Placed
+pub mod Sooner
+pub mod Stepped
+pub mod TakenOut
+pub mod Undone

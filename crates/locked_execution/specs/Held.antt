@@ -1,0 +1,16 @@
+-- What a machine holds, and the execution that it stands for.
+use Rattle.std.specs.Prelude.{ℕ}
+use Rattle.sharing_check.specs.declared.checked.Checked.{Checked}
+use Rattle.calculus.specs.Opening.{opening}
+use Rattle.calculus.specs.Live.{Live}
+use Rattle.calculus.specs.Object.{Object}
+
+-- a system, its live events and the ticket of the next step
+pub record Held : Type 0 where
+  pub checked : Checked
+  pub live : Live
+  pub next : ℕ
+
+-- the execution: it began as the system opens
+abbrev pub object : Held → Object
+object h = record { opening = opening h.checked; live = h.live; next = h.next }

@@ -1,0 +1,9 @@
+pub mod Asked
+pub mod Choosing
+pub mod Dependents
+pub mod Following
+pub mod Headline
+pub mod Held
+pub mod Histories
+pub mod Insertion
+pub mod Sorting

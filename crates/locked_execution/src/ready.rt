@@ -1,0 +1,61 @@
+// The events that may be taken, in order.
+ghost use Rattle.std.specs.Prelude.{◌≡◌, IfOk, IsTrue, MatchOption, Some, true, false, slice_get};
+ghost use Rattle.calculus.specs.Plain.{state_of};
+ghost use Rattle.calculus.specs.Tests.{same_event};
+ghost use Rattle.calculus.specs.Ready.{ReadyList};
+ghost use Rattle.calculus.specs.WellFormed.{WellFormed};
+ghost use Rattle.locked_execution.specs.Choosing.{HasNone, FirstWith};
+ghost use Rattle.locked_execution.specs.Insertion.{inserted};
+
+use crate::order::{has_choice, sooner_count};
+use calculus::{Choice, Event, Plain};
+use std::alloc::{AllocError, Global};
+use syntax::Items;
+
+/// The events that are allowed in the state, in order.
+pub(crate) fn ready_events(alloc: Global, state: &Plain) -> Result<Items<Event>, AllocError>
+    requires { WellFormed (state_of state.now).residual }
+    ensures { IfOk result (λ events. ReadyList (state_of state.now) events) }
+{
+    let mut allowed = state.allowed(alloc)?;
+    let mut sorted = Vec::new(alloc);
+    while let Some(event) = allowed.pop() {
+        insert(&mut sorted, event)?;
+    }
+    Ok(Items::from_vec(sorted))
+}
+
+/// Puts the event at its place, unless it is there.
+fn insert(sorted: &mut Vec<Event>, event: Event) -> Result<(), AllocError>
+    ensures { IfOk result (λ _. sorted.new.items ≡ inserted event sorted.old.items) }
+{
+    let place = sooner_count(&event, sorted.as_slice());
+    if is_there(sorted.as_slice(), place, &event) {
+        return Ok(());
+    }
+    sorted.insert(place, event)?;
+    Ok(())
+}
+
+/// Whether the event stands at this place.
+fn is_there(sorted: &[Event], place: usize, event: &Event) -> bool
+    ensures there { IsTrue result → ((f : Event) × (slice_get sorted.now place ≡ Some f) × (same_event f event.now ≡ true)) }
+    ensures elsewhere { result ≡ false → (f : Event) → slice_get sorted.now place ≡ Some f → same_event f event.now ≡ false }
+{
+    match sorted.get(place) {
+        Some(found) => found.equals(event),
+        None => false,
+    }
+}
+
+/// Where the first event with this choice stands.
+pub(crate) fn first_with(events: &[Event], choice: &Choice) -> Option<usize>
+    ensures { MatchOption result (HasNone choice.now events.now) (λ i. FirstWith choice.now events.now i) }
+{
+    for (i, event) in events.iter().enumerate() {
+        if has_choice(event, choice) {
+            return Some(i);
+        }
+    }
+    None
+}

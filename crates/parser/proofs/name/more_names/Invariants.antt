@@ -1,0 +1,11 @@
+use Rattle.std.proofs.Common.{◌≡◌, ◌-◌, [], ◌∷◌}
+use Rattle.parser.specs.Readers.{repeat_from}
+use Rattle.lexer.specs.declared.token.Kind.TheVariants as kind
+use Rattle.parser.specs.Reading.{several, one_more, behind, identifier}
+use Rattle.parser.specs.Reads.{place}
+use Rattle.parser.proofs.name.more_names.Given as goal
+
+abbrev pub invariant-loop-turn : goal.invariant-loop-turn
+invariant-loop-turn l =
+    several (kind.Comma ∷ []) (behind kind.Comma identifier) l.fn.names (place l.fn.cursor)
+    ≡ repeat_from (kind.Comma ∷ []) (one_more (behind kind.Comma identifier)) (l._turn-end - l._turn) l.names (place l.cursor)

@@ -1,0 +1,23 @@
+-- What `parse` answers, by how the description is read.
+use Rattle.std.specs.Prelude.{◌≡◌, ℕ, List, Result, Ok, Err}
+use Rattle.lexer.specs.declared.token.Token.{Token}
+use Rattle.parser.specs.declared.fault.Fault.{Fault}
+use Rattle.parser.specs.declared.fault.Fault.TheVariants.{Memory, Unexpected, TooDeep}
+use Rattle.parser.specs.declared.fault.Halt.{Halt}
+use Rattle.parser.specs.declared.fault.Halt.TheVariants as halt
+use Rattle.parser.specs.Input.{Input}
+use Rattle.parser.specs.Offsets.{offset_at}
+use Rattle.parser.specs.Readers.{Outcome, read, unexpected, too_deep}
+
+-- the answer is what was read, or where reading stopped, unless memory is out
+abbrev pub IsAnswer : {A : Type 0} → List Token → Outcome A → Result A Fault → Type 0
+IsAnswer tokens outcome (Ok a) = (left : Input) × (outcome ≡ read a left)
+IsAnswer tokens outcome (Err Memory) = Unit {0}
+IsAnswer tokens outcome (Err (Unexpected offset)) = (rest : List Token) × (outcome ≡ unexpected rest) × (offset ≡ offset_at tokens rest)
+IsAnswer tokens outcome (Err (TooDeep offset)) = (rest : List Token) × (outcome ≡ too_deep rest) × (offset ≡ offset_at tokens rest)
+
+-- the fault that a reading which stops is, where the offset is this
+abbrev pub fault_at : Halt → ℕ → Fault
+fault_at halt.Memory offset = Memory
+fault_at halt.Unexpected offset = Unexpected offset
+fault_at halt.TooDeep offset = TooDeep offset

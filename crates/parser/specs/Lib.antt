@@ -1,0 +1,13 @@
+pub mod Accepted
+pub mod Answer
+pub mod Grammar
+pub mod Input
+pub mod Nests
+pub mod Offsets
+pub mod Readers
+pub mod Reading
+pub mod Reads
+pub mod Refusal
+pub mod Rules
+pub mod Sentences
+pub mod Trees

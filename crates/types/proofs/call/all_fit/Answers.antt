@@ -1,0 +1,7 @@
+use Rattle.types.specs.Names.{entries}
+use Rattle.types.proofs.CallLemmas.{all_fit-lengths}
+use Rattle.types.proofs.call.all_fit.Goals as goal
+
+pub returns-then-ports-arguments : goal.returns-then-ports-arguments
+returns-then-ports-arguments c =
+    all_fit-lengths (entries c.args.names.now) c.args.ports.now c.args.arguments.now c.if-ports-arguments.true

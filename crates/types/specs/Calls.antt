@@ -1,0 +1,73 @@
+-- Calls: the arguments against the ports of the procedure.
+use Rattle.std.specs.Prelude.{ℕ, List, [], ◌∷◌, map, Option, Some, None, Bool, true, false, ◌&&◌, not, nat_eq, slice_get, if◌then◌else◌, Ok, Err}
+use Rattle.types.specs.Arms.{made, with_channel}
+use Rattle.types.specs.Names.{VisibleNames, look_up, find, is_among}
+use Rattle.types.specs.Uses.{procedure_use, argument_use}
+use Rattle.types.specs.Verdict.{Verdict, if_right, both, all}
+use Rattle.types.specs.declared.fault.Fault.TheVariants.{PortMismatch}
+use Rattle.types.specs.declared.scope.Meaning.{Meaning}
+use Rattle.types.specs.declared.scope.Meaning.TheVariants as meaning
+use Rattle.types.specs.declared.typed.Action.TheVariants as action
+use Rattle.types.specs.declared.typed.ChannelUse.{ChannelUse}
+use Rattle.types.specs.declared.typed.Command.{Command}
+use Rattle.types.specs.declared.typed.Place.{Place}
+use Rattle.types.specs.declared.typed.PortKind.{PortKind}
+use Rattle.types.specs.declared.typed.PortKind.TheVariants as port
+use Rattle.syntax.specs.declared.name.Identifier.{Identifier}
+
+-- an input port takes an input port or a channel of its width
+abbrev pub receives : ℕ → Meaning → Bool
+receives width (meaning.Input p given) = nat_eq width given
+receives width (meaning.Channel l given) = nat_eq width given
+receives width _ = false
+
+-- an output port takes an output port or a channel of its width
+abbrev pub sends : ℕ → Meaning → Bool
+sends width (meaning.Output p given) = nat_eq width given
+sends width (meaning.Channel l given) = nat_eq width given
+sends width _ = false
+
+-- a port without data takes a port or a channel without data
+abbrev pub is_sync : Meaning → Bool
+is_sync (meaning.SyncPort p) = true
+is_sync (meaning.Sync l) = true
+is_sync _ = false
+
+abbrev pub is_fit : PortKind → Meaning → Bool
+is_fit (port.Input width) m = receives width m
+is_fit (port.Output width) m = sends width m
+is_fit port.Sync m = is_sync m
+
+abbrev pub fits_port : PortKind → Option Meaning → Bool
+fits_port kind (Some m) = is_fit kind m
+fits_port kind None = false
+
+-- as many arguments as ports, each fit for its port
+abbrev pub all_fit : VisibleNames → List PortKind → List Identifier → Bool
+all_fit names [] [] = true
+all_fit names [] (argument ∷ arguments) = false
+all_fit names (kind ∷ kinds) [] = false
+all_fit names (kind ∷ kinds) (argument ∷ arguments) = fits_port kind (look_up names argument.name) && all_fit names kinds arguments
+
+-- no channel stands twice, nor was seen before
+abbrev pub all_differ : List Place → List ChannelUse → Bool
+all_differ seen [] = true
+all_differ seen (c ∷ rest) = not (is_among seen c.channel) && all_differ (with_channel seen c.channel) rest
+
+-- the call fits the procedure, if there is one
+abbrev pub fits : VisibleNames → Option (List PortKind) → List Identifier → List ChannelUse → Bool
+fits names None arguments channels = false
+fits names (Some kinds) arguments channels = all_fit names kinds arguments && all_differ [] channels
+
+-- the arguments of a call
+abbrev pub judged_argument : VisibleNames → List Place → Identifier → Verdict ChannelUse
+judged_argument names opened argument = argument_use (find names opened argument.name) argument.span.start
+
+abbrev pub judged_arguments : VisibleNames → List Place → List Identifier → Verdict (List ChannelUse)
+judged_arguments names opened arguments = all (map (judged_argument names opened) arguments)
+
+-- a call of a procedure, where these are the ports of the visible procedures
+unfoldable pub called : VisibleNames → List (List PortKind) → List Place → ℕ → Identifier → List Identifier → Verdict Command
+called names procedures opened line procedure arguments =
+    if_right (both (procedure_use (find names opened procedure.name) procedure.span.start) (judged_arguments names opened arguments)) (λ p.
+    if fits names (slice_get procedures p.0) arguments p.1 then Ok (made line (action.Call p.0 p.1)) else Err (PortMismatch procedure.span.start))

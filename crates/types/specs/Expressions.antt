@@ -1,0 +1,94 @@
+-- Expressions: what they become, and how wide they are.
+use Rattle.std.specs.Prelude.{ℕ, ◌+◌, List, ◌&&◌, nat_le, max, if◌then◌else◌, Ok, Err}
+use Rattle.value.specs.Word.{Word, least_width_of}
+use Rattle.types.specs.Names.{VisibleNames, find}
+use Rattle.types.specs.Uses.{type_use, value_use}
+use Rattle.types.specs.Verdict.{Verdict, becomes, if_right, both}
+use Rattle.types.specs.declared.expression.Valued.{Valued}
+use Rattle.types.specs.declared.fault.Fault.TheVariants.{TooWide}
+use Rattle.types.specs.declared.typed.Expression.TheVariants as typed
+use Rattle.types.specs.declared.typed.Place.{Place}
+use Rattle.types.specs.declared.uses.Named.{Named}
+use Rattle.types.specs.declared.uses.Named.TheVariants as named
+use Rattle.syntax.specs.declared.expression.Expression.{Expression}
+use Rattle.syntax.specs.declared.expression.Shape.TheFolds.{fold-Expression}
+use Rattle.syntax.specs.declared.expression.Shape.TheOpen.{Expression-F, Shape-F}
+use Rattle.syntax.specs.declared.expression.Operator.{Operator}
+use Rattle.syntax.specs.declared.expression.Operator.TheVariants.{Add, Subtract, And, Or, Xor, Equal, NotEqual, Less, Greater, LessOrEqual, GreaterOrEqual}
+use Rattle.syntax.specs.declared.expression.TypeName.{TypeName}
+use Rattle.syntax.specs.declared.expression.TypeName.TheVariants.{Named as NamedType, Bits}
+use Rattle.syntax.specs.declared.expression.Width.{Width}
+
+-- a declared width is from 1 to 64
+unfoldable pub declared_width : Width → Verdict ℕ
+declared_width declared =
+    if nat_le 1 declared.bits && nat_le declared.bits 64 then Ok declared.bits else Err (TooWide declared.span.start)
+
+-- the width of a type
+abbrev pub type_width : VisibleNames → List Place → TypeName → Verdict ℕ
+type_width names opened (NamedType identifier) = type_use (find names opened identifier.name) identifier.span.start
+type_width names opened (Bits width) = declared_width width
+
+-- how wide the value of an operator is over operands of these widths
+abbrev pub operator_width : Operator → ℕ → ℕ → ℕ
+operator_width Add left right = max left right + 1
+operator_width Subtract left right = max left right
+operator_width And left right = max left right
+operator_width Or left right = max left right
+operator_width Xor left right = max left right
+operator_width Equal left right = 1
+operator_width NotEqual left right = 1
+operator_width Less left right = 1
+operator_width Greater left right = 1
+operator_width LessOrEqual left right = 1
+operator_width GreaterOrEqual left right = 1
+
+-- a sum may not be wider than 64 bits
+abbrev pub width_within : ℕ → ℕ → Operator → Verdict ℕ
+width_within start width Add = if nat_le width 64 then Ok width else Err (TooWide start)
+width_within start width _ = Ok width
+
+-- a number at its least width
+abbrev pub least_word : ℕ → Word
+least_word n = record { bits = n; width = least_width_of n }
+
+abbrev pub constant : Word → Valued
+constant v = record { expression = typed.Constant v; width = v.width }
+
+abbrev pub of_name : Named → Valued
+of_name (named.Element v) = constant v
+of_name (named.Variable variable w) = record { expression = typed.Variable variable w; width = w }
+of_name (named.Received place w) = record { expression = typed.Received place w; width = w }
+
+abbrev pub combined : Operator → Valued → Valued → ℕ → Valued
+combined op left right width = record { expression = typed.Binary op left.expression right.expression; width = width }
+
+abbrev pub complement : Valued → Valued
+complement operand = record { expression = typed.Not operand.expression; width = operand.width }
+
+abbrev pub cast : Valued → ℕ → Valued
+cast operand width = record { expression = typed.Cast operand.expression width; width = width }
+
+-- an operator over what its operands are
+unfoldable pub binary : Operator → ℕ → Verdict Valued → Verdict Valued → Verdict Valued
+binary op start left right = if_right (both left right) (λ p.
+    becomes (combined op p.0 p.1) (width_within start (operator_width op p.0.width p.1.width) op))
+
+-- what an expression is where these names are visible and these channels are open
+abbrev pub Judged : Type 0
+Judged = VisibleNames → List Place → Verdict Valued
+
+-- one layer of an expression whose own first byte is at `start`
+abbrev pub shape_layer : Shape-F (ℕ → Judged) Judged → ℕ → Judged
+shape_layer (Shape-F.Number n) start names opened = Ok (constant (least_word n))
+shape_layer (Shape-F.Name name) start names opened = becomes of_name (value_use (find names opened name) start)
+shape_layer (Shape-F.Binary op left right) start names opened = binary op start (left names opened) (right names opened)
+shape_layer (Shape-F.Not operand) start names opened = becomes complement (operand names opened)
+shape_layer (Shape-F.Cast operand type) start names opened =
+    becomes (λ p. cast p.0 p.1) (both (operand names opened) (type_width names opened type))
+
+abbrev pub expression_layer : Expression-F (ℕ → Judged) Judged → Judged
+expression_layer e = e.shape e.own_start
+
+abbrev pub judged_expression : Expression → Judged
+judged_expression = fold-Expression (ℕ → Judged) Judged shape_layer expression_layer

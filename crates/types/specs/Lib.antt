@@ -1,0 +1,12 @@
+pub mod Refusal
+pub mod Verdict
+pub mod Names
+pub mod Uses
+pub mod Expressions
+pub mod Arms
+pub mod Calls
+pub mod Commands
+pub mod Declarations
+pub mod Findings
+pub mod CommandFaults
+pub mod DeclarationFaults

@@ -1,0 +1,86 @@
+-- What the names mean that are visible at a place.
+use Rattle.std.specs.Prelude.{ℕ, List, [], ◌∷◌, ◌++◌, Option, Some, None, Bool, false, nat_eq, map, is_some, if◌then◌else◌, Ok, Err}
+use Rattle.std.specs.Cmp.Lexicographic.{pointwise}
+use Rattle.std.specs.List.{list_any}
+use Rattle.types.specs.Verdict.{Verdict}
+use Rattle.types.specs.declared.fault.Fault.TheVariants.{NameTwice}
+use Rattle.types.specs.declared.scope.Meaning.{Meaning}
+use Rattle.types.specs.declared.scope.Meaning.TheVariants as meaning
+use Rattle.types.specs.declared.scope.Found.{Found}
+use Rattle.types.specs.declared.scope.Found.TheVariants.{Nothing, Opened, Visible}
+use Rattle.types.specs.declared.scope.Channel.{Channel}
+use Rattle.types.specs.declared.scope.Names.{Names}
+use Rattle.types.specs.declared.typed.LocalKind.{LocalKind}
+use Rattle.types.specs.declared.typed.LocalKind.TheVariants as local
+use Rattle.types.specs.declared.typed.Place.{Place}
+use Rattle.types.specs.declared.typed.PortKind.{PortKind}
+use Rattle.types.specs.declared.typed.PortKind.TheVariants as port
+use Rattle.types.specs.declared.typed.Place.TheVariants as place
+
+-- the visible names in order of declaration, each with what it means
+abbrev pub VisibleNames : Type 0
+VisibleNames = List (List ℕ × Meaning)
+
+-- what the name means: the first declaration stands
+abbrev pub look_up : VisibleNames → List ℕ → Option Meaning
+look_up [] name = None
+look_up (entry ∷ rest) name = if pointwise nat_eq name entry.0 then Some entry.1 else look_up rest name
+
+-- the channel that a name of this meaning is
+abbrev pub channel_of : Meaning → Option Channel
+channel_of (meaning.TypeName w) = None
+channel_of (meaning.Element v) = None
+channel_of (meaning.Procedure p) = None
+channel_of (meaning.Input p w) = Some (record { place = place.Port p; width = Some w })
+channel_of (meaning.Output p w) = Some (record { place = place.Port p; width = Some w })
+channel_of (meaning.SyncPort p) = Some (record { place = place.Port p; width = None })
+channel_of (meaning.Variable l w) = None
+channel_of (meaning.Channel l w) = Some (record { place = place.Local l; width = Some w })
+channel_of (meaning.Sync l) = Some (record { place = place.Local l; width = None })
+
+abbrev pub same_place : Place → Place → Bool
+same_place (place.Port a) (place.Port b) = nat_eq a b
+same_place (place.Port a) (place.Local b) = false
+same_place (place.Local a) (place.Port b) = false
+same_place (place.Local a) (place.Local b) = nat_eq a b
+
+-- one of these places is the channel
+abbrev pub is_among : List Place → Place → Bool
+is_among places channel = list_any (same_place channel) places
+
+-- what a name is that means this, and is this channel, where these channels are open
+abbrev pub seen_as : List Place → Meaning → Option Channel → Found
+seen_as opened m None = Visible m
+seen_as opened m (Some channel) = if is_among opened channel.place then Opened channel else Visible m
+
+abbrev pub seen : List Place → Option Meaning → Found
+seen opened None = Nothing
+seen opened (Some m) = seen_as opened m (channel_of m)
+
+-- what the name is where these names are visible and these channels are open
+unfoldable pub find : VisibleNames → List Place → List ℕ → Found
+find names opened name = seen opened (look_up names name)
+
+-- the names after one more is declared with this meaning: what is visible already stays as it is
+abbrev pub declared : VisibleNames → List ℕ → Meaning → VisibleNames
+declared names name m = if is_some (look_up names name) then names else names ++ (name, m) ∷ []
+
+-- a name that is visible already may not be declared
+abbrev pub is_fresh : VisibleNames → List ℕ → ℕ → Verdict (Unit {0})
+is_fresh names name offset = if is_some (look_up names name) then Err (NameTwice offset) else Ok tt
+
+-- the names that an index holds
+abbrev pub entries : Names → VisibleNames
+entries names = map (λ e. (e.0.items, e.1)) names.index.entries
+
+-- the port at a place of its procedure
+abbrev pub port_meaning : ℕ → PortKind → Meaning
+port_meaning p (port.Input w) = meaning.Input p w
+port_meaning p (port.Output w) = meaning.Output p w
+port_meaning p port.Sync = meaning.SyncPort p
+
+-- the local at a place of its procedure
+abbrev pub local_meaning : ℕ → LocalKind → Meaning
+local_meaning l (local.Variable w) = meaning.Variable l w
+local_meaning l (local.Channel w) = meaning.Channel l w
+local_meaning l local.Sync = meaning.Sync l

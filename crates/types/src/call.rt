@@ -1,0 +1,156 @@
+ghost use Rattle.std.specs.Prelude.{◌≡◌, [], slice_get, IfOk};
+ghost use Rattle.types.specs.Calls as calls;
+ghost use Rattle.types.specs.Names.{entries, look_up};
+
+use crate::command::made;
+use crate::scope::{Meaning, Names, Scope};
+use crate::typed::{Action, ChannelUse, Command, Place, PortKind};
+use crate::verdict::{both, with_next};
+use crate::{Fault, uses};
+use indexmap::IndexSet;
+use std::alloc::{AllocError, Global};
+use syntax::{Identifier, Items};
+use value::Width;
+
+/// A call of the procedure with the arguments.
+#[tactic(auto, unfolding(crate::specs::Calls::called))]
+pub(crate) fn called(
+    alloc: Global,
+    scope: &Scope,
+    opened: &[Place],
+    line: u64,
+    procedure: &Identifier,
+    arguments: &[Identifier],
+) -> Result<Result<Command, Fault>, AllocError>
+    ensures { IfOk result (λ made. made ≡ calls.called (entries scope.now.names) scope.now.signatures opened.now line procedure.now arguments.now) }
+{
+    let offset = procedure.span.start;
+    let found = uses::procedure_use(scope.names.find(opened, &procedure.name), offset);
+    let channels = settled_arguments(alloc, &scope.names, opened, arguments)?;
+    match both(found, channels) {
+        Ok((procedure, channels)) => {
+            if !fits(alloc, scope, procedure, arguments, channels.as_slice())? {
+                return Ok(Err(Fault::PortMismatch(offset)));
+            }
+            made(alloc, line, Action::Call(procedure, channels))
+        }
+        Err(fault) => Ok(Err(fault)),
+    }
+}
+
+/// Each of the arguments.
+fn settled_arguments(
+    alloc: Global,
+    names: &Names,
+    opened: &[Place],
+    arguments: &[Identifier],
+) -> Result<Result<Items<ChannelUse>, Fault>, AllocError>
+    ensures { IfOk result (λ made. made ≡ calls.judged_arguments (entries names.now) opened.now arguments.now) }
+{
+    let mut channels = Ok(Items::new(alloc));
+    for argument in arguments {
+        let found = names.find(opened, &argument.name);
+        channels = with_next(channels, uses::argument_use(found, argument.span.start))?;
+    }
+    Ok(channels)
+}
+
+/// Whether there is one argument for each port of the procedure, fit for it, and no channel stands twice.
+fn fits(
+    alloc: Global,
+    scope: &Scope,
+    procedure: u32,
+    arguments: &[Identifier],
+    channels: &[ChannelUse],
+) -> Result<bool, AllocError>
+    ensures { IfOk result (λ answer. answer ≡ calls.fits (entries scope.now.names) (slice_get scope.now.signatures procedure) arguments.now channels.now) }
+{
+    match scope.signatures.get(procedure as usize) {
+        Some(ports) => {
+            if !all_fit(&scope.names, ports.as_slice(), arguments) {
+                return Ok(false);
+            }
+            all_differ(alloc, channels)
+        }
+        None => Ok(false),
+    }
+}
+
+/// Whether there are as many arguments as ports, each fit for its port.
+fn all_fit(names: &Names, ports: &[PortKind], arguments: &[Identifier]) -> bool
+    ensures { result ≡ calls.all_fit (entries names.now) ports.now arguments.now }
+{
+    if ports.len() != arguments.len() {
+        return false;
+    }
+    for (index, port) in ports.iter().enumerate() {
+        if !fits_port(names, *port, &arguments[index]) {
+            return false;
+        }
+    }
+    true
+}
+
+/// Whether the argument can stand for the port.
+fn fits_port(names: &Names, port: PortKind, argument: &Identifier) -> bool
+    ensures { result ≡ calls.fits_port port (look_up (entries names.now) argument.now.name) }
+{
+    match names.meaning(&argument.name) {
+        Some(meaning) => is_fit(port, meaning),
+        None => false,
+    }
+}
+
+/// Whether what a name means can stand for the port.
+fn is_fit(port: PortKind, meaning: &Meaning) -> bool
+    ensures { result ≡ calls.is_fit port meaning.now }
+{
+    match port {
+        PortKind::Input(width) => receives(width, meaning),
+        PortKind::Output(width) => sends(width, meaning),
+        PortKind::Sync => is_sync(meaning),
+    }
+}
+
+fn receives(width: Width, meaning: &Meaning) -> bool
+    ensures { result ≡ calls.receives width meaning.now }
+{
+    match meaning {
+        Meaning::Input(_, given) => width == *given,
+        Meaning::Channel(_, given) => width == *given,
+        _ => false,
+    }
+}
+
+fn sends(width: Width, meaning: &Meaning) -> bool
+    ensures { result ≡ calls.sends width meaning.now }
+{
+    match meaning {
+        Meaning::Output(_, given) => width == *given,
+        Meaning::Channel(_, given) => width == *given,
+        _ => false,
+    }
+}
+
+fn is_sync(meaning: &Meaning) -> bool
+    ensures { result ≡ calls.is_sync meaning.now }
+{
+    match meaning {
+        Meaning::SyncPort(_) => true,
+        Meaning::Sync(_) => true,
+        _ => false,
+    }
+}
+
+/// Whether no channel is passed twice.
+fn all_differ(alloc: Global, channels: &[ChannelUse]) -> Result<bool, AllocError>
+    ensures { IfOk result (λ answer. answer ≡ calls.all_differ [] channels.now) }
+{
+    let mut seen = IndexSet::new(alloc);
+    for channel in channels {
+        if !seen.insert(channel.channel)? {
+            return Ok(false);
+        }
+    }
+    Ok(true)
+}

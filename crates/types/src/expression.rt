@@ -1,0 +1,210 @@
+ghost use Rattle.std.specs.Prelude.{◌≡◌, ◌+◌, ◌≤◌, max, IfOk, Ok};
+ghost use Rattle.types.specs.Expressions as expressions;
+ghost use Rattle.types.specs.Names.{entries, find};
+ghost use Rattle.types.specs.declared.typed.Expression.TheVariants as typed;
+ghost use Rattle.types.specs.Uses as uses;
+ghost use Rattle.types.specs.Verdict as verdict;
+
+use crate::Fault;
+use crate::scope::Names;
+use crate::typed::{Expression, Place};
+use crate::uses::{self, Named};
+use crate::verdict::both;
+use std::alloc::{AllocError, Global};
+use syntax::{Boxed, Name, Operator, Shape, TypeName};
+use value::{Value, Width};
+
+/// A typed expression, and how many bits its value has.
+#[derive(Drop)]
+pub(crate) struct Valued {
+    pub(crate) expression: Boxed<Expression>,
+    pub(crate) width: u8,
+}
+
+/// The declared width, which has to be from 1 to 64.
+#[tactic(auto, unfolding(crate::specs::Expressions::declared_width))]
+pub(crate) fn declared_width(declared: &syntax::Width) -> Result<Width, Fault>
+    ensures { result ≡ expressions.declared_width declared.now }
+{
+    if declared.bits > 64 {
+        return Err(Fault::TooWide(declared.span.start));
+    }
+    match Width::new(declared.bits as u8) {
+        Some(width) => Ok(width),
+        None => Err(Fault::TooWide(declared.span.start)),
+    }
+}
+
+/// The width of the type.
+pub(crate) fn type_width(
+    names: &Names,
+    opened: &[Place],
+    type_name: &TypeName,
+) -> Result<Width, Fault>
+    ensures { result ≡ expressions.type_width (entries names.now) opened.now type_name.now }
+{
+    match type_name {
+        TypeName::Named(identifier) => {
+            uses::type_use(names.find(opened, &identifier.name), identifier.span.start)
+        }
+        TypeName::Bits(width) => declared_width(width),
+    }
+}
+
+/// The expression with its names settled, at a place around which these channels are open.
+pub(crate) fn settled_expression(
+    alloc: Global,
+    names: &Names,
+    opened: &[Place],
+    expression: &syntax::Expression,
+) -> Result<Result<Valued, Fault>, AllocError>
+    ensures { IfOk result (λ made. made ≡ expressions.judged_expression expression.now (entries names.now) opened.now) }
+{
+    let start = expression.own_start;
+    match expression.shape.get() {
+        Shape::Number(number) => constant(alloc, least_value(*number)),
+        Shape::Name(name) => named(alloc, names, opened, name, start),
+        Shape::Binary(operator, left, right) => {
+            let left = settled_expression(alloc, names, opened, left)?;
+            let right = settled_expression(alloc, names, opened, right)?;
+            binary(alloc, *operator, start, left, right)
+        }
+        Shape::Not(operand) => {
+            let operand = settled_expression(alloc, names, opened, operand)?;
+            complement(alloc, operand)
+        }
+        Shape::Cast(operand, type_name) => {
+            let operand = settled_expression(alloc, names, opened, operand)?;
+            cast(alloc, operand, type_width(names, opened, type_name))
+        }
+    }
+}
+
+/// The number at its least width.
+pub(crate) fn least_value(number: u64) -> Value
+    ensures { result ≡ expressions.least_word number }
+{
+    Value::make(number, value::least_width(number))
+}
+
+fn constant(alloc: Global, constant: Value) -> Result<Result<Valued, Fault>, AllocError>
+    ensures { IfOk result (λ made. made ≡ Ok (expressions.constant constant)) }
+{
+    Ok(Ok(Valued {
+        width: constant.width(),
+        expression: Boxed::new(alloc, Expression::Constant(constant))?,
+    }))
+}
+
+fn named(
+    alloc: Global,
+    names: &Names,
+    opened: &[Place],
+    name: &Name,
+    offset: u64,
+) -> Result<Result<Valued, Fault>, AllocError>
+    ensures { IfOk result (λ made. made ≡ verdict.becomes expressions.of_name (uses.value_use (find (entries names.now) opened.now name.now) offset)) }
+{
+    match uses::value_use(names.find(opened, name), offset) {
+        Ok(name) => settled_name(alloc, name),
+        Err(fault) => Ok(Err(fault)),
+    }
+}
+
+fn settled_name(alloc: Global, name: Named) -> Result<Result<Valued, Fault>, AllocError>
+    ensures { IfOk result (λ made. made ≡ Ok (expressions.of_name name)) }
+{
+    match name {
+        Named::Element(element) => constant(alloc, element),
+        Named::Variable(variable, width) => Ok(Ok(Valued {
+            width: width.bits(),
+            expression: Boxed::new(alloc, Expression::Variable(variable, width))?,
+        })),
+        Named::Received(channel, width) => Ok(Ok(Valued {
+            width: width.bits(),
+            expression: Boxed::new(alloc, Expression::Received(channel, width))?,
+        })),
+    }
+}
+
+/// How many bits the operator's value has over operands of so many bits, which may be no more than 64.
+fn operator_width(operator: Operator, start: u64, left: u8, right: u8) -> Result<u8, Fault>
+    ensures { result ≡ expressions.width_within start (expressions.operator_width operator left right) operator }
+{
+    match operator {
+        Operator::Add => {
+            if left.max(right) >= 64 {
+                Err(Fault::TooWide(start))
+            } else {
+                Ok(left.max(right) + 1)
+            }
+        }
+        Operator::Subtract | Operator::And | Operator::Or | Operator::Xor => Ok(left.max(right)),
+        _ => Ok(1),
+    }
+}
+
+#[tactic(auto, unfolding(crate::specs::Expressions::binary))]
+fn binary(
+    alloc: Global,
+    operator: Operator,
+    start: u64,
+    left: Result<Valued, Fault>,
+    right: Result<Valued, Fault>,
+) -> Result<Result<Valued, Fault>, AllocError>
+    ensures { IfOk result (λ made. made ≡ expressions.binary operator start left right) }
+{
+    match both(left, right) {
+        Ok((left, right)) => match operator_width(operator, start, left.width, right.width) {
+            Ok(width) => combined(alloc, operator, left.expression, right.expression, width),
+            Err(fault) => Ok(Err(fault)),
+        },
+        Err(fault) => Ok(Err(fault)),
+    }
+}
+
+fn combined(
+    alloc: Global,
+    operator: Operator,
+    left: Boxed<Expression>,
+    right: Boxed<Expression>,
+    width: u8,
+) -> Result<Result<Valued, Fault>, AllocError>
+    ensures { IfOk result (λ made. made ≡ Ok (record { expression = typed.Binary operator left right; width = width })) }
+{
+    Ok(Ok(Valued {
+        expression: Boxed::new(alloc, Expression::Binary(operator, left, right))?,
+        width,
+    }))
+}
+
+fn complement(
+    alloc: Global,
+    operand: Result<Valued, Fault>,
+) -> Result<Result<Valued, Fault>, AllocError>
+    ensures { IfOk result (λ made. made ≡ verdict.becomes expressions.complement operand) }
+{
+    match operand {
+        Ok(operand) => Ok(Ok(Valued {
+            width: operand.width,
+            expression: Boxed::new(alloc, Expression::Not(operand.expression))?,
+        })),
+        Err(fault) => Ok(Err(fault)),
+    }
+}
+
+fn cast(
+    alloc: Global,
+    operand: Result<Valued, Fault>,
+    width: Result<Width, Fault>,
+) -> Result<Result<Valued, Fault>, AllocError>
+    ensures { IfOk result (λ made. made ≡ verdict.becomes (λ p. expressions.cast p.0 p.1) (verdict.both operand width)) }
+{
+    match both(operand, width) {
+        Ok((operand, width)) => Ok(Ok(Valued {
+            width: width.bits(),
+            expression: Boxed::new(alloc, Expression::Cast(operand.expression, width))?,
+        })),
+        Err(fault) => Ok(Err(fault)),
+    }
+}
