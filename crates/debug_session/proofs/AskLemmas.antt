@@ -1,0 +1,97 @@
+-- What a line asks for.
+use Rattle.std.proofs.Common.{◌≡◌, ℕ, Bool, true, false, IsTrue, List, [], ◌∷◌, ◌++◌, Option, Some, None, MatchOption, Result, Ok, Err, IfOk, refl, sym, ap, ◌∙◌, subst}
+use Rattle.std.proofs.lemmas.Bool.{false≢true}
+use Rattle.elaborate.specs.declared.system.System.{System}
+use Rattle.calculus.specs.declared.command.Command.{Command}
+use Rattle.debug_session.specs.declared.word.Word.{Word}
+use Rattle.debug_session.specs.declared.word.Word.TheVariants as words
+use Rattle.debug_session.specs.EventText.{field}
+use Rattle.debug_session.specs.Fields.{BeginsField, CutAtSpace}
+use Rattle.debug_session.specs.Words.{spelling, is_offered, SpellsNothing}
+use Rattle.debug_session.specs.Lines.{IsNoVariable, IsNoChoice, AsksBy, AsksNothingBy, Asks, AsksNothing}
+use Rattle.debug_session.proofs.CutLemmas.{cut-same}
+use Rattle.debug_session.proofs.WordLemmas.{spelling-no-space, one-word}
+
+-- a field begins with a space
+field-begins : (rest text : List ℕ) → rest ≡ field text → BeginsField rest
+field-begins rest text e = subst BeginsField (sym e) refl
+
+-- what stands behind a word is nothing or begins with a space
+pub behind-begins : (system : System) (w : Word) (rest : List ℕ) (c : Command) → AsksBy system w rest c → BeginsField rest
+behind-begins system words.Step rest c (d, h, e) = subst BeginsField (sym h.2.1) refl
+behind-begins system words.Undo rest c (t, h, e) = subst BeginsField (sym h.1) refl
+behind-begins system words.Roll rest c (t, h, e) = subst BeginsField (sym h.1) refl
+behind-begins system words.RollValue rest c (x, h, e) = subst BeginsField (sym h.1.1) refl
+behind-begins system words.Blame rest c (x, h, e) = subst BeginsField (sym h.1.1) refl
+behind-begins system words.Ready rest c (h, e) = subst BeginsField (sym h) tt
+behind-begins system words.Consequences rest c (t, h, e) = subst BeginsField (sym h.1) refl
+behind-begins system words.Live rest c (h, e) = subst BeginsField (sym h) tt
+behind-begins system words.Value rest c (x, h, e) = subst BeginsField (sym h.1.1) refl
+
+-- the word and the rest are the parts of the line
+asked-parts : (system : System) (line text rest : List ℕ) (c : Command) → CutAtSpace line text rest → (a : Asks system line c)
+    → (spelling a.word ≡ text) × (a.rest ≡ rest)
+asked-parts system line text rest c cut a =
+    cut-same (spelling a.word) text a.rest rest (spelling-no-space a.word) cut.clear
+    (behind-begins system a.word a.rest c a.asked) cut.begins (sym a.spelled ∙ sym cut.joined)
+
+-- a line that begins with no word asks for nothing
+pub no-word : (system : System) (line text rest : List ℕ) → CutAtSpace line text rest → SpellsNothing text → AsksNothing system line
+no-word system line text rest cut none c a = none a.word (asked-parts system line text rest c cut a).0
+
+-- a line whose word is not offered asks for nothing
+pub not-offered : (system : System) (line text rest : List ℕ) (w : Word) → CutAtSpace line text rest → spelling w ≡ text
+    → is_offered w ≡ false → AsksNothing system line
+not-offered system line text rest w cut h off c a =
+    let same : a.word ≡ w = one-word a.word w text (asked-parts system line text rest c cut a).0 h in
+    false≢true (sym off ∙ (ap is_offered (sym same) ∙ a.offered))
+
+-- a line whose word asks for nothing with what is behind it asks for nothing
+pub nothing-behind : (system : System) (line text rest : List ℕ) (w : Word) → CutAtSpace line text rest → spelling w ≡ text
+    → AsksNothingBy system w rest → AsksNothing system line
+nothing-behind system line text rest w cut h none c a =
+    let same : a.word ≡ w = one-word a.word w text (asked-parts system line text rest c cut a).0 h in
+    let moved : AsksBy system w a.rest c = subst (λ v. AsksBy system v a.rest c) same a.asked in
+    none c (subst (λ r. AsksBy system w r c) (asked-parts system line text rest c cut a).1 moved)
+
+-- a line asks for what its word asks for with what is behind it
+pub asks-behind : (system : System) (line text rest : List ℕ) (w : Word) (c : Command) → CutAtSpace line text rest
+    → spelling w ≡ text → is_offered w ≡ true → AsksBy system w rest c → Asks system line c
+asks-behind system line text rest w c cut h on asked = record {
+  word = w;
+  rest = rest;
+  spelled = sym cut.joined ∙ ap (λ t. t ++ rest) (sym h);
+  offered = on;
+  asked = asked;
+}
+
+-- where no variable is named
+pub roll-value-nothing : (system : System) (w : Word) (rest : List ℕ) → w ≡ words.RollValue → IsNoVariable system rest → AsksNothingBy system w rest
+roll-value-nothing system w rest e none = subst (λ v. AsksNothingBy system v rest) (sym e) (λ c h. none h.0 h.1)
+
+-- where no variable is named
+pub blame-nothing : (system : System) (w : Word) (rest : List ℕ) → w ≡ words.Blame → IsNoVariable system rest → AsksNothingBy system w rest
+blame-nothing system w rest e none = subst (λ v. AsksNothingBy system v rest) (sym e) (λ c h. none h.0 h.1)
+
+-- where no variable is named
+pub value-nothing : (system : System) (w : Word) (rest : List ℕ) → w ≡ words.Value → IsNoVariable system rest → AsksNothingBy system w rest
+value-nothing system w rest e none = subst (λ v. AsksNothingBy system v rest) (sym e) (λ c h. none h.0 h.1)
+
+-- where no choice stands
+pub step-nothing : (system : System) (w : Word) (rest : List ℕ) → w ≡ words.Step → IsNoChoice rest → AsksNothingBy system w rest
+step-nothing system w rest e none = subst (λ v. AsksNothingBy system v rest) (sym e) (λ c h. none h.0 h.1)
+
+-- what is read behind the word is what the line asks for
+asked-found : (system : System) (line text rest : List ℕ) (w : Word) (found : Option Command) → CutAtSpace line text rest
+    → spelling w ≡ text → is_offered w ≡ true → MatchOption found (AsksNothingBy system w rest) (λ c. AsksBy system w rest c)
+    → MatchOption found (AsksNothing system line) (λ c. Asks system line c)
+asked-found system line text rest w None cut h on none = nothing-behind system line text rest w cut h none
+asked-found system line text rest w (Some c) cut h on some = asks-behind system line text rest w c cut h on some
+
+-- the same of the answer, unless there was no memory
+pub asked-read : {E : Type 0} → (system : System) (line text rest : List ℕ) (w : Word) (r : Result (Option Command) E) → CutAtSpace line text rest
+    → spelling w ≡ text → is_offered w ≡ true
+    → IfOk r (λ found. MatchOption found (AsksNothingBy system w rest) (λ c. AsksBy system w rest c))
+    → IfOk r (λ found. MatchOption found (AsksNothing system line) (λ c. Asks system line c))
+asked-read system line text rest w (Ok found) cut h on is = asked-found system line text rest w found cut h on is
+asked-read system line text rest w (Err e) cut h on is = tt

@@ -1,0 +1,11 @@
+pub mod AskLemmas
+pub mod ChoiceLemmas
+pub mod CutLemmas
+pub mod DecimalLemmas
+pub mod KnownLemmas
+pub mod LineLemmas
+pub mod MeaningLemmas
+pub mod NumberLemmas
+pub mod PieceLemmas
+pub mod SessionLemmas
+pub mod WordLemmas

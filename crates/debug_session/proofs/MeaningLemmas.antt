@@ -1,0 +1,110 @@
+-- A line says one thing.
+use Rattle.std.proofs.Common.{◌≡◌, ℕ, List, [], ◌∷◌, ◌++◌, Some, refl, sym, ap, ◌∙◌, subst, inl, inr, arith}
+use Rattle.std.specs.List.{position}
+use Rattle.std.specs.Fmt.{decimal}
+use Rattle.std.proofs.lemmas.Fmt.{decimal_injective}
+use Rattle.address.specs.declared.Entry.{Entry}
+use Rattle.address.specs.Text.{text_of}
+use Rattle.address.proofs.Finds.{text_of-injective}
+use Rattle.elaborate.specs.declared.system.System.{System}
+use Rattle.calculus.specs.declared.event.Choice.{Choice}
+use Rattle.calculus.specs.declared.command.Command.{Command}
+use Rattle.debug_session.specs.declared.line.Line.{Line}
+use Rattle.debug_session.specs.declared.word.Word.{Word}
+use Rattle.debug_session.specs.declared.word.Word.TheVariants as words
+use Rattle.debug_session.specs.Words.{spelling}
+use Rattle.debug_session.specs.Lines.{IsNumber, has_name, IsVariable, IsArm, IsChoice, AsksBy, Asks, Says}
+use Rattle.debug_session.proofs.CutLemmas.{cut-same, address-no-space}
+use Rattle.debug_session.proofs.NumberLemmas.{field-same, field-some, same-place}
+use Rattle.debug_session.proofs.ChoiceLemmas.{arm-begins}
+use Rattle.debug_session.proofs.WordLemmas.{spelling-no-space, one-word}
+use Rattle.debug_session.proofs.AskLemmas.{behind-begins}
+
+-- one number stands in a field
+one-number : (m n : ℕ) (rest : List ℕ) → IsNumber m rest → IsNumber n rest → m ≡ n
+one-number m n rest h k = decimal_injective m n h.0 k.0 (field-same rest (decimal m) (decimal n) h.1 k.1)
+
+-- one variable is named
+one-variable : (system : System) (x y : ℕ) (rest : List ℕ) → IsVariable system x rest → IsVariable system y rest → x ≡ y
+one-variable system x y rest h k =
+    let there : position (has_name h.1.0) system.variables ≡ Some y =
+    subst (λ t. position (has_name t) system.variables ≡ Some y) (field-same rest k.1.0 h.1.0 k.1.1 h.1.1) k.1.2 in
+    same-place x y (sym h.1.2 ∙ there)
+
+-- one arm stands there
+one-arm : (a b : ℕ) (rest : List ℕ) → IsArm a rest → IsArm b rest → a ≡ b
+one-arm a b rest h k =
+    elim h [
+      | inl none ↦ elim k [
+        | inl other ↦ none.1 ∙ sym other.1
+        | inr some ↦ absurd (field-some rest (decimal b) some.0 none.0)
+      ]
+      | inr some ↦ elim k [
+        | inl none ↦ absurd (field-some rest (decimal a) some.0 none.0)
+        | inr other ↦ one-number a b rest (omega (arith, some.1), some.0) (omega (arith, other.1), other.0)
+      ]
+    ]
+
+-- equal parts make equal choices
+same-choice : (c d : Choice) → c.place ≡ d.place → c.arm ≡ d.arm → c ≡ d
+same-choice c d p a =
+    ap (λ (x : List Entry). record c { place = x }) p ∙ ap (λ (n : ℕ). record d { arm = n }) a
+
+-- one choice stands there
+one-choice : (c d : Choice) (rest : List ℕ) → IsChoice c rest → IsChoice d rest → c ≡ d
+one-choice c d rest h k =
+    let both : (text_of c.place ≡ text_of d.place) × (h.2.0 ≡ k.2.0) =
+    cut-same (text_of c.place) (text_of d.place) h.2.0 k.2.0 (address-no-space c.place h.1) (address-no-space d.place k.1)
+    (arm-begins c.arm h.2.0 h.2.2) (arm-begins d.arm k.2.0 k.2.2)
+    (field-same rest (text_of c.place ++ h.2.0) (text_of d.place ++ k.2.0) h.2.1 k.2.1) in
+    same-choice c d (text_of-injective c.place d.place h.1 k.1 both.0)
+    (one-arm c.arm d.arm k.2.0 (subst (IsArm c.arm) both.1 h.2.2) k.2.2)
+
+-- a word and what is behind it ask for one command
+one-behind : (system : System) (w : Word) (rest : List ℕ) (c d : Command) → AsksBy system w rest c → AsksBy system w rest d → c ≡ d
+one-behind system words.Step rest c d (a, h, e) (b, k, f) = e ∙ (ap Command.Step (one-choice a b rest h k) ∙ sym f)
+one-behind system words.Undo rest c d (t, h, e) (u, k, f) = e ∙ (ap Command.Undo (one-number t u rest h k) ∙ sym f)
+one-behind system words.Roll rest c d (t, h, e) (u, k, f) = e ∙ (ap Command.Roll (one-number t u rest h k) ∙ sym f)
+one-behind system words.RollValue rest c d (x, h, e) (y, k, f) = e ∙ (ap Command.RollValue (one-variable system x y rest h k) ∙ sym f)
+one-behind system words.Blame rest c d (x, h, e) (y, k, f) = e ∙ (ap Command.Blame (one-variable system x y rest h k) ∙ sym f)
+one-behind system words.Ready rest c d (h, e) (k, f) = e ∙ sym f
+one-behind system words.Consequences rest c d (t, h, e) (u, k, f) = e ∙ (ap Command.Consequences (one-number t u rest h k) ∙ sym f)
+one-behind system words.Live rest c d (h, e) (k, f) = e ∙ sym f
+one-behind system words.Value rest c d (x, h, e) (y, k, f) = e ∙ (ap Command.Value (one-variable system x y rest h k) ∙ sym f)
+
+-- a line asks for one command
+one-asked : (system : System) (line : List ℕ) (c d : Command) → Asks system line c → Asks system line d → c ≡ d
+one-asked system line c d a b =
+    let both : (spelling a.word ≡ spelling b.word) × (a.rest ≡ b.rest) =
+    cut-same (spelling a.word) (spelling b.word) a.rest b.rest (spelling-no-space a.word) (spelling-no-space b.word)
+    (behind-begins system a.word a.rest c a.asked) (behind-begins system b.word b.rest d b.asked) (sym a.spelled ∙ b.spelled) in
+    let same : a.word ≡ b.word = one-word a.word b.word (spelling b.word) both.0 refl in
+    one-behind system b.word b.rest c d
+    (subst (λ r. AsksBy system b.word r c) both.1 (subst (λ w. AsksBy system w a.rest c) same a.asked)) b.asked
+
+-- a text with a byte is not empty
+some-text : (b : ℕ) (bs : List ℕ) → b ∷ bs ≡ [] → ⊥
+some-text b bs e = cc
+
+-- the word of a line is not empty
+some-word : (w : Word) (rest : List ℕ) → spelling w ++ rest ≡ [] → ⊥
+some-word words.Step rest e = some-text _ _ e
+some-word words.Undo rest e = some-text _ _ e
+some-word words.Roll rest e = some-text _ _ e
+some-word words.RollValue rest e = some-text _ _ e
+some-word words.Blame rest e = some-text _ _ e
+some-word words.Ready rest e = some-text _ _ e
+some-word words.Consequences rest e = some-text _ _ e
+some-word words.Live rest e = some-text _ _ e
+some-word words.Value rest e = some-text _ _ e
+
+-- an empty line asks for nothing
+empty-asks : (system : System) (line : List ℕ) (c : Command) → line ≡ [] → Asks system line c → ⊥
+empty-asks system line c e a = some-word a.word a.rest (sym a.spelled ∙ e)
+
+-- a line says one thing
+pub one-meaning : (system : System) (line : List ℕ) (x y : Line) → Says system line x → Says system line y → x ≡ y
+one-meaning system line (Line.Asked c) (Line.Asked d) h k = ap Line.Asked (one-asked system line c d h k)
+one-meaning system line (Line.Asked c) Line.Empty h k = absurd (empty-asks system line c k h)
+one-meaning system line Line.Empty (Line.Asked d) h k = absurd (empty-asks system line d h k)
+one-meaning system line Line.Empty Line.Empty h k = refl

@@ -1,0 +1,93 @@
+-- Numbers and names behind the word of a line.
+use Rattle.std.proofs.Common.{◌≡◌, ℕ, ◌<◌, ◌^◌, List, [], ◌∷◌, Option, Some, None, MatchOption, refl, sym, ap, ◌∙◌, subst, inl, inr, arith}
+use Rattle.std.specs.List.{position}
+use Rattle.std.specs.Option.{SomeIff}
+use Rattle.std.specs.Fmt.{decimal}
+use Rattle.std.proofs.lemmas.Fmt.{decimal_injective}
+use Rattle.elaborate.specs.declared.system.System.{System}
+use Rattle.debug_session.specs.EventText.{field}
+use Rattle.debug_session.specs.Fields.{IsNoField}
+use Rattle.debug_session.specs.Numbers.{ReadsNumber, IsNoNumber}
+use Rattle.debug_session.specs.Lines.{IsNumber, IsNoTicket, has_name, IsVariable, IsNoVariable, IsArm, IsNoArm}
+use Rattle.debug_session.proofs.CutLemmas.{tails}
+
+-- equal fields have equal texts
+pub field-same : (rest t u : List ℕ) → rest ≡ field t → rest ≡ field u → t ≡ u
+field-same rest t u e k = tails 32 32 t u (sym e ∙ k)
+
+-- a text with a space is not empty
+empty-field : (t : List ℕ) → field t ≡ [] → ⊥
+empty-field t e = cc
+
+-- a place that is not found is not found
+none-some-place : (r : Option ℕ) (x : ℕ) → r ≡ None → r ≡ Some x → ⊥
+none-some-place r x h k = cc
+
+-- what is found is one place
+pub same-place : (x y : ℕ) → Some x ≡ Some y → x ≡ y
+same-place x y e = cc
+
+-- a field is not empty
+pub field-some : (rest t : List ℕ) → rest ≡ field t → rest ≡ [] → ⊥
+field-some rest t e k = empty-field t (sym e ∙ k)
+
+-- no ticket stands where no field does
+pub no-ticket-field : (rest : List ℕ) → IsNoField rest → IsNoTicket rest
+no-ticket-field rest none n h = none (decimal n) h.1
+
+-- what is read of a ticket
+pub ticket-read : (r : Option ℕ) (rest text : List ℕ) → rest ≡ field text → MatchOption r (IsNoNumber text) (λ n. ReadsNumber text n)
+    → MatchOption r (IsNoTicket rest) (λ n. IsNumber n rest)
+ticket-read None rest text e h = λ n k. h n (k.0, field-same rest (decimal n) text k.1 e)
+ticket-read (Some n) rest text e h = (h.0, e ∙ ap field (sym h.1))
+
+-- no variable is named where no field stands
+pub no-variable-field : (system : System) (rest : List ℕ) → IsNoField rest → IsNoVariable system rest
+no-variable-field system rest none x h = none h.1.0 h.1.1
+
+-- the number of a variable is the place of its name
+variable-place : (system : System) (rest name : List ℕ) (x : ℕ) → rest ≡ field name → IsVariable system x rest
+    → position (has_name name) system.variables ≡ Some x
+variable-place system rest name x e h =
+    subst (λ t. position (has_name t) system.variables ≡ Some x) (field-same rest h.1.0 name h.1.1 e) h.1.2
+
+-- no variable has a name that is not found
+pub no-variable-place : (system : System) (rest name : List ℕ) → rest ≡ field name
+    → position (has_name name) system.variables ≡ None → IsNoVariable system rest
+no-variable-place system rest name e none x h =
+    none-some-place (position (has_name name) system.variables) x none (variable-place system rest name x e h)
+
+-- the variable whose name is found, where its number has 32 bits
+pub variable-read : (system : System) (rest name : List ℕ) (place : ℕ) (r : Option ℕ) → rest ≡ field name
+    → position (has_name name) system.variables ≡ Some place → SomeIff r (place < 2 ^ 32) place
+    → MatchOption r (IsNoVariable system rest) (λ x. IsVariable system x rest)
+variable-read system rest name place None e at h =
+    λ x k. h (subst (λ p. p < 2 ^ 32) (same-place x place (sym (variable-place system rest name x e k) ∙ at)) k.0)
+variable-read system rest name place (Some x) e at h =
+    (subst (λ p. p < 2 ^ 32) (sym h.1) h.0, (name, e, at ∙ ap Some (sym h.1)))
+
+-- no arm stands where something stands that is no field
+pub no-arm-field : (rest : List ℕ) → (rest ≡ [] → ⊥) → IsNoField rest → IsNoArm rest
+no-arm-field rest some none arm h = elim h [ inl n ↦ some n.0 | inr s ↦ none (decimal arm) s.0 ]
+
+-- no arm stands where a field is no number
+pub no-arm-number : (rest text : List ℕ) → rest ≡ field text → IsNoNumber text → IsNoArm rest
+no-arm-number rest text e none arm h =
+    elim h [
+      | inl n ↦ field-some rest text e n.0
+      | inr s ↦ none arm (omega (arith, s.1), field-same rest (decimal arm) text s.0 e)
+    ]
+
+-- the arm whose number is read, where it has 32 bits
+pub arm-read : (rest text : List ℕ) (n : ℕ) (r : Option ℕ) → rest ≡ field text → ReadsNumber text n → SomeIff r (n < 2 ^ 32) n
+    → MatchOption r (IsNoArm rest) (λ arm. IsArm arm rest)
+arm-read rest text n None e read h =
+    λ arm k. elim k [
+      | inl z ↦ field-some rest text e z.0
+      | inr s ↦
+          let same : arm ≡ n =
+          decimal_injective arm n (omega (arith, s.1)) read.0 (field-same rest (decimal arm) text s.0 e ∙ sym read.1) in
+          h (subst (λ m. m < 2 ^ 32) same s.1)
+    ]
+arm-read rest text n (Some arm) e read h =
+    inr (e ∙ ap field (sym read.1 ∙ ap decimal (sym h.1)), subst (λ m. m < 2 ^ 32) (sym h.1) h.0)

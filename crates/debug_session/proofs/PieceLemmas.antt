@@ -1,0 +1,59 @@
+-- How one line is answered.
+use Rattle.std.proofs.Common.{◌≡◌, ◌≢◌, ◌⊎◌, ℕ, List, [], ◌++◌, Option, MatchResult, Result, Ok, Err, refl, sym, subst, ◌∙◌, inl, inr}
+use Rattle.std.specs.Io.KnownBytes.{Appends}
+use Rattle.elaborate.specs.declared.system.System.{System}
+use Rattle.calculus.specs.Object.{Object}
+use Rattle.debug_session.specs.declared.line.Line.{Line}
+use Rattle.debug_session.specs.declared.fault.Fault.{Fault}
+use Rattle.debug_session.specs.Lines.{Says, AsksNothing}
+use Rattle.debug_session.specs.Transcript.{SaidAnswered, LineAnswered}
+use Rattle.debug_session.specs.Pieces.{WritingStops, LineStops}
+use Rattle.debug_session.proofs.KnownLemmas.{Appends-none}
+
+-- what came of a line
+abbrev pub LineEnds : System → Object → List ℕ → ℕ → Object → Option (List ℕ) → Option (List ℕ) → Result (Unit {0}) Fault → Type 0
+LineEnds s o line number o' held held' r =
+    (given : List ℕ) × Appends held held' given
+    × MatchResult r (λ _. LineAnswered s o line given o') (λ fault. LineStops s o line number given fault)
+
+-- why a line says nothing
+unsaid : (s : System) (o : Object) (line : List ℕ) (number : ℕ) (fault : Fault)
+    → (fault ≡ Fault.Memory) ⊎ ((fault ≡ Fault.BadCommand number) × (line ≢ []) × AsksNothing s line) → LineStops s o line number [] fault
+unsaid s o line number fault h =
+    elim h [
+      | inl memory ↦ subst (LineStops s o line number []) (sym memory) refl
+      | inr bad ↦ subst (LineStops s o line number []) (sym bad.0) (refl, refl, bad.1, bad.2)
+    ]
+
+-- the line says nothing, and the result is its fault
+pub line-unsaid : (s t : System) (o o' : Object) (line : List ℕ) (number : ℕ) (held : Option (List ℕ)) (fault : Fault)
+    (r : Result (Unit {0}) Fault) → t ≡ s
+    → (fault ≡ Fault.Memory) ⊎ ((fault ≡ Fault.BadCommand number) × (line ≢ []) × AsksNothing t line) → r ≡ Err fault
+    → LineEnds s o line number o' held held r
+line-unsaid s t o o' line number held fault r same h e =
+    subst (λ x. LineEnds s o line number o' held held x) (sym e) (
+      [],
+      Appends-none held,
+      unsaid s o line number fault
+          (subst (λ x. (fault ≡ Fault.Memory) ⊎ ((fault ≡ Fault.BadCommand number) × (line ≢ []) × AsksNothing x line)) same h),
+    )
+
+-- there was no memory for the answer
+pub line-unmade : (s : System) (o o' : Object) (line : List ℕ) (number : ℕ) (held : Option (List ℕ))
+    (r : Result (Unit {0}) Fault) → r ≡ Err Fault.Memory → LineEnds s o line number o' held held r
+line-unmade s o o' line number held r e =
+    subst (λ x. LineEnds s o line number o' held held x) (sym e) ([], Appends-none held, refl)
+
+-- the answer is written, or a beginning of it
+pub line-written : (s t : System) (o o' : Object) (line : List ℕ) (number : ℕ) (held held' : Option (List ℕ)) (said : Line)
+    (answer bytes : List ℕ) (r : Result (Unit {0}) Fault) → t ≡ s → bytes ≡ answer → Says t line said → SaidAnswered s o said answer o'
+    → (given : List ℕ) × Appends held held' given × MatchResult r (λ _. given ≡ bytes) (λ fault. WritingStops bytes given fault)
+    → LineEnds s o line number o' held held' r
+line-written s t o o' line number held held' said answer bytes (Ok x) same whole says a (given, gives, e) =
+    (given, gives, (said, subst (λ y. Says y line said) same says, subst (λ y. SaidAnswered s o said y o') (sym (e ∙ whole)) a))
+line-written s t o o' line number held held' said answer bytes (Err fault) same whole says a (given, gives, stops) = (
+  given,
+  gives,
+  subst (LineStops s o line number given) (sym stops.0)
+      (answer, stops.1.0, o', (said, subst (λ y. Says y line said) same says, a), sym whole ∙ stops.1.1),
+)

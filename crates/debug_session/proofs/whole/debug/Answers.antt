@@ -1,0 +1,12 @@
+use Rattle.std.proofs.Common.{inr, ◌∙◌}
+use Rattle.debug_session.proofs.SessionLemmas.{begun}
+use Rattle.debug_session.proofs.whole.debug.Goals as goal
+
+pub returns : goal.returns
+returns g c =
+    inr (
+      c.in_ok-checked.checked,
+      begun c.new-desk.result c.in_ok-checked.checked (g.R.Read.remaining c.args.reader.now) (g.R.Read.remaining c.answer_lines.new.reader)
+          (g.W.Write.contents c.args.writer.now) (g.W.Write.contents c.answer_lines.new.writer) c.answer_lines.result
+          (c.new-desk.ensures ∙ c.in_ok-new.ensures) c.answer_lines.ensures,
+    )

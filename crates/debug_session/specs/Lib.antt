@@ -1,0 +1,11 @@
+pub mod EventText
+pub mod FaultNumbers
+pub mod Fields
+pub mod Lines
+pub mod Meaning
+pub mod Numbers
+pub mod Pieces
+pub mod ReplyText
+pub mod Script
+pub mod Transcript
+pub mod Words

@@ -1,0 +1,30 @@
+-- One line taken from a reader, and one answer given to a writer.
+use Rattle.std.specs.Prelude.{ℕ, ◌≡◌, ◌≢◌, ◌⊎◌, ◌++◌, List, [], Bool, Option, IfSome, MatchBool}
+use Rattle.std.specs.Io.KnownBytes.{Consumes, IsAtEnd}
+use Rattle.elaborate.specs.declared.system.System.{System}
+use Rattle.calculus.specs.Object.{Object}
+use Rattle.debug_session.specs.declared.fault.Fault.{Fault}
+use Rattle.debug_session.specs.Lines.{AsksNothing}
+use Rattle.debug_session.specs.Script.{IsLine, with_end}
+use Rattle.debug_session.specs.Transcript.{LineAnswered}
+
+-- the reader gave the line and its end, or a last line without one, behind which it is at its end
+abbrev pub TakesLine : Option (List ℕ) → Option (List ℕ) → List ℕ → Bool → Type 0
+TakesLine old new line complete =
+    IsLine line × MatchBool complete (Consumes old new (with_end line)) (Consumes old new line × IfSome old (λ _. IsAtEnd new))
+
+-- the reader gave a part of a line and stopped
+abbrev pub ReadingStops : Option (List ℕ) → Option (List ℕ) → List ℕ → Fault → Type 0
+ReadingStops old new line fault = IsLine line × Consumes old new line × ((fault ≡ Fault.Memory) ⊎ (fault ≡ Fault.ReadFailed))
+
+-- a writer took a beginning of the bytes and failed
+abbrev pub WritingStops : List ℕ → List ℕ → Fault → Type 0
+WritingStops bytes given fault = (fault ≡ Fault.WriteFailed) × ((missing : List ℕ) × (bytes ≡ given ++ missing))
+
+-- why the line of this number was not answered, and what was given of its answer
+abbrev pub LineStops : System → Object → List ℕ → ℕ → List ℕ → Fault → Type 0
+LineStops system o line number given Fault.Memory = given ≡ []
+LineStops system o line number given (Fault.BadCommand n) = (given ≡ []) × (n ≡ number) × (line ≢ []) × AsksNothing system line
+LineStops system o line number given Fault.WriteFailed =
+    (answer : List ℕ) × (missing : List ℕ) × (o' : Object) × LineAnswered system o line answer o' × (answer ≡ given ++ missing)
+LineStops system o line number given fault = ⊥

@@ -1,0 +1,34 @@
+-- The bytes of a script as lines.
+use Rattle.std.specs.Prelude.{ℕ, ◌≡◌, ◌≢◌, ◌⊎◌, List, [], ◌∷◌, ◌++◌}
+use Rattle.std.specs.List.{All, flat_map}
+use Rattle.elaborate.specs.Lists.{Every}
+
+-- a line and its end
+abbrev pub with_end : List ℕ → List ℕ
+with_end line = line ++ 10 ∷ []
+
+-- a byte that does not end a line
+abbrev pub IsNoEnd : ℕ → Type 0
+IsNoEnd byte = byte ≢ 10
+
+-- a line without its end
+abbrev pub IsLine : List ℕ → Type 0
+IsLine text = All IsNoEnd text
+
+-- the bytes are these lines, each with its end, and behind them `last`, which has no end
+pub record AreLines (bytes : List ℕ) (lines : List (List ℕ)) (last : List ℕ) : Type 0 where
+  pub joined : bytes ≡ flat_map with_end lines ++ last
+  pub each : Every IsLine lines
+  pub unended : IsLine last
+
+-- an end of a line, or none
+abbrev pub IsEnding : List ℕ → Type 0
+IsEnding tail = (tail ≡ 10 ∷ []) ⊎ (tail ≡ [])
+
+-- the bytes are these lines, each with its end, and then the line `last`, with its end or without
+pub record EndWith (bytes : List ℕ) (lines : List (List ℕ)) (last : List ℕ) : Type 0 where
+  pub tail : List ℕ
+  pub joined : bytes ≡ flat_map with_end lines ++ (last ++ tail)
+  pub each : Every IsLine lines
+  pub unended : IsLine last
+  pub ending : IsEnding tail

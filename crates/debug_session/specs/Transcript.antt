@@ -1,0 +1,76 @@
+-- What is answered to the lines of a script, and how a session ends.
+use Rattle.std.specs.Prelude.{ℕ, suc, ◌≡◌, ◌≢◌, List, [], ◌∷◌, ◌++◌, length, Option, Result, MatchResult, IfSome, IsErr, ◌⊎◌}
+use Rattle.std.specs.Io.KnownBytes.{Appends, Consumes, IsAtEnd}
+use Rattle.elaborate.specs.declared.system.System.{System}
+use Rattle.calculus.specs.Object.{Object, new_object}
+use Rattle.calculus.specs.Opening.{opening}
+use Rattle.calculus.specs.Does.{Answers}
+use Rattle.calculus.specs.declared.command.Command.{Command}
+use Rattle.calculus.specs.declared.command.Reply.{Reply}
+use Rattle.debug_session.specs.declared.line.Line.{Line}
+use Rattle.debug_session.specs.declared.fault.Fault.{Fault}
+use Rattle.debug_session.specs.ReplyText.{answer_text}
+use Rattle.debug_session.specs.Lines.{Says, AsksNothing}
+use Rattle.debug_session.specs.Script.{AreLines, EndWith}
+
+-- a command is answered with the text of its reply; an empty line with nothing
+abbrev pub SaidAnswered : System → Object → Line → List ℕ → Object → Type 0
+SaidAnswered system o (Line.Asked c) answer o' = (reply : Reply) × Answers o c reply o' × (answer ≡ answer_text system c reply)
+SaidAnswered system o Line.Empty answer o' = (answer ≡ []) × (o' ≡ o)
+
+-- the line is answered so, and leaves o'
+abbrev pub LineAnswered : System → Object → List ℕ → List ℕ → Object → Type 0
+LineAnswered system o line answer o' = (said : Line) × Says system line said × SaidAnswered system o said answer o'
+
+-- the lines are answered one after another; the answers together are `output`
+abbrev pub Transcript : System → Object → List (List ℕ) → List ℕ → Object → Type 0
+Transcript system o [] output o' = (output ≡ []) × (o' ≡ o)
+Transcript system o (line ∷ lines) output o' =
+    (answer : List ℕ) × (rest : List ℕ) × (m : Object)
+    × LineAnswered system o line answer m × Transcript system m lines rest o' × (output ≡ answer ++ rest)
+
+-- the answers to the lines are out, and no more
+abbrev pub Answered : System → Object → List (List ℕ) → List ℕ → Type 0
+Answered system o lines output = (o' : Object) × Transcript system o lines output o'
+
+-- the session took these bytes and came to their end: all lines are answered
+abbrev pub Completed : System → Object → List ℕ → List ℕ → Type 0
+Completed system o taken output =
+    (lines : List (List ℕ)) × (last : List ℕ) × AreLines taken lines last × Answered system o (lines ++ last ∷ []) output
+
+-- the session took these bytes and stopped at a fault
+abbrev pub Stopped : System → Object → List ℕ → List ℕ → Fault → Type 0
+-- reading failed: the complete lines are answered
+Stopped system o taken output Fault.ReadFailed =
+    (lines : List (List ℕ)) × (last : List ℕ) × AreLines taken lines last × Answered system o lines output
+-- there was no memory for the last line: the lines before it are answered
+Stopped system o taken output Fault.Memory =
+    (lines : List (List ℕ)) × (last : List ℕ) × EndWith taken lines last × Answered system o lines output
+-- the last line, of this number, says nothing that can be answered: the lines before it are answered
+Stopped system o taken output (Fault.BadCommand number) =
+    (lines : List (List ℕ)) × (last : List ℕ) × EndWith taken lines last × Answered system o lines output
+    × (number ≡ suc (length lines)) × (last ≢ []) × AsksNothing system last
+-- writing failed: a beginning of the answers is out
+Stopped system o taken output Fault.WriteFailed =
+    (lines : List (List ℕ)) × (last : List ℕ) × (missing : List ℕ) × EndWith taken lines last
+    × Answered system o (lines ++ last ∷ []) (output ++ missing)
+-- no other fault comes once the session has begun
+Stopped system o taken output (Fault.Lexer fault) = ⊥
+Stopped system o taken output (Fault.Parser fault) = ⊥
+Stopped system o taken output (Fault.Types fault) = ⊥
+Stopped system o taken output (Fault.Elaborate fault) = ⊥
+
+-- what a session took from its reader and gave to its writer, and how it ended
+abbrev pub Ends : System → Object → Option (List ℕ) → Option (List ℕ) → Option (List ℕ) → Option (List ℕ) → Result (Unit {0}) Fault → Type 0
+Ends system o read left wrote held result =
+    (taken : List ℕ) × (given : List ℕ) × Consumes read left taken × Appends wrote held given
+    × MatchResult result
+    (λ _. IfSome read (λ _. IsAtEnd left) × Completed system o taken given)
+    (λ fault. Stopped system o taken given fault)
+
+-- what came of source and stimulus: they were refused with nothing read and nothing written, or they made a system
+-- and the session on it ended so
+abbrev pub Debugged : Type 0 → Option (List ℕ) → Option (List ℕ) → Option (List ℕ) → Option (List ℕ) → Result (Unit {0}) Fault → Type 0
+Debugged untouched read left wrote held result =
+    (IsErr result × untouched)
+    ⊎ ((system : System) × Ends system (new_object (opening system)) read left wrote held result)

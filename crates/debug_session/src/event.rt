@@ -1,0 +1,90 @@
+// The text of an event, one function a kind.
+ghost use Rattle.std.specs.Prelude.{◌≡◌, ◌++◌, OnOk, codes};
+ghost use Rattle.calculus.specs.declared.event.Kind.TheVariants as kind;
+ghost use Rattle.debug_session.specs.EventText.{event_text, text_by_kind, field, arm_text};
+ghost use Rattle.address.specs.Text.{text_of};
+
+use crate::text::{
+    add_arm, add_bytes, add_channel, add_place, add_second, add_value, add_variable,
+};
+use calculus::{Event, Kind};
+use elaborate::System;
+use std::alloc::AllocError;
+
+/// Adds the text of the event behind what is there.
+pub(crate) fn add_event(out: &mut Vec<u8>, system: &System, event: &Event) -> Result<(), AllocError>
+    ensures { OnOk result (out.new.items ≡ out.old.items ++ event_text system.now event.now) }
+{
+    match event.kind {
+        Kind::Assign => add_assign(out, system, event),
+        Kind::Test => add_test(out, event),
+        Kind::Turn => add_turn(out, event),
+        Kind::Meet => add_meet(out, system, event),
+        Kind::Open => add_open(out, system, event),
+        Kind::Close => add_close(out, system, event),
+        Kind::Sync => add_sync(out, system, event),
+    }
+}
+
+fn add_assign(out: &mut Vec<u8>, system: &System, event: &Event) -> Result<(), AllocError>
+    ensures { OnOk result (out.new.items ≡ out.old.items ++ text_by_kind system.now kind.Assign event.now) }
+{
+    add_bytes(out, b"assign")?;
+    add_variable(out, system, event.written)?;
+    add_value(out, event.value)?;
+    add_place(out, &event.first)
+}
+
+fn add_test(out: &mut Vec<u8>, event: &Event) -> Result<(), AllocError>
+    ensures { OnOk result (out.new.items ≡ out.old.items ++ (codes "test" ++ field (arm_text event.now.arm) ++ field (text_of event.now.first))) }
+{
+    add_bytes(out, b"test")?;
+    add_arm(out, event.arm)?;
+    add_place(out, &event.first)
+}
+
+fn add_turn(out: &mut Vec<u8>, event: &Event) -> Result<(), AllocError>
+    ensures { OnOk result (out.new.items ≡ out.old.items ++ (codes "turn" ++ field (text_of event.now.first))) }
+{
+    add_bytes(out, b"turn")?;
+    add_place(out, &event.first)
+}
+
+fn add_meet(out: &mut Vec<u8>, system: &System, event: &Event) -> Result<(), AllocError>
+    ensures { OnOk result (out.new.items ≡ out.old.items ++ text_by_kind system.now kind.Meet event.now) }
+{
+    add_bytes(out, b"meet")?;
+    add_channel(out, system, event.channel)?;
+    add_value(out, event.value)?;
+    add_place(out, &event.first)?;
+    add_second(out, &event.second)
+}
+
+fn add_open(out: &mut Vec<u8>, system: &System, event: &Event) -> Result<(), AllocError>
+    ensures { OnOk result (out.new.items ≡ out.old.items ++ text_by_kind system.now kind.Open event.now) }
+{
+    add_bytes(out, b"open")?;
+    add_channel(out, system, event.channel)?;
+    add_value(out, event.value)?;
+    add_arm(out, event.arm)?;
+    add_place(out, &event.first)?;
+    add_second(out, &event.second)
+}
+
+fn add_close(out: &mut Vec<u8>, system: &System, event: &Event) -> Result<(), AllocError>
+    ensures { OnOk result (out.new.items ≡ out.old.items ++ text_by_kind system.now kind.Close event.now) }
+{
+    add_bytes(out, b"close")?;
+    add_channel(out, system, event.channel)?;
+    add_place(out, &event.first)?;
+    add_second(out, &event.second)
+}
+
+fn add_sync(out: &mut Vec<u8>, system: &System, event: &Event) -> Result<(), AllocError>
+    ensures { OnOk result (out.new.items ≡ out.old.items ++ text_by_kind system.now kind.Sync event.now) }
+{
+    add_bytes(out, b"sync")?;
+    add_channel(out, system, event.channel)?;
+    add_place(out, &event.first)?;
+    add_second(out, &event.second)
+}

@@ -1,0 +1,114 @@
+ghost use Rattle.std.specs.Prelude.{◌≡◌};
+ghost use Rattle.debug_session.specs.FaultNumbers.{fault_number, fault_field};
+ghost use Rattle.debug_session.specs.declared.fault.Fault.TheVariants.{Memory, Lexer, Parser, Types, Elaborate};
+
+use std::alloc::{AllocError, AllocFailed};
+use thiserror::Error;
+
+/// Why a session was refused or ended early. Lines count from 1.
+#[derive(Clone, Copy, Debug, PartialEq, Eq, Error)]
+pub enum Fault {
+    #[error("out of memory")]
+    Memory,
+    /// The source has no tokens.
+    #[error("{0}")]
+    Lexer(lexer::Fault),
+    /// The tokens are no description.
+    #[error("{0}")]
+    Parser(parser::Fault),
+    /// The description is not typed.
+    #[error("{0}")]
+    Types(types::Fault),
+    /// Description and stimulus make no system.
+    #[error("{0}")]
+    Elaborate(elaborate::Fault),
+    /// The reader of the script failed.
+    #[error("the script could not be read")]
+    ReadFailed,
+    /// The writer of the answers failed.
+    #[error("the answers could not be written")]
+    WriteFailed,
+    /// The line of the script says nothing that can be answered.
+    #[error("line {0} of the script is no command")]
+    BadCommand(u64),
+}
+
+impl Fault {
+    /// The number that stands for this refusal in messages.
+    pub fn number(&self) -> u32
+        ensures { result ≡ fault_number self.now }
+    {
+        match self {
+            Fault::Memory => 1,
+            Fault::Lexer(fault) => fault.number(),
+            Fault::Parser(fault) => fault.number(),
+            Fault::Types(fault) => fault.number(),
+            Fault::Elaborate(fault) => fault.number(),
+            Fault::ReadFailed => 41,
+            Fault::WriteFailed => 42,
+            Fault::BadCommand(_) => 61,
+        }
+    }
+
+    /// What stands behind the number: an offset in the source, or a line of the stimulus or the script.
+    pub fn field(&self) -> Option<u64>
+        ensures { result ≡ fault_field self.now }
+    {
+        match self {
+            Fault::Lexer(fault) => fault.offset(),
+            Fault::Parser(fault) => fault.offset(),
+            Fault::Types(fault) => fault.offset(),
+            Fault::Elaborate(fault) => fault.line(),
+            Fault::BadCommand(line) => Some(*line),
+            Fault::Memory | Fault::ReadFailed | Fault::WriteFailed => None,
+        }
+    }
+}
+
+impl From<lexer::Fault> for Fault {
+    ghost from_gives = { λ fault wrapped. wrapped ≡ Lexer fault };
+
+    fn from(fault: lexer::Fault) -> Fault {
+        Fault::Lexer(fault)
+    }
+}
+
+impl From<parser::Fault> for Fault {
+    ghost from_gives = { λ fault wrapped. wrapped ≡ Parser fault };
+
+    fn from(fault: parser::Fault) -> Fault {
+        Fault::Parser(fault)
+    }
+}
+
+impl From<types::Fault> for Fault {
+    ghost from_gives = { λ fault wrapped. wrapped ≡ Types fault };
+
+    fn from(fault: types::Fault) -> Fault {
+        Fault::Types(fault)
+    }
+}
+
+impl From<elaborate::Fault> for Fault {
+    ghost from_gives = { λ fault wrapped. wrapped ≡ Elaborate fault };
+
+    fn from(fault: elaborate::Fault) -> Fault {
+        Fault::Elaborate(fault)
+    }
+}
+
+impl From<AllocError> for Fault {
+    ghost from_gives = { λ _ fault. fault ≡ Memory };
+
+    fn from(_error: AllocError) -> Fault {
+        Fault::Memory
+    }
+}
+
+impl<T: Drop> From<AllocFailed<T>> for Fault {
+    ghost from_gives = { λ _ fault. fault ≡ Memory };
+
+    fn from(_error: AllocFailed<T>) -> Fault {
+        Fault::Memory
+    }
+}

@@ -1,0 +1,104 @@
+// What stands behind the word of a line.
+ghost use Rattle.std.specs.Prelude.{◌≡◌, ◌<◌, ◌^◌, MatchOption, IfOk};
+ghost use Rattle.std.specs.Option.{SomeIff};
+ghost use Rattle.std.specs.List.{position};
+ghost use Rattle.debug_session.specs.EventText.{field};
+ghost use Rattle.debug_session.specs.Fields.{CutAtSpace, IsFieldEnd, IsNoField};
+ghost use Rattle.debug_session.specs.Lines.{IsNumber, IsNoTicket, has_name, IsVariable, IsNoVariable, IsArm, IsNoArm, IsChoice, IsNoChoice};
+
+use crate::number::read_number;
+use calculus::Choice;
+use elaborate::{System, Variable};
+use std::alloc::{AllocError, Global};
+
+/// The part of `text` before its first space, and the part from there on.
+pub(crate) fn cut_at_space(text: &[u8]) -> (&[u8], &[u8])
+    ensures { CutAtSpace text.now result.0.now result.1.now }
+{
+    text.split_at(length_to_space(text))
+}
+
+/// How many bytes stand before the first space.
+fn length_to_space(text: &[u8]) -> usize
+    ensures { IsFieldEnd text.now result }
+{
+    for (i, byte) in text.iter().enumerate() {
+        if *byte == b' ' {
+            return i;
+        }
+    }
+    text.len()
+}
+
+/// What stands behind a space at the start of `rest`.
+fn behind_space(rest: &[u8]) -> Option<&[u8]>
+    ensures { MatchOption result (IsNoField rest.now) (λ text. rest.now ≡ field text.now) }
+{
+    match rest {
+        [b' ', text @ ..] => Some(text),
+        _ => None,
+    }
+}
+
+/// The ticket.
+pub(crate) fn read_ticket(rest: &[u8]) -> Option<u64>
+    ensures { MatchOption result (IsNoTicket rest.now) (λ ticket. IsNumber ticket rest.now) }
+{
+    read_number(behind_space(rest)?)
+}
+
+/// The number of the variable that is named.
+pub(crate) fn read_variable(system: &System, rest: &[u8]) -> Option<u32>
+    ensures { MatchOption result (IsNoVariable system.now rest.now) (λ x. IsVariable system.now x rest.now) }
+{
+    let name = behind_space(rest)?;
+    let place = place_of(system.variables.as_slice(), name)?;
+    narrow(place as u64)
+}
+
+/// The place of the first variable with the name.
+fn place_of(variables: &[Variable], name: &[u8]) -> Option<usize>
+    ensures { result ≡ position (has_name name.now) variables.now }
+{
+    variables
+        .iter()
+        .position(|variable| variable.name.text() == name)
+}
+
+/// The number, if it has 32 bits.
+fn narrow(number: u64) -> Option<u32>
+    ensures { SomeIff result (number < 2 ^ 32) number }
+{
+    u32::try_from(number).ok()
+}
+
+/// The place and the arm.
+pub(crate) fn read_choice(alloc: Global, rest: &[u8]) -> Result<Option<Choice>, AllocError>
+    ensures { IfOk result (λ found. MatchOption found (IsNoChoice rest.now) (λ choice. IsChoice choice rest.now)) }
+{
+    let Some(text) = behind_space(rest) else {
+        return Ok(None);
+    };
+    let (place, arm) = cut_at_space(text);
+    let Some(arm) = read_arm(arm) else {
+        return Ok(None);
+    };
+    if place.is_empty() {
+        return Ok(None);
+    }
+    let Some(place) = address::read(alloc, place)? else {
+        return Ok(None);
+    };
+    Ok(Some(Choice { place, arm }))
+}
+
+/// The arm, 0 where none is given.
+fn read_arm(rest: &[u8]) -> Option<u32>
+    ensures { MatchOption result (IsNoArm rest.now) (λ arm. IsArm arm rest.now) }
+{
+    if rest.is_empty() {
+        return Some(0);
+    }
+    let number = read_number(behind_space(rest)?)?;
+    narrow(number)
+}

@@ -1,0 +1,55 @@
+ghost use Rattle.std.specs.Prelude.{◌≡◌, ◌⊎◌, ◌++◌, ◌∷◌, [], false, MatchResult, MatchBool};
+ghost use Rattle.std.specs.Io.BufRead.{ends_with_byte};
+ghost use Rattle.debug_session.specs.Pieces.{TakesLine, ReadingStops};
+ghost use Rattle.debug_session.specs.declared.fault.Fault.TheVariants.{Memory, ReadFailed};
+
+use crate::Fault;
+use std::io::{BufRead, Error, ErrorKind};
+
+/// Takes the next line into `line`, in place of what was there, without byte 10 at its end, and tells whether it was
+/// there. A line that is there whole counts even where the reader then failed.
+pub(crate) fn read_line<R: BufRead>(reader: &mut R, line: &mut Vec<u8>) -> Result<bool, Fault>
+    ensures { MatchResult result
+        (λ complete. TakesLine (R.remaining reader.old) (R.remaining reader.new) line.new.items complete)
+        (λ fault. ReadingStops (R.remaining reader.old) (R.remaining reader.new) line.new.items fault) }
+{
+    line.clear();
+    let read = reader.read_until(b'\n', line);
+    if strip_end(line) {
+        return Ok(true);
+    }
+    match read {
+        Ok(_) => Ok(false),
+        Err(error) => Err(fault_of(&error)),
+    }
+}
+
+/// Takes byte 10 off the end, and tells whether it was there.
+fn strip_end(line: &mut Vec<u8>) -> bool
+    ensures { MatchBool result (line.old.items ≡ line.new.items ++ 10 ∷ [])
+        ((line.new.items ≡ line.old.items) × (ends_with_byte 10 line.old.items ≡ false)) }
+{
+    if !ends_line(line.as_slice()) {
+        return false;
+    }
+    let _end = line.pop();
+    true
+}
+
+/// Whether the last byte is 10.
+fn ends_line(line: &[u8]) -> bool
+    ensures { result ≡ ends_with_byte 10 line.now }
+{
+    !line.is_empty() && line[line.len() - 1] == b'\n'
+}
+
+/// What a failure of the reader is called.
+fn fault_of(error: &Error) -> Fault
+    ensures { (result ≡ Memory) ⊎ (result ≡ ReadFailed) }
+{
+    if error.kind() == ErrorKind::OutOfMemory {
+        Fault::Memory
+    } else {
+        Fault::ReadFailed
+    }
+}

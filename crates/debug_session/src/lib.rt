@@ -1,0 +1,26 @@
+//! A session with the debugger: the lines of a script, what each asks for, and the bytes with which they are answered.
+#![tactic(auto)]
+
+mod answer;
+mod event;
+mod fault;
+mod fields;
+mod input;
+mod laws;
+mod line;
+mod number;
+mod output;
+mod read;
+mod reply;
+#[cfg(test)]
+mod tests;
+mod text;
+mod whole;
+mod word;
+
+pub use fault::Fault;
+pub use laws::line_laws;
+pub use line::Line;
+pub use read::read_command;
+pub use reply::write_reply;
+pub use whole::{accept, debug, read_description};
