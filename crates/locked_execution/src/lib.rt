@@ -13,8 +13,6 @@ mod ready;
 mod rolling;
 mod scan;
 mod stepping;
-#[cfg(test)]
-mod tests;
 mod undoing;
 
 pub use calculus::{Choice, Command, Event, Kind, Refusal, Reply};
