@@ -12,8 +12,6 @@ mod number;
 mod output;
 mod read;
 mod reply;
-#[cfg(test)]
-mod tests;
 mod text;
 mod whole;
 mod word;
