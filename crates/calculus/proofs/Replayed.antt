@@ -1,9 +1,11 @@
 -- The answer of a replay in terms of runs.
 use Rattle.std.proofs.Common.{◌≡◌, List, Option, Some, None, Result, sym, ap, ◌∙◌}
 use Rattle.std.specs.Prelude.{IfOk, MatchOption}
-use Rattle.std.specs.Option.{option_map}
+use Rattle.std.specs.Option.{option_map, IfSome}
 use Rattle.std.proofs.lemmas.Result.{IfOk-weaker}
 use Rattle.elaborate.specs.declared.system.System.{System}
+use Rattle.sharing_check.specs.Rule.{SharesWell}
+use Rattle.calculus.specs.Ruled.{RelatedInOrder, OneForEachChoice}
 use Rattle.calculus.specs.Steps.{State}
 use Rattle.calculus.specs.Runs.{Run}
 use Rattle.calculus.specs.StepOf.{run_of}
@@ -11,6 +13,7 @@ use Rattle.calculus.specs.Opening.{opening}
 use Rattle.calculus.specs.Plain.{state_of}
 use Rattle.calculus.specs.declared.event.Event.{Event}
 use Rattle.calculus.specs.declared.plain.Plain.{Plain}
+use Rattle.calculus.proofs.FromOpening.{ordered, one_choice}
 use Rattle.calculus.proofs.Options.{none-some}
 use Rattle.calculus.proofs.StepOf.{run-found, run-only}
 use Rattle.calculus.proofs.Opening.{opening-formed}
@@ -29,3 +32,23 @@ replayed system given h r g i =
     IfOk-weaker r (λ o. option_map state_of o ≡ run_of (opening given) h)
     (λ o. MatchOption o ((T : State) → Run (opening system) h T → ⊥) (λ p. Run (opening system) h (state_of p)))
     (λ o e. answered system h o (e ∙ ap (λ s. run_of (opening s) h) g)) i
+
+-- where the rule on sharing is kept, the run is ordered by it, and a choice means one event
+in_order : (system : System) (h : List Event) (o : Option Plain) → SharesWell system
+    → MatchOption o ((T : State) → Run (opening system) h T → ⊥) (λ p. Run (opening system) h (state_of p))
+    → IfSome o (λ p. RelatedInOrder system h × OneForEachChoice (state_of p))
+in_order system h None rule none = tt
+in_order system h (Some p) rule run = (
+  λ e f i related. ordered system h (state_of p) e f rule run i related,
+  λ e f a b same. one_choice system h (state_of p) e f rule run a b same,
+)
+
+-- the same of a result
+pub ruled : {E : Type 0} (system : System) (h : List Event) (r : Result (Option Plain) E) → SharesWell system
+    → IfOk r (λ o. MatchOption o ((T : State) → Run (opening system) h T → ⊥) (λ p. Run (opening system) h (state_of p)))
+    → IfOk r (λ o. IfSome o (λ p. RelatedInOrder system h × OneForEachChoice (state_of p)))
+ruled system h r rule i =
+    IfOk-weaker r
+    (λ o. MatchOption o ((T : State) → Run (opening system) h T → ⊥) (λ p. Run (opening system) h (state_of p)))
+    (λ o. IfSome o (λ p. RelatedInOrder system h × OneForEachChoice (state_of p)))
+    (λ o m. in_order system h o rule m) i

@@ -24,6 +24,7 @@ pub mod Plain
 pub mod Ready
 pub mod Refusals
 pub mod Related
+pub mod Ruled
 pub mod Runs
 pub mod Sides
 pub mod Sound

@@ -1,6 +1,7 @@
 ghost use Rattle.std.specs.Prelude.{◌≡◌, IfOk, MatchOption};
-ghost use Rattle.std.specs.Option.{option_map};
+ghost use Rattle.std.specs.Option.{option_map, IfSome};
 ghost use Rattle.calculus.specs.Steps.{State};
+ghost use Rattle.calculus.specs.Ruled.{RelatedInOrder, OneForEachChoice};
 ghost use Rattle.calculus.specs.Runs.{Run};
 ghost use Rattle.calculus.specs.StepOf.{run_of};
 ghost use Rattle.calculus.specs.Plain.{state_of};
@@ -25,7 +26,10 @@ pub fn replay(
 ) -> Result<Option<Plain>, AllocError>
     ensures computed { IfOk result (λ r. option_map state_of r ≡ run_of (opening system.now) events.now) }
     ensures run { IfOk result (λ r. MatchOption r ((T : State) → Run (opening system.now) events.now T → ⊥) (λ p. Run (opening system.now) events.now (state_of p))) }
+    // The system keeps the rule on sharing: what is related is ordered, and a choice means one event.
+    ensures ruled { IfOk result (λ r. IfSome r (λ p. RelatedInOrder system.now events.now × OneForEachChoice (state_of p))) }
 {
+    system.shares_well();
     state_after(alloc, system.system(), events)
 }
 

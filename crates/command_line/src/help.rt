@@ -28,8 +28,7 @@ pub const CHECK: &str = "Say whether a description is accepted";
 pub const CHECK_LONG: &str = "\
 Say whether a description is accepted. If it is, the answer is `accepted`. If not,
 standard error gets the line `balsadbg: refused N ..` with one of the numbers
-below, and the byte of FILE that is meant. So far all is checked but
-sharing: which branches may use a variable or a channel at one time.
+below, and the byte of FILE that is meant.
 
 Example:
   balsadbg check examples/buffer.balsa";

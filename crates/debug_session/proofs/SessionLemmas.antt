@@ -163,6 +163,7 @@ stopped-at s o m lines output line tail given number (Fault.Lexer fault) h one e
 stopped-at s o m lines output line tail given number (Fault.Parser fault) h one e t c stops = absurd stops
 stopped-at s o m lines output line tail given number (Fault.Types fault) h one e t c stops = absurd stops
 stopped-at s o m lines output line tail given number (Fault.Elaborate fault) h one e t c stops = absurd stops
+stopped-at s o m lines output line tail given number (Fault.Sharing fault) h one e t c stops = absurd stops
 
 -- a line stopped the session
 pub session-stopped : (s : System) (o m : Object) (read left left' wrote held held' : Option (List ℕ)) (number : ℕ) (line given : List ℕ)

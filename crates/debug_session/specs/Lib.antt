@@ -1,3 +1,4 @@
+pub mod Accepting
 pub mod EventText
 pub mod FaultNumbers
 pub mod Fields

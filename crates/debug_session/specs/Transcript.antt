@@ -1,5 +1,5 @@
 -- What is answered to the lines of a script, and how a session ends.
-use Rattle.std.specs.Prelude.{ℕ, suc, ◌≡◌, ◌≢◌, List, [], ◌∷◌, ◌++◌, length, Option, Result, MatchResult, IfSome, IsErr, ◌⊎◌}
+use Rattle.std.specs.Prelude.{ℕ, suc, ◌≡◌, ◌≢◌, List, [], ◌∷◌, ◌++◌, length, Option, Result, Err, MatchResult, IfSome, ◌⊎◌}
 use Rattle.std.specs.Io.KnownBytes.{Appends, Consumes, IsAtEnd}
 use Rattle.elaborate.specs.declared.system.System.{System}
 use Rattle.calculus.specs.Object.{Object, new_object}
@@ -9,6 +9,7 @@ use Rattle.calculus.specs.declared.command.Command.{Command}
 use Rattle.calculus.specs.declared.command.Reply.{Reply}
 use Rattle.debug_session.specs.declared.line.Line.{Line}
 use Rattle.debug_session.specs.declared.fault.Fault.{Fault}
+use Rattle.debug_session.specs.Accepting.{Gives, IsRefused}
 use Rattle.debug_session.specs.ReplyText.{answer_text}
 use Rattle.debug_session.specs.Lines.{Says, AsksNothing}
 use Rattle.debug_session.specs.Script.{AreLines, EndWith}
@@ -59,6 +60,7 @@ Stopped system o taken output (Fault.Lexer fault) = ⊥
 Stopped system o taken output (Fault.Parser fault) = ⊥
 Stopped system o taken output (Fault.Types fault) = ⊥
 Stopped system o taken output (Fault.Elaborate fault) = ⊥
+Stopped system o taken output (Fault.Sharing fault) = ⊥
 
 -- what a session took from its reader and gave to its writer, and how it ended
 abbrev pub Ends : System → Object → Option (List ℕ) → Option (List ℕ) → Option (List ℕ) → Option (List ℕ) → Result (Unit {0}) Fault → Type 0
@@ -68,9 +70,9 @@ Ends system o read left wrote held result =
     (λ _. IfSome read (λ _. IsAtEnd left) × Completed system o taken given)
     (λ fault. Stopped system o taken given fault)
 
--- what came of source and stimulus: they were refused with nothing read and nothing written, or they made a system
--- and the session on it ended so
-abbrev pub Debugged : Type 0 → Option (List ℕ) → Option (List ℕ) → Option (List ℕ) → Option (List ℕ) → Result (Unit {0}) Fault → Type 0
-Debugged untouched read left wrote held result =
-    (IsErr result × untouched)
-    ⊎ ((system : System) × Ends system (new_object (opening system)) read left wrote held result)
+-- what came of source and stimulus: they were refused, or there was no memory to begin with, and nothing was read and
+-- nothing written; or they gave a system, and the session on it ended so
+abbrev pub Debugged : List ℕ → List ℕ → Type 0 → Option (List ℕ) → Option (List ℕ) → Option (List ℕ) → Option (List ℕ) → Result (Unit {0}) Fault → Type 0
+Debugged source stimulus untouched read left wrote held result =
+    ((fault : Fault) × (result ≡ Err fault) × IsRefused source stimulus fault × untouched)
+    ⊎ ((system : System) × Gives source stimulus system × Ends system (new_object (opening system)) read left wrote held result)

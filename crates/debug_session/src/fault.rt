@@ -1,6 +1,6 @@
 ghost use Rattle.std.specs.Prelude.{◌≡◌};
 ghost use Rattle.debug_session.specs.FaultNumbers.{fault_number, fault_field};
-ghost use Rattle.debug_session.specs.declared.fault.Fault.TheVariants.{Memory, Lexer, Parser, Types, Elaborate};
+ghost use Rattle.debug_session.specs.declared.fault.Fault.TheVariants.{Memory, Lexer, Parser, Types, Elaborate, Sharing};
 
 use std::alloc::{AllocError, AllocFailed};
 use thiserror::Error;
@@ -22,6 +22,9 @@ pub enum Fault {
     /// Description and stimulus make no system.
     #[error("{0}")]
     Elaborate(elaborate::Fault),
+    /// The system breaks the rule on sharing.
+    #[error("{0}")]
+    Sharing(sharing_check::Fault),
     /// The reader of the script failed.
     #[error("the script could not be read")]
     ReadFailed,
@@ -44,6 +47,7 @@ impl Fault {
             Fault::Parser(fault) => fault.number(),
             Fault::Types(fault) => fault.number(),
             Fault::Elaborate(fault) => fault.number(),
+            Fault::Sharing(fault) => fault.number(),
             Fault::ReadFailed => 41,
             Fault::WriteFailed => 42,
             Fault::BadCommand(_) => 61,
@@ -59,6 +63,7 @@ impl Fault {
             Fault::Parser(fault) => fault.offset(),
             Fault::Types(fault) => fault.offset(),
             Fault::Elaborate(fault) => fault.line(),
+            Fault::Sharing(fault) => fault.offset(),
             Fault::BadCommand(line) => Some(*line),
             Fault::Memory | Fault::ReadFailed | Fault::WriteFailed => None,
         }
@@ -94,6 +99,14 @@ impl From<elaborate::Fault> for Fault {
 
     fn from(fault: elaborate::Fault) -> Fault {
         Fault::Elaborate(fault)
+    }
+}
+
+impl From<sharing_check::Fault> for Fault {
+    ghost from_gives = { λ fault wrapped. wrapped ≡ Sharing fault };
+
+    fn from(fault: sharing_check::Fault) -> Fault {
+        Fault::Sharing(fault)
     }
 }
 

@@ -21,4 +21,4 @@ pub use laws::line_laws;
 pub use line::Line;
 pub use read::read_command;
 pub use reply::write_reply;
-pub use whole::{accept, debug, read_description};
+pub use whole::{accept, debug};

@@ -1,4 +1,5 @@
-ghost use Rattle.std.specs.Prelude.{◌≡◌};
+ghost use Rattle.std.specs.Prelude.{◌≡◌, IfOk, IfErr};
+ghost use Rattle.debug_session.specs.Accepting.{Gives, IsRefused};
 ghost use Rattle.debug_session.specs.Transcript.{Debugged};
 
 use crate::Fault;
@@ -7,26 +8,24 @@ use elaborate::{Stimulus, elaborate};
 use lexer::lex;
 use locked_execution::{Desk, Machine};
 use parser::parse;
-use sharing_check::Checked;
+use sharing_check::{Checked, check_sharing};
 use std::alloc::Global;
 use std::io::{BufRead, Write};
-use syntax::Description;
 use types::check_types;
 
-/// The description that the source is, or its first fault: the source is cut into tokens, and these are parsed.
-pub fn read_description(alloc: Global, source: &[u8]) -> Result<Description, Fault> {
-    let tokens = lex(alloc, source)?;
-    Ok(parse(alloc, tokens.as_slice())?)
-}
-
 /// The system that the source and the stimulus describe, or the first fault of the first pass that refuses them:
-/// the source is cut, parsed and typed, then the stimulus is read, then the system is made.
-pub fn accept(alloc: Global, source: &[u8], stimulus: &[u8]) -> Result<Checked, Fault> {
-    let description = read_description(alloc, source)?;
+/// the source is cut, parsed and typed, then the stimulus is read, then the system is
+/// made, and then the rule on sharing is checked.
+pub fn accept(alloc: Global, source: &[u8], stimulus: &[u8]) -> Result<Checked, Fault>
+    ensures system { IfOk result (λ checked. Gives source.now stimulus.now checked) }
+    ensures fault { IfErr result (λ fault. IsRefused source.now stimulus.now fault) }
+{
+    let tokens = lex(alloc, source)?;
+    let description = parse(alloc, tokens.as_slice())?;
     let typed = check_types(alloc, &description)?;
     let stimulus = Stimulus::read(alloc, stimulus)?;
     let system = elaborate(alloc, &typed, &stimulus)?;
-    Ok(Checked::new(system))
+    Ok(check_sharing(alloc, system)?)
 }
 
 /// Answers the lines of `reader` on `writer`, each as soon as it was read, over the system of source and stimulus.
@@ -40,7 +39,7 @@ pub fn debug<R: BufRead, W: Write>(
     source: &[u8],
     stimulus: &[u8],
 ) -> Result<(), Fault>
-    ensures { Debugged ((reader.new ≡ reader.old) × (writer.new ≡ writer.old)) (R.remaining reader.old) (R.remaining reader.new)
+    ensures { Debugged source.now stimulus.now ((reader.new ≡ reader.old) × (writer.new ≡ writer.old)) (R.remaining reader.old) (R.remaining reader.new)
         (W.contents writer.old) (W.contents writer.new) result }
 {
     let checked = accept(alloc, source, stimulus)?;

@@ -21,7 +21,7 @@ use Rattle.sharing_check.proofs.FitsParts.{Used, Fits, FitsArms, fits_right, use
 use Rattle.sharing_check.proofs.FitsLists.{Part, fits_sequence, fits_parallel, fits_arms, fits_arms_else}
 use Rattle.sharing_check.proofs.NamesRead.{reads-used}
 
-abbrev Us : Type 0
+abbrev pub Us : Type 0
 Us = List VariableUse
 
 -- what each part of a command is to do
@@ -38,16 +38,16 @@ abbrev of_labelled : Labelled → OnLabels
 of_labelled = fold-Labelled Residual OnChannel Residual OnGuard OnLabels action_layer arm_layer command_layer guarded_layer labelled_layer
 
 -- and its uses
-abbrev action_uses : Action → Us
+abbrev pub action_uses : Action → Us
 action_uses = fold-Action Us Us Us Us Us uses_layer arm_uses command_uses guarded_uses labelled_uses
 
-abbrev uses_of_arm : Arm → Us
+abbrev pub uses_of_arm : Arm → Us
 uses_of_arm = fold-Arm Us Us Us Us Us uses_layer arm_uses command_uses guarded_uses labelled_uses
 
-abbrev uses_of_guarded : Guarded → Us
+abbrev pub uses_of_guarded : Guarded → Us
 uses_of_guarded = fold-Guarded Us Us Us Us Us uses_layer arm_uses command_uses guarded_uses labelled_uses
 
-abbrev uses_of_labelled : Labelled → Us
+abbrev pub uses_of_labelled : Labelled → Us
 uses_of_labelled = fold-Labelled Us Us Us Us Us uses_layer arm_uses command_uses guarded_uses labelled_uses
 
 -- equal heads and equal rests
@@ -55,7 +55,7 @@ cons_same : {X : Type 0} {a b : X} {xs ys : List X} → a ≡ b → xs ≡ ys �
 cons_same e f = cc
 
 -- an element with its proof
-abbrev With : {X : Type 0} → (X → Type 0) → Type 0
+abbrev pub With : {X : Type 0} → (X → Type 0) → Type 0
 With {X = X} P = (x : X) × P x
 
 module _ (x : ℕ) where

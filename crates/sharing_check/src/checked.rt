@@ -1,9 +1,14 @@
-ghost use Rattle.std.specs.Prelude.{◌≡◌};
+ghost use Rattle.std.specs.Prelude.{◌≡◌, IfOk, OnOk, IfErr};
+ghost use Rattle.sharing_check.specs.Refusal.{Accepts, Refuses};
 
+use crate::Fault;
+use crate::clashes::least_clash;
+use crate::widths::least_passing;
 use elaborate::System;
+use std::alloc::Global;
 use std::marker::Model;
 
-/// A system that may be run, which contracts see as the system.
+/// A system that keeps the rule on sharing, which contracts see as the system.
 #[derive(Drop)]
 pub struct Checked {
     system: System,
@@ -17,16 +22,15 @@ impl Model for Checked {
 
     ghost coded = { whole.the_row.coded };
 
+    ghost use Rattle.sharing_check.specs.Rule.{SharesWell};
+
     ghost view = { λ checked. checked.system };
+
+    ghost invariant = { λ checked. SharesWell checked.system };
 }
 
 impl Checked {
-    /// The system as one that may be run. Until the test of the rule on sharing is here, any system is taken.
-    pub fn new(system: System) -> Checked
-        ensures { result ≡ system }
-    {
-        Checked { system }
-    }
+    ghost use Rattle.sharing_check.specs.Rule.{SharesWell};
 
     /// The system.
     pub fn system(&self) -> &System
@@ -34,4 +38,34 @@ impl Checked {
     {
         &self.system
     }
+
+    /// That no more branches use a variable or a channel at one time than may use it.
+    pub fn shares_well(&self)
+        ensures { SharesWell self.now }
+    {
+        let _system = &self.system;
+    }
+}
+
+/// The system, where it keeps the rule on sharing.
+///
+/// # Errors
+///
+/// - `Shared` where a branch of a parallel uses a variable that another one writes, at the least offset of a use that
+///   takes part;
+/// - else `Width` where too many branches use a channel at one time, at the least offset at which such a channel is
+///   declared;
+/// - `Memory` without memory.
+pub fn check_sharing(alloc: Global, system: System) -> Result<Checked, Fault>
+    ensures kept { IfOk result (λ checked. checked ≡ system) }
+    ensures accepted { OnOk result (Accepts system) }
+    ensures refused { IfErr result (λ fault. Refuses system fault) }
+{
+    if let Some(offset) = least_clash(alloc, &system)? {
+        return Err(Fault::Shared(offset));
+    }
+    if let Some(offset) = least_passing(alloc, &system)? {
+        return Err(Fault::Width(offset));
+    }
+    Ok(Checked { system })
 }

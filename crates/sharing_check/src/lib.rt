@@ -1,8 +1,18 @@
 //! The rule on sharing: how many branches may use a variable or a channel at one time.
 #![tactic(auto)]
 
+mod branches;
 mod checked;
+mod clashes;
+mod crossing;
+mod fault;
+mod found;
 mod laws;
+mod mention;
+#[cfg(test)]
+mod tests;
+mod widths;
 
-pub use checked::Checked;
+pub use checked::{Checked, check_sharing};
+pub use fault::Fault;
 pub use laws::clash_free_keeps_the_rule;

@@ -6,6 +6,7 @@ pub returns : goal.returns
 returns g c =
     inr (
       c.in_ok-checked.checked,
+      c.in_ok-checked.ensures.system,
       begun c.new-desk.result c.in_ok-checked.checked (g.R.Read.remaining c.args.reader.now) (g.R.Read.remaining c.answer_lines.new.reader)
           (g.W.Write.contents c.args.writer.now) (g.W.Write.contents c.answer_lines.new.writer) c.answer_lines.result
           (c.new-desk.ensures ∙ c.in_ok-new.ensures) c.answer_lines.ensures,

@@ -1,0 +1,68 @@
+-- What it is for a source and a stimulus to be accepted, and to be refused.
+use Rattle.std.specs.Prelude.{◌≡◌, ◌⊎◌, ℕ, List, Ok}
+use Rattle.elaborate.specs.Elaboration as elaboration
+use Rattle.elaborate.specs.StimulusText.{lines, AreEntries, FirstOther}
+use Rattle.elaborate.specs.declared.fault.Fault as elaborate
+use Rattle.elaborate.specs.declared.fault.Fault.TheVariants as no_system
+use Rattle.elaborate.specs.declared.stimulus.Entry.{Entry}
+use Rattle.elaborate.specs.declared.system.System.{System}
+use Rattle.lexer.specs.Refusal as lexer
+use Rattle.lexer.specs.Tokens.{AreTokens}
+use Rattle.lexer.specs.declared.fault.Fault.TheVariants as no_tokens
+use Rattle.lexer.specs.declared.token.Token.{Token}
+use Rattle.parser.specs.Accepted as parser
+use Rattle.parser.specs.declared.fault.Fault.TheVariants as no_description
+use Rattle.sharing_check.specs.Refusal as sharing
+use Rattle.sharing_check.specs.declared.fault.Fault.TheVariants as not_shared
+use Rattle.syntax.specs.declared.declaration.Description.{Description}
+use Rattle.types.specs.DeclarationFaults.{found_description}
+use Rattle.types.specs.Findings as types
+use Rattle.types.specs.declared.fault.Fault.TheVariants as not_typed
+use Rattle.types.specs.declared.typed.Procedure.{Procedure}
+use Rattle.debug_session.specs.declared.fault.Fault.{Fault}
+
+-- the source is this description
+abbrev pub Describes : List ℕ → Description → Type 0
+Describes source description = (tokens : List Token) × AreTokens source tokens × parser.Parses tokens description
+
+-- the source is a description without a fault, and these are its procedures
+abbrev pub IsTyped : List ℕ → List Procedure → Type 0
+IsTyped source procedures = (description : Description) × Describes source description × (found_description description ≡ Ok procedures)
+
+-- source and stimulus make this system
+abbrev pub Makes : List ℕ → List ℕ → System → Type 0
+Makes source stimulus system =
+    (procedures : List Procedure) × (entries : List Entry)
+    × IsTyped source procedures × AreEntries 1 (lines stimulus) entries
+    × elaboration.IsAccepted procedures entries × (system ≡ elaboration.system_of procedures entries)
+
+-- source and stimulus are accepted: they make this system, and it keeps the rule on sharing
+abbrev pub Gives : List ℕ → List ℕ → System → Type 0
+Gives source stimulus system = Makes source stimulus system × sharing.Accepts system
+
+-- the procedures and the stimulus make no system, for this reason: a line of another form, or else what does not fit
+abbrev pub MakesNone : List Procedure → List ℕ → elaborate.Fault → Type 0
+MakesNone procedures stimulus fault =
+    ((line : ℕ) × (fault ≡ no_system.BadStimulus line) × FirstOther 1 (lines stimulus) line)
+    ⊎ ((entries : List Entry) × AreEntries 1 (lines stimulus) entries × elaboration.IsRefused procedures entries fault)
+
+-- the first pass that refuses source and stimulus refuses them for this reason
+abbrev pub IsRefused : List ℕ → List ℕ → Fault → Type 0
+IsRefused source stimulus Fault.Memory = Unit {0}
+IsRefused source stimulus (Fault.Lexer fault) = (fault ≡ no_tokens.Memory) ⊎ lexer.IsRefused source fault
+IsRefused source stimulus (Fault.Parser fault) =
+    (fault ≡ no_description.Memory)
+    ⊎ ((tokens : List Token) × AreTokens source tokens × parser.IsRefused tokens fault)
+IsRefused source stimulus (Fault.Types fault) =
+    (fault ≡ not_typed.Memory)
+    ⊎ ((description : Description) × Describes source description × types.IsRefused (found_description description) fault)
+IsRefused source stimulus (Fault.Elaborate fault) =
+    (fault ≡ no_system.Memory)
+    ⊎ ((procedures : List Procedure) × IsTyped source procedures × MakesNone procedures stimulus fault)
+IsRefused source stimulus (Fault.Sharing fault) =
+    (fault ≡ not_shared.Memory)
+    ⊎ ((system : System) × Makes source stimulus system × sharing.Refuses system fault)
+-- nothing else refuses them
+IsRefused source stimulus Fault.ReadFailed = ⊥
+IsRefused source stimulus Fault.WriteFailed = ⊥
+IsRefused source stimulus (Fault.BadCommand number) = ⊥
