@@ -7,8 +7,6 @@ mod allowed;
 mod answers;
 mod apart;
 mod command;
-#[cfg(test)]
-mod command_tests;
 mod event;
 mod laws;
 mod left;
@@ -22,8 +20,6 @@ mod same;
 mod slow;
 mod start;
 mod step;
-#[cfg(test)]
-mod tests;
 mod translate;
 mod walk;
 

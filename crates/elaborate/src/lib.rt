@@ -22,8 +22,6 @@ mod ports;
 mod scope;
 mod stimulus;
 mod system;
-#[cfg(test)]
-mod tests;
 mod variables;
 
 pub use command::{Action, Arm, Command, Guarded, Labelled};

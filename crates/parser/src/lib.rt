@@ -18,8 +18,6 @@ mod declaration;
 mod expression;
 mod fault;
 mod name;
-#[cfg(test)]
-mod tests;
 
 use cursor::{Cursor, LEVELS};
 use declaration::whole;

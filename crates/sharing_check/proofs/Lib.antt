@@ -3,6 +3,7 @@ mod Adds
 mod AddsCommand
 mod AddsLists
 mod AddsParallel
+mod ChildPlaces
 mod CountCommand
 mod CountLeast
 mod CountParts

@@ -4,11 +4,15 @@
 mod branches;
 mod checked;
 mod clashes;
+mod command_places;
 mod crossing;
 mod fault;
 mod found;
 mod laws;
+mod lines_begun;
 mod mention;
+mod naming;
+mod system_branches;
 #[cfg(test)]
 mod tests;
 mod widths;

@@ -15,8 +15,6 @@ mod declaration;
 mod expression;
 mod fault;
 mod scope;
-#[cfg(test)]
-mod tests;
 mod typed;
 mod uses;
 mod verdict;

@@ -1,9 +1,10 @@
-use crate::Refusal;
+//! The numbers and texts of refusals.
+
+use calculus::Refusal;
 use std::test::Fail;
 
 #[test]
 fn refusals_have_numbers_and_texts(rt: HostRuntime) -> Result<(), Fail> {
-    let alloc = rt.alloc();
     let all = [
         (Refusal::Memory, 1, "there is no memory left"),
         (Refusal::NotReady, 21, "no event may be taken there now"),
@@ -23,7 +24,8 @@ fn refusals_have_numbers_and_texts(rt: HostRuntime) -> Result<(), Fail> {
     ];
     for (refusal, number, text) in all {
         assert_eq!(rt; refusal.number(), number);
-        assert_eq!(rt; format!(in alloc; "{refusal}")?.as_str(), text);
+        let said = format!(in rt.alloc(); "{refusal}")?;
+        assert_eq!(rt; said.as_str(), text);
     }
     Ok(())
 }

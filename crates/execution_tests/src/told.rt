@@ -1,8 +1,7 @@
-//! Events in short, for tests.
+//! Events in short.
 
-use super::building::number;
-use crate::{Event, Kind};
 use address::{Address, read};
+use calculus::{Event, Kind};
 use elaborate::Variables;
 use std::alloc::{AllocError, Global};
 use std::test::Fail;
@@ -123,7 +122,6 @@ pub fn sync(first: &'static [u8], second: &'static [u8], channel: u32) -> Told {
 
 /// The event itself.
 pub fn event(alloc: Global, told: Told) -> Result<Event, Fail> {
-    let value = value_of(told.value)?;
     let first = place(alloc, told.first)?;
     let second = second_place(alloc, told.second)?;
     let read = variables(alloc, told.reads)?;
@@ -133,7 +131,7 @@ pub fn event(alloc: Global, told: Told) -> Result<Event, Fail> {
         second,
         arm: told.arm,
         channel: told.channel,
-        value,
+        value: value_of(told.value),
         written: told.written,
         read,
     })
@@ -159,11 +157,9 @@ fn second_place(alloc: Global, text: Option<&[u8]>) -> Result<Option<Address>, F
     }
 }
 
-fn value_of(bits: Option<u64>) -> Result<Option<Value>, Fail> {
-    match bits {
-        Some(bits) => Ok(Some(number(bits, 8)?)),
-        None => Ok(None),
-    }
+/// The value of eight bits, where the number is below 256.
+fn value_of(bits: Option<u64>) -> Option<Value> {
+    Value::new(bits?, 8)
 }
 
 fn variables(alloc: Global, first: bool) -> Result<Variables, AllocError> {

@@ -1,3 +1,0 @@
-mod building;
-mod runs;
-mod told;
