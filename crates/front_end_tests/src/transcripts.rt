@@ -22,12 +22,23 @@ fn fault_of(ended: Result<(), Fault>) -> Result<Option<Fault>, Fail> {
     }
 }
 
+/// Whether a command was refused for want of memory.
+fn lacks_memory(transcript: &[u8]) -> bool {
+    for start in 0..transcript.len() {
+        if transcript[start..].starts_with(b"refused 1\n") {
+            return true;
+        }
+    }
+    false
+}
+
 /// What is written for the script, and how the session on `ONE` ends. Want of memory fails the test.
 fn session(alloc: Global, script: &[u8]) -> Result<(Vec<u8>, Option<Fault>), Fail> {
     let mut reader = script;
-    let mut out = Vec::new(alloc);
+    // There is room, so that the writer does not fail.
+    let mut out = Vec::with_capacity(alloc, 1024)?;
     let fault = fault_of(debug(alloc, &mut reader, &mut out, ONE, FIVE))?;
-    if out.ends_with(b"refused 1\n") {
+    if lacks_memory(out.as_slice()) {
         return Err(Fail::from(Refusal::Memory));
     }
     Ok((out, fault))
@@ -77,7 +88,7 @@ fn long_step(alloc: Global, numbers: usize) -> Result<Vec<u8>, Fail> {
 fn a_long_address_is_only_not_ready(rt: HostRuntime) -> Result<(), Fail> {
     let script = long_step(rt.alloc(), 100_000)?;
     let (out, fault) = session(rt.alloc(), script.as_slice())?;
-    assert!(rt; fault.is_none());
+    assert_eq!(rt; fault, None);
     assert_eq!(rt; out.as_slice(), b"refused 21\n".as_slice());
     Ok(())
 }
@@ -117,8 +128,11 @@ impl BufRead for Broken {
 fn a_reader_fails_behind_its_complete_lines(rt: HostRuntime) -> Result<(), Fail> {
     let script: &[u8] = b"live\nundo 1\nli";
     let mut reader = script.chain(Broken);
-    let mut out: Vec<u8> = Vec::new(rt.alloc());
+    let mut out: Vec<u8> = Vec::with_capacity(rt.alloc(), 1024)?;
     let fault = fault_of(debug(rt.alloc(), &mut reader, &mut out, ONE, FIVE))?;
+    if lacks_memory(out.as_slice()) {
+        return Err(Fail::from(Refusal::Memory));
+    }
     assert_eq!(rt; fault, Some(Fault::ReadFailed));
     assert_eq!(rt; out.as_slice(), b"live 0\nrefused 23\n".as_slice());
     Ok(())
