@@ -1,8 +1,9 @@
 //! The one line by which a run that ends early says why.
 
-ghost use Rattle.std.specs.Prelude.{◌≡◌, OnOk, Some};
+ghost use Rattle.std.specs.Prelude.{◌≡◌, OnOk, Some, None};
 ghost use Rattle.std.specs.Io.KnownBytes.{Appends};
 ghost use Rattle.command_line.specs.FaultLine.{fault_line, fault_text};
+ghost use Rattle.command_line.specs.declared.fault.Fault.TheVariants.{Refused};
 
 use std::alloc::{AllocError, AllocFailed};
 use std::io::Write;
@@ -57,12 +58,16 @@ impl From<debug_session::Fault> for Fault {
 }
 
 impl From<AllocError> for Fault {
+    ghost from_gives = { λ _ fault. fault ≡ Refused 1 None };
+
     fn from(_error: AllocError) -> Fault {
         Fault::MEMORY
     }
 }
 
 impl<T: Drop> From<AllocFailed<T>> for Fault {
+    ghost from_gives = { λ _ fault. fault ≡ Refused 1 None };
+
     fn from(_error: AllocFailed<T>) -> Fault {
         Fault::MEMORY
     }

@@ -2,7 +2,7 @@
 
 use crate::one::{FIVE, ONE, checked};
 use calculus::Command;
-use debug_session::{Fault, Line, accept, read_command, read_description};
+use debug_session::{Fault, Line, accept, read_command};
 use sharing_check::Checked;
 use std::alloc::Global;
 use std::test::Fail;
@@ -106,13 +106,6 @@ fn the_first_pass_that_refuses_is_told(rt: HostRuntime) -> Result<(), Fail> {
         assert_eq!(rt; said, Some(fault), "{source}");
     }
     assert_eq!(rt; refusal_of(rt.alloc(), ONE, FIVE)?, None);
-    Ok(())
-}
-
-#[test]
-fn a_source_is_read_and_parsed(rt: HostRuntime) -> Result<(), Fail> {
-    let description = read_description(rt.alloc(), ONE)?;
-    assert_eq!(rt; description.procedures.len(), 1);
     Ok(())
 }
 
