@@ -7,3 +7,4 @@ pub mod Entries
 pub mod Lines
 pub mod Sizes
 pub mod Calls
+pub mod PlaceLemmas

@@ -25,3 +25,4 @@ pub mod Leaf
 pub mod Root
 pub mod Elaboration
 pub mod Named
+pub mod Places

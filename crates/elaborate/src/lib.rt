@@ -22,6 +22,7 @@ mod ports;
 mod scope;
 mod stimulus;
 mod system;
+mod variable_table;
 mod variables;
 
 pub use command::{Action, Arm, Command, Guarded, Labelled};
@@ -31,4 +32,5 @@ pub use fault::Fault;
 pub use pass::elaborate;
 pub use stimulus::{Entry, Given, Stimulus};
 pub use system::{Branch, Channel, ChannelKind, System, Variable};
+pub use variable_table::VariableTable;
 pub use variables::Variables;

@@ -1,28 +1,52 @@
-// Variables by name.
-ghost use Rattle.std.specs.Prelude.{◌≡◌};
-ghost use Rattle.elaborate.specs.Named as named;
+// Places by name.
+ghost use Rattle.std.specs.Prelude.{◌≡◌, [], OnOk};
+ghost use Rattle.elaborate.specs.Places as model;
 
-use crate::Variable;
+use indexmap::IndexMap;
+use std::alloc::{AllocError, Global};
+use std::marker::Model;
+use syntax::Name;
 
-/// The number of the first variable of this name.
-pub fn variable_named(variables: &[Variable], name: &[u8]) -> Option<u32>
-    ensures { result ≡ named.variable_from 0 variables.now name.now }
-{
-    for (place, variable) in variables.iter().enumerate() {
-        if variable.name.text() == name {
-            return as_number(place);
-        }
-    }
-    None
+/// For each name of a list the first place at which it stands.
+#[derive(Drop)]
+pub struct Places {
+    index: IndexMap<Vec<u8>, usize>,
 }
 
-/// The place as a number of 32 bits.
-fn as_number(place: usize) -> Option<u32>
-    ensures { result ≡ named.as_number place }
-{
-    if place <= 4294967295 {
-        Some(place as u32)
-    } else {
-        None
+impl Model for Places {
+    ghost use Rattle.std.specs.Prelude.{ℕ, List, map};
+
+    ghost Value = { List (List ℕ × ℕ) };
+
+    ghost view = { λ places. map (λ e. (e.0.items, e.1)) places.index.entries };
+}
+
+impl Places {
+    /// No names.
+    pub fn new(alloc: Global) -> Places
+        ensures { result ≡ [] }
+    {
+        Places {
+            index: IndexMap::new(alloc),
+        }
+    }
+
+    /// The place of the name, if it has one.
+    pub fn find(&self, name: &[u8]) -> Option<usize>
+        ensures { result ≡ model.place_at self.now name.now }
+    {
+        self.index.get(name).copied()
+    }
+
+    /// Gives the name this place, unless it has one.
+    pub fn note(&mut self, alloc: Global, name: &Name, place: usize) -> Result<(), AllocError>
+        ensures { OnOk result (self.new ≡ model.noted self.old name.now place) }
+    {
+        if self.find(name.text()).is_some() {
+            return Ok(());
+        }
+        let key = Vec::from_slice(alloc, name.text())?;
+        self.index.insert(key, place)?;
+        Ok(())
     }
 }

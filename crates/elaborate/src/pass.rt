@@ -11,7 +11,7 @@ use crate::made::Made;
 use crate::ports::{misfit, value_count};
 use crate::scope::Entrance;
 use crate::stimulus::Entry;
-use crate::{Fault, Stimulus, System};
+use crate::{Fault, Stimulus, System, VariableTable};
 use std::alloc::{AllocError, Global};
 use syntax::Items;
 use types::{Port, Procedure, Typed};
@@ -98,7 +98,7 @@ fn made_system(
     Ok(System {
         main,
         environment,
-        variables,
+        variables: VariableTable::new(alloc, variables)?,
         channels,
     })
 }

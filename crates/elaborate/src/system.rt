@@ -1,7 +1,6 @@
 ghost use Rattle.std.specs.Prelude.{◌≡◌};
 
-use crate::Command;
-use crate::names::variable_named;
+use crate::{Command, VariableTable};
 use syntax::{Items, Name};
 use value::{Value, Width};
 
@@ -50,8 +49,8 @@ pub struct System {
     pub main: Command,
     /// one branch for each port, in order
     pub environment: Items<Branch>,
-    /// by number
-    pub variables: Items<Variable>,
+    /// by number, and their numbers by name
+    pub variables: VariableTable,
     /// by number
     pub channels: Items<Channel>,
 }
@@ -64,14 +63,14 @@ impl System {
     pub fn variable(&self, name: &[u8]) -> Option<u32>
         ensures { result ≡ named.variable_from 0 self.now.variables name.now }
     {
-        variable_named(self.variables.as_slice(), name)
+        self.variables.number(name)
     }
 
     /// The name of the variable of this number.
     pub fn variable_name(&self, number: u32) -> Option<&Name>
         ensures { option_copied result ≡ named.variable_name_at self.now.variables number }
     {
-        match self.variables.as_slice().get(number as usize) {
+        match self.variables.get(number as usize) {
             Some(variable) => Some(&variable.name),
             None => None,
         }

@@ -3,7 +3,6 @@ mod Adds
 mod AddsCommand
 mod AddsLists
 mod AddsParallel
-mod ChildPlaces
 mod CountCommand
 mod CountLeast
 mod CountParts

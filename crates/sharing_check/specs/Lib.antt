@@ -1,15 +1,12 @@
-pub mod CommandPlaces
 pub mod Counting
 pub mod CountingParts
 pub mod Crossing
 pub mod Gathering
 pub mod Laws
-pub mod LinesBegun
 pub mod Measure
 pub mod Refusal
 pub mod Refused
 pub mod Rule
 pub mod Sharing
-pub mod SystemBranches
 pub mod Tallies
 pub mod Uses

@@ -5,13 +5,14 @@ use crate::Fault;
 use crate::clashes::least_clash;
 use crate::widths::least_passing;
 use elaborate::System;
-use std::alloc::Global;
+use std::alloc::{AllocError, Global};
 use std::marker::Model;
+use std::sync::Arc;
 
-/// A system that keeps the rule on sharing, which contracts see as the system.
+/// A system that keeps the rule on sharing, which contracts see as the system. A clone shares it with the original.
 #[derive(Drop)]
 pub struct Checked {
-    system: System,
+    system: Arc<System>,
 }
 
 impl Model for Checked {
@@ -24,9 +25,18 @@ impl Model for Checked {
 
     ghost use Rattle.sharing_check.specs.Rule.{SharesWell};
 
-    ghost view = { λ checked. checked.system };
+    ghost view = { λ checked. checked.system.value };
 
-    ghost invariant = { λ checked. SharesWell checked.system };
+    ghost invariant = { λ checked. SharesWell checked.system.value };
+}
+
+impl Clone for Checked {
+    ghost is_clone = { λ checked copy. copy ≡ checked };
+
+    fn clone(&self) -> Result<Checked, AllocError> {
+        let system = self.system.clone()?;
+        Ok(Checked { system })
+    }
 }
 
 impl Checked {
@@ -67,5 +77,6 @@ pub fn check_sharing(alloc: Global, system: System) -> Result<Checked, Fault>
     if let Some(offset) = least_passing(alloc, &system)? {
         return Err(Fault::Width(offset));
     }
+    let system = Arc::new(alloc, system)?;
     Ok(Checked { system })
 }

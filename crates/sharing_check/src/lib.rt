@@ -4,15 +4,13 @@
 mod branches;
 mod checked;
 mod clashes;
-mod command_places;
 mod crossing;
 mod fault;
 mod found;
 mod laws;
-mod lines_begun;
 mod mention;
 mod naming;
-mod system_branches;
+mod places;
 #[cfg(test)]
 mod tests;
 mod widths;

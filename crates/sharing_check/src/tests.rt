@@ -1,5 +1,7 @@
 use crate::{Fault, check_sharing};
-use elaborate::{Action, Channel, ChannelKind, Command, Expression, System, Use, Variable};
+use elaborate::{
+    Action, Channel, ChannelKind, Command, Expression, System, Use, Variable, VariableTable,
+};
 use std::alloc::{AllocError, Global};
 use std::test::Fail;
 use syntax::{Items, Name};
@@ -83,7 +85,7 @@ fn channels(alloc: Global) -> Result<Items<Channel>, Fail> {
 
 /// The system of a parallel, with a variable and a channel, which is declared at 7.
 fn system(alloc: Global, parallel: &[Child], shared: bool) -> Result<System, Fail> {
-    let variables = variables(alloc, shared)?;
+    let variables = VariableTable::new(alloc, variables(alloc, shared)?)?;
     let channels = channels(alloc)?;
     let children = children(alloc, parallel)?;
     let main = Command::new(alloc, 1, Action::Parallel(children))?;

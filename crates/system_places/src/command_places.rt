@@ -4,9 +4,8 @@
 // the same places it takes the first arm in which it finds something.
 ghost use Rattle.std.specs.Prelude.{◌≡◌, None, map};
 ghost use Rattle.std.specs.Option.{option_map, option_copied, option_or};
-ghost use Rattle.sharing_check.specs.CommandPlaces as model;
+ghost use Rattle.system_places.specs.CommandPlaces as model;
 
-use crate::Checked;
 use address::{Address, Entry};
 use elaborate::{Action, Arm, Command, Guarded, Labelled, System};
 use syntax::Items;
@@ -271,21 +270,19 @@ fn found_at(all: bool, system: &System, place: &[Entry]) -> Option<u64>
     }
 }
 
-impl Checked {
-    /// The line of the command of this place, from 1. None for a place of the environment, and for an address that is no
-    /// place of a command. The arms of a choice have the same places: there it is the line in the first arm that has one,
-    /// in order, what stands behind `else` as the last.
-    pub fn line(&self, place: &Address) -> Option<u64>
-        ensures { result ≡ model.line_at self.now place.now }
-    {
-        found_at(true, self.system(), place.entries())
-    }
+/// The line of the command of this place, from 1. None for a place of the environment, and for an address that is no place
+/// of a command. The arms of a choice have the same places: there it is the line in the first arm that has one, in order,
+/// what stands behind `else` as the last.
+pub fn line_at(system: &System, place: &Address) -> Option<u64>
+    ensures { result ≡ model.line_at system.now place.now }
+{
+    found_at(true, system, place.entries())
+}
 
-    /// Whether the place is one at which a `select` opens. The arms of a choice have the same places: there it is that of
-    /// some arm.
-    pub fn select(&self, place: &Address) -> bool
-        ensures { result ≡ model.is_open_of_select self.now place.now }
-    {
-        found_at(false, self.system(), place.entries()).is_some()
-    }
+/// Whether the place is one at which a `select` opens. The arms of a choice have the same places: there it is that of some
+/// arm.
+pub fn is_open_of_select(system: &System, place: &Address) -> bool
+    ensures { result ≡ model.is_open_of_select system.now place.now }
+{
+    found_at(false, system, place.entries()).is_some()
 }

@@ -4,8 +4,8 @@
 -- with the body at p.(2k + 1), for each turn k; an `if` and a `case` p.0, with the chosen arm at p.1; an enclosed input, a
 -- `select` and an `arbitrate` p.0 and p.2, with the body of the opened arm at p.1; child i of a sequence stands at p.i, and
 -- child i of a parallel at p/i. So the arms of one choice have the same places.
-use Rattle.std.specs.Prelude.{ℕ, ◌%◌, ◌==◌, ◌&&◌, ◌||◌, not, if◌then◌else◌, List, [], ◌∷◌, Bool, true, false, Option, None, Some, is_some, nat_lt, slice_get, map}
-use Rattle.std.specs.Option.{option_or, option_map}
+use Rattle.std.specs.Prelude.{ℕ, ◌%◌, ◌==◌, ◌&&◌, ◌||◌, not, if◌then◌else◌, List, [], ◌∷◌, Bool, true, false, Option, None, Some, is_some, nat_lt, slice_get}
+use Rattle.std.specs.Option.{option_or}
 use Rattle.address.specs.declared.Entry.{Entry}
 use Rattle.address.specs.declared.Entry.TheVariants.{Ordered, Branch}
 use Rattle.elaborate.specs.declared.command.Arm.{Arm}
@@ -15,8 +15,8 @@ use Rattle.elaborate.specs.declared.command.Labelled.{Labelled}
 use Rattle.elaborate.specs.declared.command.Action.TheOpen.{Action-F, Arm-F, Command-F, Guarded-F, Labelled-F}
 use Rattle.elaborate.specs.declared.command.Action.TheFolds.{fold-Command, fold-Arm, fold-Guarded, fold-Labelled}
 use Rattle.elaborate.specs.declared.system.System.{System}
-use Rattle.sharing_check.specs.declared.command_places.Form.{Form}
-use Rattle.sharing_check.specs.declared.command_places.Form.TheVariants.{Held, Turns, Test, Choice}
+use Rattle.system_places.specs.declared.command_places.Form.{Form}
+use Rattle.system_places.specs.declared.command_places.Form.TheVariants.{Held, Turns, Test, Choice}
 
 -- the line of a command that has the place to which this way leads
 abbrev pub Found : Type 0

@@ -1,7 +1,7 @@
 -- What is found from here on is what is found in all.
 use Rattle.std.proofs.Common.{◌≡◌, drop, map, None}
-use Rattle.sharing_check.specs.CommandPlaces.{first_onto, in_guarded, in_labelled, in_arm}
-use Rattle.sharing_check.proofs.command_places.+places.Given as goal
+use Rattle.system_places.specs.CommandPlaces.{first_onto, in_guarded, in_labelled, in_arm}
+use Rattle.system_places.proofs.command_places.+places.Given as goal
 
 abbrev pub invariant-first_guarded-loop-arm : goal.invariant-first_guarded-loop-arm
 invariant-first_guarded-loop-arm l =

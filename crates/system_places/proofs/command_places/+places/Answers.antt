@@ -1,9 +1,9 @@
 -- The child of a number among what is found in the children.
 use Rattle.std.proofs.Common.{◌∙◌, sym, ap}
 use Rattle.std.specs.Option.{option_copied}
-use Rattle.sharing_check.specs.CommandPlaces.{found_in}
-use Rattle.sharing_check.proofs.ChildPlaces.{child_found, child_missing}
-use Rattle.sharing_check.proofs.command_places.+places.Goals as goal
+use Rattle.system_places.specs.CommandPlaces.{found_in}
+use Rattle.system_places.proofs.ChildPlaces.{child_found, child_missing}
+use Rattle.system_places.proofs.command_places.+places.Goals as goal
 
 pub in_child-returns-in-Some : goal.in_child-returns-in-Some
 in_child-returns-in-Some t c =

@@ -1,5 +1,5 @@
 -- The lines on which commands begin.
-use Rattle.std.specs.Prelude.{ℕ, ◌==◌, ◌||◌, List, [], ◌∷◌, Bool, true, false, Option, None, Some}
+use Rattle.std.specs.Prelude.{ℕ, ◌==◌, ◌||◌, List, [], ◌∷◌, Bool, false, Option, None, Some}
 use Rattle.elaborate.specs.declared.command.Arm.{Arm}
 use Rattle.elaborate.specs.declared.command.Command.{Command}
 use Rattle.elaborate.specs.declared.command.Guarded.{Guarded}

@@ -1,10 +1,9 @@
 // The branches of a system.
 ghost use Rattle.std.specs.Prelude.{◌≡◌};
 ghost use Rattle.std.specs.Option.{option_copied};
-ghost use Rattle.sharing_check.specs.SystemBranches as model;
+ghost use Rattle.system_places.specs.SystemBranches as model;
 ghost use Rattle.elaborate.specs.Named as named;
 
-use crate::Checked;
 use address::{Address, Entry};
 use elaborate::{Action, Command, System};
 use syntax::Items;
@@ -72,33 +71,29 @@ fn branch_of_port(system: &System, port: u32) -> Option<u32>
     }
 }
 
-impl Checked {
-    /// How many branches the system has, 4294967295 where they are more: the children of its body where that is a
-    /// parallel, else the body as one, and behind them the environment's side of each port.
-    pub fn branches(&self) -> u32
-        ensures { result ≡ model.branch_count self.now }
-    {
-        let system = self.system();
-        let count = branches_of(&system.main).saturating_add(system.environment.len());
-        count.min(4294967295) as u32
-    }
+/// How many branches the system has, 4294967295 where they are more: the children of its body where that is a parallel,
+/// else the body as one, and behind them the environment's side of each port.
+pub fn branch_count(system: &System) -> u32
+    ensures { result ≡ model.branch_count system.now }
+{
+    let count = branches_of(&system.main).saturating_add(system.environment.len());
+    count.min(4294967295) as u32
+}
 
-    /// The branch in which the place lies, from 0: of a body that is a parallel, branch i lies at `/0/i`, and any other
-    /// body is branch 0, at `/0`. The branch of the k-th port lies at `/k`, and comes behind those of the body and those
-    /// of the ports before it. None for a place that lies in no branch, or in one whose number has not 32 bits.
-    pub fn branch(&self, place: &Address) -> Option<u32>
-        ensures { result ≡ model.branch_at self.now place.now }
-    {
-        let system = self.system();
-        match place.entries() {
-            [Entry::Branch(number), way @ ..] => {
-                if *number == 0 {
-                    branch_within(&system.main, way)
-                } else {
-                    branch_of_port(system, *number)
-                }
+/// The branch in which the place lies, from 0: of a body that is a parallel, branch i lies at `/0/i`, and any other body is
+/// branch 0, at `/0`. The branch of the k-th port lies at `/k`, and comes behind those of the body and those of the ports
+/// before it. None for a place that lies in no branch, or in one whose number has not 32 bits.
+pub fn branch_at(system: &System, place: &Address) -> Option<u32>
+    ensures { result ≡ model.branch_at system.now place.now }
+{
+    match place.entries() {
+        [Entry::Branch(number), way @ ..] => {
+            if *number == 0 {
+                branch_within(&system.main, way)
+            } else {
+                branch_of_port(system, *number)
             }
-            _ => None,
         }
+        _ => None,
     }
 }

@@ -1,10 +1,9 @@
 // The lines on which commands begin.
 ghost use Rattle.std.specs.Prelude.{◌≡◌, false, map};
 ghost use Rattle.std.specs.Option.{option_map};
-ghost use Rattle.sharing_check.specs.LinesBegun as model;
+ghost use Rattle.system_places.specs.LinesBegun as model;
 
-use crate::Checked;
-use elaborate::{Action, Arm, Command, Guarded, Labelled};
+use elaborate::{Action, Arm, Command, Guarded, Labelled, System};
 
 /// Whether the command, or one within it, has the line.
 #[cycle(begun)]
@@ -92,11 +91,9 @@ fn last_begins(last: &Option<Command>, line: u64) -> bool
     }
 }
 
-impl Checked {
-    /// Whether a command of the system has this line, counted from 1.
-    pub fn begins(&self, line: u64) -> bool
-        ensures { result ≡ model.begins line self.now.main }
-    {
-        begins(&self.system().main, line)
-    }
+/// Whether a command of the system begins on this line, counted from 1.
+pub fn begins_on(system: &System, line: u64) -> bool
+    ensures { result ≡ model.begins line system.now.main }
+{
+    begins(&system.main, line)
 }

@@ -5,7 +5,7 @@ use Rattle.std.specs.Prelude.{Option, Some, None, slice_get}
 use Rattle.std.specs.Option.{option_map}
 use Rattle.address.specs.declared.Entry.{Entry}
 use Rattle.elaborate.specs.declared.command.Command.{Command}
-use Rattle.sharing_check.specs.CommandPlaces.{Found, in_last, in_child}
+use Rattle.system_places.specs.CommandPlaces.{Found, in_last, in_child}
 
 -- the child is there
 pub child_found : (f : Command → Found) (cs : List Command) (n : ℕ) (way : List Entry) (x : Command) → slice_get cs n ≡ Some x → f x way ≡ in_child (map f cs) n way

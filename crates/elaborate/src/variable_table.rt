@@ -1,0 +1,97 @@
+// The variables of a system by number and by name.
+ghost use Rattle.std.specs.Prelude.{◌≡◌, length, slice_get, map, IfOk, OnSome, ◌<◌};
+ghost use Rattle.std.specs.Option.{option_copied};
+ghost use Rattle.elaborate.specs.Named as named;
+ghost use Rattle.elaborate.specs.Places.{places_of};
+
+use crate::Variable;
+use crate::names::Places;
+use std::alloc::{AllocError, Global};
+use std::marker::Model;
+use syntax::Items;
+
+/// The variables of a system, which contracts see as the list by number. A number by name is looked up in an index.
+#[derive(Drop)]
+pub struct VariableTable {
+    /// by number
+    variables: Items<Variable>,
+    /// the first number of each name
+    places: Places,
+}
+
+impl Model for VariableTable {
+    ghost use Rattle.std.specs.Prelude.{◌≡◌, List, map};
+    ghost use Rattle.elaborate.specs.declared.system.Variable.{Variable};
+
+    ghost Value = { List Variable };
+
+    ghost use Rattle.elaborate.specs.Places.{places_of};
+
+    ghost view = { λ table. table.variables };
+
+    ghost invariant = { λ table. table.places ≡ places_of (map (λ v. v.name) table.variables) };
+}
+
+impl VariableTable {
+    /// These variables, the first with number 0.
+    pub fn new(alloc: Global, variables: Items<Variable>) -> Result<VariableTable, AllocError>
+        ensures { IfOk result (λ table. table ≡ variables) }
+    {
+        let places = first_places(alloc, variables.as_slice())?;
+        Ok(VariableTable { variables, places })
+    }
+
+    /// The variables by number.
+    pub fn as_slice(&self) -> &[Variable]
+        ensures { result.now ≡ self.now }
+    {
+        self.variables.as_slice()
+    }
+
+    /// How many variables there are.
+    pub fn len(&self) -> usize
+        ensures { result ≡ length self.now }
+    {
+        self.variables.len()
+    }
+
+    /// The variable of this number, if there are so many.
+    pub fn get(&self, number: usize) -> Option<&Variable>
+        ensures value { option_copied result ≡ slice_get self.now number }
+        ensures within { OnSome result (number < length self.now) }
+    {
+        self.variables.get(number)
+    }
+
+    /// The number of the first variable of this name.
+    pub fn number(&self, name: &[u8]) -> Option<u32>
+        ensures { result ≡ named.variable_from 0 self.now name.now }
+    {
+        match self.places.find(name) {
+            Some(place) => as_number(place),
+            None => None,
+        }
+    }
+}
+
+/// The first place of each name.
+fn first_places(alloc: Global, variables: &[Variable]) -> Result<Places, AllocError>
+    ensures { IfOk result (λ places. places ≡ places_of (map (λ v. v.name) variables.now)) }
+{
+    let mut places = Places::new(alloc);
+    for (place, variable) in variables.iter().enumerate() {
+        places.note(alloc, &variable.name, place)?;
+    }
+    Ok(places)
+}
+
+/// The place as a number of 32 bits.
+fn as_number(place: usize) -> Option<u32>
+    ensures { result ≡ named.as_number place }
+{
+    if place <= 4294967295 {
+        Some(place as u32)
+    } else {
+        None
+    }
+}

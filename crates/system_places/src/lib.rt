@@ -1,0 +1,11 @@
+//! What a system tells of its places: its branches and the one in which a place lies, the lines on which its commands
+//! begin and the one of a place, and where a `select` opens.
+#![tactic(auto)]
+
+mod command_places;
+mod lines_begun;
+mod system_branches;
+
+pub use command_places::{is_open_of_select, line_at};
+pub use lines_begun::begins_on;
+pub use system_branches::{branch_at, branch_count};
