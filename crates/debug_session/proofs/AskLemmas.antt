@@ -21,12 +21,12 @@ pub behind-begins : (system : System) (w : Word) (rest : List ℕ) (c : Command)
 behind-begins system words.Step rest c (d, h, e) = subst BeginsField (sym h.2.1) refl
 behind-begins system words.Undo rest c (t, h, e) = subst BeginsField (sym h.1) refl
 behind-begins system words.Roll rest c (t, h, e) = subst BeginsField (sym h.1) refl
-behind-begins system words.RollValue rest c (x, h, e) = subst BeginsField (sym h.1.1) refl
-behind-begins system words.Blame rest c (x, h, e) = subst BeginsField (sym h.1.1) refl
+behind-begins system words.RollValue rest c (x, h, e) = subst BeginsField (sym h.1) refl
+behind-begins system words.Blame rest c (x, h, e) = subst BeginsField (sym h.1) refl
 behind-begins system words.Ready rest c (h, e) = subst BeginsField (sym h) tt
 behind-begins system words.Consequences rest c (t, h, e) = subst BeginsField (sym h.1) refl
 behind-begins system words.Live rest c (h, e) = subst BeginsField (sym h) tt
-behind-begins system words.Value rest c (x, h, e) = subst BeginsField (sym h.1.1) refl
+behind-begins system words.Value rest c (x, h, e) = subst BeginsField (sym h.1) refl
 
 -- the word and the rest are the parts of the line
 asked-parts : (system : System) (line text rest : List ℕ) (c : Command) → CutAtSpace line text rest → (a : Asks system line c)

@@ -1,11 +1,11 @@
 -- A line says one thing.
 use Rattle.std.proofs.Common.{◌≡◌, ℕ, List, [], ◌∷◌, ◌++◌, Some, refl, sym, ap, ◌∙◌, subst, inl, inr, arith}
-use Rattle.std.specs.List.{position}
 use Rattle.std.specs.Fmt.{decimal}
 use Rattle.std.proofs.lemmas.Fmt.{decimal_injective}
 use Rattle.address.specs.declared.Entry.{Entry}
 use Rattle.address.specs.Text.{text_of}
 use Rattle.address.proofs.Finds.{text_of-injective}
+use Rattle.elaborate.specs.Named.{variable_from}
 use Rattle.elaborate.specs.declared.system.System.{System}
 use Rattle.calculus.specs.declared.event.Choice.{Choice}
 use Rattle.calculus.specs.declared.command.Command.{Command}
@@ -13,9 +13,9 @@ use Rattle.debug_session.specs.declared.line.Line.{Line}
 use Rattle.debug_session.specs.declared.word.Word.{Word}
 use Rattle.debug_session.specs.declared.word.Word.TheVariants as words
 use Rattle.debug_session.specs.Words.{spelling}
-use Rattle.debug_session.specs.Lines.{IsNumber, has_name, IsVariable, IsArm, IsChoice, AsksBy, Asks, Says}
+use Rattle.debug_session.specs.Lines.{IsNumber, IsVariable, IsArm, IsChoice, AsksBy, Asks, Says}
 use Rattle.debug_session.proofs.CutLemmas.{cut-same, address-no-space}
-use Rattle.debug_session.proofs.NumberLemmas.{field-same, field-some, same-place}
+use Rattle.debug_session.proofs.NumberLemmas.{field-same, field-some, same-found}
 use Rattle.debug_session.proofs.ChoiceLemmas.{arm-begins}
 use Rattle.debug_session.proofs.WordLemmas.{spelling-no-space, one-word}
 use Rattle.debug_session.proofs.AskLemmas.{behind-begins}
@@ -27,9 +27,9 @@ one-number m n rest h k = decimal_injective m n h.0 k.0 (field-same rest (decima
 -- one variable is named
 one-variable : (system : System) (x y : ℕ) (rest : List ℕ) → IsVariable system x rest → IsVariable system y rest → x ≡ y
 one-variable system x y rest h k =
-    let there : position (has_name h.1.0) system.variables ≡ Some y =
-    subst (λ t. position (has_name t) system.variables ≡ Some y) (field-same rest k.1.0 h.1.0 k.1.1 h.1.1) k.1.2 in
-    same-place x y (sym h.1.2 ∙ there)
+    let there : variable_from 0 system.variables h.0 ≡ Some y =
+    subst (λ t. variable_from 0 system.variables t ≡ Some y) (field-same rest k.0 h.0 k.1 h.1) k.2 in
+    same-found x y (sym h.2 ∙ there)
 
 -- one arm stands there
 one-arm : (a b : ℕ) (rest : List ℕ) → IsArm a rest → IsArm b rest → a ≡ b

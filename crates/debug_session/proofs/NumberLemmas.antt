@@ -1,14 +1,14 @@
 -- Numbers and names behind the word of a line.
 use Rattle.std.proofs.Common.{◌≡◌, ℕ, ◌<◌, ◌^◌, List, [], ◌∷◌, Option, Some, None, MatchOption, refl, sym, ap, ◌∙◌, subst, inl, inr, arith}
-use Rattle.std.specs.List.{position}
 use Rattle.std.specs.Option.{SomeIff}
 use Rattle.std.specs.Fmt.{decimal}
 use Rattle.std.proofs.lemmas.Fmt.{decimal_injective}
+use Rattle.elaborate.specs.Named.{variable_from}
 use Rattle.elaborate.specs.declared.system.System.{System}
 use Rattle.debug_session.specs.EventText.{field}
 use Rattle.debug_session.specs.Fields.{IsNoField}
 use Rattle.debug_session.specs.Numbers.{ReadsNumber, IsNoNumber}
-use Rattle.debug_session.specs.Lines.{IsNumber, IsNoTicket, has_name, IsVariable, IsNoVariable, IsArm, IsNoArm}
+use Rattle.debug_session.specs.Lines.{IsNumber, IsNoTicket, IsVariable, IsNoVariable, IsArm, IsNoArm}
 use Rattle.debug_session.proofs.CutLemmas.{tails}
 
 -- equal fields have equal texts
@@ -19,13 +19,13 @@ field-same rest t u e k = tails 32 32 t u (sym e ∙ k)
 empty-field : (t : List ℕ) → field t ≡ [] → ⊥
 empty-field t e = cc
 
--- a place that is not found is not found
-none-some-place : (r : Option ℕ) (x : ℕ) → r ≡ None → r ≡ Some x → ⊥
-none-some-place r x h k = cc
+-- what is not found is not found
+none-some : (r : Option ℕ) (x : ℕ) → r ≡ None → r ≡ Some x → ⊥
+none-some r x h k = cc
 
--- what is found is one place
-pub same-place : (x y : ℕ) → Some x ≡ Some y → x ≡ y
-same-place x y e = cc
+-- what is found is one number
+pub same-found : (x y : ℕ) → Some x ≡ Some y → x ≡ y
+same-found x y e = cc
 
 -- a field is not empty
 pub field-some : (rest t : List ℕ) → rest ≡ field t → rest ≡ [] → ⊥
@@ -43,28 +43,20 @@ ticket-read (Some n) rest text e h = (h.0, e ∙ ap field (sym h.1))
 
 -- no variable is named where no field stands
 pub no-variable-field : (system : System) (rest : List ℕ) → IsNoField rest → IsNoVariable system rest
-no-variable-field system rest none x h = none h.1.0 h.1.1
+no-variable-field system rest none x h = none h.0 h.1
 
--- the number of a variable is the place of its name
-variable-place : (system : System) (rest name : List ℕ) (x : ℕ) → rest ≡ field name → IsVariable system x rest
-    → position (has_name name) system.variables ≡ Some x
-variable-place system rest name x e h =
-    subst (λ t. position (has_name t) system.variables ≡ Some x) (field-same rest h.1.0 name h.1.1 e) h.1.2
+-- the variable that is named is the one of the name
+variable-name : (system : System) (rest name : List ℕ) (x : ℕ) → rest ≡ field name → IsVariable system x rest
+    → variable_from 0 system.variables name ≡ Some x
+variable-name system rest name x e h =
+    subst (λ t. variable_from 0 system.variables t ≡ Some x) (field-same rest h.0 name h.1 e) h.2
 
--- no variable has a name that is not found
-pub no-variable-place : (system : System) (rest name : List ℕ) → rest ≡ field name
-    → position (has_name name) system.variables ≡ None → IsNoVariable system rest
-no-variable-place system rest name e none x h =
-    none-some-place (position (has_name name) system.variables) x none (variable-place system rest name x e h)
-
--- the variable whose name is found, where its number has 32 bits
-pub variable-read : (system : System) (rest name : List ℕ) (place : ℕ) (r : Option ℕ) → rest ≡ field name
-    → position (has_name name) system.variables ≡ Some place → SomeIff r (place < 2 ^ 32) place
-    → MatchOption r (IsNoVariable system rest) (λ x. IsVariable system x rest)
-variable-read system rest name place None e at h =
-    λ x k. h (subst (λ p. p < 2 ^ 32) (same-place x place (sym (variable-place system rest name x e k) ∙ at)) k.0)
-variable-read system rest name place (Some x) e at h =
-    (subst (λ p. p < 2 ^ 32) (sym h.1) h.0, (name, e, at ∙ ap Some (sym h.1)))
+-- the variable whose name is found
+pub variable-read : (system : System) (rest name : List ℕ) (r : Option ℕ) → rest ≡ field name
+    → r ≡ variable_from 0 system.variables name → MatchOption r (IsNoVariable system rest) (λ x. IsVariable system x rest)
+variable-read system rest name None e none =
+    λ x h. none-some (variable_from 0 system.variables name) x (sym none) (variable-name system rest name x e h)
+variable-read system rest name (Some x) e at = (name, e, sym at)
 
 -- no arm stands where something stands that is no field
 pub no-arm-field : (rest : List ℕ) → (rest ≡ [] → ⊥) → IsNoField rest → IsNoArm rest

@@ -1,12 +1,11 @@
 -- The text of an event, as answers show it.
-use Rattle.std.specs.Prelude.{ℕ, List, ◌∷◌, ◌++◌, codes, Option, Some, None, slice_get}
+use Rattle.std.specs.Prelude.{ℕ, List, ◌∷◌, ◌++◌, codes, Option, Some, None}
 use Rattle.std.specs.Fmt.{decimal}
 use Rattle.value.specs.Word.{Word}
 use Rattle.address.specs.Text.{text_of}
 use Rattle.address.specs.declared.Entry.{Entry}
 use Rattle.elaborate.specs.declared.system.System.{System}
-use Rattle.elaborate.specs.declared.system.Variable.{Variable}
-use Rattle.elaborate.specs.declared.system.Channel.{Channel}
+use Rattle.elaborate.specs.Named.{variable_name_at, channel_name_at}
 use Rattle.calculus.specs.declared.event.Event.{Event}
 use Rattle.calculus.specs.declared.event.Kind.{Kind}
 use Rattle.calculus.specs.declared.event.Kind.TheVariants.{Assign, Test, Turn, Meet, Open, Close, Sync}
@@ -15,25 +14,20 @@ use Rattle.calculus.specs.declared.event.Kind.TheVariants.{Assign, Test, Turn, M
 abbrev pub field : List ℕ → List ℕ
 field text = 32 ∷ text
 
--- the name of a variable, `?` where there is none
-abbrev pub name_of_variable : Option Variable → List ℕ
-name_of_variable None = codes "?"
-name_of_variable (Some variable) = variable.name
-
--- the name of a channel, `?` where there is none
-abbrev pub name_of_channel : Option Channel → List ℕ
-name_of_channel None = codes "?"
-name_of_channel (Some channel) = channel.name
+-- a name, `?` where there is none
+abbrev pub name_text : Option (List ℕ) → List ℕ
+name_text None = codes "?"
+name_text (Some name) = name
 
 -- the name of the variable of this number
 abbrev pub variable_text : System → Option ℕ → List ℕ
 variable_text system None = codes "?"
-variable_text system (Some number) = name_of_variable (slice_get system.variables number)
+variable_text system (Some number) = name_text (variable_name_at system.variables number)
 
 -- the name of the channel of this number
 abbrev pub channel_text : System → Option ℕ → List ℕ
 channel_text system None = codes "?"
-channel_text system (Some number) = name_of_channel (slice_get system.channels number)
+channel_text system (Some number) = name_text (channel_name_at system.channels number)
 
 -- a value in decimal, `-` where none passes
 abbrev pub value_text : Option Word → List ℕ

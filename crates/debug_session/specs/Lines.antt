@@ -1,12 +1,10 @@
 -- What the lines of a script ask for.
-use Rattle.std.specs.Prelude.{ℕ, ◌≡◌, ◌≢◌, ◌<◌, ◌^◌, ◌⊎◌, Bool, IsTrue, Some, List, [], ◌∷◌, ◌++◌}
-use Rattle.std.specs.List.{position}
-use Rattle.std.specs.Str.{bytes_eq}
+use Rattle.std.specs.Prelude.{ℕ, ◌≡◌, ◌≢◌, ◌<◌, ◌^◌, ◌⊎◌, IsTrue, Some, List, [], ◌∷◌, ◌++◌}
 use Rattle.std.specs.Fmt.{decimal}
 use Rattle.address.specs.Text.{text_of}
 use Rattle.address.specs.Reading.{NumbersFit}
 use Rattle.elaborate.specs.declared.system.System.{System}
-use Rattle.elaborate.specs.declared.system.Variable.{Variable}
+use Rattle.elaborate.specs.Named.{variable_from}
 use Rattle.calculus.specs.declared.event.Choice.{Choice}
 use Rattle.calculus.specs.declared.command.Command.{Command}
 use Rattle.debug_session.specs.declared.line.Line.{Line}
@@ -22,14 +20,9 @@ IsNumber n rest = (n < 2 ^ 64) × (rest ≡ field (decimal n))
 abbrev pub IsNoTicket : List ℕ → Type 0
 IsNoTicket rest = (n : ℕ) → IsNumber n rest → ⊥
 
--- whether the variable has the name
-abbrev pub has_name : List ℕ → Variable → Bool
-has_name name variable = bytes_eq variable.name name
-
--- a space and the name of the variable of this number, the first with that name
+-- a space and the name of the variable of this number, the first with that name; the number has 32 bits
 abbrev pub IsVariable : System → ℕ → List ℕ → Type 0
-IsVariable system x rest =
-    (x < 2 ^ 32) × ((name : List ℕ) × (rest ≡ field name) × (position (has_name name) system.variables ≡ Some x))
+IsVariable system x rest = (name : List ℕ) × (rest ≡ field name) × (variable_from 0 system.variables name ≡ Some x)
 
 -- the rest names no variable
 abbrev pub IsNoVariable : System → List ℕ → Type 0

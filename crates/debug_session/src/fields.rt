@@ -1,14 +1,13 @@
 // What stands behind the word of a line.
 ghost use Rattle.std.specs.Prelude.{◌≡◌, ◌<◌, ◌^◌, MatchOption, IfOk};
 ghost use Rattle.std.specs.Option.{SomeIff};
-ghost use Rattle.std.specs.List.{position};
 ghost use Rattle.debug_session.specs.EventText.{field};
 ghost use Rattle.debug_session.specs.Fields.{CutAtSpace, IsFieldEnd, IsNoField};
-ghost use Rattle.debug_session.specs.Lines.{IsNumber, IsNoTicket, has_name, IsVariable, IsNoVariable, IsArm, IsNoArm, IsChoice, IsNoChoice};
+ghost use Rattle.debug_session.specs.Lines.{IsNumber, IsNoTicket, IsVariable, IsNoVariable, IsArm, IsNoArm, IsChoice, IsNoChoice};
 
 use crate::number::read_number;
 use calculus::Choice;
-use elaborate::{System, Variable};
+use elaborate::System;
 use std::alloc::{AllocError, Global};
 
 /// The part of `text` before its first space, and the part from there on.
@@ -51,18 +50,7 @@ pub(crate) fn read_ticket(rest: &[u8]) -> Option<u64>
 pub(crate) fn read_variable(system: &System, rest: &[u8]) -> Option<u32>
     ensures { MatchOption result (IsNoVariable system.now rest.now) (λ x. IsVariable system.now x rest.now) }
 {
-    let name = behind_space(rest)?;
-    let place = place_of(system.variables.as_slice(), name)?;
-    narrow(place as u64)
-}
-
-/// The place of the first variable with the name.
-fn place_of(variables: &[Variable], name: &[u8]) -> Option<usize>
-    ensures { result ≡ position (has_name name.now) variables.now }
-{
-    variables
-        .iter()
-        .position(|variable| variable.name.text() == name)
+    system.variable(behind_space(rest)?)
 }
 
 /// The number, if it has 32 bits.

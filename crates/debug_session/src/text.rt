@@ -89,8 +89,8 @@ pub(crate) fn add_variable(
     let Some(number) = number else {
         return add_field(out, b"?");
     };
-    match system.variables.get(number as usize) {
-        Some(variable) => add_field(out, variable.name.text()),
+    match system.variable_name(number) {
+        Some(name) => add_field(out, name.text()),
         None => add_field(out, b"?"),
     }
 }
@@ -106,8 +106,8 @@ pub(crate) fn add_channel(
     let Some(number) = number else {
         return add_field(out, b"?");
     };
-    match system.channels.get(number as usize) {
-        Some(channel) => add_field(out, channel.name.text()),
+    match system.channel_name(number) {
+        Some(name) => add_field(out, name.text()),
         None => add_field(out, b"?"),
     }
 }

@@ -19,9 +19,13 @@ mod parsing;
 #[cfg(test)]
 mod passes;
 #[cfg(test)]
+mod sharing;
+#[cfg(test)]
 mod sizes;
 #[cfg(test)]
 mod stimuli;
+#[cfg(test)]
+mod systems;
 #[cfg(test)]
 mod transcripts;
 #[cfg(test)]

@@ -11,8 +11,6 @@ mod laws;
 mod mention;
 mod naming;
 mod places;
-#[cfg(test)]
-mod tests;
 mod widths;
 
 pub use checked::{Checked, check_sharing};
