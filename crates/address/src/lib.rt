@@ -6,8 +6,6 @@ ghost use Rattle.std.specs.Prelude.{◌≡◌, ◌↔◌, IsTrue, IfOk};
 
 mod laws;
 mod order;
-#[cfg(test)]
-mod tests;
 mod text;
 
 pub use laws::{compare_laws, place_laws, text_laws};

@@ -10,7 +10,7 @@ use std::io::Write;
 use std::{fmt, io};
 
 /// Why a run ends before its work is done.
-#[derive(Clone, Copy, Debug, PartialEq, Eq)]
+#[derive(Clone, Copy)]
 pub enum Fault {
     /// The number of a refusal, and the byte, line or ticket that it is about where it has one.
     Refused(u32, Option<u64>),

@@ -7,8 +7,6 @@ mod files;
 mod help;
 mod request;
 mod running;
-#[cfg(test)]
-mod tests;
 
 use fault::Fault;
 use files::Disk;

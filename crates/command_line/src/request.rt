@@ -7,7 +7,7 @@ use std::alloc::{AllocError, Global};
 use std::convert::AsStr;
 
 /// What a run is to do.
-#[derive(Clone, Copy, Debug, PartialEq, Eq)]
+#[derive(Clone, Copy)]
 pub enum Request<'a> {
     /// Say whether the description in `file` is accepted.
     Check { file: &'a str },

@@ -8,3 +8,4 @@ pub mod Lines
 pub mod Sizes
 pub mod Calls
 pub mod PlaceLemmas
+pub mod LookupLemmas

@@ -111,8 +111,8 @@ pub number-found : (vs : List Variable) (name : List ℕ)
     → option_and_then as_number (place_at (places_of (map (λ v. v.name) vs)) name) ≡ variable_from 0 vs name
 number-found vs name = ap (option_and_then as_number) (place_at-places_of (map (λ v. v.name) vs) name) ∙ sym (variable_from-first 0 vs name)
 
--- the number of the variable whose name is looked up in an index
-pub number-read : (places : Placed) (vs now : List Variable) (name : List ℕ) (found : Option ℕ)
-    → places ≡ places_of (map (λ v. v.name) vs) → vs ≡ now → found ≡ place_at places name
-    → option_and_then as_number found ≡ variable_from 0 now name
-number-read places vs now name found index same at = rw (at, index, ← same) (number-found vs name)
+-- the number at the place that an index holds
+pub number-read : (places : Placed) (vs now : List Variable) (name : List ℕ) (found place : Option ℕ)
+    → places ≡ places_of (map (λ v. v.name) vs) → vs ≡ now → found ≡ place_at places name → found ≡ place
+    → option_and_then as_number place ≡ variable_from 0 now name
+number-read places vs now name found place index same at is = rw (← is, at, index, ← same) (number-found vs name)

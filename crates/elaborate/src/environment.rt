@@ -4,8 +4,8 @@ ghost use Rattle.std.specs.Option.{option_copied};
 ghost use Rattle.elaborate.specs.Environment as environment;
 ghost use Rattle.elaborate.specs.Fit as fit;
 
+use crate::lookups::NamedEntries;
 use crate::made::number_of;
-use crate::ports::entry_named;
 use crate::stimulus::{Entry, Given};
 use crate::system::Branch;
 use std::alloc::{AllocError, Global};
@@ -17,7 +17,7 @@ use value::{Value, Width};
 pub fn branches(
     alloc: Global,
     ports: &[Port],
-    entries: &[Entry],
+    entries: &NamedEntries<'_>,
 ) -> Result<Items<Branch>, AllocError>
     ensures { IfOk result (λ made. made ≡ environment.branches_from entries.now 0 ports.now) }
 {
@@ -33,12 +33,12 @@ fn branch_of(
     alloc: Global,
     place: usize,
     port: &Port,
-    entries: &[Entry],
+    entries: &NamedEntries<'_>,
 ) -> Result<Branch, AllocError>
     ensures { IfOk result (λ made. made ≡ environment.branch_on (environment.number_of place) port.now.kind (fit.entry_named entries.now port.now.name)) }
 {
     let channel = number_of(place);
-    let entry = entry_named(entries, port.name.text());
+    let entry = entries.find(port.name.text());
     match port.kind {
         PortKind::Input(width) => {
             let values = values_of(alloc, width, entry)?;

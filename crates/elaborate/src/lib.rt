@@ -15,6 +15,7 @@ mod expression;
 mod fault;
 mod forms;
 mod line;
+mod lookups;
 mod made;
 mod names;
 mod pass;

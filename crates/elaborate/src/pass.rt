@@ -7,6 +7,7 @@ ghost use Rattle.elaborate.specs.declared.fault.Fault.TheVariants.{Memory};
 use crate::body::called_body;
 use crate::count::is_small;
 use crate::environment::branches;
+use crate::lookups::{NamedEntries, NamedPorts};
 use crate::made::Made;
 use crate::ports::{misfit, value_count};
 use crate::scope::Entrance;
@@ -40,13 +41,15 @@ pub(crate) fn system_of(
     ensures accepted { OnOk result (model.IsAccepted procedures.now entries.now) }
     ensures fault { IfErr result (λ fault. (fault ≡ Memory) ⊎ model.IsRefused procedures.now entries.now fault) }
 {
-    if let Some(line) = misfit(root_ports(procedures), entries) {
+    let named_ports = NamedPorts::new(alloc, root_ports(procedures))?;
+    let named_entries = NamedEntries::new(alloc, entries)?;
+    if let Some(line) = misfit(&named_ports, &named_entries) {
         return Err(Fault::BadStimulus(line));
     }
     if !is_within_limits(alloc, procedures, entries)? {
         return Err(Fault::TooManyNodes);
     }
-    let system = made_system(alloc, procedures, entries)?;
+    let system = made_system(alloc, procedures, &named_entries)?;
     Ok(system)
 }
 
@@ -77,7 +80,7 @@ fn root_ports(procedures: &[Procedure]) -> &[Port]
 fn made_system(
     alloc: Global,
     procedures: &[Procedure],
-    entries: &[Entry],
+    entries: &NamedEntries<'_>,
 ) -> Result<System, AllocError>
     ensures { IfOk result (λ system. system ≡ model.system_of procedures.now entries.now) }
 {

@@ -1,58 +1,39 @@
 // The stimulus against the ports of the root.
-ghost use Rattle.std.specs.Prelude.{◌≡◌, ◌^◌, ◌-◌, [], min, nat_lt, is_some, IfOk};
-ghost use Rattle.std.specs.Option.{option_copied};
+ghost use Rattle.std.specs.Prelude.{◌≡◌, ◌^◌, ◌-◌, [], min, nat_lt, take};
 ghost use Rattle.elaborate.specs.Fit as fit;
 
+use crate::lookups::{NamedEntries, NamedPorts};
 use crate::stimulus::{Entry, Given};
-use types::{Port, PortKind};
+use types::PortKind;
 use value::{Value, Width};
 
 /// The line of the first entry that does not fit the ports, if there is one.
-pub fn misfit(ports: &[Port], entries: &[Entry]) -> Option<u64>
+pub fn misfit(ports: &NamedPorts<'_>, entries: &NamedEntries<'_>) -> Option<u64>
     ensures { result ≡ fit.first_misfit ports.now [] entries.now }
 {
-    for (place, entry) in entries.iter().enumerate() {
-        if !fits(ports, &entries[..place], entry) {
+    for (place, entry) in entries.as_slice().iter().enumerate() {
+        if !fits(ports, entries, place, entry) {
             return Some(entry.line);
         }
     }
     None
 }
 
-/// Whether the entry names a port, of its kind, that holds its values, and no entry before is for that port.
-fn fits(ports: &[Port], before: &[Entry], entry: &Entry) -> bool
-    ensures { result ≡ fit.fits ports.now before.now entry.now }
+/// Whether the entry names a port, of its kind, that holds its values, and no entry before its place is for that port.
+fn fits(ports: &NamedPorts<'_>, entries: &NamedEntries<'_>, place: usize, entry: &Entry) -> bool
+    ensures { result ≡ fit.fits ports.now (take place entries.now) entry.now }
 {
-    is_taken(ports, entry) && !is_named(before, entry.name.text())
-}
-
-/// Whether one of the entries is for the port of this name.
-fn is_named(entries: &[Entry], name: &[u8]) -> bool
-    ensures { result ≡ is_some (fit.entry_named entries.now name.now) }
-{
-    entry_named(entries, name).is_some()
+    is_taken(ports, entry) && !entries.is_named_before(place, entry.name.text())
 }
 
 /// Whether the entry names a port, of its kind, that holds its values.
-fn is_taken(ports: &[Port], entry: &Entry) -> bool
+fn is_taken(ports: &NamedPorts<'_>, entry: &Entry) -> bool
     ensures { result ≡ fit.taken (fit.kind_named ports.now entry.now.name) entry.now.given }
 {
-    match kind_named(ports, entry.name.text()) {
+    match ports.kind(entry.name.text()) {
         Some(kind) => takes(kind, &entry.given),
         None => false,
     }
-}
-
-/// The kind of the port of this name.
-fn kind_named(ports: &[Port], name: &[u8]) -> Option<PortKind>
-    ensures { result ≡ fit.kind_named ports.now name.now }
-{
-    for port in ports {
-        if port.name.text() == name {
-            return Some(port.kind);
-        }
-    }
-    None
 }
 
 /// Whether a port of the kind can be given this.
@@ -89,18 +70,6 @@ fn holds(width: Width, value: u64) -> bool
     ensures { result ≡ nat_lt value (2 ^ width) }
 {
     Value::new(value, width.bits()).is_some()
-}
-
-/// The first entry for the port of this name.
-pub fn entry_named<'a>(entries: &'a [Entry], name: &[u8]) -> Option<&'a Entry>
-    ensures { option_copied result ≡ fit.entry_named entries.entry.now name.entry.now }
-{
-    for entry in entries {
-        if entry.name.text() == name {
-            return Some(entry);
-        }
-    }
-    None
 }
 
 /// How many values the entries give, or the largest number of 64 bits.

@@ -124,17 +124,30 @@ impl BufRead for Broken {
     fn consume(&mut self, _amount: usize) {}
 }
 
+/// Where the script breaks off, in its bytes, and what is answered before that.
+const BROKEN_AT: [(usize, &[u8]); 7] = [
+    (0, b""),
+    (4, b""),
+    (5, b"live 0\n"),
+    (11, b"live 0\n"),
+    (12, b"live 0\nrefused 23\n"),
+    (16, b"live 0\nrefused 23\n"),
+    (17, b"live 0\nrefused 23\nlive 0\n"),
+];
+
 #[test]
 fn a_reader_fails_behind_its_complete_lines(rt: HostRuntime) -> Result<(), Fail> {
-    let script: &[u8] = b"live\nundo 1\nli";
-    let mut reader = script.chain(Broken);
-    let mut out: Vec<u8> = Vec::with_capacity(rt.alloc(), 1024)?;
-    let fault = fault_of(debug(rt.alloc(), &mut reader, &mut out, ONE, FIVE))?;
-    if lacks_memory(out.as_slice()) {
-        return Err(Fail::from(Refusal::Memory));
+    let script: &[u8] = b"live\nundo 1\nlive\n";
+    for (count, answers) in BROKEN_AT {
+        let mut reader = script[..count].chain(Broken);
+        let mut out: Vec<u8> = Vec::with_capacity(rt.alloc(), 1024)?;
+        let fault = fault_of(debug(rt.alloc(), &mut reader, &mut out, ONE, FIVE))?;
+        if lacks_memory(out.as_slice()) {
+            return Err(Fail::from(Refusal::Memory));
+        }
+        assert_eq!(rt; fault, Some(Fault::ReadFailed), "{count}");
+        assert!(rt; out.as_slice() == answers, "{count}");
     }
-    assert_eq!(rt; fault, Some(Fault::ReadFailed));
-    assert_eq!(rt; out.as_slice(), b"live 0\nrefused 23\n".as_slice());
     Ok(())
 }
 
@@ -161,14 +174,22 @@ impl Write for Narrow {
     }
 }
 
+/// How many bytes are taken, and how many of the script are left then, which is read line by line.
+const FULL_AT: [(usize, usize); 5] = [(0, 10), (1, 10), (7, 5), (12, 5), (20, 0)];
+
 #[test]
 fn a_writer_fails_with_a_beginning_out(rt: HostRuntime) -> Result<(), Fail> {
-    let mut reader: &[u8] = b"live\nlive\nlive\n";
-    let taken = Vec::with_capacity(rt.alloc(), 12)?;
-    let mut out = Narrow { taken, room: 12 };
-    let fault = fault_of(debug(rt.alloc(), &mut reader, &mut out, ONE, FIVE))?;
-    assert_eq!(rt; fault, Some(Fault::WriteFailed));
-    assert_eq!(rt; out.taken.as_slice(), b"live 0\nlive ".as_slice());
-    assert_eq!(rt; reader.len(), 5);
+    for (room, left) in FULL_AT {
+        let mut reader: &[u8] = b"live\nlive\nlive\n";
+        let taken = Vec::with_capacity(rt.alloc(), 20)?;
+        let mut out = Narrow { taken, room };
+        let fault = fault_of(debug(rt.alloc(), &mut reader, &mut out, ONE, FIVE))?;
+        assert_eq!(rt; fault, Some(Fault::WriteFailed), "{room}");
+        assert!(rt;
+            out.taken.as_slice() == &b"live 0\nlive 0\nlive 0\n"[..room],
+            "{room}"
+        );
+        assert_eq!(rt; reader.len(), left, "{room}");
+    }
     Ok(())
 }

@@ -15,8 +15,6 @@ mod number;
 mod piece;
 mod place;
 mod table;
-#[cfg(test)]
-mod tests;
 mod token;
 
 pub use fault::Fault;

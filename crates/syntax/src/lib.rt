@@ -11,8 +11,6 @@ mod expression;
 mod items;
 mod name;
 mod span;
-#[cfg(test)]
-mod tests;
 
 pub use boxed::Boxed;
 pub use command::{Action, Arm, CaseArm, Command, Guarded, Label, LabelValue};

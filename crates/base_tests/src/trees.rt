@@ -1,6 +1,8 @@
-use crate::{Action, Boxed, Command, Expression, Identifier, Items, Name, Operator, Shape, Span};
+//! Trees of syntax, and what holds their parts.
+
 use std::alloc::{AllocError, Global};
 use std::test::Fail;
+use syntax::{Action, Boxed, Command, Expression, Identifier, Items, Name, Operator, Shape, Span};
 
 fn span(start: u64, stop: u64) -> Span {
     Span {

@@ -1,4 +1,6 @@
-use crate::{Fault, Kind, Token, lex};
+//! The tokens of a source text, and why it has none.
+
+use lexer::{Fault, Kind, Token, lex};
 use std::alloc::Global;
 use std::test::Fail;
 use syntax::Span;

@@ -1,4 +1,6 @@
-use crate::{Address, Entry, before, compare, read};
+//! The text of addresses, and the orders on them.
+
+use address::{Address, Entry, before, compare, read};
 use std::alloc::{AllocError, Global};
 use std::cmp::Ordering;
 use std::test::Fail;
