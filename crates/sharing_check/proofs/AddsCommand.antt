@@ -1,6 +1,6 @@
 -- What a command adds to what is found: its uses, and the least of the offsets at which they clash.
-use Rattle.std.proofs.Common.{◌≡◌, inl, inr, ⊎_elim, ℕ, ◌≤◌, List, [], ◌∷◌, ◌++◌, map, Option, None, Some, MatchOption, Bool, refl, sym, ap, ◌∙◌, subst, true, false, append_assoc, arith, le_refl}
-use Rattle.std.proofs.lemmas.List.{append-nil, map-append}
+use Rattle.std.proofs.Common.{◌≡◌, inl, inr, ⊎_elim, ℕ, ◌≤◌, List, [], ◌∷◌, ◌++◌, map, Option, None, Some, MatchOption, Bool, refl, sym, ap, subst, true, false, arith, le_refl}
+use Rattle.std.proofs.lemmas.List.{map-append}
 use Rattle.address.specs.declared.Entry.{Entry}
 use Rattle.address.specs.declared.Entry.TheVariants.{Ordered, Branch}
 use Rattle.address.specs.Places.{Apart}
@@ -20,50 +20,18 @@ use Rattle.elaborate.specs.declared.command.Labelled.{Labelled}
 use Rattle.elaborate.specs.declared.command.Action.TheOpen.{Action-F}
 use Rattle.elaborate.specs.declared.command.Action.TheFolds.{map-Action, fold-Action, fold-roll-Action, fold-roll-Arm, fold-roll-Command, fold-roll-Guarded, fold-roll-Labelled, ind-Command}
 use Rattle.elaborate.specs.declared.command.Action.TheViews.{roll-Action, roll-Arm, roll-Command, roll-Guarded, roll-Labelled}
-use Rattle.sharing_check.specs.Gathering.{Gathered, gathered, Gathers, mentioned, reading, reading_layer, in_turn, side_by_side, gathering_layer, arm_layer, command_layer, guarded_layer, labelled_layer, gathering, gathering_arm, gathering_guarded, gathering_labelled}
+use Rattle.sharing_check.specs.Gathering.{gathered, Gathers, mentioned, reading, reading_layer, in_turn, side_by_side, gathering_layer, arm_layer, command_layer, guarded_layer, labelled_layer, gathering, gathering_arm, gathering_guarded, gathering_labelled}
 use Rattle.sharing_check.specs.Refused.{ClashesAt, Least}
 use Rattle.sharing_check.specs.Uses.{VariableUse, here, named, named_layer, numbered, reads, uses_layer, arm_uses, command_uses, guarded_uses, labelled_uses, uses_of}
-use Rattle.sharing_check.proofs.Adds.{ClashIn, Reaches, Adds, Good, Unrelated, mention_of, mentions_of, adds_equal, adds_nothing, adds_here, adds_both}
-use Rattle.sharing_check.proofs.AddsLists.{Part, gathers_of, uses_of_parts, ordered_numbers, adds_in_turn, adds_with_last}
-use Rattle.sharing_check.proofs.AddsParallel.{shared_in, adds_parallel}
+use Rattle.sharing_check.proofs.Adds.{ClashIn, Adds, Good, Unrelated, adds_equal, adds_nothing, adds_use, adds_both}
+use Rattle.sharing_check.proofs.AddsLists.{Part, gathers_of, uses_of_parts, adds_in_turn, adds_with_last}
+use Rattle.sharing_check.proofs.AddsParallel.{adds_parallel}
+use Rattle.sharing_check.proofs.LeastOffsets.{Reaches}
+use Rattle.sharing_check.proofs.TableClashes.{shared_in}
 use Rattle.sharing_check.proofs.NoClash.{Us, With, action_uses, uses_of_arm, uses_of_guarded, uses_of_labelled}
-
--- what is found with the names of these uses
-abbrev with_names : Us → Gathers
-with_names us g = gathered (g.mentions ++ mentions_of us) g.least
-
--- names after names
-names_after : (us vs : Us) (g h k : Gathered) → h ≡ with_names us g → k ≡ with_names vs h → k ≡ with_names (us ++ vs) g
-names_after us vs g h k e f =
-    f ∙ (ap (with_names vs) e
-    ∙ ap (λ ms. gathered ms g.least)
-    (append_assoc g.mentions (mentions_of us) (mentions_of vs) ∙ ap (λ ms. g.mentions ++ ms) (sym (map-append mention_of us vs))))
-
--- what an expression reads
-abbrev Named : Expression → Type 0
-Named e = (g : Gathered) → reading e g ≡ with_names (reads e) g
 
 abbrev read_here : Use → VariableUse
 read_here x = here x false
-
-reading_names : (y : Expression-F (With Named)) (g : Gathered) →
-    reading_layer (map-Expression Expression Gathers reading (map-Expression (With Named) Expression (λ e. e.0) y)) g
-    ≡ with_names (map read_here (named_layer (map-Expression Expression (List Use) named (map-Expression (With Named) Expression (λ e. e.0) y)))) g
-reading_names (Expression-F.Constant v) g = ap (λ ms. gathered ms g.least) (sym (append-nil g.mentions))
-reading_names (Expression-F.Variable x w) g = refl
-reading_names (Expression-F.Received c w) g = ap (λ ms. gathered ms g.least) (sym (append-nil g.mentions))
-reading_names (Expression-F.Binary op a b) g =
-    names_after (reads a.0) (reads b.0) g (reading a.0 g) (reading b.0 (reading a.0 g)) (a.1 g) (b.1 (reading a.0 g))
-    ∙ ap (λ us. with_names us g) (sym (map-append read_here (named a.0) (named b.0)))
-reading_names (Expression-F.Not a) g = a.1 g
-reading_names (Expression-F.Cast a w) g = a.1 g
-
-expression_names : (e : Expression) → Named e
-expression_names =
-    ind-Expression Named
-    (λ z y e. subst (λ z. Named (roll-Expression z)) e
-    (λ g. ap (λ (f : Gathers). f g) (fold-roll-Expression Gathers reading_layer _)
-    ∙ (reading_names y g ∙ ap (λ xs. with_names (map read_here xs) g) (sym (fold-roll-Expression (List Use) named_layer _)))))
 
 -- they stand at the place itself
 read_places : (xs : List Use) (u : VariableUse) → In u (map read_here xs) → u.place ≡ []
@@ -71,47 +39,68 @@ read_places [] u i = absurd i
 read_places (x ∷ xs) u (inl e) = ap (λ (v : VariableUse). v.place) e
 read_places (x ∷ xs) u (inr i) = read_places xs u i
 
--- and are apart from nothing
-reads_unrelated : (e : Expression) (vs : Us) → Unrelated Apart (reads e) vs
-reads_unrelated e vs u v i j = (
-  λ h. absurd (subst (λ p. Apart p v.place) (read_places (named e) u i) h),
-  λ h. none v.place (subst (λ p. Apart v.place p) (read_places (named e) u i) h),
+-- and are in another branch than no use
+here_unrelated : (us vs : Us) → ((u : VariableUse) → In u us → u.place ≡ []) → Unrelated us vs
+here_unrelated us vs here u v i j = (
+  λ h. absurd (subst (λ p. Apart p v.place) (here u i) h),
+  λ h. none v.place (subst (λ p. Apart v.place p) (here u i) h),
 )
   where
     none : (p : List Entry) → Apart p [] → ⊥
     none [] h = h
     none (x ∷ p) h = h
 
+reads_unrelated : (e : Expression) (vs : Us) → Unrelated (reads e) vs
+reads_unrelated e vs = here_unrelated (reads e) vs (read_places (named e))
+
 module _ (variables : List Variable) where
   abbrev shared : ℕ → Bool
   shared = shared_in variables
 
   abbrev AddsUses : Us → Gathers → Type 0
-  AddsUses us f = Good shared Apart us f
+  AddsUses us f = Good shared us f
 
   -- equal uses, equally found
   good_equal : {us vs : Us} {f k : Gathers} → us ≡ vs → f ≡ k → AddsUses vs k → AddsUses us f
-  good_equal {us = us} {vs = vs} {f = f} {k = k} e d a g = adds_equal shared Apart us vs g (f g) (k g) e (ap (λ (h : Gathers). h g) d) (a g)
+  good_equal {us = us} {vs = vs} {f = f} {k = k} e i a g d = adds_equal shared us vs g (f g) (k g) e (ap (λ (h : Gathers). h g) i) (a g d)
 
-  adds_reads : (e : Expression) → AddsUses (reads e) (reading e)
-  adds_reads e g =
-      adds_equal shared Apart (reads e) (reads e) g (reading e g) (with_names (reads e) g) refl (expression_names e g)
-      (adds_here shared (reads e) g (read_places (named e)))
+  -- an expression
+  abbrev ReadsAdd : Expression → Type 0
+  ReadsAdd e = AddsUses (reads e) (reading e)
 
-  adds_written : (x : Use) (e : Expression) → AddsUses (here x true ∷ reads e) (λ g. reading e (mentioned x true g))
-  adds_written x e g =
-      let us = here x true ∷ reads e in
-      adds_equal shared Apart us us g (reading e (mentioned x true g)) (with_names us g) refl
-      (names_after (here x true ∷ []) (reads e) g (mentioned x true g) (reading e (mentioned x true g)) refl (expression_names e (mentioned x true g)))
-      (adds_here shared us g (λ u. ⊎_elim (λ d. ap (λ (v : VariableUse). v.place) d) (λ i. read_places (named e) u i)))
+  layer_reads : (y : Expression-F (With ReadsAdd)) →
+      AddsUses (map read_here (named_layer (map-Expression Expression (List Use) named (map-Expression (With ReadsAdd) Expression (λ e. e.0) y))))
+      (reading_layer (map-Expression Expression Gathers reading (map-Expression (With ReadsAdd) Expression (λ e. e.0) y)))
+  layer_reads (Expression-F.Constant v) = adds_nothing shared
+  layer_reads (Expression-F.Variable x w) = λ g d. adds_use shared (here x false) g refl d
+  layer_reads (Expression-F.Received c w) = adds_nothing shared
+  layer_reads (Expression-F.Binary op a b) =
+      good_equal (map-append read_here (named a.0) (named b.0)) refl
+      (λ g d. let one = a.1 g d in
+      adds_both shared (reads a.0) (reads b.0) g (reading a.0 g) (reading b.0 (reading a.0 g)) one (b.1 (reading a.0 g) one.touched.distinct) (reads_unrelated a.0 (reads b.0)))
+  layer_reads (Expression-F.Not a) = a.1
+  layer_reads (Expression-F.Cast a w) = a.1
+
+  adds_reads : (e : Expression) → ReadsAdd e
+  adds_reads =
+      ind-Expression ReadsAdd
+      (λ z y e. subst (λ z. ReadsAdd (roll-Expression z)) e
+      (good_equal (ap (map read_here) (fold-roll-Expression (List Use) named_layer _)) (fold-roll-Expression Gathers reading_layer _) (layer_reads y)))
 
   adds_received : (x : Use) → AddsUses (here x true ∷ []) (mentioned x true)
-  adds_received x g = adds_here shared (here x true ∷ []) g (λ u. ⊎_elim (λ d. ap (λ (v : VariableUse). v.place) d) (λ i. absurd i))
+  adds_received x g d = adds_use shared (here x true) g refl d
+
+  adds_written : (x : Use) (e : Expression) → AddsUses (here x true ∷ reads e) (λ g. reading e (mentioned x true g))
+  adds_written x e g d =
+      let one = adds_received x g d in
+      adds_both shared (here x true ∷ []) (reads e) g (mentioned x true g) (reading e (mentioned x true g)) one (adds_reads e (mentioned x true g) one.touched.distinct)
+      (here_unrelated (here x true ∷ []) (reads e) (λ u. ⊎_elim (λ is. ap (λ (v : VariableUse). v.place) is) (λ i. absurd i)))
 
   -- an expression, and what comes after it
   adds_behind_reads : (e : Expression) (us : Us) (f : Gathers) → AddsUses us f → AddsUses (reads e ++ us) (λ g. f (reading e g))
-  adds_behind_reads e us f a g =
-      adds_both shared Apart (reads e) us g (reading e g) (f (reading e g)) (adds_reads e g) (a (reading e g)) (reads_unrelated e us)
+  adds_behind_reads e us f a g d =
+      let one = adds_reads e g d in
+      adds_both shared (reads e) us g (reading e g) (f (reading e g)) one (a (reading e g) one.touched.distinct) (reads_unrelated e us)
 
   -- the parts of a command
   abbrev of_action : Action → Gathers
@@ -149,13 +138,13 @@ module _ (variables : List Variable) where
         AddsUses (numbered Ordered 0 (map uses (map (λ y. y.0) ys))) (in_turn (map f (map (λ y. y.0) ys)))
     adds_all ys =
         good_equal (ap (numbered Ordered 0) (sym (uses_are ys))) (ap in_turn (sym (gathers_are ys)))
-        (adds_in_turn shared Ordered Apart ordered_numbers 0 (map part ys))
+        (adds_in_turn shared 0 (map part ys))
 
     adds_all_and_last : (ys : List (With (λ z. AddsUses (uses z) (f z)))) (last : With CommandAdds) →
         AddsUses (numbered Ordered 0 (map uses (map (λ y. y.0) ys) ++ uses_of last.0 ∷ [])) (λ g. gathering variables last.0 (in_turn (map f (map (λ y. y.0) ys)) g))
     adds_all_and_last ys last =
         good_equal (ap (λ us. numbered Ordered 0 (us ++ uses_of last.0 ∷ [])) (sym (uses_are ys))) (ap (λ fs g. gathering variables last.0 (in_turn fs g)) (sym (gathers_are ys)))
-        (adds_with_last shared Ordered Apart ordered_numbers 0 (map part ys) (record { gathers = gathering variables last.0; uses = uses_of last.0; good = last.1 }))
+        (adds_with_last shared 0 (map part ys) (record { gathers = gathering variables last.0; uses = uses_of last.0; good = last.1 }))
 
     adds_beside : (ys : List (With (λ z. AddsUses (uses z) (f z)))) →
         AddsUses (numbered Branch 0 (map uses (map (λ y. y.0) ys))) (side_by_side variables (map f (map (λ y. y.0) ys)))
@@ -176,12 +165,12 @@ module _ (variables : List Variable) where
       (λ e. e.0) (λ e. e.0) (λ e. e.0) (λ e. e.0) (λ e. e.0) y)))
 
   layer_adds : (y : Action-F (With ActionAdds) (With ArmAdds) (With CommandAdds) (With GuardedAdds) (With LabelledAdds)) → Built y
-  layer_adds Action-F.Continue = adds_nothing shared Apart
-  layer_adds Action-F.Halt = adds_nothing shared Apart
+  layer_adds Action-F.Continue = adds_nothing shared
+  layer_adds Action-F.Halt = adds_nothing shared
   layer_adds (Action-F.Assign x w e) = adds_written x e
   layer_adds (Action-F.Send c w e) = adds_reads e
   layer_adds (Action-F.Receive c x) = adds_received x
-  layer_adds (Action-F.Sync c) = adds_nothing shared Apart
+  layer_adds (Action-F.Sync c) = adds_nothing shared
   layer_adds (Action-F.Loop body) = body.1
   layer_adds (Action-F.While e body) = adds_behind_reads e (uses_of body.0) (gathering variables body.0) body.1
   layer_adds (Action-F.If arms None) = adds_all (gathering_guarded variables) uses_of_guarded arms
@@ -220,13 +209,13 @@ pub least_is : (system : System) (least : Option ℕ) → least ≡ (gathering s
     MatchOption least ((o : ℕ) → ClashesAt system o → ⊥) (λ o. Least (ClashesAt system) o)
 least_is system least e = go least e
   where
-    a : Adds (shared_in system.variables) Apart (uses_of system.main) (gathered [] None) (gathering system.variables system.main (gathered [] None))
-    a = command_adds system.variables system.main (gathered [] None)
+    a : Adds (shared_in system.variables) (uses_of system.main) (gathered [] None) (gathering system.variables system.main (gathered [] None))
+    a = command_adds system.variables system.main (gathered [] None) tt
 
-    there : (o : ℕ) → ClashesAt system o → ClashIn (shared_in system.variables) Apart (uses_of system.main) o
+    there : (o : ℕ) → ClashesAt system o → ClashIn (shared_in system.variables) (uses_of system.main) o
     there o k = (k.0, k.1, k.2, k.3, record { apart = k.4.apart; same = k.4.same; not_shared = k.4.not_shared; one_writes = k.4.one_writes }, k.5)
 
-    back : (o : ℕ) → ClashIn (shared_in system.variables) Apart (uses_of system.main) o → ClashesAt system o
+    back : (o : ℕ) → ClashIn (shared_in system.variables) (uses_of system.main) o → ClashesAt system o
     back o k = (k.0, k.1, k.2, k.3, record { apart = k.4.apart; same = k.4.same; not_shared = k.4.not_shared; one_writes = k.4.one_writes }, k.5)
 
     both_ways : (m n : ℕ) → m ≤ n → n ≤ m → m ≡ n

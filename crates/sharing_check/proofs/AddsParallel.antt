@@ -1,206 +1,241 @@
 -- What a parallel adds: the clashes in its branches, and those between them.
-use Rattle.std.proofs.Common.{◌≡◌, ◌≢◌, ◌⊎◌, inl, inr, ⊎_elim, ℕ, suc, ◌≤◌, List, [], ◌∷◌, ◌++◌, map, drop, length, Bool, true, false, refl, sym, ap, ◌∙◌, subst, append_assoc, add-one}
-use Rattle.std.proofs.lemmas.List.{append-nil, map-append}
-use Rattle.std.proofs.Math.Seq.{drop-append_seam}
+use Rattle.std.proofs.Common.{◌≡◌, ◌≢◌, ◌⊎◌, inl, inr, ⊎_elim, ℕ, suc, ◌≤◌, ◌<◌, List, [], ◌∷◌, ◌++◌, Bool, true, false, Option, refl, sym, ap, ◌∙◌, subst, append_assoc, arith, le_refl}
+use Rattle.std.proofs.lemmas.List.{append-nil}
 use Rattle.address.specs.declared.Entry.{Entry}
-use Rattle.address.specs.declared.Entry.TheVariants.{Ordered, Branch}
+use Rattle.address.specs.declared.Entry.TheVariants.{Branch}
 use Rattle.address.specs.Places.{Apart}
 use Rattle.elaborate.specs.Lists.{In}
 use Rattle.elaborate.specs.declared.system.Variable.{Variable}
-use Rattle.sharing_check.specs.declared.mention.InBranch.{InBranch}
-use Rattle.sharing_check.specs.declared.branches.Seen.{Seen}
-use Rattle.sharing_check.specs.Crossing.{nobody, in_branch, seen_after, has_other, clashes, least_with}
-use Rattle.sharing_check.specs.Gathering.{Gathered, gathered, in_turn, branches_onto, side_by_side}
-use Rattle.sharing_check.specs.Rule.{is_shared_variable}
-use Rattle.std.specs.Prelude.{slice_get}
+use Rattle.sharing_check.specs.Crossing.{Table}
+use Rattle.sharing_check.specs.Gathering.{Gathered, gathered, put_back, beside, all_beside, side_by_side}
 use Rattle.sharing_check.specs.Uses.{VariableUse, behind, numbered}
-use Rattle.sharing_check.proofs.Adds.{Relation, Pair, ClashIn, Reaches, Adds, Good, mention_of, mentions_of}
-use Rattle.sharing_check.proofs.AddsLists.{Part, gathers_of, uses_of_parts, Numbers, numbered_behind, adds_in_turn}
-use Rattle.sharing_check.proofs.LeastOffsets.{ClashesBy, least_keeps, least_finds, least_sound, clash_by, clash_says}
-use Rattle.sharing_check.proofs.SeenBranches.{after_sound, after_finds}
+use Rattle.sharing_check.proofs.Adds.{ClashIn, UsedAt, Touches, Adds, Good, adds_behind, adds_nothing, used_left, used_right, used_either, clash_left, clash_right}
+use Rattle.sharing_check.proofs.AddsLists.{Part, gathers_of, uses_of_parts}
+use Rattle.sharing_check.proofs.FitsParts.{in_left, in_right, in_either, from_behind}
+use Rattle.sharing_check.proofs.TableClashes.{shared_in, TablesMeet, joined_keeps, joined_finds, joined_from}
+use Rattle.sharing_check.proofs.TouchTables.{Distinct, distinct_one, Has, has_none, one_left, one_right, one_either}
 
--- the branch behind which a place stands
-abbrev number_of : List Entry → ℕ
-number_of [] = 0
-number_of (Ordered n ∷ p) = 0
-number_of (Branch n ∷ p) = n
+-- the uses stand in branches before the n-th
+abbrev Before : ℕ → List VariableUse → Type 0
+Before n us = (u : VariableUse) → In u us → (m : ℕ) × (p : List Entry) × (m < n) × (u.place ≡ Branch m ∷ p)
 
--- a use of a branch, without the rest of its way
-abbrev tag_of : VariableUse → InBranch
-tag_of u = in_branch (number_of u.place) (mention_of u)
+-- each use of one list stands in another branch than each of the other
+abbrev Beside : List VariableUse → List VariableUse → Type 0
+Beside us vs = (u v : VariableUse) → In u us → In v vs → Apart u.place v.place × Apart v.place u.place
 
--- places in one branch that are apart there
-abbrev Inside : Relation
-Inside (Branch i ∷ a) (Branch j ∷ b) = (i ≡ j) × Apart a b
-Inside [] _ = ⊥
-Inside (_ ∷ _) [] = ⊥
-Inside (Ordered _ ∷ _) (_ ∷ _) = ⊥
-Inside (Branch _ ∷ _) (Ordered _ ∷ _) = ⊥
+before_all : (n : ℕ) (us vs : List VariableUse) → Before n us → Before (suc n) (us ++ behind (Branch n) vs)
+before_all n us vs before u i =
+    ⊎_elim
+    (λ k. let b = before u k in (b.0, b.1, later b.0 b.2, b.3))
+    (λ k. let w = from_behind (Branch n) u vs k in (n, w.0.place, last n, ap (λ (z : VariableUse). z.place) w.2))
+    (in_either u us (behind (Branch n) vs) i)
+  where
+    later : (m : ℕ) → m < n → m < suc n
+    later m h = omega arith
 
--- places in two branches
-abbrev Across : Relation
-Across a b = number_of a ≢ number_of b
+    last : (n : ℕ) → n < suc n
+    last n = omega arith
 
-inside_numbers : Numbers Branch Inside
-inside_numbers = record {
-  into = λ n a b h. (refl, h);
-  out = λ n a b h. h.1;
-  never = λ n m a b differ h. differ h.0;
-}
+before_beside : (n : ℕ) (us vs : List VariableUse) → Before n us → Beside us (behind (Branch n) vs)
+before_beside n us vs before u v i j =
+    let b = before u i in
+    let w = from_behind (Branch n) v vs j in
+    let at : v.place ≡ Branch n ∷ w.0.place = ap (λ (z : VariableUse). z.place) w.2 in (
+      apart u.place v.place b.0 n b.1 w.0.place (less b.0 b.2) b.3 at,
+      apart v.place u.place n b.0 w.0.place b.1 (more b.0 b.2) at b.3,
+    )
+  where
+    less : (m : ℕ) → m < n → m ≢ n
+    less m h = λ e. absurd (omega arith)
 
--- behind branch numbers, places are apart in one branch or in two
-apart_by : (a b : List Entry) (n m : ℕ) (p q : List Entry) → a ≡ Branch n ∷ p → b ≡ Branch m ∷ q → Apart a b → Across a b ⊎ Inside a b
-apart_by a b n m p q e f h =
-    subst (λ z. Across z b ⊎ Inside z b) (sym e) (subst (λ z. Across (Branch n ∷ p) z ⊎ Inside (Branch n ∷ p) z) (sym f)
-    (subst (λ z. Apart (Branch n ∷ p) z) f (subst (λ z. Apart z b) e h)))
+    more : (m : ℕ) → m < n → n ≢ m
+    more m h = λ e. absurd (omega arith)
 
-across_apart : (a b : List Entry) (n m : ℕ) (p q : List Entry) → a ≡ Branch n ∷ p → b ≡ Branch m ∷ q → Across a b → Apart a b
-across_apart a b n m p q e f h =
-    subst (λ z. Apart z b) (sym e) (subst (λ z. Apart (Branch n ∷ p) z) (sym f)
-    (inl (subst (λ z. Across (Branch n ∷ p) z) f (subst (λ z. Across z b) e h))))
+    apart : (a b : List Entry) (i j : ℕ) (p q : List Entry) → i ≢ j → a ≡ Branch i ∷ p → b ≡ Branch j ∷ q → Apart a b
+    apart a b i j p q differ e f = subst (λ z. Apart z b) (sym e) (subst (λ z. Apart (Branch i ∷ p) z) (sym f) (inl differ))
 
-inside_apart : (a b : List Entry) (n m : ℕ) (p q : List Entry) → a ≡ Branch n ∷ p → b ≡ Branch m ∷ q → Inside a b → Apart a b
-inside_apart a b n m p q e f h =
-    subst (λ z. Apart z b) (sym e) (subst (λ z. Apart (Branch n ∷ p) z) (sym f)
-    (inr (subst (λ z. Inside (Branch n ∷ p) z) f (subst (λ z. Inside z b) e h))))
+swapped : {A B : Type 0} → A ⊎ B → B ⊎ A
+swapped (inl a) = inr a
+swapped (inr b) = inl b
 
--- the names of a branch are its uses
-tags_behind : (n : ℕ) (us : List VariableUse) → map (in_branch n) (mentions_of us) ≡ map tag_of (behind (Branch n) us)
-tags_behind n [] = refl
-tags_behind n (u ∷ us) = ap (λ ts. in_branch n (mention_of u) ∷ ts) (tags_behind n us)
+module _ (shared : ℕ → Bool) where
+  -- a use of each list, one of which writes, and one of which is at this offset
+  abbrev Crossing : List VariableUse → List VariableUse → ℕ → Type 0
+  Crossing us vs o =
+      (u v : VariableUse) × In u us × In v vs × (u.variable ≡ v.variable) × (shared u.variable ≡ false)
+      × ((u.writes ≡ true) ⊎ (v.writes ≡ true)) × ((o ≡ u.offset) ⊎ (o ≡ v.offset))
 
-branch_tags : (shared : ℕ → Bool) (n : ℕ) (p : Part shared) (g : Gathered) →
-    map (in_branch n) (drop (length g.mentions) (p.gathers g).mentions) ≡ map tag_of (behind (Branch n) p.uses)
-branch_tags shared n p g =
-    ap (map (in_branch n)) (ap (drop (length g.mentions)) (p.good g).mentions ∙ drop-append_seam g.mentions (mentions_of p.uses))
-    ∙ tags_behind n p.uses
+  -- a clash in both lists is one in either, or crosses
+  clash_parts : (us vs : List VariableUse) (o : ℕ) → ClashIn shared (us ++ vs) o → ClashIn shared us o ⊎ (ClashIn shared vs o ⊎ Crossing us vs o)
+  clash_parts us vs o k = go (in_either k.0 us vs k.2) (in_either k.1 us vs k.3)
+    where
+      go : In k.0 us ⊎ In k.0 vs → In k.1 us ⊎ In k.1 vs → ClashIn shared us o ⊎ (ClashIn shared vs o ⊎ Crossing us vs o)
+      go (inl i) (inl j) = inl (k.0, k.1, i, j, k.4, k.5)
+      go (inr i) (inr j) = inr (inl (k.0, k.1, i, j, k.4, k.5))
+      go (inl i) (inr j) = inr (inr (k.0, k.1, i, j, k.4.same, k.4.not_shared, k.4.one_writes, inl k.5))
+      go (inr i) (inl j) =
+          inr (inr (k.1, k.0, j, i, sym k.4.same, subst (λ x. shared x ≡ false) k.4.same k.4.not_shared, swapped k.4.one_writes, inr k.5))
 
--- what is noted is the uses of all branches
-all_tags : (shared : ℕ → Bool) (ts : List InBranch) (n : ℕ) (ps : List (Part shared)) (g : Gathered) →
-    branches_onto ts n (gathers_of shared ps) g ≡ ts ++ map tag_of (numbered Branch n (uses_of_parts shared ps))
-all_tags shared ts n [] g = sym (append-nil ts)
-all_tags shared ts n (p ∷ ps) g =
-    let us = behind (Branch n) p.uses in
-    let vs = numbered Branch (suc n) (uses_of_parts shared ps) in
-    ap (λ m. branches_onto (ts ++ map (in_branch n) (drop (length g.mentions) (p.gathers g).mentions)) m (gathers_of shared ps) (p.gathers g)) (add-one n)
-    ∙ (ap (λ xs. branches_onto (ts ++ xs) (suc n) (gathers_of shared ps) (p.gathers g)) (branch_tags shared n p g)
-    ∙ (all_tags shared (ts ++ map tag_of us) (suc n) ps (p.gathers g)
-    ∙ (append_assoc ts (map tag_of us) (map tag_of vs)
-    ∙ ap (λ xs. ts ++ xs) (sym (map-append tag_of us vs)))))
-
-tagged : (us : List VariableUse) (u : VariableUse) → In u us → In (tag_of u) (map tag_of us)
-tagged [] u i = absurd i
-tagged (v ∷ us) u (inl e) = inl (ap tag_of e)
-tagged (v ∷ us) u (inr i) = inr (tagged us u i)
-
-untagged : (us : List VariableUse) (t : InBranch) → In t (map tag_of us) → (u : VariableUse) × In u us × (t ≡ tag_of u)
-untagged [] t i = absurd i
-untagged (v ∷ us) t (inl e) = (v, inl refl, e)
-untagged (v ∷ us) t (inr i) = let k = untagged us t i in (k.0, inr k.1, k.2)
+  -- what crosses is a clash, where the lists stand beside one another
+  crossing_clash : (us vs : List VariableUse) (o : ℕ) → Beside us vs → Crossing us vs o → ClashIn shared (us ++ vs) o
+  crossing_clash us vs o apart (u, v, i, j, same, clear, one, inl e) =
+      (u, v, in_left u us vs i, in_right v us vs j, record { apart = (apart u v i j).0; same = same; not_shared = clear; one_writes = one }, e)
+  crossing_clash us vs o apart (u, v, i, j, same, clear, one, inr e) = (
+    v,
+    u,
+    in_right v us vs j,
+    in_left u us vs i,
+    record { apart = (apart u v i j).1; same = sym same; not_shared = subst (λ x. shared x ≡ false) same clear; one_writes = swapped one },
+    e,
+  )
 
 module _ (variables : List Variable) where
-  abbrev pub shared_in : ℕ → Bool
-  shared_in x = is_shared_variable (slice_get variables x)
+  abbrev shared : ℕ → Bool
+  shared = shared_in variables
 
-  abbrev seen_in : List InBranch → ℕ → Seen
-  seen_in ts x = seen_after x nobody ts
+  -- what crosses is where the tables meet
+  crossing_meets : (us vs : List VariableUse) (t s : Table) (o n : ℕ) → Touches us [] t → Touches vs [] s → Crossing shared us vs o → o ≤ n
+      → TablesMeet variables s t n
+  crossing_meets us vs t s o n a b (u, v, i, j, same, clear, one, inl e) h = (
+    u.variable,
+    clear,
+    inr (
+      u.writes,
+      v.writes,
+      v.offset,
+      one,
+      a.finds u.variable u.writes n (u, i, refl, refl, subst (λ z. z ≤ n) e h),
+      b.finds u.variable v.writes v.offset (v, j, same, refl, le_refl v.offset),
+    ),
+  )
+  crossing_meets us vs t s o n a b (u, v, i, j, same, clear, one, inr e) h = (
+    u.variable,
+    clear,
+    inl (
+      v.writes,
+      u.writes,
+      u.offset,
+      swapped one,
+      b.finds u.variable v.writes n (v, j, same, refl, subst (λ z. z ≤ n) e h),
+      a.finds u.variable u.writes u.offset (u, i, refl, refl, le_refl u.offset),
+    ),
+  )
 
-  -- a use for which another branch has one that clashes with it is found
-  clash_found : (us : List VariableUse) (u v : VariableUse) → In v us → Pair shared_in Across u v → clashes variables (seen_in (map tag_of us)) (tag_of u) ≡ true
-  clash_found us u v j p =
-      clash_by (shared_in u.variable) u.writes
-      (has_other (number_of u.place) (seen_in (map tag_of us) u.variable).writers)
-      (has_other (number_of u.place) (seen_in (map tag_of us) u.variable).users)
-      p.not_shared
-      (⊎_elim
-      (λ w. inr (w, after_finds (λ (s : Seen). s.users) (λ t. true) (λ t s. refl) (number_of u.place) u.variable nobody (map tag_of us) (tag_of v) (tagged us v j) (p.same, refl, λ e. p.apart (sym e))))
-      (λ w. inl (after_finds (λ (s : Seen). s.writers) (λ t. t.mention.writes) (λ t s. refl) (number_of u.place) u.variable nobody (map tag_of us) (tag_of v) (tagged us v j) (p.same, w, λ e. p.apart (sym e))))
-      p.one_writes)
+  used_by : (us : List VariableUse) (t : Table) (x : ℕ) (w : Bool) (n : ℕ) → Touches us [] t → Has t x w n → UsedAt us x w n
+  used_by us t x w n a h = ⊎_elim (λ k. absurd (has_none x w n k)) (λ k. k) (a.from x w n h)
 
-  -- and only such a use
-  clash_real : (us : List VariableUse) (u : VariableUse) → clashes variables (seen_in (map tag_of us)) (tag_of u) ≡ true → (v : VariableUse) × In v us × Pair shared_in Across u v
-  clash_real us u h =
-      ⊎_elim
-      (λ w. ⊎_elim
-      (λ z. absurd (no_other z))
-      (λ t. let k = untagged us t.0 t.1 in
-      (k.0, k.1, partner k.0 t.0 k.2 t.2.0 t.2.2 (inr (sym (ap (λ (r : InBranch). r.mention.writes) k.2) ∙ t.2.1))))
-      (after_sound (λ (s : Seen). s.writers) (λ t. t.mention.writes) (λ t s. refl) (number_of u.place) u.variable nobody (map tag_of us) w))
-      (λ w. ⊎_elim
-      (λ z. absurd (no_other z))
-      (λ t. let k = untagged us t.0 t.1 in (k.0, k.1, partner k.0 t.0 k.2 t.2.0 t.2.2 (inl w.0)))
-      (after_sound (λ (s : Seen). s.users) (λ t. true) (λ t s. refl) (number_of u.place) u.variable nobody (map tag_of us) w.1))
-      says.1
-    where
-      says : (shared_in u.variable ≡ false)
-          × ((has_other (number_of u.place) (seen_in (map tag_of us) u.variable).writers ≡ true)
-          ⊎ ((u.writes ≡ true) × (has_other (number_of u.place) (seen_in (map tag_of us) u.variable).users ≡ true)))
-      says = clash_says _ _ _ _ h
+  -- and where the tables meet uses cross
+  meets_crossing : (us vs : List VariableUse) (t s : Table) (n : ℕ) → Touches us [] t → Touches vs [] s → TablesMeet variables s t n
+      → (o : ℕ) × Crossing shared us vs o × (o ≤ n)
+  meets_crossing us vs t s n a b (x, clear, inl k) =
+      let v = used_by vs s x k.0 n b k.4 in
+      let u = used_by us t x k.1 k.2 a k.5 in (
+        v.0.offset,
+        (
+          u.0,
+          v.0,
+          u.1,
+          v.1,
+          sym u.2 ∙ v.2,
+          subst (λ z. shared z ≡ false) u.2 clear,
+          ⊎_elim (λ e. inr (v.3 ∙ e)) (λ e. inl (u.3 ∙ e)) k.3,
+          inr refl,
+        ),
+        v.4,
+      )
+  meets_crossing us vs t s n a b (x, clear, inr k) =
+      let u = used_by us t x k.0 n a k.4 in
+      let v = used_by vs s x k.1 k.2 b k.5 in (
+        u.0.offset,
+        (
+          u.0,
+          v.0,
+          u.1,
+          v.1,
+          sym u.2 ∙ v.2,
+          subst (λ z. shared z ≡ false) u.2 clear,
+          ⊎_elim (λ e. inl (u.3 ∙ e)) (λ e. inr (v.3 ∙ e)) k.3,
+          inl refl,
+        ),
+        u.4,
+      )
 
-      no_other : false ≡ true → ⊥
-      no_other z = cc
+  module _ (least : Option ℕ) where
+    -- nothing is touched at first
+    abbrev bare : Gathered
+    bare = gathered [] least
 
-      partner : (v : VariableUse) (t : InBranch) → t ≡ tag_of v → u.variable ≡ t.mention.variable → t.branch ≢ number_of u.place
-          → (u.writes ≡ true) ⊎ (v.writes ≡ true) → Pair shared_in Across u v
-      partner v t e same differ w = record {
-        apart = λ f. differ (ap (λ (r : InBranch). r.branch) e ∙ sym f);
-        same = same ∙ ap (λ (r : InBranch). r.mention.variable) e;
-        not_shared = says.0;
-        one_writes = w;
-      }
+    -- a branch behind those before it
+    adds_branch : (n : ℕ) (us : List VariableUse) (g : Gathered) (p : Part shared) → Before n us → Adds shared us bare g →
+        Adds shared (us ++ behind (Branch n) p.uses) bare (beside variables p.gathers g)
+    adds_branch n us g p before a = record {
+      touched = record {
+        distinct = distinct_one h.touched g.touched b.touched.distinct a.touched.distinct;
+        keeps = λ x w m k. absurd (has_none x w m k);
+        finds = λ x w m k. ⊎_elim
+            (λ c. one_right h.touched g.touched x w m (a.touched.finds x w m c))
+            (λ c. one_left h.touched g.touched x w m (b.touched.finds x w m c))
+            (used_either us vs x w m k);
+        from = λ x w m k. ⊎_elim
+            (λ c. inr (used_right us vs x w m (used_by vs h.touched x w m b.touched c)))
+            (λ c. inr (used_left us vs x w m (used_by us g.touched x w m a.touched c)))
+            (one_either h.touched g.touched x w m b.touched.distinct a.touched.distinct k);
+      };
+      keeps = λ m k. joined_keeps variables h g.touched m (b.keeps m (a.keeps m k));
+      finds = λ o k. ⊎_elim
+          (λ c. joined_keeps variables h g.touched o (b.keeps o (a.finds o c)))
+          (⊎_elim
+          (λ c. joined_keeps variables h g.touched o (b.finds o c))
+          (λ c. joined_finds variables h g.touched o b.touched.distinct a.touched.distinct (crossing_meets us vs g.touched h.touched o o a.touched b.touched c (le_refl o))))
+          (clash_parts shared us vs o k);
+      sound = λ m k. ⊎_elim
+          (λ c. ⊎_elim
+          (λ d. ⊎_elim (λ e. inl e) (λ e. inr (e.0, clash_left shared us vs e.0 e.1, e.2)) (a.sound m d))
+          (λ d. inr (d.0, clash_right shared us vs d.0 d.1, d.2))
+          (b.sound m c))
+          (λ c. let d = meets_crossing us vs g.touched h.touched m a.touched b.touched c in
+          inr (d.0, crossing_clash shared us vs d.0 (before_beside n us p.uses before) d.1, d.2))
+          (joined_from variables h g.touched m b.touched.distinct a.touched.distinct k);
+    }
+      where
+        vs : List VariableUse
+        vs = behind (Branch n) p.uses
 
-  moved : (P Q : Relation) (u v : VariableUse) → Q u.place v.place → Pair shared_in P u v → Pair shared_in Q u v
-  moved P Q u v h p = record { apart = h; same = p.same; not_shared = p.not_shared; one_writes = p.one_writes }
+        h : Gathered
+        h = p.gathers (gathered [] g.least)
+
+        b : Adds shared vs (gathered [] g.least) h
+        b = adds_behind shared (Branch n) p.uses (gathered [] g.least) h (p.good (gathered [] g.least) tt)
+
+    -- the branches from the n-th on
+    adds_branches : (n : ℕ) (us : List VariableUse) (g : Gathered) (ps : List (Part shared)) → Before n us → Adds shared us bare g →
+        Adds shared (us ++ numbered Branch n (uses_of_parts shared ps)) bare (all_beside variables (gathers_of shared ps) g)
+    adds_branches n us g [] before a = subst (λ z. Adds shared z bare g) (sym (append-nil us)) a
+    adds_branches n us g (p ∷ ps) before a =
+        let vs = behind (Branch n) p.uses in
+        let rest = numbered Branch (suc n) (uses_of_parts shared ps) in
+        subst (λ z. Adds shared z bare (all_beside variables (gathers_of shared ps) (beside variables p.gathers g))) (append_assoc us vs rest)
+        (adds_branches (suc n) (us ++ vs) (beside variables p.gathers g) ps (before_all n us p.uses before) (adds_branch n us g p before a))
+
+  -- with what was touched before
+  adds_put_back : (us : List VariableUse) (g h : Gathered) → Distinct g.touched → Adds shared us (gathered [] g.least) h → Adds shared us g (put_back g.touched h)
+  adds_put_back us g h d a = record {
+    touched = record {
+      distinct = distinct_one h.touched g.touched a.touched.distinct d;
+      keeps = λ x w n k. one_right h.touched g.touched x w n k;
+      finds = λ x w n k. one_left h.touched g.touched x w n (a.touched.finds x w n k);
+      from = λ x w n k. ⊎_elim
+          (λ c. inr (used_by us h.touched x w n a.touched c))
+          (λ c. inl c)
+          (one_either h.touched g.touched x w n a.touched.distinct d k);
+    };
+    keeps = λ n k. a.keeps n k;
+    finds = λ o k. a.finds o k;
+    sound = λ n k. a.sound n k;
+  }
 
   -- the branches of a parallel
-  pub adds_parallel : (ps : List (Part shared_in)) → Good shared_in Apart (numbered Branch 0 (uses_of_parts shared_in ps)) (side_by_side variables (gathers_of shared_in ps))
-  adds_parallel ps g =
-      subst (λ ts. Adds shared_in Apart us g (gathered h.mentions (least_with variables (seen_in ts) h.least ts))) (sym (all_tags shared_in [] 0 ps g))
-      (record {
-        mentions = a.mentions;
-        keeps = λ n k. least_keeps variables (seen_in uses) h.least uses n (a.keeps n k);
-        finds = λ o k. found o k;
-        sound = λ n k. ⊎_elim
-            (λ r. ⊎_elim (λ s. inl s) (λ c. inr (c.0, inner c.0 c.1, c.2)) (a.sound n r))
-            (λ c. inr (between n c))
-            (least_sound variables (seen_in uses) h.least uses n k);
-      })
-    where
-      us : List VariableUse
-      us = numbered Branch 0 (uses_of_parts shared_in ps)
-
-      uses : List InBranch
-      uses = map tag_of us
-
-      h : Gathered
-      h = in_turn (gathers_of shared_in ps) g
-
-      a : Adds shared_in Inside us g h
-      a = adds_in_turn shared_in Branch Inside inside_numbers 0 ps g
-
-      found : (o : ℕ) → ClashIn shared_in Apart us o → Reaches (least_with variables (seen_in uses) h.least uses) o
-      found o k =
-          let i = numbered_behind Branch 0 (uses_of_parts shared_in ps) k.0 k.2 in
-          let j = numbered_behind Branch 0 (uses_of_parts shared_in ps) k.1 k.3 in
-          ⊎_elim
-          (λ x. subst (λ z. Reaches (least_with variables (seen_in uses) h.least uses) z) (sym k.5)
-          (least_finds variables (seen_in uses) h.least uses (tag_of k.0) (tagged us k.0 k.2) (clash_found us k.0 k.1 k.3 (moved Apart Across k.0 k.1 x k.4))))
-          (λ x. least_keeps variables (seen_in uses) h.least uses o (a.finds o (k.0, k.1, k.2, k.3, moved Apart Inside k.0 k.1 x k.4, k.5)))
-          (apart_by k.0.place k.1.place i.0 j.0 i.1 j.1 i.3 j.3 k.4.apart)
-
-      inner : (o : ℕ) → ClashIn shared_in Inside us o → ClashIn shared_in Apart us o
-      inner o k =
-          let i = numbered_behind Branch 0 (uses_of_parts shared_in ps) k.0 k.2 in
-          let j = numbered_behind Branch 0 (uses_of_parts shared_in ps) k.1 k.3 in
-          (k.0, k.1, k.2, k.3, moved Inside Apart k.0 k.1 (inside_apart k.0.place k.1.place i.0 j.0 i.1 j.1 i.3 j.3 k.4.apart) k.4, k.5)
-
-      between : (n : ℕ) → ClashesBy variables (seen_in uses) uses n → (o : ℕ) × ClashIn shared_in Apart us o × (o ≤ n)
-      between n c =
-          let w = untagged us c.0 c.1 in
-          let v = clash_real us w.0 (subst (λ (t : InBranch). clashes variables (seen_in uses) t ≡ true) w.2 c.2) in
-          let i = numbered_behind Branch 0 (uses_of_parts shared_in ps) w.0 w.1 in
-          let j = numbered_behind Branch 0 (uses_of_parts shared_in ps) v.0 v.1 in (
-            w.0.offset,
-            (w.0, v.0, w.1, v.1, moved Across Apart w.0 v.0 (across_apart w.0.place v.0.place i.0 j.0 i.1 j.1 i.3 j.3 v.2.apart) v.2, refl),
-            subst (λ (t : InBranch). t.mention.offset ≤ n) w.2 c.3,
-          )
+  pub adds_parallel : (ps : List (Part shared)) → Good shared (numbered Branch 0 (uses_of_parts shared ps)) (side_by_side variables (gathers_of shared ps))
+  adds_parallel ps g d =
+      adds_put_back (numbered Branch 0 (uses_of_parts shared ps)) g (all_beside variables (gathers_of shared ps) (gathered [] g.least)) d
+      (adds_branches g.least 0 [] (gathered [] g.least) ps (λ u i. absurd i) (adds_nothing shared (gathered [] g.least) tt))

@@ -1,15 +1,18 @@
 -- What is found is the least offset at which a channel that passes its width is declared.
-use Rattle.std.proofs.Common.{◌≡◌, ◌⊎◌, inl, inr, ⊎_elim, ℕ, ◌<◌, ◌≤◌, min, List, [], ◌∷◌, map, Option, None, Some, Bool, true, false, cond, ◌==◌, ◌&&◌, nat_lt, ltb-true, lt-ltb, eqb-true, MatchOption, Result, Ok, Err, IfOk, refl, sym, ap, ◌∙◌, subst, arith}
+use Rattle.std.proofs.Common.{◌≡◌, ◌⊎◌, inl, inr, ⊎_elim, ℕ, ◌<◌, ◌≤◌, min, List, [], ◌∷◌, Option, None, Some, unwrap_or, Bool, true, false, cond, ◌||◌, nat_eq, ltb-true, lt-ltb, eqb-true, eq-eqb, MatchOption, refl, sym, ap, ◌∙◌, subst, arith}
+use Rattle.std.proofs.lemmas.Map.{lookup-none}
+use Rattle.std.proofs.lemmas.Map.Entries.{none_past_head}
+use Rattle.std.proofs.lemmas.Map.Keys.{IsDistinct-tail}
+use Rattle.std.specs.Cmp.{nat_eq_equiv}
+use Rattle.std.specs.List.{IsDistinct}
+use Rattle.std.specs.Map.{keys_of, lookup}
 use Rattle.elaborate.specs.Lists.{In}
 use Rattle.elaborate.specs.declared.system.System.{System}
-use Rattle.sharing_check.specs.Measure.{sending, receiving, syncing}
-use Rattle.sharing_check.specs.Rule.{is_sync, width, sender_on, receiver_on, user_on}
-use Rattle.sharing_check.specs.Refused.{PassesAt, Least}
-use Rattle.sharing_check.specs.declared.widths.ChannelUse.{ChannelUse}
-use Rattle.sharing_check.specs.declared.widths.Side.{Side}
-use Rattle.sharing_check.specs.Counting.{use_of, none, together, total_on, parts_of, uses_of_system, is_meant, is_passed, declared_of, lesser, least_onto, least_of, senders, receivers, users}
-use Rattle.sharing_check.proofs.TallyLaws.{names, unnamed}
-use Rattle.sharing_check.proofs.CountSystem.{senders_counted, receivers_counted, users_counted}
+use Rattle.sharing_check.specs.declared.widths.Width.{Width}
+use Rattle.sharing_check.specs.Rule.{is_sync, width}
+use Rattle.sharing_check.specs.Refused.{PassesWidth, PassesAt, Least}
+use Rattle.sharing_check.specs.Counting.{Side, senders, receivers, users, Table, cut, no_use, of_side, stored, listed, measure, used_in, is_passed, declared_of, lesser, least_onto}
+use Rattle.sharing_check.proofs.CountSystem.{outside, system_counted}
 
 -- what is found is the least of these offsets, if there is one
 abbrev pub IsLeast : (ℕ → Type 0) → Option ℕ → Type 0
@@ -40,197 +43,143 @@ is_least_more A offset (Some o) h =
     behind : (o offset other : ℕ) → other ≡ offset → min o offset ≤ other
     behind o offset other e = omega arith
 
--- the channel of one of the uses that are passed is declared here
-abbrev AtUses : System → Side → List ChannelUse → ℕ → Type 0
-AtUses system side us o = (u : ChannelUse) × In u us × (is_passed system side u ≡ true) × (o ≡ declared_of system u.channel)
+-- an entry's channel and width
+abbrev Entry : Type 0
+Entry = ℕ × Width
 
-module _ (system : System) (side : Side) where
-  least_step : (A : ℕ → Type 0) (u : ChannelUse) (us : List ChannelUse) (found : Option ℕ) →
-      (IsLeast (λ o. A o ⊎ (o ≡ declared_of system u.channel)) (Some (lesser found (declared_of system u.channel)))
-      → IsLeast (λ o. (A o ⊎ (o ≡ declared_of system u.channel)) ⊎ AtUses system side us o) (least_onto system side (Some (lesser found (declared_of system u.channel))) us)) →
-      (IsLeast A found → IsLeast (λ o. A o ⊎ AtUses system side us o) (least_onto system side found us)) →
-      IsLeast A found → (b : Bool) → is_passed system side u ≡ b →
-      IsLeast (λ o. A o ⊎ AtUses system side (u ∷ us) o) (least_onto system side (cond b (Some (lesser found (declared_of system u.channel))) found) us)
-  least_step A u us found more rest h true e =
+differ : true ≡ false → ⊥
+differ e = cc
+
+module _ (system : System) where
+  abbrev passed : Entry → Bool
+  passed e = is_passed (is_sync system e.0) e.1
+
+  -- the channel of one of the entries that are passed is declared here
+  abbrev AtEntries : List Entry → ℕ → Type 0
+  AtEntries es o = (e : Entry) × In e es × (passed e ≡ true) × (o ≡ declared_of system e.0)
+
+  least_step : (A : ℕ → Type 0) (e : Entry) (es : List Entry) (found : Option ℕ) →
+      (IsLeast (λ o. A o ⊎ (o ≡ declared_of system e.0)) (Some (lesser found (declared_of system e.0)))
+      → IsLeast (λ o. (A o ⊎ (o ≡ declared_of system e.0)) ⊎ AtEntries es o) (least_onto system (Some (lesser found (declared_of system e.0))) es)) →
+      (IsLeast A found → IsLeast (λ o. A o ⊎ AtEntries es o) (least_onto system found es)) →
+      IsLeast A found → (b : Bool) → passed e ≡ b →
+      IsLeast (λ o. A o ⊎ AtEntries (e ∷ es) o) (least_onto system (cond b (Some (lesser found (declared_of system e.0))) found) es)
+  least_step A e es found more rest h true p =
       is_least_same _ _
-      (λ o. ⊎_elim (⊎_elim (λ a. inl a) (λ is. inr (u, inl refl, e, is))) (λ k. inr (k.0, inr k.1, k.2, k.3)))
+      (λ o. ⊎_elim (⊎_elim (λ a. inl a) (λ is. inr (e, inl refl, p, is))) (λ k. inr (k.0, inr k.1, k.2, k.3)))
       (λ o. ⊎_elim (λ a. inl (inl a))
       (λ k. ⊎_elim
-      (λ is. inl (inr (k.3 ∙ ap (λ (v : ChannelUse). declared_of system v.channel) is)))
+      (λ is. inl (inr (k.3 ∙ ap (λ (f : Entry). declared_of system f.0) is)))
       (λ i. inr (k.0, i, k.2, k.3)) k.1))
-      _ (more (is_least_more A (declared_of system u.channel) found h))
-  least_step A u us found more rest h false e =
+      _ (more (is_least_more A (declared_of system e.0) found h))
+  least_step A e es found more rest h false p =
       is_least_same _ _
       (λ o. ⊎_elim (λ a. inl a) (λ k. inr (k.0, inr k.1, k.2, k.3)))
       (λ o. ⊎_elim (λ a. inl a)
       (λ k. ⊎_elim
-      (λ is. absurd (differ (sym k.2 ∙ (ap (λ (v : ChannelUse). is_passed system side v) is ∙ e))))
+      (λ is. absurd (differ (sym k.2 ∙ (ap passed is ∙ p))))
       (λ i. inr (k.0, i, k.2, k.3)) k.1))
       _ (rest h)
-    where
-      differ : true ≡ false → ⊥
-      differ e = cc
 
-  least_found : (us : List ChannelUse) (A : ℕ → Type 0) (found : Option ℕ) → IsLeast A found → IsLeast (λ o. A o ⊎ AtUses system side us o) (least_onto system side found us)
+  least_found : (es : List Entry) (A : ℕ → Type 0) (found : Option ℕ) → IsLeast A found → IsLeast (λ o. A o ⊎ AtEntries es o) (least_onto system found es)
   least_found [] A found h = is_least_same _ _ (λ o a. inl a) (λ o. ⊎_elim (λ a. a) (λ k. absurd k.1)) found h
-  least_found (u ∷ us) A found h =
-      least_step A u us found (λ k. least_found us _ _ k) (λ k. least_found us A found k) h (is_passed system side u) refl
+  least_found (e ∷ es) A found h =
+      least_step A e es found (λ k. least_found es _ _ k) (λ k. least_found es A found k) h (passed e) refl
 
--- an element of a list of results
-in_map : {X Y : Type 0} (f : X → Y) (x : X) (xs : List X) → In x xs → In (f x) (map f xs)
-in_map f x [] h = absurd h
-in_map f x (y ∷ xs) (inl e) = inl (ap f e)
-in_map f x (y ∷ xs) (inr h) = inr (in_map f x xs h)
+-- no channel has two entries
+abbrev Apart : List Entry → Type 0
+Apart es = IsDistinct nat_eq (keys_of es)
 
-from_map : {X Y : Type 0} (f : X → Y) (y : Y) (xs : List X) → In y (map f xs) → (x : X) × In x xs × (y ≡ f x)
-from_map f y [] h = absurd h
-from_map f y (x ∷ xs) (inl e) = (x, inl refl, e)
-from_map f y (x ∷ xs) (inr h) = let k = from_map f y xs h in (k.0, inr k.1, k.2)
-
--- a use of channel c, where one is among them
-named : (c : ℕ) (us : List ChannelUse) → names c us ≡ true → (u : ChannelUse) × In u us × (c ≡ u.channel)
-unfolding names
-named c [] h = absurd (differ h)
+-- an entry is the one that a search finds
+entry_found : (e : Entry) (es : List Entry) → Apart es → In e es → lookup (nat_eq e.0) es ≡ Some e.1
+entry_found e [] apart i = absurd i
+entry_found e (f ∷ es) apart (inl is) =
+    ap (λ b. cond b (Some f.1) (lookup (nat_eq e.0) es)) (eq-eqb e.0 f.0 (ap (λ (f : Entry). f.0) is))
+    ∙ ap (λ (f : Entry). Some f.1) (sym is)
+entry_found e (f ∷ es) apart (inr i) = other (nat_eq e.0 f.0) refl (entry_found e es (IsDistinct-tail nat_eq f.0 (keys_of es) apart) i)
   where
-    differ : false ≡ true → ⊥
-    differ e = cc
-named c (u ∷ us) h = step u us (λ k. named c us k) (c == u.channel) refl h
+    none_some : {X : Type 0} {o : Option Width} {w : Width} → o ≡ None → o ≡ Some w → X
+    none_some e d = cc
+
+    other : (b : Bool) → nat_eq e.0 f.0 ≡ b → lookup (nat_eq e.0) es ≡ Some e.1 → cond b (Some f.1) (lookup (nat_eq e.0) es) ≡ Some e.1
+    other true same rest = none_some (lookup-none (nat_eq e.0) es (none_past_head nat_eq_equiv e.0 f es apart same)) rest
+    other false same rest = rest
+
+-- what a search finds is an entry
+found_entry : (c : ℕ) (w : Width) (es : List Entry) → lookup (nat_eq c) es ≡ Some w → In (c, w) es
+found_entry c w [] h = cc
+found_entry c w (e ∷ es) h = at (nat_eq c e.0) refl h (found_entry c w es)
   where
-    step : (u : ChannelUse) (us : List ChannelUse) → (names c us ≡ true → (v : ChannelUse) × In v us × (c ≡ v.channel)) → (b : Bool) → (c == u.channel) ≡ b
-        → cond b true (names c us) ≡ true → (v : ChannelUse) × In v (u ∷ us) × (c ≡ v.channel)
-    step u us rest true e h = (u, inl refl, eqb-true c u.channel e)
-    step u us rest false e h = let k = rest h in (k.0, inr k.1, k.2)
+    at : (b : Bool) → nat_eq c e.0 ≡ b → cond b (Some e.1) (lookup (nat_eq c) es) ≡ Some w → (lookup (nat_eq c) es ≡ Some w → In (c, w) es) → In (c, w) (e ∷ es)
+    at true same is rest = inl (both (eqb-true c e.0 same) is)
+      where
+        both : {c d : ℕ} {v w : Width} → c ≡ d → Some v ≡ Some w → ◌≡◌ {A = Entry} (c, w) (d, v)
+        both e f = cc
+    at false same is rest = inr (rest is)
 
--- a channel that is used at all is the channel of one of the uses
-user_of : (c : ℕ) (us : List ChannelUse) → 0 < total_on us c → (u : ChannelUse) × In u us × (c ≡ u.channel)
-user_of c us h = found (names c us) refl
-  where
-    none_used : total_on us c ≡ 0 → 0 < total_on us c → ⊥
-    none_used e l = absurd (omega arith)
+-- one of two tests is true
+or_true : (a b : Bool) → (a || b) ≡ true → (a ≡ true) ⊎ (b ≡ true)
+or_true true b h = inl refl
+or_true false b h = inr h
 
-    found : (b : Bool) → names c us ≡ b → (u : ChannelUse) × In u us × (c ≡ u.channel)
-    found true e = named c us e
-    found false e = absurd (none_used (ap together (unnamed c none us e)) h)
+true_or : (a b : Bool) → (a ≡ true) ⊎ (b ≡ true) → (a || b) ≡ true
+true_or true b h = refl
+true_or false b (inl e) = cc
+true_or false b (inr e) = e
 
--- both tests are true where both are
-both_true : (a b : Bool) → (a && b) ≡ true → (a ≡ true) × (b ≡ true)
-both_true true true h = (refl, refl)
-both_true true false h = (refl, h)
-both_true false b h = absurd (differ h)
-  where
-    differ : false ≡ true → ⊥
-    differ e = cc
+-- numbers that are cut at the same, compared with one that is less
+past : (m n w : ℕ) → m < 3 → cut n ≡ cut w → m < n → m < w
+past m n w small same l = omega arith
 
-true_both : (a b : Bool) → a ≡ true → b ≡ true → (a && b) ≡ true
-true_both a b e f = cc (e, f)
-
--- a channel of the side's kind that more branches use than may, declared here
-abbrev Passed : System → Side → (ℕ → ℕ) → ℕ → Type 0
-Passed system side wide o = (c : ℕ) × (is_meant side (is_sync system c) ≡ true) × (side.most < wide c) × (o ≡ declared_of system c)
-
-module _ (system : System) (side : Side) (wide : ℕ → ℕ) (small : side.most < 3)
-    (counted : (c : ℕ) → total_on (parts_of side system) c ≡ min (wide c) 3) where
-  passed_use : (o : ℕ) → AtUses system side (uses_of_system side system) o → Passed system side wide o
-  passed_use o h =
-      let from = from_map (λ u. use_of u.channel 0 (total_on (parts_of side system) u.channel)) h.0 (parts_of side system) h.1 in
-      let c = from.0.channel in
-      let tests = both_true (is_meant side (is_sync system c)) (nat_lt side.most (total_on (parts_of side system) c))
-      (sym (ap (λ (v : ChannelUse). is_passed system side v) from.2) ∙ h.2) in
-      (c, tests.0, more side.most _ (wide c) (counted c) (ltb-true _ _ tests.1), h.3 ∙ ap (λ (v : ChannelUse). declared_of system v.channel) from.2)
-    where
-      more : (m t w : ℕ) → t ≡ min w 3 → m < t → m < w
-      more m t w e l = omega arith
-
-  use_passed : (o : ℕ) → Passed system side wide o → AtUses system side (uses_of_system side system) o
-  use_passed o h =
-      let c = h.0 in
-      let l : side.most < total_on (parts_of side system) c = more side.most _ (wide c) (counted c) h.2 small in
-      let u = user_of c (parts_of side system) (some side.most _ l) in (
-        use_of u.0.channel 0 (total_on (parts_of side system) u.0.channel),
-        in_map (λ u. use_of u.channel 0 (total_on (parts_of side system) u.channel)) u.0 (parts_of side system) u.1,
-        subst (λ d. (is_meant side (is_sync system d) && nat_lt side.most (total_on (parts_of side system) d)) ≡ true) u.2
-            (true_both _ _ h.1 (lt-ltb _ _ l)),
-        h.3 ∙ ap (declared_of system) u.2,
-      )
-    where
-      more : (m t w : ℕ) → t ≡ min w 3 → m < w → m < 3 → m < t
-      more m t w e l k = omega arith
-
-      some : (m t : ℕ) → m < t → 0 < t
-      some m t l = omega arith
-
--- which channels a side means
-senders_meant : (b : Bool) → is_meant senders b ≡ true → b ≡ false
-senders_meant true h = sym h
-senders_meant false h = refl
-
-meant_senders : (b : Bool) → b ≡ false → is_meant senders b ≡ true
-meant_senders true h = sym h
-meant_senders false h = refl
-
-users_meant : (b : Bool) → is_meant users b ≡ true → b ≡ true
-users_meant true h = refl
-users_meant false h = h
-
-meant_users : (b : Bool) → b ≡ true → is_meant users b ≡ true
-meant_users true h = refl
-meant_users false h = h
-
--- in which way a channel that is declared here passes its width
-abbrev PassesSide : System → ℕ → Type 0
-PassesSide system o = ((⊥ ⊎ AtUses system senders (uses_of_system senders system) o) ⊎ AtUses system receivers (uses_of_system receivers system) o)
-    ⊎ AtUses system users (uses_of_system users system) o
-
-module _ (system : System) where
-  abbrev sent : ℕ → ℕ
-  sent c = width (sending c) (sender_on c) system
-
-  abbrev received : ℕ → ℕ
-  received c = width (receiving c) (receiver_on c) system
-
-  abbrev synced : ℕ → ℕ
-  synced c = width (syncing c) (user_on c) system
-
+module _ (system : System) (c : ℕ) (w : Width)
+    (counted : (side : Side) → cut (of_side side w) ≡ cut (width (measure side c) (outside side c) system)) where
   one_cut : 1 < 3
   one_cut = omega arith
 
   two_cut : 2 < 3
   two_cut = omega arith
 
-  side_passes : (o : ℕ) → PassesSide system o → PassesAt system o
-  side_passes o (inl (inl (inl h))) = absurd h
-  side_passes o (inl (inl (inr h))) =
-      let k = passed_use system senders sent one_cut (λ c. senders_counted c system) o h in (k.0, inl (senders_meant _ k.1, k.2), k.3)
-  side_passes o (inl (inr h)) =
-      let k = passed_use system receivers received one_cut (λ c. receivers_counted c system) o h in (k.0, inr (inl (senders_meant _ k.1, k.2)), k.3)
-  side_passes o (inr h) =
-      let k = passed_use system users synced two_cut (λ c. users_counted c system) o h in (k.0, inr (inr (users_meant _ k.1, k.2)), k.3)
+  -- a width that is passed is passed by the channel
+  passed_passes : (b : Bool) → is_sync system c ≡ b → is_passed b w ≡ true → PassesWidth system c
+  passed_passes true is p = inr (inr (is, past 2 _ _ two_cut (counted users) (ltb-true _ _ p)))
+  passed_passes false is p =
+      ⊎_elim
+      (λ s. inl (is, past 1 _ _ one_cut (counted senders) (ltb-true _ _ s)))
+      (λ r. inr (inl (is, past 1 _ _ one_cut (counted receivers) (ltb-true _ _ r))))
+      (or_true _ _ p)
 
-  passes_side : (o : ℕ) → PassesAt system o → PassesSide system o
-  passes_side o (c, inl h, e) =
-      inl (inl (inr (use_passed system senders sent one_cut (λ c. senders_counted c system) o (c, meant_senders _ h.0, h.1, e))))
-  passes_side o (c, inr (inl h), e) =
-      inl (inr (use_passed system receivers received one_cut (λ c. receivers_counted c system) o (c, meant_senders _ h.0, h.1, e)))
-  passes_side o (c, inr (inr h), e) =
-      inr (use_passed system users synced two_cut (λ c. users_counted c system) o (c, meant_users _ h.0, h.1, e))
+  passes_passed : PassesWidth system c → is_passed (is_sync system c) w ≡ true
+  passes_passed (inl h) =
+      subst (λ b. is_passed b w ≡ true) (sym h.0) (true_or _ _ (inl (lt-ltb _ _ (past 1 _ _ one_cut (sym (counted senders)) h.1))))
+  passes_passed (inr (inl h)) =
+      subst (λ b. is_passed b w ≡ true) (sym h.0) (true_or _ _ (inr (lt-ltb _ _ (past 1 _ _ one_cut (sym (counted receivers)) h.1))))
+  passes_passed (inr (inr h)) =
+      subst (λ b. is_passed b w ≡ true) (sym h.0) (lt-ltb _ _ (past 2 _ _ two_cut (sym (counted users)) h.1))
 
-  pub least_is : IsLeast (PassesAt system) (least_of system)
+module _ (system : System) (es : List Entry) (apart : Apart es) (is : listed es ≡ used_in system) where
+  stored_counted : (c : ℕ) (side : Side) → cut (of_side side (stored es c)) ≡ cut (width (measure side c) (outside side c) system)
+  unfolding listed
+  stored_counted c side = ap (λ (t : Table). t side c) is ∙ system_counted side c system
+
+  entry_passes : (o : ℕ) → ⊥ ⊎ AtEntries system es o → PassesAt system o
+  entry_passes o (inl h) = absurd h
+  entry_passes o (inr (e, i, p, at)) =
+      let w : stored es e.0 ≡ e.1 = ap (λ o. unwrap_or o no_use) (entry_found e es apart i) in
+      (e.0, passed_passes system e.0 e.1 (λ side. ap (λ w. cut (of_side side w)) (sym w) ∙ stored_counted e.0 side) (is_sync system e.0) refl p, at)
+
+  passes_entry : (o : ℕ) → PassesAt system o → ⊥ ⊎ AtEntries system es o
+  passes_entry o (c, h, at) =
+      inr (found (lookup (nat_eq c) es) refl (passes_passed system c (stored es c) (stored_counted c) h))
+    where
+      idle : (b : Bool) → is_passed b no_use ≡ true → ⊥
+      idle true p = cc
+      idle false p = cc
+
+      found : (r : Option Width) → lookup (nat_eq c) es ≡ r → is_passed (is_sync system c) (stored es c) ≡ true → AtEntries system es o
+      found None e p = absurd (idle (is_sync system c) (sym (ap (λ r. is_passed (is_sync system c) (unwrap_or r no_use)) e) ∙ p))
+      found (Some w) e p =
+          ((c, w), found_entry c w es e, sym (ap (λ r. is_passed (is_sync system c) (unwrap_or r no_use)) e) ∙ p, at)
+
+  pub least_is : IsLeast (PassesAt system) (least_onto system None es)
   least_is =
-      is_least_same (PassesSide system) (PassesAt system) side_passes passes_side (least_of system)
-      (least_found system users (uses_of_system users system) _ _
-      (least_found system receivers (uses_of_system receivers system) _ _
-      (least_found system senders (uses_of_system senders system) (λ o. ⊥) None (λ o a. a))))
-
-  -- what the three sides find, one after another
-  pub least_of_sides : {E : Type 0} (r : Result (Option ℕ) E) (first second : Option ℕ)
-      → first ≡ least_onto system senders None (uses_of_system senders system)
-      → second ≡ least_onto system receivers first (uses_of_system receivers system)
-      → IfOk r (λ found. found ≡ least_onto system users second (uses_of_system users system))
-      → IfOk r (IsLeast (PassesAt system))
-  least_of_sides (Ok found) first second e d h =
-      subst (IsLeast (PassesAt system))
-      (sym
-      (h ∙ ap (λ l. least_onto system users l (uses_of_system users system))
-      (d ∙ ap (λ l. least_onto system receivers l (uses_of_system receivers system)) e)))
-      least_is
-  least_of_sides (Err e) first second _ _ h = tt
+      is_least_same _ (PassesAt system) entry_passes passes_entry (least_onto system None es) (least_found system es (λ o. ⊥) None (λ o a. a))

@@ -3,16 +3,15 @@ mod Adds
 mod AddsCommand
 mod AddsLists
 mod AddsParallel
-mod CountCommand
 mod CountLeast
-mod CountParts
+pub mod CountParts
 mod CountSystem
+pub mod CountTables
 mod FitsLists
 mod FitsParts
-mod Forgotten
 mod LeastOffsets
 mod NamesRead
 mod NoClash
-mod SeenBranches
-mod TableLaws
-mod TallyLaws
+mod TableClashes
+mod TableSteps
+mod TouchTables

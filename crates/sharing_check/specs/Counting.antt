@@ -1,140 +1,137 @@
--- How many branches use each channel at one time, counted as a list: each use stands in it with its branch of the nearest
--- parallel, and a parallel puts in, for each of its uses, how many of its branches together use that channel.
-use Rattle.std.specs.Prelude.{ℕ, ◌+◌, max, min, List, [], ◌∷◌, ◌++◌, Option, None, Some, map, cond, ◌==◌, Bool, true, false, not, ◌&&◌, nat_lt, slice_get}
-use Rattle.elaborate.specs.declared.command.Command.{Command}
-use Rattle.elaborate.specs.declared.command.Action.TheOpen.{Action-F, Arm-F, Command-F, Guarded-F, Labelled-F}
-use Rattle.elaborate.specs.declared.command.Action.TheFolds.{fold-Command}
+-- How many branches use each channel at one time: what a table of widths says, and what residuals amount to.
+use Rattle.std.specs.Prelude.{ℕ, ◌+◌, max, min, List, [], ◌∷◌, Option, None, Some, unwrap_or, cond, ◌==◌, nat_eq, nat_lt, Bool, true, false, ◌||◌, slice_get}
+use Rattle.std.specs.Map.{lookup}
+use Rattle.elaborate.specs.Residual.{Residual}
+use Rattle.elaborate.specs.Translation.{OnChannel, residual_of}
 use Rattle.elaborate.specs.declared.system.System.{System}
 use Rattle.elaborate.specs.declared.system.Branch.{Branch}
 use Rattle.elaborate.specs.declared.system.Branch.TheVariants.{Feed, Drain, Syncs}
-use Rattle.sharing_check.specs.declared.widths.ChannelUse.{ChannelUse}
-use Rattle.sharing_check.specs.declared.widths.Side.{Side}
-use Rattle.sharing_check.specs.declared.widths.Tally.{Tally}
+use Rattle.sharing_check.specs.declared.widths.Together.{Together}
+use Rattle.sharing_check.specs.declared.widths.Together.TheVariants.{InOneBranch, InBranches}
+use Rattle.sharing_check.specs.declared.widths.Width.{Width}
+use Rattle.sharing_check.specs.declared.widths.Widths.{Widths}
+use Rattle.sharing_check.specs.Measure.{Measure, amount, sending, receiving, syncing}
 use Rattle.sharing_check.specs.Rule.{is_sync}
 use Rattle.sharing_check.specs.Refused.{declared_at}
 
--- the uses with those of a part in this branch behind them
-abbrev pub Adds : Type 0
-Adds = ℕ → List ChannelUse → List ChannelUse
+-- which users of a channel are counted
+pub data Side : Type 0 where
+  senders : Side
+  receivers : Side
+  users : Side
 
--- a use that counts so many
-abbrev pub use_of : ℕ → ℕ → ℕ → ChannelUse
-use_of channel branch count = record { channel = channel; branch = branch; count = count }
+-- for each channel how many branches use it at one time, 3 where they are more
+abbrev pub Table : Type 0
+Table = Side → ℕ → ℕ
 
--- one use
-abbrev pub used : ℕ → ℕ → Adds
-used channel count branch uses = uses ++ use_of channel branch count ∷ []
+abbrev pub cut : ℕ → ℕ
+cut n = min n 3
 
--- parts one after another, all in one branch
-abbrev pub all_onto : List Adds → Adds
-all_onto [] branch uses = uses
-all_onto (part ∷ parts) branch uses = all_onto parts branch (part branch uses)
+-- no uses
+abbrev pub nothing : Table
+nothing side c = 0
 
--- parts in branches of their own, the first in branch n
-abbrev pub branches_onto : ℕ → List Adds → List ChannelUse → List ChannelUse
-branches_onto n [] uses = uses
-branches_onto n (part ∷ parts) uses = branches_onto (n + 1) parts (part n uses)
+-- how the widths of two parts go together
+abbrev pub joined : Together → ℕ → ℕ → ℕ
+joined InOneBranch a b = max a b
+joined InBranches a b = cut (a + b)
+
+unfoldable pub join : Together → Table → Table → Table
+join how f g side c = joined how (f side c) (g side c)
+
+-- the width of a channel without uses, and those of one use
+abbrev pub no_use : Width
+no_use = record { senders = 0; receivers = 0; users = 0 }
+
+abbrev pub send : Width
+send = record { senders = 1; receivers = 0; users = 1 }
+
+abbrev pub receive : Width
+receive = record { senders = 0; receivers = 1; users = 1 }
+
+abbrev pub sync : Width
+sync = record { senders = 1; receivers = 1; users = 1 }
+
+-- two widths put together, up to 255
+abbrev pub join_widths : Together → Width → Width → Width
+join_widths InOneBranch a b = record { senders = max a.senders b.senders; receivers = max a.receivers b.receivers; users = max a.users b.users }
+join_widths InBranches a b = record { senders = min (a.senders + b.senders) 255; receivers = min (a.receivers + b.receivers) 255; users = min (a.users + b.users) 255 }
+
+abbrev pub of_side : Side → Width → ℕ
+of_side senders w = w.senders
+of_side receivers w = w.receivers
+of_side users w = w.users
+
+-- the width that is stored for channel c
+abbrev pub stored : List (ℕ × Width) → ℕ → Width
+stored entries c = unwrap_or (lookup (nat_eq c) entries) no_use
+
+-- what is stored, as a table
+unfoldable pub listed : List (ℕ × Width) → Table
+listed entries side c = cut (of_side side (stored entries c))
+
+abbrev pub noted : Widths → Table
+noted widths = listed widths.by_channel.entries
+
+-- uses of channel d
+unfoldable pub uses : ℕ → Width → Table
+uses d width side c = cut (cond (c == d) (of_side side width) 0)
+
+-- by what the users of channel c are counted
+abbrev pub measure : Side → ℕ → Measure
+measure senders c = sending c
+measure receivers c = receiving c
+measure users c = syncing c
+
+-- what a residual amounts to
+unfoldable pub used_by : Residual → Table
+used_by r side c = cut (amount (measure side c) r)
+
+-- a residual more in the same branch
+abbrev pub adding : Table → Residual → Table
+adding t r = join InOneBranch t (used_by r)
+
+-- residuals more, all in one branch
+abbrev pub in_turn : Table → List Residual → Table
+in_turn t [] = t
+in_turn t (r ∷ rs) = in_turn (adding t r) rs
 
 -- what stands behind an `else`, if there is one
-abbrev pub last_onto : Option Adds → Adds
-last_onto None branch uses = uses
-last_onto (Some part) branch uses = part branch uses
+abbrev pub last_in_turn : Table → Option Residual → Table
+last_in_turn t None = t
+last_in_turn t (Some r) = adding t r
 
--- of one channel: no use so far
-abbrev pub none : Tally
-none = record { settled = 0; latest = 0; branch = 0 }
+-- arms that wait, each with the input that opens it
+abbrev pub arms_in_turn : Table → List OnChannel → Table
+arms_in_turn t [] = t
+arms_in_turn t (a ∷ rest) = arms_in_turn (adding (join InOneBranch t (uses a.channel receive)) a.body) rest
 
--- the branches so far together, 3 where they are more
-abbrev pub together : Tally → ℕ
-together t = min (t.settled + t.latest) 3
+-- residuals more, each in a branch of its own
+abbrev pub side_by_side : Table → List Residual → Table
+side_by_side t [] = t
+side_by_side t (r ∷ rs) = side_by_side (join InBranches t (used_by r)) rs
 
--- one use more, in the latest branch or in a new one
-abbrev pub counted : Tally → ChannelUse → Tally
-counted t u =
-    cond (u.branch == t.branch)
-    (record { settled = t.settled; latest = max t.latest u.count; branch = t.branch })
-    (record { settled = together t; latest = u.count; branch = u.branch })
+-- the channel that a branch of the environment uses, and how
+abbrev pub use_of : Branch → ℕ × Width
+use_of (Feed c w values) = (c, send)
+use_of (Drain c) = (c, receive)
+use_of (Syncs c n) = (c, sync)
 
--- those of the uses that are of channel c
-abbrev pub tally_onto : ℕ → Tally → List ChannelUse → Tally
-tally_onto c t [] = t
-tally_onto c t (u ∷ us) = tally_onto c (cond (c == u.channel) (counted t u) t) us
+-- branches of the environment more
+abbrev pub with_environment : Table → List Branch → Table
+with_environment t [] = t
+with_environment t (b ∷ bs) = with_environment (join InBranches t (uses (use_of b).0 (use_of b).1)) bs
 
--- how many branches use channel c at one time
-abbrev pub total_on : List ChannelUse → ℕ → ℕ
-total_on uses c = together (tally_onto c none uses)
+-- the body and the environment
+abbrev pub used_in : System → Table
+used_in system = with_environment (used_by (residual_of system.main)) system.environment
 
--- the uses of branches as uses in the one branch around them
-abbrev pub joined : List ChannelUse → ℕ → List ChannelUse
-joined parts branch = map (λ u. use_of u.channel branch (total_on parts u.channel)) parts
+-- whether more branches use a channel than may
+abbrev pub is_passed : Bool → Width → Bool
+is_passed true w = nat_lt 2 w.users
+is_passed false w = nat_lt 1 w.senders || nat_lt 1 w.receivers
 
--- one layer of a command, one line a form
-abbrev pub action_adds : Side → Action-F Adds Adds Adds Adds Adds → Adds
-action_adds side Action-F.Continue branch uses = uses
-action_adds side Action-F.Halt branch uses = uses
-action_adds side (Action-F.Assign x w e) branch uses = uses
-action_adds side (Action-F.Send c w e) branch uses = used c.number side.sends branch uses
-action_adds side (Action-F.Receive c x) branch uses = used c.number side.receives branch uses
-action_adds side (Action-F.Sync c) branch uses = used c.number 1 branch uses
-action_adds side (Action-F.Loop body) branch uses = body branch uses
-action_adds side (Action-F.While e body) branch uses = body branch uses
-action_adds side (Action-F.If arms last) branch uses = last_onto last branch (all_onto arms branch uses)
-action_adds side (Action-F.Case e arms last) branch uses = last_onto last branch (all_onto arms branch uses)
-action_adds side (Action-F.Input c body) branch uses = body branch (used c.number side.receives branch uses)
-action_adds side (Action-F.Select arms) branch uses = all_onto arms branch uses
-action_adds side (Action-F.Arbitrate arms) branch uses = all_onto arms branch uses
-action_adds side (Action-F.Sequence children) branch uses = all_onto children branch uses
-action_adds side (Action-F.Parallel children) branch uses = uses ++ joined (branches_onto 0 children []) branch
-
--- an arm of `select` or `arbitrate`: its channel counts
-abbrev pub arm_adds : Side → Arm-F Adds Adds Adds Adds Adds → Adds
-arm_adds side a branch uses = a.body branch (used a.channel.number side.receives branch uses)
-
--- a command, whatever its line
-abbrev pub command_adds : Command-F Adds Adds Adds Adds Adds → Adds
-command_adds c = c.action
-
--- an arm of `if`
-abbrev pub guarded_adds : Guarded-F Adds Adds Adds Adds Adds → Adds
-guarded_adds a = a.body
-
--- an arm of `case`
-abbrev pub labelled_adds : Labelled-F Adds Adds Adds Adds Adds → Adds
-labelled_adds a = a.body
-
--- the uses of a command
-abbrev pub uses_onto : Side → Command → Adds
-uses_onto side = fold-Command Adds Adds Adds Adds Adds (action_adds side) (arm_adds side) command_adds guarded_adds labelled_adds
-
--- the use of a branch of the environment
-abbrev pub outside : Side → Branch → Adds
-outside side (Feed c w values) branch uses = used c side.sends branch uses
-outside side (Drain c) branch uses = used c side.receives branch uses
-outside side (Syncs c n) branch uses = used c 1 branch uses
-
--- the uses of the environment, those of the first in branch n + 1
-abbrev pub environment_onto : Side → ℕ → List Branch → List ChannelUse → List ChannelUse
-environment_onto side n [] uses = uses
-environment_onto side n (b ∷ bs) uses = environment_onto side (n + 1) bs (outside side b (n + 1) uses)
-
--- the uses of the body and of the environment
-abbrev pub parts_of : Side → System → List ChannelUse
-parts_of side system = environment_onto side 0 system.environment (uses_onto side system.main 0 [])
-
--- and how many branches of the system make each of them at one time
-abbrev pub uses_of_system : Side → System → List ChannelUse
-uses_of_system side system = joined (parts_of side system) 0
-
--- whether a channel is one that the side speaks of
-abbrev pub is_meant : Side → Bool → Bool
-is_meant side true = side.sync
-is_meant side false = not side.sync
-
--- whether more branches make a use at one time than may
-abbrev pub is_passed : System → Side → ChannelUse → Bool
-is_passed system side u = is_meant side (is_sync system u.channel) && nat_lt side.most u.count
-
--- where the channel of a use is declared
+-- where a channel is declared
 abbrev pub declared_of : System → ℕ → ℕ
 declared_of system c = declared_at (slice_get system.channels c)
 
@@ -143,26 +140,8 @@ abbrev pub lesser : Option ℕ → ℕ → ℕ
 lesser None offset = offset
 lesser (Some least) offset = min least offset
 
--- the least offset at which a channel of the uses that are passed is declared, or this one
-abbrev pub least_onto : System → Side → Option ℕ → List ChannelUse → Option ℕ
-least_onto system side least [] = least
-least_onto system side least (u ∷ us) =
-    least_onto system side (cond (is_passed system side u) (Some (lesser least (declared_of system u.channel))) least) us
-
--- the senders on channels with data
-abbrev pub senders : Side
-senders = record { sends = 1; receives = 0; sync = false; most = 1 }
-
--- the receivers on channels with data
-abbrev pub receivers : Side
-receivers = record { sends = 0; receives = 1; sync = false; most = 1 }
-
--- the users of channels without data
-abbrev pub users : Side
-users = record { sends = 1; receives = 1; sync = true; most = 2 }
-
--- the least offset at which a channel that passes its width is declared
-abbrev pub least_of : System → Option ℕ
-least_of system =
-    least_onto system users (least_onto system receivers (least_onto system senders None
-    (uses_of_system senders system)) (uses_of_system receivers system)) (uses_of_system users system)
+-- the least offset at which a channel that is passed is declared, or this one
+abbrev pub least_onto : System → Option ℕ → List (ℕ × Width) → Option ℕ
+least_onto system least [] = least
+least_onto system least (e ∷ es) =
+    least_onto system (cond (is_passed (is_sync system e.0) e.1) (Some (lesser least (declared_of system e.0))) least) es

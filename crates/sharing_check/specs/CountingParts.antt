@@ -1,19 +1,19 @@
--- The uses of the parts of a command that are no commands themselves.
+-- What the parts of a command that are no commands themselves are to do.
+use Rattle.elaborate.specs.Residual.{Residual}
+use Rattle.elaborate.specs.Translation.{OnChannel, OnGuard, OnLabels, action_layer, arm_layer, command_layer, guarded_layer, labelled_layer}
 use Rattle.elaborate.specs.declared.command.Arm.{Arm}
 use Rattle.elaborate.specs.declared.command.Guarded.{Guarded}
 use Rattle.elaborate.specs.declared.command.Labelled.{Labelled}
 use Rattle.elaborate.specs.declared.command.Action.TheFolds.{fold-Arm, fold-Guarded, fold-Labelled}
-use Rattle.sharing_check.specs.declared.widths.Side.{Side}
-use Rattle.sharing_check.specs.Counting.{Adds, action_adds, arm_adds, command_adds, guarded_adds, labelled_adds}
 
 -- an arm of `if`
-abbrev pub guarded_onto : Side → Guarded → Adds
-guarded_onto side = fold-Guarded Adds Adds Adds Adds Adds (action_adds side) (arm_adds side) command_adds guarded_adds labelled_adds
+abbrev pub of_guarded : Guarded → OnGuard
+of_guarded = fold-Guarded Residual OnChannel Residual OnGuard OnLabels action_layer arm_layer command_layer guarded_layer labelled_layer
 
 -- an arm of `case`
-abbrev pub labelled_onto : Side → Labelled → Adds
-labelled_onto side = fold-Labelled Adds Adds Adds Adds Adds (action_adds side) (arm_adds side) command_adds guarded_adds labelled_adds
+abbrev pub of_labelled : Labelled → OnLabels
+of_labelled = fold-Labelled Residual OnChannel Residual OnGuard OnLabels action_layer arm_layer command_layer guarded_layer labelled_layer
 
 -- an arm of `select` or `arbitrate`
-abbrev pub arm_onto : Side → Arm → Adds
-arm_onto side = fold-Arm Adds Adds Adds Adds Adds (action_adds side) (arm_adds side) command_adds guarded_adds labelled_adds
+abbrev pub of_arm : Arm → OnChannel
+of_arm = fold-Arm Residual OnChannel Residual OnGuard OnLabels action_layer arm_layer command_layer guarded_layer labelled_layer

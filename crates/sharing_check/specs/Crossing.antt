@@ -1,75 +1,71 @@
--- The uses of the branches of a parallel that clash, by what is seen of each variable.
-use Rattle.std.specs.Prelude.{ℕ, ◌==◌, min, List, [], ◌∷◌, Bool, true, false, cond, ◌||◌, ◌&&◌, Option, None, Some, slice_get, slice_index_or}
+-- Where parts of a command touch variables, and the least offset at which two of them clash as branches of a parallel.
+use Rattle.std.specs.Prelude.{ℕ, min, List, [], ◌∷◌, length, Bool, true, false, cond, nat_eq, nat_lt, Option, None, Some, is_some, unwrap_or, slice_get}
+use Rattle.std.specs.Map.{lookup}
+use Rattle.indexmap.specs.IndexMap.{insert_entry}
 use Rattle.elaborate.specs.declared.system.Variable.{Variable}
 use Rattle.sharing_check.specs.Rule.{is_shared_variable}
-use Rattle.sharing_check.specs.declared.mention.Mention.{Mention}
-use Rattle.sharing_check.specs.declared.mention.InBranch.{InBranch}
-use Rattle.sharing_check.specs.declared.branches.Seen.{Seen}
-use Rattle.sharing_check.specs.declared.branches.Branches.{Branches}
-use Rattle.sharing_check.specs.declared.branches.Branches.TheVariants.{Nobody, One, Several}
+use Rattle.sharing_check.specs.declared.touched.Touched.{Touched}
 
--- branches and one more
-abbrev pub with_branch : ℕ → Branches → Branches
-with_branch b Nobody = One b
-with_branch b (One a) = cond (a == b) (One a) Several
-with_branch b Several = Several
+-- the lesser of two offsets, where there are two
+abbrev pub lesser : Option ℕ → Option ℕ → Option ℕ
+lesser (Some l) (Some o) = Some (min l o)
+lesser (Some l) None = Some l
+lesser None o = o
 
--- another branch than b is among them
-abbrev pub has_other : ℕ → Branches → Bool
-has_other b Nobody = false
-has_other b (One a) = cond (a == b) false true
-has_other b Several = true
+-- a variable that is neither read nor written
+abbrev pub nowhere : Touched
+nowhere = record { read = None; written = None }
 
--- no branch uses the variable
-abbrev pub nobody : Seen
-nobody = record { users = Nobody; writers = Nobody }
+-- read at the offset, or written there
+abbrev pub touched_here : ℕ → Bool → Touched
+touched_here o true = record { read = None; written = Some o }
+touched_here o false = record { read = Some o; written = None }
 
--- with a use more
-abbrev pub seen_with : InBranch → Seen → Seen
-seen_with u s = record { users = with_branch u.branch s.users; writers = cond u.mention.writes (with_branch u.branch s.writers) s.writers }
+-- two parts together
+abbrev pub together : Touched → Touched → Touched
+together a b = record { read = lesser a.read b.read; written = lesser a.written b.written }
 
--- a name in branch b
-abbrev pub in_branch : ℕ → Mention → InBranch
-in_branch b m = record { branch = b; mention = m }
+-- the least offset of a that clashes with b
+abbrev pub clashing : Touched → Touched → Option ℕ
+clashing a b = cond (is_some b.written) (lesser a.read a.written) (cond (is_some b.read) a.written None)
 
--- what is seen of the variable x with a use more, of any variable
-abbrev pub noted : ℕ → Seen → InBranch → Seen
-noted x s u = cond (x == u.mention.variable) (seen_with u s) s
+-- the least offset of both
+abbrev pub clash : Touched → Touched → Option ℕ
+clash a b = lesser (clashing a b) (clashing b a)
 
--- and with more uses
-abbrev pub seen_after : ℕ → Seen → List InBranch → Seen
-seen_after x s [] = s
-seen_after x s (u ∷ us) = seen_after x (noted x s u) us
+-- where variables are touched, by their numbers
+abbrev pub Table : Type 0
+Table = List (ℕ × Touched)
 
--- what is seen of the variable x after that of the variable y is forgotten
-abbrev pub cleared : ℕ → Seen → ℕ → Seen
-cleared x s y = cond (x == y) nobody s
+-- where the variable x is touched
+abbrev pub touched_at : Table → ℕ → Touched
+touched_at t x = unwrap_or (lookup (nat_eq x) t) nowhere
 
--- and after that of the variables of these uses
-abbrev pub forgotten_after : ℕ → Seen → List InBranch → Seen
-forgotten_after x s [] = s
-forgotten_after x s (u ∷ us) = forgotten_after x (cleared x s u.mention.variable) us
+-- with more of the variable x
+abbrev pub noted : Table → ℕ → Touched → Table
+noted t x s = insert_entry nat_eq t x (together (touched_at t x) s)
 
--- what a table has of the variable x
-abbrev pub seen_at : List Seen → ℕ → Seen
-seen_at table x = slice_index_or table x nobody
+-- with all that another table has
+abbrev pub noted_all : Table → Table → Table
+noted_all [] t = t
+noted_all (e ∷ es) t = noted_all es (noted t e.0 e.1)
 
--- a use clashes with one of another branch, where this is seen of each variable
-abbrev pub clashes : List Variable → (ℕ → Seen) → InBranch → Bool
-clashes variables seen u =
-    cond (is_shared_variable (slice_get variables u.mention.variable)) false
-    (has_other u.branch (seen u.mention.variable).writers || (u.mention.writes && has_other u.branch (seen u.mention.variable).users))
+-- the least of `least` and of an offset at which branches clash in the variable x, if they may not share it
+abbrev pub with_clash : List Variable → ℕ → Option ℕ → Option ℕ → Option ℕ
+with_clash variables x offset least = cond (is_shared_variable (slice_get variables x)) least (lesser least offset)
 
--- the lesser of two offsets, where there is a first one
-abbrev pub lesser : Option ℕ → ℕ → Option ℕ
-lesser None o = Some o
-lesser (Some l) o = Some (min l o)
+-- the least of `least` and of the offset at which a table clashes with what another one has of a variable
+abbrev pub least_after : List Variable → Table → Option ℕ → ℕ × Touched → Option ℕ
+least_after variables t least e = with_clash variables e.0 (clash (touched_at t e.0) e.1) least
 
--- with the offset of a use that clashes
-abbrev pub least_after : List Variable → (ℕ → Seen) → Option ℕ → InBranch → Option ℕ
-least_after variables seen least u = cond (clashes variables seen u) (lesser least u.mention.offset) least
+-- and with all that it has, each put into the table behind the ones before
+abbrev pub least_with : List Variable → Table → Table → Option ℕ → Option ℕ
+least_with variables [] t least = least
+least_with variables (e ∷ es) t least = least_with variables es (noted t e.0 e.1) (least_after variables t least e)
 
--- the least offset of `least` and of the uses that clash
-abbrev pub least_with : List Variable → (ℕ → Seen) → Option ℕ → List InBranch → Option ℕ
-least_with variables seen least [] = least
-least_with variables seen least (u ∷ us) = least_with variables seen (least_after variables seen least u) us
+-- of two tables the one with more variables, and the other one
+abbrev pub larger : Table → Table → Table
+larger a b = cond (nat_lt (length a) (length b)) b a
+
+abbrev pub smaller : Table → Table → Table
+smaller a b = cond (nat_lt (length a) (length b)) a b

@@ -1,5 +1,5 @@
--- The names of variables in a command and the least offset of a use that clashes, found in one walk.
-use Rattle.std.specs.Prelude.{◌≡◌, ℕ, ◌+◌, List, [], ◌∷◌, ◌++◌, Bool, true, false, Option, None, Some, length, drop, map}
+-- Where variables are touched in a command and the least offset of a use that clashes, found in one walk.
+use Rattle.std.specs.Prelude.{ℕ, List, [], ◌∷◌, Bool, true, false, Option, None, Some}
 use Rattle.elaborate.specs.declared.expression.Use.{Use}
 use Rattle.elaborate.specs.declared.expression.Expression.{Expression}
 use Rattle.elaborate.specs.declared.expression.Expression.TheOpen.{Expression-F}
@@ -11,31 +11,40 @@ use Rattle.elaborate.specs.declared.command.Guarded.{Guarded}
 use Rattle.elaborate.specs.declared.command.Labelled.{Labelled}
 use Rattle.elaborate.specs.declared.command.Action.TheOpen.{Action-F, Arm-F, Command-F, Guarded-F, Labelled-F}
 use Rattle.elaborate.specs.declared.command.Action.TheFolds.{fold-Command, fold-Arm, fold-Guarded, fold-Labelled}
-use Rattle.sharing_check.specs.declared.mention.Mention.{Mention}
-use Rattle.sharing_check.specs.declared.mention.InBranch.{InBranch}
-use Rattle.sharing_check.specs.declared.branches.Seen.{Seen}
-use Rattle.sharing_check.specs.Crossing.{nobody, seen_at, seen_after, in_branch, least_with}
+use Rattle.sharing_check.specs.Crossing.{Table, touched_here, noted, noted_all, least_with, larger, smaller}
 
 -- what is found so far
 pub record Gathered : Type 0 where
-  pub mentions : List Mention
+  -- where variables are touched
+  pub touched : Table
   -- the least offset of a use that clashes
   pub least : Option ℕ
 
-abbrev pub gathered : List Mention → Option ℕ → Gathered
-gathered mentions least = record { mentions = mentions; least = least }
-
--- a table in which nobody uses anything
-abbrev pub IsClear : List Seen → Type 0
-IsClear table = (x : ℕ) → seen_at table x ≡ nobody
+abbrev pub gathered : Table → Option ℕ → Gathered
+gathered touched least = record { touched = touched; least = least }
 
 -- what is found with a part more
 abbrev pub Gathers : Type 0
 Gathers = Gathered → Gathered
 
--- a name of a variable
+-- a use of a variable
 abbrev pub mentioned : Use → Bool → Gathers
-mentioned x w g = gathered (g.mentions ++ record { variable = x.number; offset = x.offset; writes = w } ∷ []) g.least
+mentioned x w g = gathered (noted g.touched x.number (touched_here x.offset w)) g.least
+
+-- two tables as one: what the smaller has is added to the larger
+abbrev pub in_one : Table → Table → Table
+in_one a b = noted_all (smaller a b) (larger a b)
+
+-- with what was touched before
+abbrev pub put_back : Table → Gathers
+put_back earlier g = gathered (in_one g.touched earlier) g.least
+
+-- with what the branches before this one touched, and the clashes between them and this one
+abbrev pub joined : List Variable → Table → Gathers
+joined variables earlier g =
+    gathered
+    (in_one g.touched earlier)
+    (least_with variables (smaller g.touched earlier) (larger g.touched earlier) g.least)
 
 -- one layer of an expression
 abbrev pub reading_layer : Expression-F Gathers → Gathers
@@ -60,18 +69,18 @@ abbrev pub then_last : Option Gathers → Gathers
 then_last None g = g
 then_last (Some f) g = f g
 
--- the uses of branches, the first of number n, behind `done`
-abbrev pub branches_onto : List InBranch → ℕ → List Gathers → Gathered → List InBranch
-branches_onto done n [] g = done
-branches_onto done n (f ∷ fs) g = branches_onto (done ++ map (in_branch n) (drop (length g.mentions) (f g).mentions)) (n + 1) fs (f g)
+-- a branch of a parallel, behind those before it
+abbrev pub beside : List Variable → Gathers → Gathers
+beside variables f g = joined variables g.touched (f (gathered [] g.least))
 
--- with the clashes between branches that have these uses
-abbrev pub settled : List Variable → List InBranch → Gathers
-settled variables uses g = gathered g.mentions (least_with variables (λ x. seen_after x nobody uses) g.least uses)
+-- branches, each behind those before it
+abbrev pub all_beside : List Variable → List Gathers → Gathers
+all_beside variables [] g = g
+all_beside variables (f ∷ fs) g = all_beside variables fs (beside variables f g)
 
 -- the branches of a parallel
 abbrev pub side_by_side : List Variable → List Gathers → Gathers
-side_by_side variables fs g = settled variables (branches_onto [] 0 fs g) (in_turn fs g)
+side_by_side variables fs g = put_back g.touched (all_beside variables fs (gathered [] g.least))
 
 -- one layer of a command, one line a form
 abbrev pub gathering_layer : List Variable → Action-F Gathers Gathers Gathers Gathers Gathers → Gathers

@@ -8,5 +8,4 @@ pub mod Refusal
 pub mod Refused
 pub mod Rule
 pub mod Sharing
-pub mod Tallies
 pub mod Uses

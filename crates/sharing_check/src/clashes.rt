@@ -1,11 +1,11 @@
-// The uses of variables in a system that clash, found branch by branch of each parallel.
-ghost use Rattle.std.specs.Prelude.{◌≡◌, ◌≤◌, ℕ, [], map, IfOk, OnOk, MatchOption};
+// The uses of variables in a system that clash, found branch by branch of each parallel. Of two tables that are put
+// together the smaller one's entries move, so that each moves no oftener than the logarithm of their number.
+ghost use Rattle.std.specs.Prelude.{◌≡◌, ◌≤◌, ℕ, map, IfOk, MatchOption};
 ghost use Rattle.std.specs.Option.{option_map};
 ghost use Rattle.sharing_check.specs.Gathering as model;
 ghost use Rattle.sharing_check.specs.Refused.{ClashesAt, Least};
 
 use crate::found::Found;
-use crate::mention::InBranch;
 use elaborate::{Action, Arm, Command, Expression, Guarded, Labelled, System, Variable};
 use std::alloc::{AllocError, Global};
 
@@ -73,8 +73,9 @@ fn add_command(
         }
         Action::Sequence(children) => { add_sequence(alloc, variables, children.as_slice(), found) }
         Action::Parallel(children) => {
-            let uses = add_branches(alloc, variables, children.as_slice(), found)?;
-            found.settle(alloc, variables, uses.as_slice())
+            let around = found.take_touches(alloc);
+            add_branches(alloc, variables, children.as_slice(), found)?;
+            found.put_back(around)
         }
     }
 }
@@ -95,24 +96,35 @@ fn add_sequence(
     Ok(())
 }
 
-/// Adds the children of a parallel, and answers their uses.
+/// Adds the children of a parallel.
 #[cycle(gathering)]
 fn add_branches(
     alloc: Global,
     variables: &[Variable],
     children: &[Command],
     found: &mut Found,
-) -> Result<Vec<InBranch>, AllocError>
-    ensures uses { IfOk result (λ uses. uses.items ≡ model.branches_onto [] 0 (map (model.gathering variables.now) children.now) found.old) }
-    ensures found { OnOk result (found.new ≡ model.in_turn (map (model.gathering variables.now) children.now) found.old) }
+) -> Result<(), AllocError>
+    ensures { IfOk result (λ _. found.new ≡ model.all_beside variables.now (map (model.gathering variables.now) children.now) found.old) }
 {
-    let mut uses = Vec::new(alloc);
-    for (branch, child) in children.iter().enumerate() {
-        let from = found.len();
-        add_command(alloc, variables, child, found)?;
-        found.add_branch(from, branch, &mut uses)?;
+    for child in children {
+        add_branch(alloc, variables, child, found)?;
     }
-    Ok(uses)
+    Ok(())
+}
+
+/// Adds a child of a parallel, and looks for clashes with those before it.
+#[cycle(gathering)]
+fn add_branch(
+    alloc: Global,
+    variables: &[Variable],
+    child: &Command,
+    found: &mut Found,
+) -> Result<(), AllocError>
+    ensures { IfOk result (λ _. found.new ≡ model.beside variables.now (model.gathering variables.now child.now) found.old) }
+{
+    let earlier = found.take_touches(alloc);
+    add_command(alloc, variables, child, found)?;
+    found.join(variables, earlier)
 }
 
 /// Adds the arms of an `if`.

@@ -1,10 +1,8 @@
-ghost use Rattle.std.specs.Prelude.{◌≡◌, ◌++◌, ◌∷◌, [], length, drop, map, None, IfOk};
+ghost use Rattle.std.specs.Prelude.{◌≡◌, [], None, IfOk};
 ghost use Rattle.sharing_check.specs.Gathering as model;
-ghost use Rattle.sharing_check.specs.Crossing.{in_branch};
 
-use crate::branches::Seen;
-use crate::crossing::{forget_all, least_of, note_all};
-use crate::mention::{InBranch, Mention};
+use crate::touched::Touched;
+use crate::touches::{Touches, put_larger_first};
 use elaborate::{Use, Variable};
 use std::alloc::{AllocError, Global};
 use std::marker::Model;
@@ -13,22 +11,17 @@ use std::mem;
 /// What is found in the commands so far.
 #[derive(Drop)]
 pub struct Found {
-    /// the names of variables, in the order of the tree
-    mentions: Vec<Mention>,
+    touches: Touches,
     /// the least offset of a use that clashes
     least: Option<u64>,
-    /// by variable, and nobody between two parallels
-    table: Vec<Seen>,
 }
 
 impl Model for Found {
-    ghost use Rattle.sharing_check.specs.Gathering.{Gathered, IsClear, gathered};
+    ghost use Rattle.sharing_check.specs.Gathering.{Gathered, gathered};
 
     ghost Value = { Gathered };
 
-    ghost view = { λ found. gathered found.mentions.items found.least };
-
-    ghost invariant = { λ found. IsClear found.table.items };
+    ghost view = { λ found. gathered found.touches found.least };
 }
 
 impl Found {
@@ -37,9 +30,8 @@ impl Found {
         ensures { result ≡ model.gathered [] None }
     {
         Found {
-            mentions: Vec::new(alloc),
+            touches: Touches::new(alloc),
             least: None,
-            table: Vec::new(alloc),
         }
     }
 
@@ -50,71 +42,39 @@ impl Found {
         self.least
     }
 
-    /// How many names there are.
-    pub fn len(&self) -> usize
-        ensures { result ≡ length self.now.mentions }
-    {
-        self.mentions.len()
-    }
-
-    /// Adds the name of a variable.
+    /// Adds a use of a variable.
     pub fn add(&mut self, variable: Use, writes: bool) -> Result<(), AllocError>
         ensures { IfOk result (λ _. self.new ≡ model.mentioned variable writes self.old) }
     {
-        self.mentions.push(Mention {
-            variable: variable.number,
-            offset: variable.offset,
-            writes,
-        })?;
+        self.touches
+            .add(variable.number, Touched::at(variable.offset, writes))?;
         Ok(())
     }
 
-    /// Adds the names from the one at `from` on to `uses`, as those of a branch.
-    pub fn add_branch(
-        &self,
-        from: usize,
-        branch: usize,
-        uses: &mut Vec<InBranch>,
-    ) -> Result<(), AllocError>
-        ensures { IfOk result (λ _. uses.new.items ≡ uses.old.items ++ map (in_branch branch) (drop from self.now.mentions)) }
+    /// Takes out what was touched so far, so that what comes is found alone.
+    pub fn take_touches(&mut self, alloc: Global) -> Touches
+        ensures taken { result ≡ self.old.touched }
+        ensures left { self.new ≡ model.gathered [] self.old.least }
     {
-        add_each(behind(self.mentions.as_slice(), from), branch, uses)
+        mem::replace(&mut self.touches, Touches::new(alloc))
     }
 
-    /// Looks for clashes between the branches of a parallel, whose uses these are.
-    pub fn settle(
-        &mut self,
-        alloc: Global,
-        variables: &[Variable],
-        uses: &[InBranch],
-    ) -> Result<(), AllocError>
-        ensures { IfOk result (λ _. self.new ≡ model.settled variables.now uses.now self.old) }
+    /// Puts back what was touched before.
+    pub fn put_back(&mut self, earlier: Touches) -> Result<(), AllocError>
+        ensures { IfOk result (λ _. self.new ≡ model.put_back earlier self.old) }
     {
-        let mut table = mem::replace(&mut self.table, Vec::new(alloc));
-        note_all(&mut table, uses)?;
-        self.least = least_of(table.as_slice(), variables, uses, self.least);
-        forget_all(&mut table, uses);
-        self.table = table;
+        let mut earlier = earlier;
+        put_larger_first(&mut self.touches, &mut earlier);
+        self.touches.add_all(&earlier)
+    }
+
+    /// Puts back what the branches before this one touched, with the clashes between them and this one.
+    pub fn join(&mut self, variables: &[Variable], earlier: Touches) -> Result<(), AllocError>
+        ensures { IfOk result (λ _. self.new ≡ model.joined variables.now earlier self.old) }
+    {
+        let mut earlier = earlier;
+        put_larger_first(&mut self.touches, &mut earlier);
+        self.least = self.touches.add_branch(&earlier, variables, self.least)?;
         Ok(())
     }
-}
-
-/// The names from the one at `from` on.
-fn behind(mentions: &[Mention], from: usize) -> &[Mention]
-    ensures { result.now ≡ drop from mentions.now }
-{
-    &mentions[from.min(mentions.len())..]
-}
-
-/// Adds each of the names, as those of a branch.
-fn add_each(mentions: &[Mention], branch: usize, uses: &mut Vec<InBranch>) -> Result<(), AllocError>
-    ensures { IfOk result (λ _. uses.new.items ≡ uses.old.items ++ map (in_branch branch) mentions.now) }
-{
-    for mention in mentions {
-        uses.push(InBranch {
-            branch,
-            mention: *mention,
-        })?;
-    }
-    Ok(())
 }

@@ -1,16 +1,15 @@
 //! The rule on sharing: how many branches may use a variable or a channel at one time.
 #![tactic(auto)]
 
-mod branches;
 mod checked;
 mod clashes;
-mod crossing;
 mod fault;
 mod found;
 mod laws;
-mod mention;
 mod naming;
 mod places;
+mod touched;
+mod touches;
 mod widths;
 
 pub use checked::{Checked, check_sharing};

@@ -1,6 +1,6 @@
 -- With the parts that are left, what is found is what is found in all.
-use Rattle.std.proofs.Common.{◌≡◌, [], drop, map}
-use Rattle.sharing_check.specs.Gathering.{gathering, gathering_guarded, gathering_labelled, gathering_arm, in_turn, branches_onto}
+use Rattle.std.proofs.Common.{◌≡◌, drop, map}
+use Rattle.sharing_check.specs.Gathering.{gathering, gathering_guarded, gathering_labelled, gathering_arm, in_turn, all_beside}
 use Rattle.sharing_check.proofs.clashes.+gathering.Given as goal
 
 abbrev pub invariant-add_sequence-loop-child : goal.invariant-add_sequence-loop-child
@@ -23,10 +23,7 @@ invariant-add_arms-loop-arm l =
     in_turn (map (gathering_arm l.variables) (drop l.arm-index l.arms)) l.found
     ≡ in_turn (map (gathering_arm l.variables) l.arms) l.initial.found
 
-abbrev pub invariant-add_branches-loop-branch : goal.invariant-add_branches-loop-branch
-invariant-add_branches-loop-branch l = record {
-  uses : branches_onto l.uses.items l.branch (map (gathering l.variables) (drop l.branch l.children)) l.found
-      ≡ branches_onto [] 0 (map (gathering l.variables) l.children) l.initial.found;
-  found : in_turn (map (gathering l.variables) (drop l.branch l.children)) l.found
-      ≡ in_turn (map (gathering l.variables) l.children) l.initial.found;
-}
+abbrev pub invariant-add_branches-loop-child : goal.invariant-add_branches-loop-child
+invariant-add_branches-loop-child l =
+    all_beside l.variables (map (gathering l.variables) (drop l.child-index l.children)) l.found
+    ≡ all_beside l.variables (map (gathering l.variables) l.children) l.initial.found

@@ -1,7 +1,7 @@
 use Rattle.std.proofs.Common.{◌≡◌, drop}
-use Rattle.sharing_check.specs.Counting.{environment_onto}
+use Rattle.sharing_check.specs.Counting.{noted, with_environment}
 use Rattle.sharing_check.proofs.widths.add_environment.Given as goal
 
-abbrev pub invariant-loop-place : goal.invariant-loop-place
-invariant-loop-place l =
-    environment_onto l.side l.place (drop l.place l.environment) l.uses ≡ environment_onto l.side 0 l.environment l.initial.uses
+abbrev pub invariant-loop-outside : goal.invariant-loop-outside
+invariant-loop-outside l =
+    with_environment (noted l.widths) (drop l.outside-index l.environment) ≡ with_environment (noted l.initial.widths) l.environment

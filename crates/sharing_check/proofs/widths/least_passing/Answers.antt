@@ -1,7 +1,10 @@
-use Rattle.sharing_check.proofs.CountLeast.{least_of_sides}
+use Rattle.std.proofs.Common.{sym, subst}
+use Rattle.sharing_check.specs.Refused.{PassesAt}
+use Rattle.sharing_check.proofs.CountLeast.{IsLeast, least_is}
 use Rattle.sharing_check.proofs.widths.least_passing.Goals as goal
 
 pub returns : goal.returns
 returns c =
-    least_of_sides c.args.system.now c.least_on-3.result c.in_ok-found.found c.in_ok-found-2.found c.in_ok-found.ensures c.in_ok-found-2.ensures
-    c.least_on-3.ensures
+    let system = c.args.system.now in
+    subst (IsLeast (PassesAt system)) (sym c.least_of.ensures.found)
+    (least_is system c.in_ok-widths.widths.by_channel.entries c.least_of.ensures.unique c.in_ok-widths.ensures)

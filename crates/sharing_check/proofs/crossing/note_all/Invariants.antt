@@ -1,7 +1,0 @@
-use Rattle.std.proofs.Common.{◌≡◌, ℕ, drop}
-use Rattle.sharing_check.specs.Crossing.{seen_at, seen_after}
-use Rattle.sharing_check.proofs.crossing.note_all.Given as goal
-
-abbrev pub invariant-loop-used : goal.invariant-loop-used
-invariant-loop-used l =
-    (x : ℕ) → seen_after x (seen_at l.table.items x) (drop l.used-index l.uses) ≡ seen_after x (seen_at l.initial.table.items x) l.uses

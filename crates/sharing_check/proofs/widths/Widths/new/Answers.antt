@@ -1,0 +1,7 @@
+use Rattle.std.proofs.Common.{ap, ◌∙◌}
+use Rattle.sharing_check.specs.Counting.{listed}
+use Rattle.sharing_check.proofs.CountTables.{listed_none}
+use Rattle.sharing_check.proofs.widths.Widths.new.Goals as goal
+
+pub returns : goal.returns
+returns c = ap listed c.new.ensures.empty ∙ listed_none
