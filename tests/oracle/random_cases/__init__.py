@@ -1,0 +1,1 @@
+"""Random sources, stimuli and scripts for the program, and the loop that compares."""

@@ -1,0 +1,165 @@
+"""The kinds of cases. A case is what its kind, its seed and what the program offers make of it."""
+
+from __future__ import annotations
+
+from collections.abc import Callable
+from dataclasses import dataclass, replace
+from random import Random
+
+from reference.offers import Offer
+
+from .commands import SourceWriter
+from .faulty_parts import faulty_parts
+from .limits import levels, near_limit
+from .mutations import mutate_bytes, mutate_names, mutate_numbers, mutate_words, twist
+from .rendering import render
+from .scripts import long_script, script_for, twisted_script
+from .sources import Style, any_style
+from .stimuli import ports_of, stimulus_for, twisted_stimulus
+from .threads import threads
+from .words import ANY_WORD
+
+
+@dataclass(frozen=True)
+class Case:
+    """A run of the program: check of a source, or debug of a source and a stimulus with a script."""
+
+    word: str
+    source: bytes
+    stimulus: bytes = b""
+    script: bytes = b""
+
+
+def check(random: Random, words: list[str], plain: bool | None = None) -> Case:
+    return Case("check", render(random, words, plain))
+
+
+def written(random: Random, style: Style | None = None) -> list[str]:
+    return SourceWriter(random, style or any_style(random)).description()
+
+
+def well_formed(random: Random, offer: Offer) -> Case:
+    return check(random, written(random))
+
+
+def wild(random: Random, offer: Offer) -> Case:
+    return check(random, written(random, Style(random.choice([0.1, 0.2, 0.4]), 0)))
+
+
+def shared(random: Random, offer: Offer) -> Case:
+    return check(random, written(random, Style(0, random.choice([0.05, 0.3, 1.0]))))
+
+
+def words_changed(random: Random, offer: Offer) -> Case:
+    return check(random, mutate_words(random, written(random)))
+
+
+def names_changed(random: Random, offer: Offer) -> Case:
+    return check(random, mutate_names(random, written(random, Style(random.choice([0, 0, 0.02]), 0))))
+
+
+def numbers_changed(random: Random, offer: Offer) -> Case:
+    return check(random, mutate_numbers(random, written(random)))
+
+
+def bytes_changed(random: Random, offer: Offer) -> Case:
+    return Case("check", mutate_bytes(random, render(random, written(random))))
+
+
+def twisted(random: Random, offer: Offer) -> Case:
+    writer = SourceWriter(random, Style(0, random.choice([0, 0, 0.2])))
+    return check(random, twist(random, writer.description(), sorted(writer.elements)))
+
+
+def soup(random: Random, offer: Offer) -> Case:
+    return check(random, [random.choice(ANY_WORD) for _ in range(random.choice([0, 1, 5, 20]))])
+
+
+def with_faulty_parts(random: Random, offer: Offer) -> Case:
+    return Case("check", faulty_parts(random))
+
+
+def near_levels(random: Random, offer: Offer) -> Case:
+    words = levels(random)
+    return check(random, mutate_words(random, words) if random.random() < 0.2 else words, True)
+
+
+def near_nodes(random: Random, offer: Offer) -> Case:
+    return Case("check", near_limit(random, by_nodes=True))
+
+
+def near_depth(random: Random, offer: Offer) -> Case:
+    return Case("check", near_limit(random, by_nodes=False))
+
+
+def debugged(random: Random, words: list[str], broken: float, offer: Offer) -> Case:
+    """Debug of a source with a stimulus, which is broken so often, and a script for it."""
+    source = render(random, words)
+    stimulus = stimulus_for(random, ports_of(source), broken)
+    return Case("debug", source, stimulus, script_for(random, source, stimulus, offer))
+
+
+def any_debug(random: Random, offer: Offer) -> Case:
+    words = written(random)
+    return debugged(random, mutate_words(random, words) if random.random() < 0.15 else words, 0.3, offer)
+
+
+def built_debug(random: Random, offer: Offer) -> Case:
+    style = Style(random.choice([0, 0, 0, 0.01]), random.choice([0, 0, 0.02]), offer.forms)
+    return debugged(random, written(random, style), random.choice([0, 0, 0.2]), offer)
+
+
+def stimulus_broken(random: Random, offer: Offer) -> Case:
+    source = render(random, written(random, Style(0, 0)), True)
+    return Case("debug", source, stimulus_for(random, ports_of(source), 0.9), b"live\n")
+
+
+def long_run(random: Random, offer: Offer) -> Case:
+    source, stimulus = threads(random)
+    return Case("debug", source, stimulus, long_script(random, source, stimulus, offer))
+
+
+def script_changed(random: Random, offer: Offer) -> Case:
+    case = long_run(random, offer)
+    return replace(case, script=twisted_script(random, case.script))
+
+
+def stimulus_changed(random: Random, offer: Offer) -> Case:
+    source, stimulus = threads(random)
+    stimulus = twisted_stimulus(random, stimulus)
+    script = long_script(random, source, stimulus, offer)
+    return Case("debug", source, stimulus, b"".join(script.splitlines(keepends=True)[:8]))
+
+
+KINDS: dict[str, Callable[[Random, Offer], Case]] = {
+    "well-formed": well_formed,
+    "wild": wild,
+    "shared": shared,
+    "words-changed": words_changed,
+    "names-changed": names_changed,
+    "numbers-changed": numbers_changed,
+    "bytes-changed": bytes_changed,
+    "twisted": twisted,
+    "soup": soup,
+    "faulty-parts": with_faulty_parts,
+    "levels": near_levels,
+    "nodes": near_nodes,
+    "depth": near_depth,
+    "any-debug": any_debug,
+    "built-debug": built_debug,
+    "stimulus-broken": stimulus_broken,
+    "long-run": long_run,
+    "script-changed": script_changed,
+    "stimulus-changed": stimulus_changed,
+}
+
+# Their cases are large, so they come at one seed of ten only, unless they are asked for.
+LARGE = ("nodes", "depth")
+
+
+def kinds_at(seed: int) -> list[str]:
+    return [kind for kind in KINDS if kind not in LARGE or seed % 10 == 1]
+
+
+def case_of(kind: str, seed: int, offer: Offer) -> Case:
+    return KINDS[kind](Random(f"{kind} {seed}"), offer)

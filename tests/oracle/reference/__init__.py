@@ -1,0 +1,1 @@
+"""A slow, plain second implementation of `balsadbg check` and `balsadbg debug`."""

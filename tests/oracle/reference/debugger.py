@@ -1,0 +1,120 @@
+"""The program: its runs and its command line."""
+
+from __future__ import annotations
+
+import os
+import sys
+import threading
+from collections.abc import Callable
+from dataclasses import dataclass
+
+from .elaboration import System, elaborate
+from .faults import Number, Refused
+from .forms import is_built
+from .machine import Machine
+from .names_and_types import typed
+from .offers import Offer, chosen
+from .parser import Parser
+from .script import BadLine, answer
+from .sharing import check_sharing
+from .stimulus import read_stimulus
+from .syntax import Description
+from .tokens import lines_of, tokens_of
+
+HELP = "program check FILE, or program debug FILE STIMULUS with a script on standard input"
+DEEP_STACK = 1 << 29
+DEEP_CALLS = 1_000_000
+
+
+@dataclass(frozen=True)
+class Outcome:
+    """What a run of the program writes, and its status."""
+
+    output: bytes
+    error: bytes
+    status: int
+
+
+def outcome(lines: list[str], fault: str | None = None) -> Outcome:
+    output = "".join(line + "\n" for line in lines).encode()
+    return Outcome(output, b"", 0) if fault is None else Outcome(output, f"balsadbg: {fault}\n".encode(), 1)
+
+
+def accept(source: bytes, stimulus: bytes) -> tuple[Description, System]:
+    """The description and its system. Each pass speaks before the next."""
+    description = typed(Parser(tokens_of(source)).description())
+    system = elaborate(description, read_stimulus(stimulus))
+    check_sharing(system)
+    return description.description, system
+
+
+def check(source: bytes) -> Outcome:
+    try:
+        accept(source, b"")
+    except Refused as refused:
+        return outcome([], refused.text())
+    return outcome(["accepted"])
+
+
+def debug(source: bytes, stimulus: bytes, script: bytes, offer: Offer) -> Outcome:
+    try:
+        description, system = accept(source, stimulus)
+    except Refused as refused:
+        return outcome([], refused.text())
+    if not is_built(description, offer):
+        return outcome([], "not built")
+    machine = Machine(system)
+    answers: list[str] = []
+    for number, line in enumerate(lines_of(script), 1):
+        try:
+            answers += answer(machine, line, offer) if line else []
+        except BadLine:
+            return outcome(answers, Refused(Number.BAD_COMMAND, number).text())
+    return outcome(answers)
+
+
+def run(words: list[str], script: Callable[[], bytes]) -> Outcome:
+    """A run by its words. The files are read before anything else is done."""
+    if "--help" in words or "-h" in words:
+        return outcome([HELP])
+    words = words[:1] + words[2:] if words[1:2] == ["--"] else words
+    if (words[:1], len(words)) not in ((["check"], 2), (["debug"], 3)):
+        return Outcome(b"", HELP.encode() + b"\n", 2)
+    try:
+        texts = []
+        for name in words[1:]:
+            with open(name, "rb") as file:
+                texts.append(file.read())
+    except OSError:
+        return outcome([], Refused(Number.READ_FAILED).text())
+    return check(*texts) if words[0] == "check" else debug(*texts, script(), chosen())
+
+
+def with_deep_stack(work: Callable[[], int]) -> int:
+    """Does the work where calls may nest as deep as a description does."""
+    sys.setrecursionlimit(DEEP_CALLS)
+    threading.stack_size(DEEP_STACK)
+    results: list[int] = []
+    thread = threading.Thread(target=lambda: results.append(work()))
+    thread.start()
+    thread.join()
+    return results[0] if results else 2
+
+
+def written(done: Outcome) -> Outcome:
+    """What comes of a run once its output is written, which may fail."""
+    try:
+        if done.output:
+            sys.stdout.buffer.write(done.output)
+            sys.stdout.flush()
+    except OSError:
+        # Else Python would try again at its end.
+        os.dup2(os.open(os.devnull, os.O_WRONLY), sys.stdout.fileno())
+        return outcome([], Refused(Number.WRITE_FAILED).text())
+    return done
+
+
+def main() -> int:
+    done = written(run(sys.argv[1:], sys.stdin.buffer.read))
+    sys.stderr.buffer.write(done.error)
+    return done.status
