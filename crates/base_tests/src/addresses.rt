@@ -1,36 +1,45 @@
 //! The text of addresses, and the orders on them.
 
 use address::{Address, Entry, before, compare, read};
-use std::alloc::{AllocError, Global};
+use std::alloc::Global;
 use std::cmp::Ordering;
 use std::test::Fail;
 
-fn address(alloc: Global, entries: &[Entry]) -> Result<Address, AllocError> {
-    Ok(Address::from_vec(Vec::from_slice(alloc, entries)?))
+fn place(alloc: Global, text: &str) -> Result<Address, Fail> {
+    Ok(read(alloc, text.as_bytes())?.ok_or("an address")?)
 }
 
-#[test]
-fn writes_and_reads(rt: HostRuntime) -> Result<(), Fail> {
-    let alloc = rt.alloc();
-    let place = address(
-        alloc,
+const TEXTS: [(&str, &[Entry]); 4] = [
+    ("", &[]),
+    (".0", &[Entry::Ordered(0)]),
+    ("/4294967295", &[Entry::Branch(4294967295)]),
+    (
+        "/0.1.0",
         &[Entry::Branch(0), Entry::Ordered(1), Entry::Ordered(0)],
-    )?;
-    assert_eq!(rt; format!(in alloc; "{place}")?.as_str(), "/0.1.0");
-    let back = read(alloc, b"/0.1.0")?.ok_or("an address")?;
-    assert!(rt; place.equals(&back));
-    let root = read(alloc, b"")?.ok_or("the root")?;
-    assert_eq!(rt; root.entries().len(), 0);
-    let largest = read(alloc, b"/4294967295")?.ok_or("the largest branch")?;
-    assert!(rt; largest.equals(&address(alloc, &[Entry::Branch(4294967295)])?));
-    let first = read(alloc, b".0")?.ok_or("the first place")?;
-    assert!(rt; first.equals(&address(alloc, &[Entry::Ordered(0)])?));
+    ),
+];
+
+#[test]
+fn texts_are_read(rt: HostRuntime) -> Result<(), Fail> {
+    for (text, entries) in TEXTS {
+        let place = place(rt.alloc(), text)?;
+        assert!(rt; place.entries() == entries, "{text}");
+    }
     Ok(())
 }
 
 #[test]
-fn refuses_other_texts(rt: HostRuntime) -> Result<(), Fail> {
-    let alloc = rt.alloc();
+fn texts_are_written(rt: HostRuntime) -> Result<(), Fail> {
+    for (text, entries) in TEXTS {
+        let place = Address::from_vec(Vec::from_slice(rt.alloc(), entries)?);
+        let written = format!(in rt.alloc(); "{place}")?;
+        assert_eq!(rt; written.as_str(), text);
+    }
+    Ok(())
+}
+
+#[test]
+fn other_texts_are_refused(rt: HostRuntime) -> Result<(), Fail> {
     for text in [
         "/",
         "0",
@@ -42,40 +51,31 @@ fn refuses_other_texts(rt: HostRuntime) -> Result<(), Fail> {
         ".01",
         "/0 ",
     ] {
-        assert!(rt; read(alloc, text.as_bytes())?.is_none(), "{text}");
+        assert!(rt; read(rt.alloc(), text.as_bytes())?.is_none(), "{text}");
     }
     Ok(())
 }
 
-#[test]
-fn tells_what_comes_before(rt: HostRuntime) -> Result<(), Fail> {
-    let alloc = rt.alloc();
-    for (a, b, expected) in [
-        ("/0.1", "/0.2.0", true),
-        ("/0.2.0", "/0.1", false),
-        ("/0/0.1", "/0/1.2", false),
-        ("/0.1", "/0.1.0", false),
-        (".0/5", "/0", false),
-    ] {
-        let first = read(alloc, a.as_bytes())?.ok_or("an address")?;
-        let second = read(alloc, b.as_bytes())?.ok_or("an address")?;
-        assert_eq!(rt; before(&first, &second), expected, "{a} {b}");
-    }
-    Ok(())
-}
+/// Two places, whether the first comes before the second, and how they compare.
+const ORDERS: [(&str, &str, bool, Ordering); 9] = [
+    ("/0.1", "/0.2.0", true, Ordering::Less),
+    ("/0.2.0", "/0.1", false, Ordering::Greater),
+    ("/0/0.1", "/0/1.2", false, Ordering::Less),
+    ("/0.1", "/0.1.0", false, Ordering::Less),
+    (".0/5", "/0", false, Ordering::Less),
+    ("/0.5", "/0/0", false, Ordering::Less),
+    ("/10", "/9", false, Ordering::Greater),
+    ("/0.5", "/0.5", false, Ordering::Equal),
+    (".9", ".10", true, Ordering::Less),
+];
 
 #[test]
-fn compares(rt: HostRuntime) -> Result<(), Fail> {
-    let alloc = rt.alloc();
-    for (a, b, expected) in [
-        ("/0.1", "/0.1.0", Ordering::Less),
-        ("/0.5", "/0/0", Ordering::Less),
-        ("/10", "/9", Ordering::Greater),
-        ("/0.5", "/0.5", Ordering::Equal),
-    ] {
-        let first = read(alloc, a.as_bytes())?.ok_or("an address")?;
-        let second = read(alloc, b.as_bytes())?.ok_or("an address")?;
-        assert_eq!(rt; compare(&first, &second), expected, "{a} {b}");
+fn places_are_ordered(rt: HostRuntime) -> Result<(), Fail> {
+    for (one, other, comes_before, order) in ORDERS {
+        let first = place(rt.alloc(), one)?;
+        let second = place(rt.alloc(), other)?;
+        assert!(rt; before(&first, &second) == comes_before, "{one} {other}");
+        assert!(rt; compare(&first, &second) == order, "{one} {other}");
     }
     Ok(())
 }
@@ -84,9 +84,8 @@ fn compares(rt: HostRuntime) -> Result<(), Fail> {
 // this test for each of them, and never another answer.
 #[test]
 fn copies(rt: HostRuntime) -> Result<(), Fail> {
-    let alloc = rt.alloc();
-    let place = read(alloc, b"/0.7")?.ok_or("an address")?;
-    let made = place.copy(alloc)?;
+    let place = place(rt.alloc(), "/0.7")?;
+    let made = place.copy(rt.alloc())?;
     assert!(rt; made.equals(&place));
     let entries = made.into_vec();
     assert_eq!(rt;

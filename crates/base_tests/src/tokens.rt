@@ -126,78 +126,49 @@ fn comments_and_blanks_are_no_tokens(rt: HostRuntime) -> Result<(), Fail> {
     Ok(())
 }
 
+/// Whether the token has this text, this number, and this span.
+fn is_token(token: &Token, text: &[u8], number: u64, span: Span) -> bool {
+    token.text.text() == text && token.number == number && token.span == span
+}
+
 #[test]
 fn tokens_have_spans_texts_and_numbers(rt: HostRuntime) -> Result<(), Fail> {
     let tokens = lex(rt.alloc(), b"x1 :=\n(-- \n --) 0042 ")?;
-    let [name, becomes, number, end] = tokens.as_slice() else {
-        return Err(Fail::from("not four tokens"));
-    };
     let span = |start: u64, stop: u64, line: u64| Span { start, stop, line };
-    assert_eq!(rt; name.kind, Kind::Name);
-    assert_eq!(rt; name.text.text(), b"x1".as_slice());
-    assert_eq!(rt; name.span, span(0, 2, 1));
-    assert_eq!(rt; becomes.text.text(), b":=".as_slice());
-    assert_eq!(rt; becomes.span, span(3, 5, 1));
-    assert_eq!(rt; number.text.text(), b"0042".as_slice());
-    assert_eq!(rt; number.number, 42);
-    assert_eq!(rt; number.span, span(16, 20, 3));
-    assert!(rt; is_end(Some(end), 21));
-    assert_eq!(rt; end.span.line, 3);
-    let tokens = lex(rt.alloc(), b"loop ")?;
-    assert!(rt; is_end(tokens.get(1), 5));
-    Ok(())
-}
-
-#[test]
-fn numbers_end_at_the_largest(rt: HostRuntime) -> Result<(), Fail> {
-    let tokens = lex(rt.alloc(), b"18446744073709551615")?;
-    let number = tokens.first().ok_or("no token")?;
-    assert_eq!(rt; number.number, u64::MAX);
-    let fault = fault_of(rt.alloc(), b"  18446744073709551616")?;
-    assert_eq!(rt; fault, Some(Fault::NumberTooLarge(2)));
-    Ok(())
-}
-
-/// Why the source has no tokens, `None` where it has. Want of memory is an error.
-fn fault_of(alloc: Global, source: &[u8]) -> Result<Option<Fault>, Fault> {
-    match lex(alloc, source) {
-        Ok(_) => Ok(None),
-        Err(Fault::Memory) => Err(Fault::Memory),
-        Err(fault) => Ok(Some(fault)),
+    match tokens.as_slice() {
+        [name, becomes, number, end] => {
+            assert!(rt; is_token(name, b"x1", 0, span(0, 2, 1)));
+            assert!(rt; is_token(becomes, b":=", 0, span(3, 5, 1)));
+            assert!(rt; is_token(number, b"0042", 42, span(16, 20, 3)));
+            assert!(rt; is_token(end, b"", 0, span(21, 21, 3)));
+        }
+        _ => assert!(rt; false, "not four tokens"),
     }
-}
-
-#[test]
-fn the_first_fault_is_answered(rt: HostRuntime) -> Result<(), Fail> {
-    let alloc = rt.alloc();
-    let fault = fault_of(alloc, b"procedure p @")?;
-    assert_eq!(rt; fault, Some(Fault::BadCharacter(12)));
-    assert_eq!(rt; fault_of(alloc, b"/")?, Some(Fault::BadCharacter(0)));
-    assert_eq!(rt; fault_of(alloc, b"_a")?, Some(Fault::BadCharacter(0)));
-    assert_eq!(rt; fault_of(alloc, b"\xc3")?, Some(Fault::BadCharacter(0)));
-    assert_eq!(rt; fault_of(alloc, b"(--)")?, Some(Fault::OpenComment(0)));
-    let fault = fault_of(alloc, b"a (-- (-- --) @")?;
-    assert_eq!(rt; fault, Some(Fault::OpenComment(2)));
     Ok(())
 }
 
+const FAULTS: [(Fault, &str); 4] = [
+    (Fault::Memory, "out of memory"),
+    (
+        Fault::BadCharacter(3),
+        "the byte at offset 3 begins no name, number, symbol or comment",
+    ),
+    (
+        Fault::OpenComment(7),
+        "the comment at offset 7 is not closed",
+    ),
+    (
+        Fault::NumberTooLarge(4),
+        "the number at offset 4 is too large",
+    ),
+];
+
 #[test]
-fn faults_have_numbers_places_and_texts(rt: HostRuntime) -> Result<(), Fail> {
-    assert_eq!(rt; Fault::Memory.number(), 1);
-    assert_eq!(rt; Fault::Memory.offset(), None);
-    assert_eq!(rt; Fault::OpenComment(7).number(), 3);
-    assert_eq!(rt; Fault::NumberTooLarge(9).offset(), Some(9));
-    let text = format!(in rt.alloc(); "{}", Fault::OpenComment(7))?;
-    assert_eq!(rt; text.as_str(), "the comment at offset 7 is not closed");
-    let text = format!(in rt.alloc(); "{}", Fault::BadCharacter(3))?;
-    assert_eq!(rt;
-        text.as_str(),
-        "the byte at offset 3 begins no name, number, symbol or comment"
-    );
-    let text = format!(in rt.alloc(); "{}", Fault::NumberTooLarge(4))?;
-    assert_eq!(rt; text.as_str(), "the number at offset 4 is too large");
-    let text = format!(in rt.alloc(); "{}", Fault::Memory)?;
-    assert_eq!(rt; text.as_str(), "out of memory");
+fn faults_have_their_texts(rt: HostRuntime) -> Result<(), Fail> {
+    for (fault, text) in FAULTS {
+        let said = format!(in rt.alloc(); "{fault}")?;
+        assert_eq!(rt; said.as_str(), text);
+    }
     Ok(())
 }
 

@@ -1,14 +1,14 @@
 -- The list of allowed events has exactly the events that are allowed.
-use Rattle.std.proofs.Common.{◌≡◌, ◌⊎◌, inl, inr, ℕ, List, [], ◌∷◌, ◌++◌, Option, Some, None, true, false, refl, sym, ◌∙◌, ap, subst}
+use Rattle.std.proofs.Common.{◌≡◌, ◌⊎◌, inl, inr, List, [], ◌∷◌, Option, Some, None, true, false, refl, sym, ◌∙◌, ap, subst}
 use Rattle.address.specs.Places.{Apart}
 use Rattle.elaborate.specs.Lists.{In}
-use Rattle.elaborate.specs.Expression.{Store, Expression}
+use Rattle.elaborate.specs.Expression.{Store}
 use Rattle.elaborate.specs.Residual.{Residual}
-use Rattle.calculus.specs.Moves.{Place, Move, Local, assigns, tests, turns, sends, receives, syncs, opens, releases, closes}
+use Rattle.calculus.specs.Moves.{Move, Local, assigns, tests, turns, sends, receives, syncs, opens, releases, closes}
 use Rattle.calculus.specs.Events.{Located, at, sent, Makes, assigning, testing, turning, meeting, opening, opening_without_data, shutting, syncing, store_after}
 use Rattle.calculus.specs.Made.{event_of}
-use Rattle.calculus.specs.Steps.{State, Step, Moves, Allowed}
-use Rattle.calculus.specs.AllowedEvents.{offers, received_by, meets, those, events_alone, events_with, events_together, events_among, allowed_events}
+use Rattle.calculus.specs.Steps.{State, Allowed}
+use Rattle.calculus.specs.AllowedEvents.{offers, received_by, meets, those, events_alone, events_with, events_together, allowed_events}
 use Rattle.calculus.specs.WellFormed.{WellFormed}
 use Rattle.calculus.specs.declared.event.Event.{Event}
 use Rattle.calculus.proofs.Made.{made-found, made-only}

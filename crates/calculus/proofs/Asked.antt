@@ -1,5 +1,5 @@
 -- There is no answer to what a command does not do.
-use Rattle.std.proofs.Common.{◌≡◌, ℕ, List, Option, Some, None, refl}
+use Rattle.std.proofs.Common.{◌≡◌, ℕ, List, Option, None, refl}
 use Rattle.value.specs.Word.{Word}
 use Rattle.elaborate.specs.Expression.{Expression, Decision}
 use Rattle.elaborate.specs.Residual.{Residual, Arms}

@@ -1,11 +1,11 @@
 -- What a part of a place says of the answer there.
-use Rattle.std.proofs.Common.{◌≡◌, ℕ, ◌*◌, ◌/◌, ◌%◌, ◌==◌, ◌&&◌, List, [], ◌∷◌, Bool, true, false, cond, Option, Some, None, refl, sym, ap, ◌∙◌, arith, Decides}
+use Rattle.std.proofs.Common.{◌≡◌, ℕ, ◌*◌, ◌/◌, ◌%◌, ◌==◌, ◌&&◌, [], ◌∷◌, true, false, cond, Option, Some, None, refl, ap, ◌∙◌, arith}
 use Rattle.std.proofs.lemmas.Bool.Decides.{Decides-eqb, Decides-and, Decides-like}
 use Rattle.address.specs.declared.Entry.TheVariants.{Ordered, Branch}
 use Rattle.calculus.specs.Moves.{Place}
 use Rattle.calculus.specs.EventLaws.{decided}
 use Rattle.calculus.specs.After.{Answer, at_place, at_act, in_child, in_branch}
-use Rattle.calculus.specs.Below.{below_child, below_branch, act_of, is_number, is_act, is_here}
+use Rattle.calculus.specs.Below.{below_child, below_branch, is_act, is_here}
 
 -- an answer at the command's own place
 pub at_place_is : (a : Place) (answer : Answer) → at_place a answer ≡ cond (is_here a) answer None

@@ -1,5 +1,5 @@
 -- Children of a sequence or a parallel, put together from the last on.
-use Rattle.std.proofs.Common.{◌≡◌, ℕ, suc, ◌+◌, List, [], ◌∷◌, ◌++◌, length, map, refl, sym, ap, subst, ◌∙◌, zero-add, arith}
+use Rattle.std.proofs.Common.{◌≡◌, ℕ, suc, ◌+◌, List, [], ◌∷◌, ◌++◌, length, map, refl, sym, ap, ◌∙◌, zero-add, arith}
 use Rattle.std.proofs.lemmas.List.{map-append, length-map}
 use Rattle.elaborate.specs.Residual.{Residual, done, within, along}
 use Rattle.elaborate.specs.Translation.{in_sequence, in_parallel}

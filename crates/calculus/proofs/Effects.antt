@@ -93,7 +93,7 @@ does-effect o Command.Live reply o' s h = live-effect o reply o' h
 does-effect o (Command.Value x) reply o' s h = value-effect o x reply o' h
 
 pub answers-effect : (o : Object) (c : Command) (reply : Reply) (o' : Object) → Sound o → Answers o c reply o' → Effect o o'
-answers-effect o c reply o' s h = elim h [ inl u ↦ does-effect o c reply o' s u | inr u ↦ unchanged u.1 ]
+answers-effect o c reply o' s h = elim h [ inl u ↦ does-effect o c reply o' s u | inr u ↦ unchanged u.2 ]
 
 -- the opening of a sound object is well formed
 pub sound-formed : (o : Object) → Sound o → WellFormed o.opening.residual

@@ -5,7 +5,7 @@ use Rattle.sharing_check.specs.Rule.{is_sync, is_shared}
 use Rattle.calculus.specs.Choices.{opened_arm, choice_of}
 use Rattle.calculus.specs.Dependence.{Directly}
 use Rattle.calculus.specs.Events.{Located, Makes, assigning, testing, turning, meeting, opening as opens_with_data, opening_without_data, shutting, syncing}
-use Rattle.calculus.specs.Laws.{NeighboursSwap, RunsWithout, RunsWithoutConsequences, RespectingOrdersRun, OneState, EventsAreDistinct, ActingOnce, EarlierPlaces, StatesAreWellFormed, RelatedAreOrdered, SameEventsRespect, OneChoice, AllowedAreListed, RunAsFunction}
+use Rattle.calculus.specs.Laws.{NeighboursSwap, RunsWithout, RunsWithoutConsequences, RespectingOrdersRun, OneState, EventsAreDistinct, ActingOnce, EarlierPlaces, StatesAreWellFormed, RelatedAreOrdered, SameEventsRespect, OrdersDependAlike, RunsDependAlike, OneChoice, AllowedAreListed, AllowedWhereFormed, RunAsFunction}
 use Rattle.calculus.specs.Opening.{opening}
 use Rattle.calculus.specs.declared.event.Choice.{Choice}
 use Rattle.calculus.specs.declared.event.Event.{Event}
@@ -21,7 +21,7 @@ use Rattle.calculus.proofs.Respecting.{respecting-runs}
 use Rattle.calculus.proofs.StepOf.{run-determined, run-of}
 use Rattle.calculus.proofs.Once.{acting-once, events-differ, clear-of}
 use Rattle.calculus.proofs.OrderingLaw as law
-use Rattle.calculus.proofs.SameEvents.{same-events-both}
+use Rattle.calculus.proofs.SameEvents.{same-events-both, depend-alike}
 use Rattle.calculus.proofs.OneEvent.{OneArm}
 use Rattle.calculus.proofs.Choices as choices
 use Rattle.calculus.proofs.AllowedEvents as listed
@@ -80,6 +80,14 @@ pub same_events : SameEventsRespect
 same_events system h g T U rule r q again alike =
     same-events-both (is_sync system) (is_shared system) (opening system) T U h g (shares_well-keeps system rule) (opening-formed system) r q again alike
 
+-- and have the same dependents, as respecting orders have
+pub orders_depend_alike : OrdersDependAlike
+orders_depend_alike system h g T e f r o = depend-alike (opening system) T h g e f (opening-formed system) r o
+
+pub runs_depend_alike : RunsDependAlike
+runs_depend_alike system h g T U e f rule r q again alike =
+    orders_depend_alike system h g T e f r (same_events system h g T U rule r q again alike).0
+
 -- an event that opens has an arm
 opens_arm : (s : Store) (ls : List Located) (e : Event) → Makes s ls e → e.kind ≡ Open → (k : ℕ) × (e.arm ≡ Some k)
 opens_arm s ls e (assigning a x w g) o = cc
@@ -113,9 +121,11 @@ one_choice system h S e f rule r (T, one) (U, other) same =
     (one_arm S.store S.store one.moves other.moves e f one.makes other.makes same)
 
 -- the list of allowed events has them all, and no others
+pub allowed_where_formed : AllowedWhereFormed
+allowed_where_formed S e w = (listed.events-complete S w e, listed.events-sound S e)
+
 pub allowed_are_listed : AllowedAreListed
-allowed_are_listed system h S e r =
-    (listed.events-complete S (run-formed (opening system) S h (opening-formed system) r) e, listed.events-sound S e)
+allowed_are_listed system h S e r = allowed_where_formed S e (run-formed (opening system) S h (opening-formed system) r)
 
 -- the run as a function is the run
 pub run_as_function : RunAsFunction

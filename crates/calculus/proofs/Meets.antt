@@ -1,5 +1,5 @@
 -- Two moves that make an event, and those that make none.
-use Rattle.std.proofs.Common.{◌≡◌, ℕ, List, Bool, Option, Some, None, refl}
+use Rattle.std.proofs.Common.{◌≡◌, ℕ, List, Bool, Option, None, refl}
 use Rattle.value.specs.Word.{Word}
 use Rattle.elaborate.specs.Expression.{Expression, Store, variables, ascending}
 use Rattle.calculus.specs.Moves as model
@@ -9,7 +9,7 @@ use Rattle.calculus.specs.Made.{made_by_send, made_by_held_send, made_by_held_sy
 use Rattle.calculus.specs.Meets.{met, opened_by_send}
 use Rattle.calculus.specs.Answers.{move_of}
 use Rattle.calculus.specs.declared.moves.Move.{Move}
-use Rattle.calculus.specs.declared.moves.Move.TheVariants.{Assigns, Tests, Turns, Sends, Receives, Syncs, Opens, Releases, Closes}
+use Rattle.calculus.specs.declared.moves.Move.TheVariants.{Receives, Syncs, Opens, Closes}
 
 -- a send and the move that meets it
 pub met_is : (s : Store) (a : Place) (c w : ℕ) (e : Expression) (b : Place) (m : model.Move)

@@ -1,11 +1,11 @@
 -- Two lists that run and have the same events are respecting orders of each other.
-use Rattle.std.proofs.Common.{◌≡◌, ◌⊎◌, inl, inr, ℕ, List, Bool, true, false, refl}
+use Rattle.std.proofs.Common.{◌≡◌, ◌⊎◌, ◌↔◌, inl, inr, ℕ, List, Bool, true, false, refl}
 use Rattle.elaborate.specs.Lists.{In}
 use Rattle.calculus.specs.Moves.{Place}
 use Rattle.calculus.specs.Events.{places}
 use Rattle.calculus.specs.Steps.{State}
 use Rattle.calculus.specs.Runs.{Run}
-use Rattle.calculus.specs.Dependence.{Directly, SomeBefore, WritesFor, Earlier, Rearranged, Respecting}
+use Rattle.calculus.specs.Dependence.{Directly, SomeBefore, OnOneChannel, OnOneVariable, WritesFor, Earlier, Causes, itself, onwards, Rearranged, Respecting}
 use Rattle.sharing_check.specs.Sharing.{KeepsSharing}
 use Rattle.calculus.proofs.OrderingLaw.{ordered}
 use Rattle.calculus.proofs.Respecting.{run-distinct}
@@ -96,3 +96,36 @@ same-events-both is_sync is_shared S T U h g k w r q again alike =
       same-events is_sync is_shared S T U h g k w r q again alike,
       same-events is_sync is_shared S U T g h k w q r back (alike-turned is_shared h g (run-distinct S U g w q) back alike),
     )
+
+-- what is on one channel or one variable depends directly in either order
+turned : (e f : Event) → OnOneChannel e f ⊎ OnOneVariable e f → Directly f e
+turned e f d =
+    elim d [
+      | inl u ↦ inr (inl (u.0, u.2, u.1))
+      | inr (inl u) ↦ inr (inr (inr u))
+      | inr (inr u) ↦ inr (inr (inl u))
+    ]
+
+-- directly dependent events of a respecting order stand in the run as they stand there
+earlier-back : (S T : State) (h g : List Event) → WellFormed S.residual → Run S h T → Respecting h g →
+    (e f : Event) → Earlier g e f → Directly e f → Earlier h e f
+earlier-back S T h g w r o e f i d =
+    elim (either-order g h (rearranged-turned h g o.rearranged) e f i) [
+      | inl u ↦ u
+      | inr u ↦ absurd (elim d [
+        | inl v ↦ clear-not-before v.1 v.0 (clear-of S T f e h w r u v.1 v.0 v.3 v.2) v.4
+        | inr v ↦ one-order g e f (rearranged-distinct h g o.rearranged (run-distinct S T h w r)) i (o.keeps f e u (turned e f v))
+      ])
+    ]
+
+-- what depends in one list depends in another that keeps the directly dependent pairs
+causes-on : (h g : List Event) → ((x y : Event) → Earlier h x y → Directly x y → Earlier g x y) → (e f : Event) → Causes h e f → Causes g e f
+causes-on h g keeps e f itself = itself
+causes-on h g keeps e f (onwards {f = m} c i d) = onwards (causes-on h g keeps e m c) (keeps m f i d) d
+
+-- a list that runs and its respecting orders have the same dependents
+pub depend-alike : (S T : State) (h g : List Event) (e f : Event) → WellFormed S.residual → Run S h T → Respecting h g → (Causes h e f ↔ Causes g e f)
+depend-alike S T h g e f w r o = (
+  causes-on h g o.keeps e f,
+  causes-on g h (earlier-back S T h g w r o) e f,
+)

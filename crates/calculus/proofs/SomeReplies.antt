@@ -9,7 +9,7 @@ use Rattle.calculus.specs.Live.{Live, events, Rising, LiveAt, Follows, Without, 
 use Rattle.calculus.specs.Object.{Object, Reaches, most_live, last_ticket, with_event, with_live}
 use Rattle.calculus.specs.Does.{Does, TakesOut, CanStep}
 use Rattle.calculus.specs.Sound.{Sound}
-use Rattle.calculus.specs.ObjectLaws.{StepsExactly, SomeReply}
+use Rattle.calculus.specs.ObjectLaws.{StepsExactly, RollsWhereLive, RollsValueWhereWritten, SomeReply}
 use Rattle.calculus.specs.declared.event.Event.{Event}
 use Rattle.calculus.specs.declared.event.Choice.{Choice}
 use Rattle.calculus.specs.declared.command.Command.{Command}
@@ -178,5 +178,20 @@ steps-exactly o c s = (
   (λ h. elim (chosen? h.0.0 c (state-formed o h.0.0 s h.0.1)) [
     | inl found ↦ (found.0, with_event o found.0, (refl, h.1, h.2, (h.0.0, h.0.1, found.1), refl))
     | inr none ↦ absurd (none h.0.2)
+  ]),
+)
+
+pub rolls-where-live : RollsWhereLive
+rolls-where-live o t s = (
+  (λ h. h.2.0),
+  (λ at. let rest = taken o t s in (rest.0, rest.1, (at, rest.2))),
+)
+
+pub rolls-value-where-written : RollsValueWhereWritten
+rolls-value-where-written o x s = (
+  (λ h. let last = h.2.1 in (h.2.0, last.event, last.live, last.writes)),
+  (λ w. elim (last-writer? 1 o.next o.live x s.rising) [
+    | inr none ↦ absurd (none w.0 w.1 w.2 w.3)
+    | inl last ↦ let rest = taken o last.0 s in (rest.0, rest.1, (last.0, last.1, rest.2))
   ]),
 )

@@ -1,7 +1,6 @@
 -- Two moves that are possible in one residual, at places apart, can be made one after the other.
-use Rattle.std.proofs.Common.{◌≡◌, ◌⊎◌, inl, inr, ℕ, ◌+◌, ◌*◌, List, [], ◌∷◌, ◌≢◌, refl, sym, ◌∙◌, ap, subst, arith}
-use Rattle.address.specs.Places.{Before, Apart}
-use Rattle.address.specs.declared.Entry.{Entry}
+use Rattle.std.proofs.Common.{◌≡◌, inl, inr, ℕ, ◌*◌, [], ◌∷◌, refl, subst}
+use Rattle.address.specs.Places.{Apart}
 use Rattle.address.specs.declared.Entry.TheVariants.{Ordered, Branch}
 use Rattle.elaborate.specs.Residual.{Residual, done, halted, inside, beside, assign, send, receive, sync, held, loop, while, test, choose, closing, drain, within, along}
 use Rattle.calculus.specs.Moves.{Place, Move, Local}

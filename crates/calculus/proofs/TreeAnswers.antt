@@ -5,7 +5,7 @@ use Rattle.std.proofs.lemmas.Result.{IfOk-weaker}
 use Rattle.elaborate.specs.Residual.{Residual, done, inside, beside, within, along, arm_at}
 use Rattle.elaborate.specs.Translation.{arms_of}
 use Rattle.calculus.specs.Moves.{Place}
-use Rattle.calculus.specs.After.{Ask, Answer, around, after}
+use Rattle.calculus.specs.After.{Ask, around, after}
 use Rattle.calculus.specs.Below.{below_child, below_branch}
 use Rattle.calculus.specs.Answers.{answer_of}
 use Rattle.calculus.specs.declared.left.Left.{Left}

@@ -1,10 +1,10 @@
 -- The events that are allowed in a state, as a list.
-use Rattle.std.specs.Prelude.{ℕ, zero, suc, ◌*◌, List, [], ◌∷◌, ◌++◌, true, false, Option, Some, None}
+use Rattle.std.specs.Prelude.{ℕ, suc, ◌*◌, List, [], ◌∷◌, ◌++◌, true, false, Option, Some, None}
 use Rattle.address.specs.declared.Entry.{Entry}
 use Rattle.address.specs.declared.Entry.TheVariants.{Ordered, Branch}
-use Rattle.elaborate.specs.Expression.{Store, Expression, by_guards, decide}
+use Rattle.elaborate.specs.Expression.{Store, by_guards, decide}
 use Rattle.elaborate.specs.Residual.{Residual, done, halted, inside, beside, assign, send, receive, sync, held, loop, while, test, choose, closing, drain}
-use Rattle.calculus.specs.Moves.{Place, Move, assigns, tests, turns, sends, receives, syncs, opens, releases, closes}
+use Rattle.calculus.specs.Moves.{Move, assigns, tests, turns, sends, receives, syncs, opens, releases, closes}
 use Rattle.calculus.specs.Events.{Located, at, sent}
 use Rattle.calculus.specs.Made.{event_of}
 use Rattle.calculus.specs.Steps.{State}

@@ -116,6 +116,16 @@ Does o (Command.Consequences t) reply o' = ListsFollowers o t reply o'
 Does o Command.Live reply o' = ListsLive o reply o'
 Does o (Command.Value x) reply o' = TellsValue o x reply o'
 
+-- there may be no memory for the command: an undo and a blame take none, and a command on an event takes none where
+-- there is no such event
+abbrev pub MayWantMemory : Object → Command → Type 0
+MayWantMemory o (Command.Undo t) = ⊥
+MayWantMemory o (Command.Blame x) = ⊥
+MayWantMemory o (Command.Roll t) = (e : Event) × LiveAt o.live t e
+MayWantMemory o (Command.RollValue x) = (t : ℕ) × LastWriter o.live x t
+MayWantMemory o (Command.Consequences t) = (e : Event) × LiveAt o.live t e
+MayWantMemory o _ = Unit {0}
+
 -- the same, or there was no memory for it and nothing changed
 abbrev pub Answers : Object → Command → Reply → Object → Type 0
-Answers o command reply o' = Does o command reply o' ⊎ ((reply ≡ Reply.Refused Memory) × (o' ≡ o))
+Answers o command reply o' = Does o command reply o' ⊎ (MayWantMemory o command × (reply ≡ Reply.Refused Memory) × (o' ≡ o))

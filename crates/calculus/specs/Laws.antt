@@ -88,6 +88,20 @@ SameEventsRespect =
     ((e f : Event) → Earlier h e f → OnOneShared (is_shared system) e f → Earlier g e f) →
     Respecting h g × Respecting g h
 
+-- a list that runs and its respecting orders have the same dependents
+abbrev pub OrdersDependAlike : Type 0
+OrdersDependAlike =
+    (system : System) (h g : List Event) (T : State) (e f : Event) →
+    Run (opening system) h T → Respecting h g → (Causes h e f ↔ Causes g e f)
+
+-- and so have two lists that run and have the same events, with any two that are on one shared variable in the same order
+abbrev pub RunsDependAlike : Type 0
+RunsDependAlike =
+    (system : System) (h g : List Event) (T U : State) (e f : Event) → SharesWell system →
+    Run (opening system) h T → Run (opening system) g U → Rearranged h g →
+    ((x y : Event) → Earlier h x y → OnOneShared (is_shared system) x y → Earlier g x y) →
+    (Causes h e f ↔ Causes g e f)
+
 -- what every system opens with is well formed
 abbrev pub OpeningIsWellFormed : Type 0
 OpeningIsWellFormed = (system : System) → WellFormed (opening_residual system)
@@ -108,6 +122,11 @@ abbrev pub AllowedAreListed : Type 0
 AllowedAreListed =
     (system : System) (h : List Event) (S : State) (e : Event) → Run (opening system) h S →
     Allowed S e ↔ In e (allowed_events S)
+
+-- and so in every state whose residual is well formed
+abbrev pub AllowedWhereFormed : Type 0
+AllowedWhereFormed =
+    (S : State) (e : Event) → WellFormed S.residual → Allowed S e ↔ In e (allowed_events S)
 
 -- two moves that a residual offers at places apart can be made one after the other, in either order
 abbrev pub ApartMovesMeet : Type 0

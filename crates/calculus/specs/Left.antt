@@ -1,5 +1,5 @@
 -- The residual that a tree in memory stands for.
-use Rattle.std.specs.Prelude.{Bool, true, false, Option, None}
+use Rattle.std.specs.Prelude.{Bool, true, false, None}
 use Rattle.elaborate.specs.Residual.{Residual, done, halted, inside, beside, assign, send, receive, sync, held, loop, while, test, choose, closing, drain}
 use Rattle.elaborate.specs.Translation.{expression_of, arms_of}
 use Rattle.elaborate.specs.Decisions.{decision_of}

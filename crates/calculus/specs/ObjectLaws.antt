@@ -116,6 +116,17 @@ abbrev pub NeededExactly : Type 0
 NeededExactly = (o : Object) (t u : ℕ) (e : Event) → Sound o → LiveAt o.live t e →
     Does o (Command.Undo t) (Reply.Refused (NeededBy u)) o ↔ LeastDependent o.live e u
 
+-- an event is rolled back exactly where it is live
+abbrev pub RollsWhereLive : Type 0
+RollsWhereLive = (o : Object) (t : ℕ) → Sound o →
+    ((n : ℕ) × (o' : Object) × Does o (Command.Roll t) (Reply.Rolled n) o') ↔ ((e : Event) × LiveAt o.live t e)
+
+-- a variable is rolled back exactly where a live event wrote it
+abbrev pub RollsValueWhereWritten : Type 0
+RollsValueWhereWritten = (o : Object) (x : ℕ) → Sound o →
+    ((n : ℕ) × (o' : Object) × Does o (Command.RollValue x) (Reply.Rolled n) o')
+    ↔ ((t : ℕ) × (e : Event) × LiveAt o.live t e × (e.written ≡ Some x))
+
 -- a rollback leaves exactly the events that do not depend on its event, answers how many are gone, and the rest runs
 abbrev pub RollsExactly : Type 0
 RollsExactly = (o o' : Object) (t n : ℕ) → Sound o → Does o (Command.Roll t) (Reply.Rolled n) o' →

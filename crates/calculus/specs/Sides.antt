@@ -1,5 +1,5 @@
 -- The step of an event with one side, and of one with two, from what the sides are asked.
-use Rattle.std.specs.Prelude.{cond, Option, Some, None}
+use Rattle.std.specs.Prelude.{cond, Option, None}
 use Rattle.std.specs.Option.{option_and_then}
 use Rattle.calculus.specs.Moves.{Place}
 use Rattle.calculus.specs.Steps.{State}

@@ -1,5 +1,5 @@
 -- The moves that a tree in memory offers, as they are gathered.
-use Rattle.std.specs.Prelude.{ℕ, List, [], ◌∷◌, ◌++◌}
+use Rattle.std.specs.Prelude.{List, [], ◌∷◌, ◌++◌}
 use Rattle.calculus.specs.Moves.{Place}
 use Rattle.calculus.specs.Events.{Located, at}
 use Rattle.calculus.specs.Answers.{move_of}

@@ -1,5 +1,5 @@
 // The laws of runs, each the contract of a function that does nothing.
-ghost use Rattle.calculus.specs.Laws.{NeighboursSwap, RunsWithout, RunsWithoutConsequences, CausesAlone, RespectingOrdersRun, OneState, EventsAreDistinct, ActingOnce, EarlierPlaces, RelatedAreOrdered, SameEventsRespect, OpeningIsWellFormed, StatesAreWellFormed, OneChoice, AllowedAreListed, ApartMovesMeet, ApartMovesWereOffered, RunAsFunction};
+ghost use Rattle.calculus.specs.Laws.{NeighboursSwap, RunsWithout, RunsWithoutConsequences, CausesAlone, RespectingOrdersRun, OneState, EventsAreDistinct, ActingOnce, EarlierPlaces, RelatedAreOrdered, SameEventsRespect, OrdersDependAlike, RunsDependAlike, OpeningIsWellFormed, StatesAreWellFormed, OneChoice, AllowedAreListed, AllowedWhereFormed, ApartMovesMeet, ApartMovesWereOffered, RunAsFunction};
 
 /// Two neighbours of a run swap unless the second depends directly on the first.
 pub fn neighbours_swap()
@@ -59,6 +59,14 @@ pub fn same_events()
     ensures { SameEventsRespect }
 {}
 
+/// The same events depend on an event in a list that runs and in its respecting orders, and so, under
+/// the rule on sharing, in any two lists that run and have the same events, with any two that are on
+/// one shared variable in the same order.
+pub fn same_dependents()
+    ensures orders { OrdersDependAlike }
+    ensures runs { RunsDependAlike }
+{}
+
 /// What every system opens with is well formed, and so is every state of a run.
 pub fn opening_is_well_formed()
     ensures opening { OpeningIsWellFormed }
@@ -70,13 +78,15 @@ pub fn one_choice()
     ensures { OneChoice }
 {}
 
-/// An event is allowed in a state of a run exactly where it is in the list of allowed events.
+/// An event is allowed in a state of a run, and in any whose residual is well formed, exactly where it
+/// is in the list of allowed events.
 pub fn allowed_are_listed()
-    ensures { AllowedAreListed }
+    ensures run { AllowedAreListed }
+    ensures formed { AllowedWhereFormed }
 {}
 
-/// Two moves that are offered at places apart can be made one after the other, in either order; and of two that are
-/// made so, the second was offered before the first.
+/// Two moves that are offered at places apart can be made one after the other, in either order; and in a well-formed
+/// residual, of two that are made so, the second was offered before the first.
 pub fn apart_moves_meet()
     ensures made { ApartMovesMeet }
     ensures offered { ApartMovesWereOffered }

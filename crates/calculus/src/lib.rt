@@ -28,11 +28,12 @@ pub use event::{Choice, Event, Kind};
 pub use laws::{
     acting_once, allowed_are_listed, apart_moves_meet, causes_alone, earlier_places,
     events_are_distinct, neighbours_swap, one_choice, one_state, opening_is_well_formed, ordered,
-    respecting_orders, run_as_function, runs_without, runs_without_consequences, same_events,
+    respecting_orders, run_as_function, runs_without, runs_without_consequences, same_dependents,
+    same_events,
 };
 pub use object_laws::{
-    back_then_forth_law, dependence_laws, least_rollback_law, ready_law, reply_laws, roll_laws,
-    rolled_value_law, soundness_laws, state_laws, step_laws, ticket_law, undo_laws,
+    back_then_forth_law, dependence_laws, least_rollback_law, limit_laws, ready_law, reply_laws,
+    roll_laws, rolled_value_law, soundness_laws, state_laws, step_laws, ticket_law, undo_laws,
 };
 pub use plain::Plain;
 pub use slow::{replay, replay_live};

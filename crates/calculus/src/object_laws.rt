@@ -1,5 +1,14 @@
 // The laws of one execution as an object, each a contract of a function that does nothing.
-ghost use Rattle.calculus.specs.ObjectLaws.{BeginsSound, StaysSound, StaysSoundOverLists, AnsweredJoins, StateInEveryOrder, StepsExactly, StepMakes, NotReadyExactly, LimitsExactly, StepThenUndo, UndoesExactly, UndoTakesOne, NeededExactly, RollsExactly, TicketsGrow, LeastRollback, BackThenForth, RolledValue, FollowsIsCauses, OneReply, SomeReply, StateAfterAnyCommands, FirstIsChosen, RollsValueExactly, ConsequencesExactly};
+ghost use Rattle.std.specs.Prelude.{◌≡◌};
+ghost use Rattle.calculus.specs.declared.command.TheConstants.{MOST_LIVE_EVENTS, LAST_TICKET};
+ghost use Rattle.calculus.specs.Object.{most_live, last_ticket};
+ghost use Rattle.calculus.specs.ObjectLaws.{BeginsSound, StaysSound, StaysSoundOverLists, AnsweredJoins, StateInEveryOrder, StepsExactly, StepMakes, NotReadyExactly, LimitsExactly, StepThenUndo, UndoesExactly, UndoTakesOne, NeededExactly, RollsExactly, TicketsGrow, LeastRollback, BackThenForth, RolledValue, FollowsIsCauses, OneReply, SomeReply, StateAfterAnyCommands, FirstIsChosen, RollsWhereLive, RollsValueWhereWritten, RollsValueExactly, ConsequencesExactly};
+
+/// The limits that the definitions name are the constants.
+pub fn limit_laws()
+    ensures most_live { MOST_LIVE_EVENTS ≡ most_live }
+    ensures last_ticket { LAST_TICKET ≡ last_ticket }
+{}
 
 /// What holds of an execution at its beginning holds after any commands.
 pub fn soundness_laws()
@@ -38,10 +47,13 @@ pub fn undo_laws()
     ensures needed { NeededExactly }
 {}
 
-/// A rollback leaves exactly the events that do not depend on its event; that of a variable is the
+/// An event is rolled back exactly where it is live, and that leaves exactly the events that do not
+/// depend on it. A variable is rolled back exactly where a live event wrote it, and that is the
 /// rollback of the event that is blamed for it.
 pub fn roll_laws()
+    ensures live { RollsWhereLive }
     ensures exactly { RollsExactly }
+    ensures written { RollsValueWhereWritten }
     ensures value { RollsValueExactly }
 {}
 

@@ -140,14 +140,20 @@ fn guards_of(alloc: Global, arms: &[Guarded]) -> Result<Items<Expression>, Alloc
     Ok(guards)
 }
 
+/// Equal labels in memory of their own.
+fn copied(alloc: Global, labels: &[u64]) -> Result<Items<u64>, AllocError>
+    ensures { IfOk result (λ made. made ≡ labels.now) }
+{
+    Ok(Items::from_vec(Vec::from_slice(alloc, labels)?))
+}
+
 /// The labels of the arms of a `case`.
 fn labels_of(alloc: Global, arms: &[Labelled]) -> Result<Items<Items<u64>>, AllocError>
     ensures { IfOk result (λ made. made ≡ map (λ a. a.labels) (map labelled_of arms.now)) }
 {
     let mut labels = Items::with_capacity(alloc, arms.len())?;
     for arm in arms {
-        let copy = Vec::from_slice(alloc, arm.labels.as_slice())?;
-        labels.push(Items::from_vec(copy))?;
+        labels.push(copied(alloc, arm.labels.as_slice())?)?;
     }
     Ok(labels)
 }

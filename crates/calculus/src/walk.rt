@@ -1,5 +1,5 @@
 // The moves that are offered now: a walk through what is left to do.
-ghost use Rattle.std.specs.Prelude.{◌≡◌, ◌*◌, [], ◌∷◌, ◌++◌, map, Some, None, true, false, IfOk};
+ghost use Rattle.std.specs.Prelude.{◌≡◌, ◌*◌, ◌^◌, ◌≤◌, [], ◌∷◌, ◌++◌, map, Some, None, true, false, IfOk, OnErr};
 ghost use Rattle.elaborate.specs.Expression as expression;
 ghost use Rattle.elaborate.specs.Translation.{expression_of};
 ghost use Rattle.elaborate.specs.Decisions.{decision_of};
@@ -209,14 +209,16 @@ fn with_entry(alloc: Global, place: &Address, entry: Entry) -> Result<Address, A
 
 /// The first act of this turn of a loop.
 fn act_of_turn(turn: u64) -> Result<u64, AllocError>
-    ensures { IfOk result (λ act. act ≡ 2 * turn) }
+    ensures act { IfOk result (λ act. act ≡ 2 * turn) }
+    ensures large { OnErr result (2 ^ 32 ≤ turn) }
 {
     Ok(u64::from(small(turn)?) * 2)
 }
 
 /// The number as one of a place or arm.
 fn small(number: u64) -> Result<u32, AllocError>
-    ensures { IfOk result (λ same. same ≡ number) }
+    ensures same { IfOk result (λ same. same ≡ number) }
+    ensures large { OnErr result (2 ^ 32 ≤ number) }
 {
     match u32::try_from(number) {
         Ok(same) => Ok(same),

@@ -1,1 +1,3 @@
+pub mod Built
 pub mod FaultLine
+pub mod Serving

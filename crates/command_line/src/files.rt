@@ -1,7 +1,7 @@
 //! Files that are read by their names.
 
-ghost use Rattle.std.specs.Prelude.{◌≡◌, IfErr};
-ghost use Rattle.command_line.specs.FaultLine.{IsReadFault};
+ghost use Rattle.std.specs.Prelude.{ℕ, List, Option, Some, MatchResult, ⊤};
+ghost use Rattle.command_line.specs.Serving.{NotHad};
 
 use crate::fault::Fault;
 use std::alloc::Global;
@@ -10,11 +10,16 @@ use std::io::ErrorKind;
 
 /// What reads a whole file by its name.
 pub trait Files {
+    /// Whether a name may hold these bytes, or nothing that can be read.
+    ghost holds: { Self → List ℕ → Option (List ℕ) → Type 0 };
+
     /// The bytes of the file `name`.
     ///
     /// Refused for want of memory, or because it is missing or cannot be read.
     fn read(&self, alloc: Global, name: &str) -> Result<Vec<u8>, Fault>
-        ensures { IfErr result IsReadFault };
+        ensures { MatchResult result
+            (λ bytes. holds self.now name.now (Some bytes.items))
+            (λ fault. NotHad (holds self.now name.now) fault) };
 }
 
 /// The files of the system.
@@ -30,6 +35,9 @@ impl<'a, R> Disk<'a, R> {
 }
 
 impl<R: fs::Files + AllocGlobal> Files for Disk<'_, R> {
+    // No contract says what the system's files hold.
+    ghost holds = { λ _ _ _. ⊤ };
+
     fn read(&self, _alloc: Global, name: &str) -> Result<Vec<u8>, Fault> {
         match fs::read(self.rt, name) {
             Ok(bytes) => Ok(bytes),

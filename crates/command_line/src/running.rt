@@ -1,47 +1,137 @@
 //! One run of the program, over whatever reads and writes.
 
-ghost use Rattle.std.specs.Prelude.{◌≡◌, ◌≤◌};
+ghost use Rattle.std.specs.Prelude.{◌≡◌, ◌≤◌, OnOk};
+ghost use Rattle.std.specs.Io.KnownBytes.{Appends};
+ghost use Rattle.command_line.specs.Serving.{Done, status_of, told_text, Checked, Session, ChecksFile, DebugsFiles, Serves};
 
 use crate::built::check_built;
 use crate::fault::Fault;
 use crate::files::Files;
 use crate::request::{Request, requested};
 use clap::Error;
-use debug_session::{accept, debug};
+use debug_session::{accept, debug, write_out};
 use std::alloc::Global;
 use std::convert::AsStr;
 use std::io;
 use std::io::{BufRead, Write};
 
-fn write_and_flush<W: Write>(out: &mut W, text: &[u8]) -> io::Result<()> {
-    out.write_all(text)?;
-    out.flush()
+/// Says whether the description is accepted.
+fn check_source<O: Write>(alloc: Global, source: &[u8], out: &mut O) -> Result<(), Fault>
+    ensures { Checked source.now (out.new ≡ out.old) (O.contents out.old) (O.contents out.new) result }
+{
+    accept(alloc, source, b"")?;
+    write_out(out, b"accepted\n")?;
+    Ok(())
 }
 
-fn check<F: Files, O: Write>(
-    alloc: Global,
-    file: &str,
-    files: &F,
-    out: &mut O,
-) -> Result<(), Fault> {
+/// Says whether the description in `file` is accepted.
+fn check<F: Files, O: Write>(alloc: Global, file: &str, files: &F, out: &mut O) -> Result<(), Fault>
+    ensures { ChecksFile (F.holds files.now) file.now (out.new ≡ out.old) (O.contents out.old) (O.contents out.new) result }
+{
     let source = files.read(alloc, file)?;
-    accept(alloc, source.as_slice(), b"")?;
-    write_and_flush(out, b"accepted\n").map_err(|_| Fault::WRITE_FAILED)
+    check_source(alloc, source.as_slice(), out)
 }
 
+/// Answers a script over the description, if it can be debugged today.
+fn answer_over<I: BufRead, O: Write>(
+    alloc: Global,
+    source: &[u8],
+    stimulus: &[u8],
+    reader: &mut I,
+    out: &mut O,
+) -> Result<(), Fault>
+    ensures { Session source.now stimulus.now ((reader.new ≡ reader.old) × (out.new ≡ out.old))
+        (I.remaining reader.old) (I.remaining reader.new) (O.contents out.old) (O.contents out.new) result }
+{
+    accept(alloc, source, stimulus)?;
+    check_built(alloc, source)?;
+    debug(alloc, reader, out, source, stimulus)?;
+    Ok(())
+}
+
+/// Answers a script over the description in `file`.
 fn answer_script<F: Files, I: BufRead, O: Write>(
     alloc: Global,
-    (file, stimulus): (&str, &str),
+    file: &str,
+    stimulus: &str,
     files: &F,
     reader: &mut I,
     out: &mut O,
-) -> Result<(), Fault> {
+) -> Result<(), Fault>
+    ensures { DebugsFiles (F.holds files.now) file.now stimulus.now ((reader.new ≡ reader.old) × (out.new ≡ out.old))
+        (I.remaining reader.old) (I.remaining reader.new) (O.contents out.old) (O.contents out.new) result }
+{
     let source = files.read(alloc, file)?;
-    let stimulus = files.read(alloc, stimulus)?;
-    accept(alloc, source.as_slice(), stimulus.as_slice())?;
-    check_built(alloc, source.as_slice())?;
-    debug(alloc, reader, out, source.as_slice(), stimulus.as_slice())?;
-    Ok(())
+    let values = files.read(alloc, stimulus)?;
+    answer_over(alloc, source.as_slice(), values.as_slice(), reader, out)
+}
+
+/// How a run ended.
+#[derive(Drop)]
+pub struct Ended {
+    /// The status to end with: 0 where all was done, 1 where it was refused.
+    pub status: u8,
+    /// Whether a refusal could be told on standard error.
+    pub told: io::Result<()>,
+}
+
+/// The end of a run whose work ended so. A refusal is told on `err`.
+fn finish<E: Write>(done: Result<(), Fault>, err: &mut E) -> Ended
+    ensures status { result.status ≡ status_of done }
+    ensures range { result.status ≤ 1 }
+    ensures told { OnOk result.told (Appends (E.contents err.old) (E.contents err.new) (told_text done)) }
+    ensures quiet { result.status ≡ 0 → err.new ≡ err.old }
+{
+    match done {
+        Ok(()) => Ended {
+            status: 0,
+            told: Ok(()),
+        },
+        Err(fault) => Ended {
+            status: 1,
+            told: fault.write(err),
+        },
+    }
+}
+
+/// Does what is asked for with the files that it names.
+fn perform<F: Files, I: BufRead, O: Write>(
+    alloc: Global,
+    request: Request<'_>,
+    files: &F,
+    reader: &mut I,
+    out: &mut O,
+) -> Result<(), Fault>
+    ensures { Serves (F.holds files.now) request.entry (reader.new ≡ reader.old) (out.new ≡ out.old)
+        (I.remaining reader.old) (I.remaining reader.new) (O.contents out.old) (O.contents out.new) result }
+{
+    match request {
+        Request::Check { file } => check(alloc, file, files, out),
+        Request::Debug { file, stimulus } => {
+            answer_script(alloc, file, stimulus, files, reader, out)
+        }
+    }
+}
+
+/// Does what is asked for with the files that it names, and tells on `err` why it ended early.
+pub fn serve<F: Files, I: BufRead, O: Write, E: Write>(
+    alloc: Global,
+    request: Request<'_>,
+    files: &F,
+    reader: &mut I,
+    out: &mut O,
+    err: &mut E,
+) -> Ended
+    ensures served { (done : Done)
+        × Serves (F.holds files.now) request.entry (reader.new ≡ reader.old) (out.new ≡ out.old)
+        (I.remaining reader.old) (I.remaining reader.new) (O.contents out.old) (O.contents out.new) done
+        × (result.status ≡ status_of done)
+        × OnOk result.told (Appends (E.contents err.old) (E.contents err.new) (told_text done)) }
+    ensures status { result.status ≤ 1 }
+    ensures quiet { result.status ≡ 0 → err.new ≡ err.old }
+{
+    let done = perform(alloc, request, files, reader, out);
+    finish(done, err)
 }
 
 /// Says why there is nothing to do: help was asked for, or the words are mistaken.
@@ -56,15 +146,8 @@ fn explain<O: Write, E: Write>(error: &Error, out: &mut O, err: &mut E) -> u8
     }
     match write!(out, "{error}") {
         Ok(()) => 0,
-        Err(_) => refuse(Fault::WRITE_FAILED, err),
+        Err(_) => finish(Err(Fault::WRITE_FAILED), err).status,
     }
-}
-
-fn refuse<E: Write>(fault: Fault, err: &mut E) -> u8
-    ensures { result ≡ 1 }
-{
-    let _ = fault.write(err);
-    1
 }
 
 /// Does what `words` ask for, of which the first is the program's name.
@@ -85,15 +168,8 @@ pub fn run<R: AllocGlobal, S: AsStr, F: Files, I: BufRead, O: Write, E: Write>(
     ensures done { result ≡ 0 → err.new ≡ err.old }
 {
     let alloc = rt.alloc();
-    let done = match requested(alloc, words) {
-        Ok(Request::Check { file }) => check(alloc, file, files, out),
-        Ok(Request::Debug { file, stimulus }) => {
-            answer_script(alloc, (file, stimulus), files, reader, out)
-        }
-        Err(error) => return explain(&error, out, err),
-    };
-    match done {
-        Ok(()) => 0,
-        Err(fault) => refuse(fault, err),
+    match requested(alloc, words) {
+        Ok(request) => serve(alloc, request, files, reader, out, err).status,
+        Err(error) => explain(&error, out, err),
     }
 }

@@ -1,5 +1,5 @@
 -- What a line asks for.
-use Rattle.std.proofs.Common.{◌≡◌, ℕ, Bool, true, false, IsTrue, List, [], ◌∷◌, ◌++◌, Option, Some, None, MatchOption, Result, Ok, Err, IfOk, refl, sym, ap, ◌∙◌, subst}
+use Rattle.std.proofs.Common.{◌≡◌, ℕ, true, false, List, [], ◌++◌, Option, Some, None, MatchOption, Result, Ok, Err, IfOk, IfErr, OnErr, ◌≢◌, ◌⊎◌, inr, refl, sym, ap, ◌∙◌, subst}
 use Rattle.std.proofs.lemmas.Bool.{false≢true}
 use Rattle.elaborate.specs.declared.system.System.{System}
 use Rattle.calculus.specs.declared.command.Command.{Command}
@@ -8,7 +8,9 @@ use Rattle.debug_session.specs.declared.word.Word.TheVariants as words
 use Rattle.debug_session.specs.EventText.{field}
 use Rattle.debug_session.specs.Fields.{BeginsField, CutAtSpace}
 use Rattle.debug_session.specs.Words.{spelling, is_offered, SpellsNothing}
-use Rattle.debug_session.specs.Lines.{IsNoVariable, IsNoChoice, AsksBy, AsksNothingBy, Asks, AsksNothing}
+use Rattle.debug_session.specs.declared.line.Line.{Line}
+use Rattle.debug_session.specs.declared.fault.Fault.{Fault}
+use Rattle.debug_session.specs.Lines.{IsNoVariable, IsNoChoice, MayBeChoice, MayBeStep, AsksBy, AsksNothingBy, Asks, AsksNothing, Says}
 use Rattle.debug_session.proofs.CutLemmas.{cut-same}
 use Rattle.debug_session.proofs.WordLemmas.{spelling-no-space, one-word}
 
@@ -95,3 +97,29 @@ pub asked-read : {E : Type 0} → (system : System) (line text rest : List ℕ) 
     → IfOk r (λ found. MatchOption found (AsksNothing system line) (λ c. Asks system line c))
 asked-read system line text rest w (Ok found) cut h on is = asked-found system line text rest w found cut h on is
 asked-read system line text rest w (Err e) cut h on is = tt
+
+-- only a line that may ask for a step takes memory
+pub asked-memory : {A E : Type 0} → (line text rest : List ℕ) (w : Word) (r : Result A E) → CutAtSpace line text rest
+    → spelling w ≡ text → OnErr r ((w ≡ words.Step) × MayBeChoice rest) → OnErr r (MayBeStep line)
+asked-memory line text rest w (Ok found) cut h is = tt
+asked-memory line text rest w (Err e) cut h is =
+    (rest, sym cut.joined ∙ ap (λ t. t ++ rest) (sym h ∙ ap spelling is.0), is.1)
+
+-- what a line says where a command was found, or none
+pub found-says : (system : System) (line : List ℕ) (number : ℕ) (found : Option Command) (r : Result Line Fault)
+    → MatchOption found (r ≡ Err (Fault.BadCommand number)) (λ c. r ≡ Ok (Line.Asked c))
+    → MatchOption found (AsksNothing system line) (λ c. Asks system line c) → IfOk r (λ said. Says system line said)
+found-says system line number None r e h = subst (λ x. IfOk x (λ said. Says system line said)) (sym e) tt
+found-says system line number (Some c) r e h = subst (λ x. IfOk x (λ said. Says system line said)) (sym e) h
+
+-- why a line says nothing
+abbrev pub Unsaid : System → List ℕ → ℕ → Fault → Type 0
+Unsaid system line number fault =
+    ((fault ≡ Fault.Memory) × MayBeStep line) ⊎ ((fault ≡ Fault.BadCommand number) × (line ≢ []) × AsksNothing system line)
+
+-- why a line says nothing where no command was found
+pub found-nothing : (system : System) (line : List ℕ) (number : ℕ) (found : Option Command) (r : Result Line Fault)
+    → MatchOption found (r ≡ Err (Fault.BadCommand number)) (λ c. r ≡ Ok (Line.Asked c)) → (line ≡ [] → ⊥)
+    → MatchOption found (AsksNothing system line) (λ c. Asks system line c) → IfErr r (Unsaid system line number)
+found-nothing system line number None r e some h = subst (λ x. IfErr x (Unsaid system line number)) (sym e) (inr (refl, some, h))
+found-nothing system line number (Some c) r e some h = subst (λ x. IfErr x (Unsaid system line number)) (sym e) tt

@@ -1,5 +1,5 @@
 -- Places and arms behind the word of a line.
-use Rattle.std.proofs.Common.{◌≡◌, ℕ, ◌<◌, List, [], ◌∷◌, ◌++◌, refl, sym, ap, ◌∙◌, subst, inl, inr}
+use Rattle.std.proofs.Common.{◌≡◌, ℕ, List, [], ◌∷◌, ◌++◌, Result, Ok, Err, OnErr, refl, sym, ap, ◌∙◌, subst, inl, inr}
 use Rattle.std.specs.Fmt.{decimal}
 use Rattle.address.specs.declared.Entry.{Entry}
 use Rattle.address.specs.declared.Entry.TheVariants.{Ordered, Branch}
@@ -8,7 +8,7 @@ use Rattle.address.specs.Reading.{IsTextOf, HasNoText}
 use Rattle.calculus.specs.declared.event.Choice.{Choice}
 use Rattle.debug_session.specs.EventText.{field}
 use Rattle.debug_session.specs.Fields.{BeginsField, CutAtSpace, IsNoField}
-use Rattle.debug_session.specs.Lines.{IsArm, IsNoArm, IsChoice, IsNoChoice}
+use Rattle.debug_session.specs.Lines.{IsArm, IsNoArm, IsChoice, IsNoChoice, MayBeChoice}
 use Rattle.debug_session.proofs.CutLemmas.{cut-same, tails, address-no-space}
 
 -- what stands for an arm is nothing or begins with a space
@@ -64,3 +64,9 @@ a-choice rest text place arm a n e cut some read is = (
   read.1,
   (arm, e ∙ (ap field (sym cut.joined) ∙ ap (λ t. field t ++ arm) (sym read.0)), is),
 )
+
+-- what may be a place and an arm may be a choice
+pub may-be-choice : {A E : Type 0} (r : Result A E) (rest text place arm : List ℕ) (n : ℕ) → rest ≡ field text → CutAtSpace text place arm
+    → (place ≡ [] → ⊥) → IsArm n arm → OnErr r (MayBeChoice rest)
+may-be-choice (Ok a) rest text place arm n e cut some is = tt
+may-be-choice (Err x) rest text place arm n e cut some is = (text, place, arm, e, cut, some, (n, is))

@@ -1,13 +1,15 @@
 -- How one line is answered.
-use Rattle.std.proofs.Common.{◌≡◌, ◌≢◌, ◌⊎◌, ℕ, List, [], ◌++◌, Option, MatchResult, Result, Ok, Err, refl, sym, subst, ◌∙◌, inl, inr}
+use Rattle.std.proofs.Common.{◌≡◌, ℕ, List, [], Option, MatchResult, Result, Ok, Err, refl, sym, subst, ◌∙◌, inl, inr}
 use Rattle.std.specs.Io.KnownBytes.{Appends}
 use Rattle.elaborate.specs.declared.system.System.{System}
 use Rattle.calculus.specs.Object.{Object}
+use Rattle.calculus.specs.declared.command.Command.{Command}
 use Rattle.debug_session.specs.declared.line.Line.{Line}
 use Rattle.debug_session.specs.declared.fault.Fault.{Fault}
-use Rattle.debug_session.specs.Lines.{Says, AsksNothing}
+use Rattle.debug_session.specs.Lines.{Asks, Says}
 use Rattle.debug_session.specs.Transcript.{SaidAnswered, LineAnswered}
 use Rattle.debug_session.specs.Pieces.{WritingStops, LineStops}
+use Rattle.debug_session.proofs.AskLemmas.{Unsaid}
 use Rattle.debug_session.proofs.KnownLemmas.{Appends-none}
 
 -- what came of a line
@@ -18,31 +20,32 @@ LineEnds s o line number o' held held' r =
 
 -- why a line says nothing
 unsaid : (s : System) (o : Object) (line : List ℕ) (number : ℕ) (fault : Fault)
-    → (fault ≡ Fault.Memory) ⊎ ((fault ≡ Fault.BadCommand number) × (line ≢ []) × AsksNothing s line) → LineStops s o line number [] fault
+    → Unsaid s line number fault → LineStops s o line number [] fault
 unsaid s o line number fault h =
     elim h [
-      | inl memory ↦ subst (LineStops s o line number []) (sym memory) refl
+      | inl memory ↦ subst (LineStops s o line number []) (sym memory.0) (refl, inr memory.1)
       | inr bad ↦ subst (LineStops s o line number []) (sym bad.0) (refl, refl, bad.1, bad.2)
     ]
 
 -- the line says nothing, and the result is its fault
 pub line-unsaid : (s t : System) (o o' : Object) (line : List ℕ) (number : ℕ) (held : Option (List ℕ)) (fault : Fault)
     (r : Result (Unit {0}) Fault) → t ≡ s
-    → (fault ≡ Fault.Memory) ⊎ ((fault ≡ Fault.BadCommand number) × (line ≢ []) × AsksNothing t line) → r ≡ Err fault
+    → Unsaid t line number fault → r ≡ Err fault
     → LineEnds s o line number o' held held r
 line-unsaid s t o o' line number held fault r same h e =
     subst (λ x. LineEnds s o line number o' held held x) (sym e) (
       [],
       Appends-none held,
-      unsaid s o line number fault
-          (subst (λ x. (fault ≡ Fault.Memory) ⊎ ((fault ≡ Fault.BadCommand number) × (line ≢ []) × AsksNothing x line)) same h),
+      unsaid s o line number fault (subst (λ x. Unsaid x line number fault) same h),
     )
 
 -- there was no memory for the answer
-pub line-unmade : (s : System) (o o' : Object) (line : List ℕ) (number : ℕ) (held : Option (List ℕ))
-    (r : Result (Unit {0}) Fault) → r ≡ Err Fault.Memory → LineEnds s o line number o' held held r
-line-unmade s o o' line number held r e =
-    subst (λ x. LineEnds s o line number o' held held x) (sym e) ([], Appends-none held, refl)
+pub line-unmade : (s t : System) (o o' : Object) (line : List ℕ) (number : ℕ) (held : Option (List ℕ)) (said : Line)
+    (r : Result (Unit {0}) Fault) → t ≡ s → Says t line said → (command : Command) × (said ≡ Line.Asked command)
+    → r ≡ Err Fault.Memory → LineEnds s o line number o' held held r
+line-unmade s t o o' line number held said r same says (command, asked) e =
+    let here : Asks s line command = subst (λ x. Asks x line command) same (subst (λ x. Says t line x) asked says) in
+    subst (λ x. LineEnds s o line number o' held held x) (sym e) ([], Appends-none held, (refl, inl (command, here)))
 
 -- the answer is written, or a beginning of it
 pub line-written : (s t : System) (o o' : Object) (line : List ℕ) (number : ℕ) (held held' : Option (List ℕ)) (said : Line)

@@ -1,5 +1,5 @@
 -- How far a session has come, and how it goes on.
-use Rattle.std.proofs.Common.{◌≡◌, ◌⊎◌, ℕ, suc, ◌+◌, List, [], ◌∷◌, ◌++◌, Bool, true, false, Option, Some, None, MatchResult, Result, Ok, Err, length, add-one, refl, sym, ap, ◌∙◌, subst, inl, inr, append_assoc, append-nil}
+use Rattle.std.proofs.Common.{◌≡◌, ℕ, suc, ◌+◌, List, [], ◌∷◌, ◌++◌, Bool, true, false, Option, Result, Ok, Err, length, add-one, refl, sym, ap, ◌∙◌, subst, inl, inr, append_assoc, append-nil}
 use Rattle.std.specs.Option.{IfSome}
 use Rattle.std.specs.List.{flat_map}
 use Rattle.std.specs.Io.KnownBytes.{Appends, Consumes, IsAtEnd}
@@ -11,8 +11,8 @@ use Rattle.calculus.specs.Object.{Object, new_object}
 use Rattle.calculus.specs.Opening.{opening}
 use Rattle.locked_execution.specs.Held.{Held, object}
 use Rattle.debug_session.specs.declared.fault.Fault.{Fault}
-use Rattle.debug_session.specs.Script.{with_end, IsNoEnd, IsLine, AreLines, IsEnding, EndWith}
-use Rattle.debug_session.specs.Transcript.{LineAnswered, Transcript, Answered, Completed, Stopped, Ends}
+use Rattle.debug_session.specs.Script.{with_end, IsNoEnd, IsLine, IsEnding, EndWith}
+use Rattle.debug_session.specs.Transcript.{LineAnswered, Transcript, Stopped, Ends}
 use Rattle.debug_session.specs.Pieces.{TakesLine, ReadingStops, LineStops}
 use Rattle.debug_session.proofs.KnownLemmas.{Appends-none, Consumes-none, Appends-then, Consumes-then, end-known}
 
@@ -96,16 +96,6 @@ session-done s o m o' read left left' wrote held held' number line answer p one 
   ),
 )
 
--- the lines so far and a part of the next
-lines-and-part : (lines : List (List ℕ)) (part : List ℕ) → Every IsLine lines → IsLine part → EndWith (flat_map with_end lines ++ part) lines part
-lines-and-part lines part h k = record {
-  tail = [];
-  joined = ap (λ t. flat_map with_end lines ++ t) (sym (append-nil part));
-  each = h;
-  unended = k;
-  ending = inr refl;
-}
-
 -- reading stopped
 pub session-unread : (s : System) (o m : Object) (read left left' wrote held : Option (List ℕ)) (number : ℕ) (line : List ℕ) (fault : Fault)
     → Progress s o read left wrote held m number → ReadingStops left left' line fault → Ends s o read left' wrote held (Err fault)
@@ -116,7 +106,7 @@ session-unread s o m read left left' wrote held number line fault p (one, takes,
   p.given,
   elim which [
     | inl memory ↦ subst (Stopped s o (flat_map with_end p.lines ++ line) p.output) (sym memory)
-        (p.lines, line, lines-and-part p.lines line p.each one, (m, p.answered))
+        (p.lines, line, (m, p.answered), inl (record { joined = refl; each = p.each; unended = one }))
     | inr failed ↦ subst (Stopped s o (flat_map with_end p.lines ++ line) p.output) (sym failed)
         (p.lines, line, record { joined = refl; each = p.each; unended = one }, (m, p.answered))
   ],
@@ -138,10 +128,10 @@ stopped-at : (s : System) (o m : Object) (lines : List (List ℕ)) (output line 
     → Every IsLine lines → IsLine line → IsEnding tail → Transcript s o lines output m → number ≡ suc (length lines)
     → LineStops s m line number given fault
     → Stopped s o (flat_map with_end lines ++ (line ++ tail)) (output ++ given) fault
-stopped-at s o m lines output line tail given number Fault.Memory h one e t c none =
+stopped-at s o m lines output line tail given number Fault.Memory h one e t c stops =
     subst (λ g. Stopped s o (flat_map with_end lines ++ (line ++ tail)) g Fault.Memory)
-    (sym (append-nil output) ∙ ap (λ g. output ++ g) (sym none))
-    (lines, line, lines-and-line lines line tail h one e, (m, t))
+    (sym (append-nil output) ∙ ap (λ g. output ++ g) (sym stops.0))
+    (lines, line, (m, t), inr (lines-and-line lines line tail h one e, stops.1))
 stopped-at s o m lines output line tail given number (Fault.BadCommand n) h one e t c stops =
     subst (λ g. Stopped s o (flat_map with_end lines ++ (line ++ tail)) g (Fault.BadCommand n))
     (sym (append-nil output) ∙ ap (λ g. output ++ g) (sym stops.0))
@@ -149,14 +139,17 @@ stopped-at s o m lines output line tail given number (Fault.BadCommand n) h one 
 stopped-at s o m lines output line tail given number Fault.WriteFailed h one e t c (answer, missing, o', a, parts) = (
   lines,
   line,
-  missing,
   lines-and-line lines line tail h one e,
-  (
-    o',
-    subst (λ g. Transcript s o (lines ++ line ∷ []) g o')
-        (ap (λ g. output ++ g) parts ∙ sym (append_assoc output given missing))
-        (transcript-push s o m o' lines output line answer t a),
-  ),
+  record {
+    answers = output;
+    before = m;
+    answered = t;
+    given = given;
+    missing = missing;
+    after = o';
+    last_answer = subst (λ text. LineAnswered s m line text o') parts a;
+    out = refl;
+  },
 )
 stopped-at s o m lines output line tail given number Fault.ReadFailed h one e t c stops = absurd stops
 stopped-at s o m lines output line tail given number (Fault.Lexer fault) h one e t c stops = absurd stops

@@ -8,7 +8,7 @@ use Rattle.debug_session.specs.declared.word.Word.{Word}
 use Rattle.debug_session.specs.declared.word.Word.TheVariants.{Step, Undo, Roll, RollValue, Blame, Ready, Consequences, Live, Value}
 use Rattle.debug_session.specs.Fields.{IsNoSpace}
 use Rattle.debug_session.specs.Words.{spelling, first_spelled, SpellsNothing}
-use Rattle.debug_session.proofs.CutLemmas.{clear, clear-by-test}
+use Rattle.debug_session.proofs.CutLemmas.{clear-by-test}
 
 -- all words
 abbrev pub all_words : List Word

@@ -1,5 +1,5 @@
 -- What it is for a source and a stimulus to be accepted, and to be refused.
-use Rattle.std.specs.Prelude.{◌≡◌, ◌⊎◌, ℕ, List, Ok}
+use Rattle.std.specs.Prelude.{◌≡◌, ◌≢◌, ◌⊎◌, ℕ, List, Ok}
 use Rattle.elaborate.specs.Elaboration as elaboration
 use Rattle.elaborate.specs.StimulusText.{lines, AreEntries, FirstOther}
 use Rattle.elaborate.specs.declared.fault.Fault as elaborate
@@ -8,10 +8,8 @@ use Rattle.elaborate.specs.declared.stimulus.Entry.{Entry}
 use Rattle.elaborate.specs.declared.system.System.{System}
 use Rattle.lexer.specs.Refusal as lexer
 use Rattle.lexer.specs.Tokens.{AreTokens}
-use Rattle.lexer.specs.declared.fault.Fault.TheVariants as no_tokens
 use Rattle.lexer.specs.declared.token.Token.{Token}
 use Rattle.parser.specs.Accepted as parser
-use Rattle.parser.specs.declared.fault.Fault.TheVariants as no_description
 use Rattle.sharing_check.specs.Refusal as sharing
 use Rattle.sharing_check.specs.declared.fault.Fault.TheVariants as not_shared
 use Rattle.syntax.specs.declared.declaration.Description.{Description}
@@ -46,22 +44,20 @@ MakesNone procedures stimulus fault =
     ((line : ℕ) × (fault ≡ no_system.BadStimulus line) × FirstOther 1 (lines stimulus) line)
     ⊎ ((entries : List Entry) × AreEntries 1 (lines stimulus) entries × elaboration.IsRefused procedures entries fault)
 
--- the first pass that refuses source and stimulus refuses them for this reason
+-- the first pass that refuses source and stimulus refuses them for this reason; want of memory is `Memory`, whichever
+-- pass met it
 abbrev pub IsRefused : List ℕ → List ℕ → Fault → Type 0
 IsRefused source stimulus Fault.Memory = Unit {0}
-IsRefused source stimulus (Fault.Lexer fault) = (fault ≡ no_tokens.Memory) ⊎ lexer.IsRefused source fault
+IsRefused source stimulus (Fault.Lexer fault) = lexer.IsRefused source fault
 IsRefused source stimulus (Fault.Parser fault) =
-    (fault ≡ no_description.Memory)
-    ⊎ ((tokens : List Token) × AreTokens source tokens × parser.IsRefused tokens fault)
+    (tokens : List Token) × AreTokens source tokens × parser.IsRefused tokens fault
 IsRefused source stimulus (Fault.Types fault) =
-    (fault ≡ not_typed.Memory)
-    ⊎ ((description : Description) × Describes source description × types.IsRefused (found_description description) fault)
+    (fault ≢ not_typed.Memory)
+    × ((description : Description) × Describes source description × types.IsRefused (found_description description) fault)
 IsRefused source stimulus (Fault.Elaborate fault) =
-    (fault ≡ no_system.Memory)
-    ⊎ ((procedures : List Procedure) × IsTyped source procedures × MakesNone procedures stimulus fault)
+    (procedures : List Procedure) × IsTyped source procedures × MakesNone procedures stimulus fault
 IsRefused source stimulus (Fault.Sharing fault) =
-    (fault ≡ not_shared.Memory)
-    ⊎ ((system : System) × Makes source stimulus system × sharing.Refuses system fault)
+    (fault ≢ not_shared.Memory) × ((system : System) × Makes source stimulus system × sharing.Refuses system fault)
 -- nothing else refuses them
 IsRefused source stimulus Fault.ReadFailed = ⊥
 IsRefused source stimulus Fault.WriteFailed = ⊥

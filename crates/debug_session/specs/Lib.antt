@@ -10,3 +10,4 @@ pub mod ReplyText
 pub mod Script
 pub mod Transcript
 pub mod Words
+pub mod Wrapping

@@ -1,5 +1,5 @@
 -- What the lines of a script ask for.
-use Rattle.std.specs.Prelude.{ℕ, ◌≡◌, ◌≢◌, ◌<◌, ◌^◌, ◌⊎◌, IsTrue, Some, List, [], ◌∷◌, ◌++◌}
+use Rattle.std.specs.Prelude.{ℕ, ◌≡◌, ◌≢◌, ◌<◌, ◌^◌, ◌⊎◌, IsTrue, Some, List, [], ◌++◌}
 use Rattle.std.specs.Fmt.{decimal}
 use Rattle.address.specs.Text.{text_of}
 use Rattle.address.specs.Reading.{NumbersFit}
@@ -10,6 +10,7 @@ use Rattle.calculus.specs.declared.command.Command.{Command}
 use Rattle.debug_session.specs.declared.line.Line.{Line}
 use Rattle.debug_session.specs.declared.word.Word.{Word}
 use Rattle.debug_session.specs.EventText.{field}
+use Rattle.debug_session.specs.Fields.{CutAtSpace}
 use Rattle.debug_session.specs.Words.{spelling, is_offered}
 
 -- a space and this number, which has 64 bits
@@ -45,6 +46,16 @@ IsChoice c rest =
 abbrev pub IsNoChoice : List ℕ → Type 0
 IsNoChoice rest = (c : Choice) → IsChoice c rest → ⊥
 
+-- a space, a text that may be a place, and an arm: only with this behind it does a line take memory to be read
+abbrev pub MayBeChoice : List ℕ → Type 0
+MayBeChoice rest =
+    (text : List ℕ) × (place : List ℕ) × (arm : List ℕ)
+    × (rest ≡ field text) × CutAtSpace text place arm × (place ≢ []) × ((n : ℕ) × IsArm n arm)
+
+-- the line may ask for a step: only such a line takes memory to be read
+abbrev pub MayBeStep : List ℕ → Type 0
+MayBeStep line = (rest : List ℕ) × (line ≡ spelling Word.Step ++ rest) × MayBeChoice rest
+
 -- the word, and `rest` behind it, ask for the command
 abbrev pub AsksBy : System → Word → List ℕ → Command → Type 0
 AsksBy system Word.Step rest c = (choice : Choice) × IsChoice choice rest × (c ≡ Command.Step choice)
@@ -72,6 +83,10 @@ pub record Asks (system : System) (line : List ℕ) (c : Command) : Type 0 where
 -- the line asks for no command
 abbrev pub AsksNothing : System → List ℕ → Type 0
 AsksNothing system line = (c : Command) → Asks system line c → ⊥
+
+-- an answer to the line may want memory: it asks for a command, or it may ask for a step
+abbrev pub LineMayWantMemory : System → List ℕ → Type 0
+LineMayWantMemory system line = ((c : Command) × Asks system line c) ⊎ MayBeStep line
 
 -- what the line says
 abbrev pub Says : System → List ℕ → Line → Type 0

@@ -4,7 +4,7 @@ use Rattle.std.specs.Io.KnownBytes.{Consumes, IsAtEnd}
 use Rattle.elaborate.specs.declared.system.System.{System}
 use Rattle.calculus.specs.Object.{Object}
 use Rattle.debug_session.specs.declared.fault.Fault.{Fault}
-use Rattle.debug_session.specs.Lines.{AsksNothing}
+use Rattle.debug_session.specs.Lines.{AsksNothing, LineMayWantMemory}
 use Rattle.debug_session.specs.Script.{IsLine, with_end}
 use Rattle.debug_session.specs.Transcript.{LineAnswered}
 
@@ -23,7 +23,7 @@ WritingStops bytes given fault = (fault ≡ Fault.WriteFailed) × ((missing : Li
 
 -- why the line of this number was not answered, and what was given of its answer
 abbrev pub LineStops : System → Object → List ℕ → ℕ → List ℕ → Fault → Type 0
-LineStops system o line number given Fault.Memory = given ≡ []
+LineStops system o line number given Fault.Memory = (given ≡ []) × LineMayWantMemory system line
 LineStops system o line number given (Fault.BadCommand n) = (given ≡ []) × (n ≡ number) × (line ≢ []) × AsksNothing system line
 LineStops system o line number given Fault.WriteFailed =
     (answer : List ℕ) × (missing : List ℕ) × (o' : Object) × LineAnswered system o line answer o' × (answer ≡ given ++ missing)

@@ -5,13 +5,12 @@ use Rattle.elaborate.specs.declared.system.System.{System}
 use Rattle.calculus.specs.Object.{Object, new_object}
 use Rattle.calculus.specs.Opening.{opening}
 use Rattle.calculus.specs.Does.{Answers}
-use Rattle.calculus.specs.declared.command.Command.{Command}
 use Rattle.calculus.specs.declared.command.Reply.{Reply}
 use Rattle.debug_session.specs.declared.line.Line.{Line}
 use Rattle.debug_session.specs.declared.fault.Fault.{Fault}
 use Rattle.debug_session.specs.Accepting.{Gives, IsRefused}
 use Rattle.debug_session.specs.ReplyText.{answer_text}
-use Rattle.debug_session.specs.Lines.{Says, AsksNothing}
+use Rattle.debug_session.specs.Lines.{Says, AsksNothing, LineMayWantMemory}
 use Rattle.debug_session.specs.Script.{AreLines, EndWith}
 
 -- a command is answered with the text of its reply; an empty line with nothing
@@ -34,6 +33,17 @@ Transcript system o (line ∷ lines) output o' =
 abbrev pub Answered : System → Object → List (List ℕ) → List ℕ → Type 0
 Answered system o lines output = (o' : Object) × Transcript system o lines output o'
 
+-- the lines are answered in full, and a beginning of the answer to `last` is out
+pub record BreaksOff (system : System) (o : Object) (lines : List (List ℕ)) (last output : List ℕ) : Type 0 where
+  pub answers : List ℕ
+  pub before : Object
+  pub answered : Transcript system o lines answers before
+  pub given : List ℕ
+  pub missing : List ℕ
+  pub after : Object
+  pub last_answer : LineAnswered system before last (given ++ missing) after
+  pub out : output ≡ answers ++ given
+
 -- the session took these bytes and came to their end: all lines are answered
 abbrev pub Completed : System → Object → List ℕ → List ℕ → Type 0
 Completed system o taken output =
@@ -44,17 +54,17 @@ abbrev pub Stopped : System → Object → List ℕ → List ℕ → Fault → T
 -- reading failed: the complete lines are answered
 Stopped system o taken output Fault.ReadFailed =
     (lines : List (List ℕ)) × (last : List ℕ) × AreLines taken lines last × Answered system o lines output
--- there was no memory for the last line: the lines before it are answered
+-- there was no memory to read the last line, or none to answer it: the lines before it are answered
 Stopped system o taken output Fault.Memory =
-    (lines : List (List ℕ)) × (last : List ℕ) × EndWith taken lines last × Answered system o lines output
+    (lines : List (List ℕ)) × (last : List ℕ) × Answered system o lines output
+    × (AreLines taken lines last ⊎ (EndWith taken lines last × LineMayWantMemory system last))
 -- the last line, of this number, says nothing that can be answered: the lines before it are answered
 Stopped system o taken output (Fault.BadCommand number) =
     (lines : List (List ℕ)) × (last : List ℕ) × EndWith taken lines last × Answered system o lines output
     × (number ≡ suc (length lines)) × (last ≢ []) × AsksNothing system last
--- writing failed: a beginning of the answers is out
+-- writing failed in the answer to the last line: nothing behind that line was taken
 Stopped system o taken output Fault.WriteFailed =
-    (lines : List (List ℕ)) × (last : List ℕ) × (missing : List ℕ) × EndWith taken lines last
-    × Answered system o (lines ++ last ∷ []) (output ++ missing)
+    (lines : List (List ℕ)) × (last : List ℕ) × EndWith taken lines last × BreaksOff system o lines last output
 -- no other fault comes once the session has begun
 Stopped system o taken output (Fault.Lexer fault) = ⊥
 Stopped system o taken output (Fault.Parser fault) = ⊥

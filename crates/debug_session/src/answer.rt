@@ -1,5 +1,6 @@
-ghost use Rattle.std.specs.Prelude.{◌≡◌, List, ℕ, MatchResult, IfOk};
+ghost use Rattle.std.specs.Prelude.{◌≡◌, List, ℕ, MatchResult, IfOk, OnErr};
 ghost use Rattle.std.specs.Io.KnownBytes.{Appends};
+ghost use Rattle.calculus.specs.declared.command.Command.{Command};
 ghost use Rattle.locked_execution.specs.Held.{object};
 ghost use Rattle.debug_session.specs.Pieces.{LineStops};
 ghost use Rattle.debug_session.specs.Transcript.{SaidAnswered, LineAnswered, Ends};
@@ -57,6 +58,7 @@ fn answer_line<W: Write>(
 fn answer_to(alloc: Global, desk: &mut Desk, said: &Line) -> Result<Vec<u8>, AllocError>
     ensures checked { desk.new.checked ≡ desk.old.checked }
     ensures answered { IfOk result (λ answer. SaidAnswered desk.old.checked (object desk.old) said.now answer.items (object desk.new)) }
+    ensures memory { OnErr result ((command : Command) × (said.now ≡ Line.Asked command)) }
 {
     let Line::Asked(command) = said else {
         return Ok(Vec::new(alloc));

@@ -1,6 +1,7 @@
 ghost use Rattle.std.specs.Prelude.{◌≡◌};
 ghost use Rattle.debug_session.specs.FaultNumbers.{fault_number, fault_field};
-ghost use Rattle.debug_session.specs.declared.fault.Fault.TheVariants.{Memory, Lexer, Parser, Types, Elaborate, Sharing};
+ghost use Rattle.debug_session.specs.Wrapping.{of_lexer, of_parser, of_types, of_elaborate, of_sharing};
+ghost use Rattle.debug_session.specs.declared.fault.Fault.TheVariants.{Memory};
 
 use std::alloc::{AllocError, AllocFailed};
 use thiserror::Error;
@@ -71,42 +72,57 @@ impl Fault {
 }
 
 impl From<lexer::Fault> for Fault {
-    ghost from_gives = { λ fault wrapped. wrapped ≡ Lexer fault };
+    ghost from_gives = { λ fault wrapped. wrapped ≡ of_lexer fault };
 
     fn from(fault: lexer::Fault) -> Fault {
-        Fault::Lexer(fault)
+        match fault {
+            lexer::Fault::Memory => Fault::Memory,
+            refused => Fault::Lexer(refused),
+        }
     }
 }
 
 impl From<parser::Fault> for Fault {
-    ghost from_gives = { λ fault wrapped. wrapped ≡ Parser fault };
+    ghost from_gives = { λ fault wrapped. wrapped ≡ of_parser fault };
 
     fn from(fault: parser::Fault) -> Fault {
-        Fault::Parser(fault)
+        match fault {
+            parser::Fault::Memory => Fault::Memory,
+            refused => Fault::Parser(refused),
+        }
     }
 }
 
 impl From<types::Fault> for Fault {
-    ghost from_gives = { λ fault wrapped. wrapped ≡ Types fault };
+    ghost from_gives = { λ fault wrapped. wrapped ≡ of_types fault };
 
     fn from(fault: types::Fault) -> Fault {
-        Fault::Types(fault)
+        match fault {
+            types::Fault::Memory => Fault::Memory,
+            refused => Fault::Types(refused),
+        }
     }
 }
 
 impl From<elaborate::Fault> for Fault {
-    ghost from_gives = { λ fault wrapped. wrapped ≡ Elaborate fault };
+    ghost from_gives = { λ fault wrapped. wrapped ≡ of_elaborate fault };
 
     fn from(fault: elaborate::Fault) -> Fault {
-        Fault::Elaborate(fault)
+        match fault {
+            elaborate::Fault::Memory => Fault::Memory,
+            refused => Fault::Elaborate(refused),
+        }
     }
 }
 
 impl From<sharing_check::Fault> for Fault {
-    ghost from_gives = { λ fault wrapped. wrapped ≡ Sharing fault };
+    ghost from_gives = { λ fault wrapped. wrapped ≡ of_sharing fault };
 
     fn from(fault: sharing_check::Fault) -> Fault {
-        Fault::Sharing(fault)
+        match fault {
+            sharing_check::Fault::Memory => Fault::Memory,
+            refused => Fault::Sharing(refused),
+        }
     }
 }
 

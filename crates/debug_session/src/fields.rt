@@ -1,9 +1,9 @@
 // What stands behind the word of a line.
-ghost use Rattle.std.specs.Prelude.{◌≡◌, ◌<◌, ◌^◌, MatchOption, IfOk};
+ghost use Rattle.std.specs.Prelude.{◌≡◌, ◌<◌, ◌^◌, MatchOption, IfOk, OnErr};
 ghost use Rattle.std.specs.Option.{SomeIff};
 ghost use Rattle.debug_session.specs.EventText.{field};
 ghost use Rattle.debug_session.specs.Fields.{CutAtSpace, IsFieldEnd, IsNoField};
-ghost use Rattle.debug_session.specs.Lines.{IsNumber, IsNoTicket, IsVariable, IsNoVariable, IsArm, IsNoArm, IsChoice, IsNoChoice};
+ghost use Rattle.debug_session.specs.Lines.{IsNumber, IsNoTicket, IsVariable, IsNoVariable, IsArm, IsNoArm, IsChoice, IsNoChoice, MayBeChoice};
 
 use crate::number::read_number;
 use calculus::Choice;
@@ -62,7 +62,8 @@ fn narrow(number: u64) -> Option<u32>
 
 /// The place and the arm.
 pub(crate) fn read_choice(alloc: Global, rest: &[u8]) -> Result<Option<Choice>, AllocError>
-    ensures { IfOk result (λ found. MatchOption found (IsNoChoice rest.now) (λ choice. IsChoice choice rest.now)) }
+    ensures found { IfOk result (λ found. MatchOption found (IsNoChoice rest.now) (λ choice. IsChoice choice rest.now)) }
+    ensures memory { OnErr result (MayBeChoice rest.now) }
 {
     let Some(text) = behind_space(rest) else {
         return Ok(None);

@@ -1,4 +1,5 @@
-ghost use Rattle.std.specs.Prelude.{◌≡◌, ◌⊎◌, ◌++◌, ◌∷◌, [], false, MatchResult, MatchBool};
+ghost use Rattle.std.specs.Prelude.{◌≡◌, ◌≢◌, ◌⊎◌, ◌++◌, ◌∷◌, [], false, MatchResult, MatchBool};
+ghost use Rattle.std.specs.IoError.{error_kind};
 ghost use Rattle.std.specs.Io.BufRead.{ends_with_byte};
 ghost use Rattle.debug_session.specs.Pieces.{TakesLine, ReadingStops};
 ghost use Rattle.debug_session.specs.declared.fault.Fault.TheVariants.{Memory, ReadFailed};
@@ -45,7 +46,8 @@ fn ends_line(line: &[u8]) -> bool
 
 /// What a failure of the reader is called.
 fn fault_of(error: &Error) -> Fault
-    ensures { (result ≡ Memory) ⊎ (result ≡ ReadFailed) }
+    ensures { ((result ≡ Memory) × (error_kind error.now ≡ ErrorKind.OutOfMemory))
+        ⊎ ((result ≡ ReadFailed) × (error_kind error.now ≢ ErrorKind.OutOfMemory)) }
 {
     if error.kind() == ErrorKind::OutOfMemory {
         Fault::Memory

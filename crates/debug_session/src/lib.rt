@@ -19,6 +19,7 @@ mod word;
 pub use fault::Fault;
 pub use laws::line_laws;
 pub use line::Line;
+pub use output::write_out;
 pub use read::read_command;
 pub use reply::write_reply;
 pub use whole::{accept, debug};

@@ -1,13 +1,14 @@
-ghost use Rattle.std.specs.Prelude.{◌≡◌, ◌≤◌, List, ℕ, length, take, MatchResult, IfErr};
+ghost use Rattle.std.specs.Prelude.{◌≡◌, ◌≢◌, ◌<◌, ◌≤◌, List, ℕ, length, take, MatchResult, IfErr};
+ghost use Rattle.std.specs.IoError.{error_kind};
 ghost use Rattle.std.specs.Io.KnownBytes.{Appends, Keeps};
 ghost use Rattle.debug_session.specs.declared.fault.Fault.TheVariants.{WriteFailed};
 ghost use Rattle.debug_session.specs.Pieces.{WritingStops};
 
 use crate::Fault;
-use std::io::{ErrorKind, Write};
+use std::io::{Error, ErrorKind, Write};
 
 /// Writes all the bytes and flushes. Where the writer fails, or takes no byte, it has taken a beginning of them.
-pub(crate) fn write_out<W: Write>(writer: &mut W, bytes: &[u8]) -> Result<(), Fault>
+pub fn write_out<W: Write>(writer: &mut W, bytes: &[u8]) -> Result<(), Fault>
     ensures { (given : List ℕ) × Appends (W.contents writer.old) (W.contents writer.new) given
         × MatchResult result (λ _. given ≡ bytes.now) (λ fault. WritingStops bytes.now given fault) }
 {
@@ -33,15 +34,32 @@ fn write_some<W: Write>(writer: &mut W, bytes: &[u8]) -> Result<usize, Fault>
         (λ fault. (fault ≡ WriteFailed) × Keeps (W.contents writer.old) (W.contents writer.new)) }
 {
     match writer.write(bytes) {
-        Ok(0) => Err(Fault::WriteFailed),
-        Ok(count) => Ok(count),
-        Err(error) => {
-            if error.kind() == ErrorKind::Interrupted {
-                Ok(0)
-            } else {
-                Err(Fault::WriteFailed)
-            }
-        }
+        Ok(count) => taken(count),
+        Err(error) => failed(&error),
+    }
+}
+
+/// What becomes of a write that took so many of some bytes: where it took none it would never end.
+fn taken(count: usize) -> Result<usize, Fault>
+    ensures { MatchResult result (λ taken. (taken ≡ count) × (0 < count)) (λ fault. (fault ≡ WriteFailed) × (count ≡ 0)) }
+{
+    if count == 0 {
+        Err(Fault::WriteFailed)
+    } else {
+        Ok(count)
+    }
+}
+
+/// What becomes of a write that failed: where it was interrupted it took none, and is made again.
+fn failed(error: &Error) -> Result<usize, Fault>
+    ensures { MatchResult result
+        (λ taken. (taken ≡ 0) × (error_kind error.now ≡ ErrorKind.Interrupted))
+        (λ fault. (fault ≡ WriteFailed) × (error_kind error.now ≢ ErrorKind.Interrupted)) }
+{
+    if error.kind() == ErrorKind::Interrupted {
+        Ok(0)
+    } else {
+        Err(Fault::WriteFailed)
     }
 }
 

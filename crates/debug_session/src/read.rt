@@ -1,5 +1,5 @@
-ghost use Rattle.std.specs.Prelude.{◌≡◌, ◌≢◌, ◌⊎◌, [], MatchOption, IfOk, IfErr};
-ghost use Rattle.debug_session.specs.Lines.{Asks, AsksBy, AsksNothing, AsksNothingBy, Says};
+ghost use Rattle.std.specs.Prelude.{◌≡◌, ◌≢◌, ◌⊎◌, [], Ok, Err, MatchOption, IfOk, IfErr, OnErr};
+ghost use Rattle.debug_session.specs.Lines.{Asks, AsksBy, AsksNothing, AsksNothingBy, MayBeChoice, MayBeStep, Says};
 ghost use Rattle.debug_session.specs.declared.word.Word.TheVariants as words;
 ghost use Rattle.debug_session.specs.declared.fault.Fault.TheVariants.{Memory, BadCommand};
 
@@ -14,7 +14,7 @@ use std::alloc::{AllocError, Global};
 /// What the line, without byte 10, says. `number` counts lines from 1 and is what a fault names.
 ///
 /// A line of no form, a number that is too large and the name of no variable are `BadCommand`. It is `Memory` if
-/// there is no memory.
+/// there is no memory for the place of a step; no other line takes any.
 pub fn read_command(
     alloc: Global,
     checked: &Checked,
@@ -22,12 +22,20 @@ pub fn read_command(
     number: u64,
 ) -> Result<Line, Fault>
     ensures line { IfOk result (λ said. Says checked.now line.now said) }
-    ensures fault { IfErr result (λ fault. (fault ≡ Memory) ⊎ ((fault ≡ BadCommand number) × (line.now ≢ []) × AsksNothing checked.now line.now)) }
+    ensures fault { IfErr result (λ fault. ((fault ≡ Memory) × MayBeStep line.now)
+        ⊎ ((fault ≡ BadCommand number) × (line.now ≢ []) × AsksNothing checked.now line.now)) }
 {
     if line.is_empty() {
         return Ok(Line::Empty);
     }
-    match read_asked(alloc, checked.system(), line)? {
+    asked(read_asked(alloc, checked.system(), line)?, number)
+}
+
+/// The line of this number that asks for the command, or for none.
+fn asked(found: Option<Command>, number: u64) -> Result<Line, Fault>
+    ensures { MatchOption found (result ≡ Err (BadCommand number)) (λ command. result ≡ Ok (Line.Asked command)) }
+{
+    match found {
         Some(command) => Ok(Line::Asked(command)),
         None => Err(Fault::BadCommand(number)),
     }
@@ -35,7 +43,8 @@ pub fn read_command(
 
 /// The command that the line asks for.
 fn read_asked(alloc: Global, system: &System, line: &[u8]) -> Result<Option<Command>, AllocError>
-    ensures { IfOk result (λ found. MatchOption found (AsksNothing system.now line.now) (λ command. Asks system.now line.now command)) }
+    ensures found { IfOk result (λ found. MatchOption found (AsksNothing system.now line.now) (λ command. Asks system.now line.now command)) }
+    ensures memory { OnErr result (MayBeStep line.now) }
 {
     let (text, rest) = cut_at_space(line);
     let Some(word) = Word::read(text) else {
@@ -54,7 +63,8 @@ fn read_behind(
     word: Word,
     rest: &[u8],
 ) -> Result<Option<Command>, AllocError>
-    ensures { IfOk result (λ found. MatchOption found (AsksNothingBy system.now word rest.now) (λ command. AsksBy system.now word rest.now command)) }
+    ensures found { IfOk result (λ found. MatchOption found (AsksNothingBy system.now word rest.now) (λ command. AsksBy system.now word rest.now command)) }
+    ensures memory { OnErr result ((word ≡ words.Step) × MayBeChoice rest.now) }
 {
     match word {
         Word::Step => match read_choice(alloc, rest)? {

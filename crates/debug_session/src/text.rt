@@ -5,7 +5,7 @@ ghost use Rattle.address.specs.Text.{text_of};
 ghost use Rattle.debug_session.specs.EventText.{field, variable_text, channel_text, value_text, arm_text, place_text};
 
 use address::Address;
-use elaborate::System;
+use elaborate::{QualifiedName, System};
 use std::alloc::AllocError;
 use std::io::Write;
 use value::Value;
@@ -30,6 +30,14 @@ pub(crate) fn add_decimal(out: &mut Vec<u8>, number: u64) -> Result<(), AllocErr
     ensures { OnOk result (out.new.items ≡ out.old.items ++ decimal number) }
 {
     write!(out, "{number}").map_err(|_| AllocError)
+}
+
+/// Adds a space and a name.
+fn add_name(out: &mut Vec<u8>, name: &QualifiedName) -> Result<(), AllocError>
+    ensures { OnOk result (out.new.items ≡ out.old.items ++ field name.now) }
+{
+    add_bytes(out, b" ")?;
+    name.write_to(out)
 }
 
 /// Adds a space and a number in decimal.
@@ -90,7 +98,7 @@ pub(crate) fn add_variable(
         return add_field(out, b"?");
     };
     match system.variable_name(number) {
-        Some(name) => add_field(out, name.text()),
+        Some(name) => add_name(out, name),
         None => add_field(out, b"?"),
     }
 }
@@ -107,7 +115,7 @@ pub(crate) fn add_channel(
         return add_field(out, b"?");
     };
     match system.channel_name(number) {
-        Some(name) => add_field(out, name.text()),
+        Some(name) => add_name(out, name),
         None => add_field(out, b"?"),
     }
 }

@@ -9,3 +9,4 @@ pub mod Sizes
 pub mod Calls
 pub mod PlaceLemmas
 pub mod LookupLemmas
+pub mod HashLemmas

@@ -1,12 +1,10 @@
 -- The places that an index holds, as the list that definitions speak of, and what is found there.
-use Rattle.std.proofs.Common.{◌≡◌, ℕ, ◌+◌, List, [], ◌∷◌, ◌++◌, map, Bool, true, false, cond, Option, Some, None, is_some, nat_eq, if◌then◌else◌, refl, ap, sym, ◌∙◌}
+use Rattle.std.proofs.Common.{◌≡◌, ℕ, ◌+◌, List, [], ◌∷◌, ◌++◌, map, Bool, true, false, cond, Option, Some, None, is_some, nat_eq, if◌then◌else◌, refl, ap, ◌∙◌}
 use Rattle.std.specs.Cmp.Lexicographic.{pointwise, nat_list_eq_equiv}
 use Rattle.std.specs.Map.{lookup}
-use Rattle.std.specs.Option.{option_or, option_and_then}
+use Rattle.std.specs.Option.{option_or}
 use Rattle.indexmap.specs.IndexMap.{insert_entry}
-use Rattle.elaborate.specs.Named.{variable_from, as_number}
 use Rattle.elaborate.specs.Places.{Placed, place_at, noted, noted_from, places_of}
-use Rattle.elaborate.specs.declared.system.Variable.{Variable}
 
 module _ {K : Type 0} (bytes : K → List ℕ) where
   -- the entry with the bytes of its key
@@ -94,25 +92,3 @@ place_at-noted_from es place (n ∷ ns) name =
 -- the place of a name is the first one at which it stands
 pub place_at-places_of : (ns : List (List ℕ)) (name : List ℕ) → place_at (places_of ns) name ≡ first_from 0 ns name
 place_at-places_of ns name = place_at-noted_from [] 0 ns name
-
--- a number of a variable is the place of its name
-pub variable_from-first : (place : ℕ) (vs : List Variable) (name : List ℕ)
-    → variable_from place vs name ≡ option_and_then as_number (first_from place (map (λ v. v.name) vs) name)
-variable_from-first place [] name = refl
-variable_from-first place (v ∷ vs) name = by (pointwise nat_eq v.name name) refl (variable_from-first (place + 1) vs name)
-  where
-    by : (b : Bool) → pointwise nat_eq v.name name ≡ b
-        → variable_from (place + 1) vs name ≡ option_and_then as_number (first_from (place + 1) (map (λ v. v.name) vs) name)
-        → variable_from place (v ∷ vs) name ≡ option_and_then as_number (first_from place (map (λ v. v.name) (v ∷ vs)) name)
-    by true same rest = rw same refl
-    by false other rest = rw other rest
-
-pub number-found : (vs : List Variable) (name : List ℕ)
-    → option_and_then as_number (place_at (places_of (map (λ v. v.name) vs)) name) ≡ variable_from 0 vs name
-number-found vs name = ap (option_and_then as_number) (place_at-places_of (map (λ v. v.name) vs) name) ∙ sym (variable_from-first 0 vs name)
-
--- the number at the place that an index holds
-pub number-read : (places : Placed) (vs now : List Variable) (name : List ℕ) (found place : Option ℕ)
-    → places ≡ places_of (map (λ v. v.name) vs) → vs ≡ now → found ≡ place_at places name → found ≡ place
-    → option_and_then as_number place ≡ variable_from 0 now name
-number-read places vs now name found place index same at is = rw (← is, at, index, ← same) (number-found vs name)

@@ -26,3 +26,5 @@ pub mod Root
 pub mod Elaboration
 pub mod Named
 pub mod Places
+pub mod Hashing
+pub mod SharedPrefix

@@ -1,12 +1,13 @@
 // The variables and channels of a system as they are made.
-ghost use Rattle.std.specs.Prelude.{◌≡◌, ◌++◌, [], length, IfOk, OnOk};
+ghost use Rattle.std.specs.Prelude.{◌≡◌, [], length, IfOk, OnOk};
 ghost use Rattle.elaborate.specs.Environment.{number_of};
 ghost use Rattle.elaborate.specs.PortKinds.{kind_of_port};
 
+use crate::prefix::Prefix;
 use crate::scope::{Entrance, Scope};
-use crate::{Channel, ChannelKind, Variable};
+use crate::{Channel, ChannelKind, QualifiedName, Variable};
 use std::alloc::{AllocError, Global};
-use syntax::{Items, Name};
+use syntax::Items;
 use types::{Local, LocalKind, Port, PortKind};
 
 /// What is made so far.
@@ -51,7 +52,12 @@ impl Made {
     }
 
     /// Makes a channel, and answers its number.
-    fn channel(&mut self, name: Name, kind: ChannelKind, declared: u64) -> Result<u32, AllocError>
+    fn channel(
+        &mut self,
+        name: QualifiedName,
+        kind: ChannelKind,
+        declared: u64,
+    ) -> Result<u32, AllocError>
         ensures number { IfOk result (λ number. number ≡ number_of (length self.old.channels)) }
         ensures made { OnOk result (self.new ≡ making.with_channel self.old name kind declared) }
     {
@@ -65,7 +71,7 @@ impl Made {
     }
 
     /// Makes the variable or channel of a local, and answers its number.
-    fn local(&mut self, name: Name, local: &Local) -> Result<u32, AllocError>
+    fn local(&mut self, name: QualifiedName, local: &Local) -> Result<u32, AllocError>
         ensures number { IfOk result (λ number. number ≡ making.number_for self.old local.now.kind) }
         ensures made { OnOk result (self.new ≡ making.with_local self.old name local.now.declared local.now.kind) }
     {
@@ -91,14 +97,14 @@ impl Made {
         &mut self,
         alloc: Global,
         locals: &[Local],
-        prefix: &[u8],
+        prefix: &Prefix,
     ) -> Result<Items<u32>, AllocError>
         ensures numbers { IfOk result (λ numbers. numbers ≡ (making.locals_onto [] prefix.now self.old locals.now).numbers) }
         ensures made { OnOk result (self.new ≡ (making.locals_onto [] prefix.now self.old locals.now).made) }
     {
         let mut numbers = Items::with_capacity(alloc, locals.len())?;
         for local in locals {
-            let name = joined(alloc, prefix, local.name.text())?;
+            let name = QualifiedName::new(prefix.clone()?, local.name.clone()?);
             numbers.push(self.local(name, local)?)?;
         }
         Ok(numbers)
@@ -116,7 +122,7 @@ impl Made {
         ensures made { OnOk result (self.new ≡ entered (making.locals_onto [] entrance.prefix self.old locals.now)) }
     {
         let Entrance { ports, prefix } = entrance;
-        let locals = self.locals(alloc, locals, prefix.as_slice())?;
+        let locals = self.locals(alloc, locals, &prefix)?;
         self.calls = 0;
         Ok(Scope {
             ports,
@@ -132,19 +138,9 @@ impl Made {
     {
         let mut numbers = Items::with_capacity(alloc, ports.len())?;
         for port in ports {
-            let name = port.name.clone()?;
+            let name = QualifiedName::new(Prefix::root(), port.name.clone()?);
             numbers.push(self.channel(name, kind_of_port(port.kind), port.declared)?)?;
         }
         Ok(numbers)
     }
-}
-
-/// The name with the prefix before it.
-fn joined(alloc: Global, prefix: &[u8], name: &[u8]) -> Result<Name, AllocError>
-    ensures { IfOk result (λ made. made ≡ prefix.now ++ name.now) }
-{
-    let mut text = Vec::new(alloc);
-    text.extend_from_slice(prefix)?;
-    text.extend_from_slice(name)?;
-    Ok(Name::from_vec(text))
 }

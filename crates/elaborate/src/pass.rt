@@ -10,11 +10,11 @@ use crate::environment::branches;
 use crate::lookups::{NamedEntries, NamedPorts};
 use crate::made::Made;
 use crate::ports::{misfit, value_count};
+use crate::prefix::Prefix;
 use crate::scope::Entrance;
 use crate::stimulus::Entry;
 use crate::{Fault, Stimulus, System, VariableTable};
 use std::alloc::{AllocError, Global};
-use syntax::Items;
 use types::{Port, Procedure, Typed};
 
 /// The one system that the description and the stimulus give: its last procedure is the root, whose body is the main
@@ -76,12 +76,13 @@ fn root_ports(procedures: &[Procedure]) -> &[Port]
     }
 }
 
-/// The system, which is known to be within its limits.
+/// The system, once it was counted: nothing past the limits is made.
 fn made_system(
     alloc: Global,
     procedures: &[Procedure],
     entries: &NamedEntries<'_>,
 ) -> Result<System, AllocError>
+    requires { IsSmall (model.whole_size procedures.now entries.now) }
     ensures { IfOk result (λ system. system ≡ model.system_of procedures.now entries.now) }
 {
     let ports = root_ports(procedures);
@@ -89,7 +90,7 @@ fn made_system(
     let mut made = Made::nothing(alloc);
     let entrance = Entrance {
         ports: made.ports(alloc, ports)?,
-        prefix: Items::new(alloc),
+        prefix: Prefix::root(),
     };
     let root = procedures.len().saturating_sub(1);
     let main = called_body(alloc, root, entrance, procedures, &mut made)?;

@@ -1,9 +1,9 @@
 // What the names of a procedure stand for where it is called.
 ghost use Rattle.std.specs.Prelude.{◌≡◌, IfOk};
-ghost use Rattle.elaborate.specs.Prefix.{prefix_of_call};
 ghost use Rattle.elaborate.specs.Operators.{operator_of};
 ghost use Rattle.elaborate.specs.Numbers.{number_at};
 
+use crate::prefix::Prefix;
 use crate::{Expression, Operator, Use};
 use std::alloc::{AllocError, Global};
 use syntax::{Boxed, Items};
@@ -18,7 +18,7 @@ pub struct Scope {
     /// the variable or channel made for each local
     pub locals: Items<u32>,
     /// what stands before the names that are made there
-    pub prefix: Items<u8>,
+    pub prefix: Prefix,
 }
 
 /// What a procedure is called with.
@@ -27,7 +27,7 @@ pub struct Entrance {
     /// the channel of each port
     pub ports: Items<u32>,
     /// what stands before the names that are made there
-    pub prefix: Items<u8>,
+    pub prefix: Prefix,
 }
 
 /// The number at the place, 0 where there are not so many.
@@ -84,8 +84,7 @@ impl Scope {
         ensures { IfOk result (λ made. made ≡ scopes.entrance_of self.now arguments.now call) }
     {
         let ports = self.channels(alloc, arguments)?;
-        let prefix = Items::from_vec(Vec::from_slice(alloc, self.prefix.as_slice())?);
-        let prefix = prefix_of_call(alloc, prefix, call)?;
+        let prefix = self.prefix.clone()?.of_call(alloc, call)?;
         Ok(Entrance { ports, prefix })
     }
 
@@ -104,7 +103,7 @@ impl Scope {
             locals: _,
             prefix,
         } = self;
-        let prefix = prefix_of_call(alloc, prefix, 1)?;
+        let prefix = prefix.of_call(alloc, 1)?;
         Ok(Entrance { ports, prefix })
     }
 
@@ -168,14 +167,4 @@ fn operator_of(operator: syntax::Operator) -> Operator
         syntax::Operator::LessOrEqual => Operator::Compare(Comparison::LessOrEqual),
         syntax::Operator::GreaterOrEqual => Operator::Compare(Comparison::GreaterOrEqual),
     }
-}
-
-/// The prefix of the names made for the call of this number, in the memory of the prefix around it.
-fn prefix_of_call(alloc: Global, prefix: Items<u8>, call: u64) -> Result<Items<u8>, AllocError>
-    ensures { IfOk result (λ made. made ≡ prefix_of_call prefix call) }
-{
-    let number = format!(in alloc; "{call}:")?;
-    let mut text = prefix.into_vec();
-    text.extend_from_slice(number.as_str().as_bytes())?;
-    Ok(Items::from_vec(text))
 }

@@ -1,13 +1,13 @@
 ghost use Rattle.std.specs.Prelude.{◌≡◌};
 
-use crate::{Command, VariableTable};
-use syntax::{Items, Name};
+use crate::{Command, QualifiedName, VariableTable};
+use syntax::Items;
 use value::{Value, Width};
 
 /// A variable. Its number is its place in the system's list, from 0.
 #[derive(Drop)]
 pub struct Variable {
-    pub name: Name,
+    pub name: QualifiedName,
     pub width: Width,
     /// whether branches of a parallel may share it
     pub shared: bool,
@@ -25,7 +25,7 @@ pub enum ChannelKind {
 /// A channel or a port. Its number is its place in the system's list, from 0.
 #[derive(Drop)]
 pub struct Channel {
-    pub name: Name,
+    pub name: QualifiedName,
     pub kind: ChannelKind,
     /// The offset in bytes of the name in its declaration, from 0.
     pub declared: u64,
@@ -67,7 +67,7 @@ impl System {
     }
 
     /// The name of the variable of this number.
-    pub fn variable_name(&self, number: u32) -> Option<&Name>
+    pub fn variable_name(&self, number: u32) -> Option<&QualifiedName>
         ensures { option_copied result ≡ named.variable_name_at self.now.variables number }
     {
         match self.variables.get(number as usize) {
@@ -77,7 +77,7 @@ impl System {
     }
 
     /// The name of the channel of this number.
-    pub fn channel_name(&self, number: u32) -> Option<&Name>
+    pub fn channel_name(&self, number: u32) -> Option<&QualifiedName>
         ensures { option_copied result ≡ named.channel_name_at self.now.channels number }
     {
         match self.channels.as_slice().get(number as usize) {

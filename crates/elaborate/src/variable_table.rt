@@ -1,11 +1,12 @@
 // The variables of a system by number and by name.
-ghost use Rattle.std.specs.Prelude.{◌≡◌, length, slice_get, map, IfOk, OnSome, ◌<◌};
+ghost use Rattle.std.specs.Prelude.{◌≡◌, ◌<◌, length, drop, slice_get, map, IfOk, OnSome};
 ghost use Rattle.std.specs.Option.{option_copied};
+ghost use Rattle.elaborate.specs.Hashing.{hash_of, places_of_hashes};
 ghost use Rattle.elaborate.specs.Named as named;
-ghost use Rattle.elaborate.specs.Places.{places_of};
 
 use crate::Variable;
-use crate::names::Places;
+use crate::hash::hash_onto;
+use crate::names::HashPlaces;
 use std::alloc::{AllocError, Global};
 use std::marker::Model;
 use syntax::Items;
@@ -15,8 +16,8 @@ use syntax::Items;
 pub struct VariableTable {
     /// by number
     variables: Items<Variable>,
-    /// the first number of each name
-    places: Places,
+    /// the first number of each hash of a name: two names of one hash are rare
+    places: HashPlaces,
 }
 
 impl Model for VariableTable {
@@ -25,11 +26,11 @@ impl Model for VariableTable {
 
     ghost Value = { List Variable };
 
-    ghost use Rattle.elaborate.specs.Places.{places_of};
+    ghost use Rattle.elaborate.specs.Hashing.{hash_of, places_of_hashes};
 
     ghost view = { λ table. table.variables };
 
-    ghost invariant = { λ table. table.places ≡ places_of (map (λ v. v.name) table.variables) };
+    ghost invariant = { λ table. table.places ≡ places_of_hashes (map (λ v. hash_of v.name) table.variables) };
 }
 
 impl VariableTable {
@@ -67,22 +68,34 @@ impl VariableTable {
     pub fn number(&self, name: &[u8]) -> Option<u32>
         ensures { result ≡ named.variable_from 0 self.now name.now }
     {
-        match self.places.find(name) {
-            Some(place) => as_number(place),
+        match self.places.find(hash_onto(0, name)) {
+            Some(place) => number_from(self.variables.as_slice(), place, name),
             None => None,
         }
     }
 }
 
-/// The first place of each name.
-fn first_places(alloc: Global, variables: &[Variable]) -> Result<Places, AllocError>
-    ensures { IfOk result (λ places. places ≡ places_of (map (λ v. v.name) variables.now)) }
+/// The first place of each hash of a name.
+fn first_places(alloc: Global, variables: &[Variable]) -> Result<HashPlaces, AllocError>
+    ensures { IfOk result (λ places. places ≡ places_of_hashes (map (λ v. hash_of v.name) variables.now)) }
 {
-    let mut places = Places::new(alloc);
+    let mut places = HashPlaces::new(alloc);
     for (place, variable) in variables.iter().enumerate() {
-        places.note(alloc, &variable.name, place)?;
+        places.note(variable.name.hash(), place)?;
     }
     Ok(places)
+}
+
+/// The number of the first variable of this name at this place or behind it.
+fn number_from(variables: &[Variable], first: usize, name: &[u8]) -> Option<u32>
+    ensures { result ≡ named.variable_from first (drop first variables.now) name.now }
+{
+    for place in first..variables.len() {
+        if variables[place].name.is(name) {
+            return as_number(place);
+        }
+    }
+    None
 }
 
 /// The place as a number of 32 bits.

@@ -119,3 +119,54 @@ pub const PULSE: Example = Example {
     source: "procedure p (sync s) is begin loop sync s end end",
     stimulus: "s * 1",
 };
+
+/// Variables that are read in no order, and one of them twice.
+pub const READER: Example = Example {
+    source: "procedure p is variable r, a, b, c : 8 bits begin r := ((c or a) and c as 8 bits) end",
+    stimulus: "",
+};
+
+/// Guards that are two variables, the later one first.
+pub const GUARDS: Example = Example {
+    source: "procedure p is variable x, y : 1 bits begin if y then x := 1 | x then y := 1 end end",
+    stimulus: "",
+};
+
+/// Each bit of a received value is turned.
+pub const INVERTER: Example = Example {
+    source: "procedure p (input i : 8 bits ; output o : 8 bits) is begin i -> then o <- not i end end",
+    stimulus: "i = 3",
+};
+
+/// Two received values in one expression.
+pub const ADDER: Example = Example {
+    source: "procedure p (input i, j : 8 bits ; output o : 8 bits) is
+        begin i -> then j -> then o <- (i + j as 8 bits) end end end",
+    stimulus: "i = 3\nj = 9",
+};
+
+/// A received value is looked for among labels.
+const LABELS: &str = "procedure p (input i : 8 bits) is variable x : 8 bits begin
+    i -> then case i of 1, 3 then x := 5 | 2 then x := 6 end end end";
+
+pub const FIRST_LABEL: Example = Example {
+    source: LABELS,
+    stimulus: "i = 1",
+};
+
+pub const SECOND_LABEL: Example = Example {
+    source: LABELS,
+    stimulus: "i = 3",
+};
+
+pub const SECOND_ARM: Example = Example {
+    source: LABELS,
+    stimulus: "i = 2",
+};
+
+/// A received value in a guard.
+pub const RECEIVED_GUARD: Example = Example {
+    source: "procedure p (input i : 8 bits) is variable x : 8 bits begin
+        i -> then if 0 = 1 then x := 5 | i = 3 then x := 6 end end end",
+    stimulus: "i = 3",
+};

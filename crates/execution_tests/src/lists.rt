@@ -8,14 +8,6 @@ use std::alloc::Global;
 use std::test::Fail;
 use syntax::Items;
 
-#[test]
-fn a_copy_is_equal(rt: HostRuntime) -> Result<(), Fail> {
-    let met = event(rt.alloc(), reading(meet(b"/0.1.0", b"/2.0", 1, 5)))?;
-    let copy = met.copy(rt.alloc())?;
-    assert!(rt; copy.equals(&met));
-    Ok(())
-}
-
 /// Whether the two events are the same one.
 fn are_equal(alloc: Global, first: Told, second: Told) -> Result<bool, Fail> {
     let first = event(alloc, first)?;
@@ -33,7 +25,7 @@ fn events_differ_by_each_of_their_parts(rt: HostRuntime) -> Result<(), Fail> {
         ("channel", meet(b"/0.1.0", b"/2.0", 0, 5)),
         ("value", meet(b"/0.1.0", b"/2.0", 1, 6)),
         ("written", into(met, 1)),
-        ("read", reading(met)),
+        ("read", reading(&[0], met)),
     ];
     for (what, other) in others {
         assert!(rt; !are_equal(rt.alloc(), met, other)?, "{what}");
@@ -123,6 +115,18 @@ fn these_events_are_allowed(rt: HostRuntime) -> Result<(), Fail> {
         ("assignment", BRANCHES, assign(b"/0/1.0", 1, 2), 2),
         ("handshake", SELECTION, handshake, 1),
         ("test", COUNTER, test(b"/0.0", Some(0)), 1),
+        (
+            "read in a sum",
+            READER,
+            reading(&[3, 1, 3], assign(b"/0", 0, 0)),
+            1,
+        ),
+        (
+            "read in guards",
+            GUARDS,
+            reading(&[1, 0], choosing(b"/0.0", None)),
+            1,
+        ),
     ];
     for (what, example, told, number) in cases {
         let found = allowed_with(rt.alloc(), example, told)?;

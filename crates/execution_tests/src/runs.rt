@@ -34,7 +34,7 @@ fn runs(alloc: Global, example: Example, told: &[Told]) -> Result<bool, Fail> {
 #[test]
 fn values_are_passed_on(rt: HostRuntime) -> Result<(), Fail> {
     let read = into(meet(b"/1.0.0", b"/0.1.0", 0, 5), 0);
-    let written = reading(meet(b"/0.1.1.0", b"/2.0", 1, 5));
+    let written = reading(&[0], meet(b"/0.1.1.0", b"/2.0", 1, 5));
     let told = [turn(b"/0.0"), read, written];
     assert_eq!(rt; number_after(rt.alloc(), BUFFER, &told, 0)?, Some(5));
     // There is one variable.
@@ -52,7 +52,7 @@ fn an_event_that_says_something_wrong_is_no_run(rt: HostRuntime) -> Result<(), F
         ("channel", into(meet(b"/1.0.0", b"/0.1.0", 1, 5), 0)),
         ("sides", into(meet(b"/0.1.0", b"/1.0.0", 0, 5), 0)),
         ("written variable", into(right, 1)),
-        ("read variable", reading(into(right, 0))),
+        ("read variable", reading(&[0], into(right, 0))),
         ("kind", sync(b"/1.0.0", b"/0.1.0", 0)),
     ];
     for (what, event) in wrong {
@@ -70,7 +70,7 @@ fn two_buffers_pass_a_value_on(rt: HostRuntime) -> Result<(), Fail> {
         turn(b"/0/0.0"),
         turn(b"/0/1.0"),
         into(meet(b"/1.0.0", b"/0/0.1.0", 0, 5), 0),
-        into(reading(meet(b"/0/0.1.1.0", b"/0/1.1.0", 2, 5)), 1),
+        into(reading(&[0], meet(b"/0/0.1.1.0", b"/0/1.1.0", 2, 5)), 1),
     ];
     assert_eq!(rt; number_after(rt.alloc(), BUFFERS, &told, 1)?, Some(5));
     Ok(())
@@ -176,5 +176,34 @@ fn handshakes_are_made(rt: HostRuntime) -> Result<(), Fail> {
     assert!(rt; runs(rt.alloc(), PULSE, &[turns[0], made, turns[1]])?);
     assert!(rt; !runs(rt.alloc(), PULSE, &[turns[0], made, turns[1], again])?);
     assert!(rt; !runs(rt.alloc(), PULSE, &[turns[0], turned])?);
+    Ok(())
+}
+
+#[test]
+fn received_values_stand_for_their_channels(rt: HostRuntime) -> Result<(), Fail> {
+    let first = open(b"/1.0.0", b"/0.0", 0, 0, Some(3));
+    let inverted = [first, meet(b"/0.1.0", b"/2.0", 1, 252)];
+    assert!(rt; runs(rt.alloc(), INVERTER, &inverted)?);
+    let second = open(b"/2.0.0", b"/0.1.0", 1, 0, Some(9));
+    let sum = [first, second, meet(b"/0.1.1.0", b"/3.0", 2, 12)];
+    assert!(rt; runs(rt.alloc(), ADDER, &sum)?);
+    Ok(())
+}
+
+#[test]
+fn received_values_decide(rt: HostRuntime) -> Result<(), Fail> {
+    let cases = [
+        ("first label", FIRST_LABEL, 1, 0, 5),
+        ("second label", SECOND_LABEL, 3, 0, 5),
+        ("second arm", SECOND_ARM, 2, 1, 6),
+        ("guard", RECEIVED_GUARD, 3, 1, 6),
+    ];
+    for (what, example, received, arm, number) in cases {
+        let opened = open(b"/1.0.0", b"/0.0", 0, 0, Some(received));
+        let chosen = choosing(b"/0.1.0", Some(arm));
+        let told = [opened, chosen, assign(b"/0.1.1", 0, number)];
+        let held = number_after(rt.alloc(), example, &told, 0)?;
+        assert_eq!(rt; held, Some(number), "{what}");
+    }
     Ok(())
 }

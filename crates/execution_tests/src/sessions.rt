@@ -1,4 +1,4 @@
-//! Sessions whose answers are known.
+//! Sessions whose answers are known, with lines and forms that the program does not offer yet.
 
 use crate::examples::*;
 use crate::told::place;
@@ -123,35 +123,6 @@ fn first_other(alloc: Global, example: Example, lines: &[Line]) -> Result<Option
     Ok(None)
 }
 
-const TWO_MEETINGS: &[Line] = &[
-    (Asked::Step(b"/2.0"), Told::Refused(Refusal::NotReady)),
-    (Asked::Step(b"/0.0"), Told::Stepped(1, Kind::Meet)),
-    (Asked::Step(b"/2.0"), Told::Stepped(2, Kind::Meet)),
-    (Asked::Live, Told::Live(&[1, 2])),
-    (Asked::Value(0), Told::Value(5)),
-    (Asked::Undo(1), Told::Refused(Refusal::NeededBy(2))),
-    (Asked::Undo(2), Told::Undone(2, Kind::Meet)),
-    (Asked::Undo(1), Told::Undone(1, Kind::Meet)),
-    (Asked::Value(0), Told::Value(0)),
-    (Asked::Undo(1), Told::Refused(Refusal::NoSuchEvent)),
-];
-
-const NEW_TICKET: &[Line] = &[
-    (Asked::Step(b"/0.0"), Told::Stepped(1, Kind::Meet)),
-    (Asked::Undo(1), Told::Undone(1, Kind::Meet)),
-    (Asked::Step(b"/0.0"), Told::Stepped(2, Kind::Meet)),
-];
-
-const ANY_ORDER: &[Line] = &[
-    (Asked::Step(b"/0/0"), Told::Stepped(1, Kind::Assign)),
-    (Asked::Step(b"/0/1.0"), Told::Stepped(2, Kind::Assign)),
-    (Asked::Step(b"/0/1.1"), Told::Stepped(3, Kind::Assign)),
-    (Asked::Undo(1), Told::Undone(1, Kind::Assign)),
-    (Asked::Value(0), Told::Value(0)),
-    (Asked::Value(1), Told::Value(3)),
-    (Asked::Undo(2), Told::Refused(Refusal::NeededBy(3))),
-];
-
 const ROLLBACK: &[Line] = &[
     (Asked::Step(b"/0/1.0"), Told::Stepped(1, Kind::Assign)),
     (Asked::Step(b"/0/0"), Told::Stepped(2, Kind::Assign)),
@@ -168,7 +139,9 @@ const BLAME: &[Line] = &[
     (Asked::Step(b"/0/1.0"), Told::Stepped(1, Kind::Assign)),
     (Asked::Step(b"/0/1.1"), Told::Stepped(2, Kind::Assign)),
     (Asked::Blame(1), Told::Blamed(2)),
+    (Asked::Value(1), Told::Value(3)),
     (Asked::RollValue(1), Told::Rolled(1)),
+    (Asked::Value(1), Told::Value(2)),
     (Asked::Blame(1), Told::Blamed(1)),
     (Asked::RollValue(1), Told::Rolled(1)),
     (Asked::RollValue(1), Told::Refused(Refusal::NeverWritten)),
@@ -202,14 +175,7 @@ const HANDSHAKES: &[Line] = &[
 
 #[test]
 fn sessions_are_answered(rt: HostRuntime) -> Result<(), Fail> {
-    let sessions: [(&str, Example, &[Line]); 8] = [
-        (
-            "two meetings are stepped and taken back",
-            ONCE,
-            TWO_MEETINGS,
-        ),
-        ("a ticket is not used again", ONCE, NEW_TICKET),
-        ("branches are undone in any order", BRANCHES, ANY_ORDER),
+    let sessions: [(&str, Example, &[Line]); 5] = [
         ("a rollback takes what depends", BRANCHES, ROLLBACK),
         ("the last writer is blamed", BRANCHES, BLAME),
         ("what is ready is in order", BRANCHES, READY),

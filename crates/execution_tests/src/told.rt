@@ -7,7 +7,7 @@ use std::alloc::{AllocError, Global};
 use std::test::Fail;
 use value::Value;
 
-/// An event in short: its places as texts, its value as a number of eight bits. It reads variable 0 or none.
+/// An event in short: its places as texts, its value as a number of eight bits, the variables that it reads.
 #[derive(Clone, Copy)]
 pub struct Told {
     kind: Kind,
@@ -17,7 +17,7 @@ pub struct Told {
     channel: Option<u32>,
     value: Option<u64>,
     written: Option<u32>,
-    reads: bool,
+    reads: &'static [u32],
 }
 
 /// An event at one place.
@@ -30,7 +30,7 @@ fn alone(kind: Kind, place: &'static [u8]) -> Told {
         channel: None,
         value: None,
         written: None,
-        reads: false,
+        reads: &[],
     }
 }
 
@@ -47,13 +47,17 @@ pub fn turn(place: &'static [u8]) -> Told {
     alone(Kind::Turn, place)
 }
 
-/// A test that reads variable 0.
-pub fn test(place: &'static [u8], arm: Option<u32>) -> Told {
+/// A test that reads no variable.
+pub fn choosing(place: &'static [u8], arm: Option<u32>) -> Told {
     Told {
         arm,
-        reads: true,
         ..alone(Kind::Test, place)
     }
+}
+
+/// A test that reads variable 0.
+pub fn test(place: &'static [u8], arm: Option<u32>) -> Told {
+    reading(&[0], choosing(place, arm))
 }
 
 /// An assignment of a constant.
@@ -67,10 +71,7 @@ pub fn assign(place: &'static [u8], variable: u32, value: u64) -> Told {
 
 /// An assignment to variable 0 that reads it.
 pub fn count(place: &'static [u8], value: u64) -> Told {
-    Told {
-        reads: true,
-        ..assign(place, 0, value)
-    }
+    reading(&[0], assign(place, 0, value))
 }
 
 /// A meeting that neither reads nor writes a variable.
@@ -89,12 +90,9 @@ pub fn into(meeting: Told, variable: u32) -> Told {
     }
 }
 
-/// The same, where variable 0 is read.
-pub fn reading(meeting: Told) -> Told {
-    Told {
-        reads: true,
-        ..meeting
-    }
+/// The same, where these variables are read.
+pub fn reading(reads: &'static [u32], event: Told) -> Told {
+    Told { reads, ..event }
 }
 
 /// An opening of an arm, with a value if there is one.
@@ -162,10 +160,11 @@ fn value_of(bits: Option<u64>) -> Option<Value> {
     Value::new(bits?, 8)
 }
 
-fn variables(alloc: Global, first: bool) -> Result<Variables, AllocError> {
+/// The variables, in any order, each of them any number of times.
+fn variables(alloc: Global, numbers: &[u32]) -> Result<Variables, AllocError> {
     let mut read = Variables::none(alloc);
-    if first {
-        read.insert(0)?;
+    for number in numbers {
+        read.insert(*number)?;
     }
     Ok(read)
 }

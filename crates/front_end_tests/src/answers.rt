@@ -1,17 +1,39 @@
-//! The texts of answers.
+//! The texts of answers to lines, and of events, that the program does not offer yet.
 
-use crate::one::checked;
-use address::{Address, read};
-use calculus::{Command, Event, Kind, Refusal, Reply};
+use crate::one::{ONE, checked};
+use address::{Address, Entry};
+use calculus::{Command, Event, Kind, Reply};
 use debug_session::{Line, write_reply};
 use elaborate::Variables;
-use std::alloc::Global;
+use sharing_check::Checked;
+use std::alloc::{AllocError, Global};
 use std::test::Fail;
 use syntax::Items;
 use value::Value;
 
-fn place(alloc: Global, text: &[u8]) -> Result<Address, Fail> {
-    Ok(read(alloc, text)?.ok_or("an address")?)
+/// A reply in short.
+#[derive(Clone, Copy)]
+enum Told {
+    /// that an event of this kind was taken, with an arm and the bits of a value
+    Stepped(Kind, Option<u32>, Option<u64>),
+    NoneReady,
+    /// that a turn may be taken
+    Ready,
+    Consequences,
+    Rolled,
+    Blamed,
+}
+
+/// `/1.0.0`
+fn sender(alloc: Global) -> Result<Address, AllocError> {
+    let entries = vec![in alloc; Entry::Branch(1), Entry::Ordered(0), Entry::Ordered(0)]?;
+    Ok(Address::from_vec(entries))
+}
+
+/// `/0.0`
+fn receiver(alloc: Global) -> Result<Address, AllocError> {
+    let entries = vec![in alloc; Entry::Branch(0), Entry::Ordered(0)]?;
+    Ok(Address::from_vec(entries))
 }
 
 /// The value of eight bits, where the number is below 256.
@@ -19,10 +41,15 @@ fn value_of(bits: Option<u64>) -> Option<Value> {
     Value::new(bits?, 8)
 }
 
-/// An event of this kind on channel 0 and variable 0, with a value of these bits where there are some.
-fn event(alloc: Global, kind: Kind, arm: Option<u32>, bits: Option<u64>) -> Result<Event, Fail> {
-    let first = place(alloc, b"/1.0.0")?;
-    let second = place(alloc, b"/0.0")?;
+/// An event on channel 0, between the sender and the receiver.
+fn event(
+    alloc: Global,
+    kind: Kind,
+    arm: Option<u32>,
+    bits: Option<u64>,
+) -> Result<Event, AllocError> {
+    let first = sender(alloc)?;
+    let second = receiver(alloc)?;
     Ok(Event {
         kind,
         first,
@@ -30,77 +57,82 @@ fn event(alloc: Global, kind: Kind, arm: Option<u32>, bits: Option<u64>) -> Resu
         arm,
         channel: Some(0),
         value: value_of(bits),
-        written: Some(0),
+        written: None,
         read: Variables::none(alloc),
     })
 }
 
-#[test]
-fn events_have_their_texts(rt: HostRuntime) -> Result<(), Fail> {
-    let cases: [(Kind, Option<u32>, Option<u64>, &str); 9] = [
-        (Kind::Assign, None, Some(5), "step 7 assign x 5 /1.0.0\n"),
-        (Kind::Turn, None, None, "step 7 turn /1.0.0\n"),
-        (Kind::Test, Some(2), None, "step 7 test 2 /1.0.0\n"),
-        (Kind::Test, None, None, "step 7 test none /1.0.0\n"),
-        (Kind::Meet, None, Some(5), "step 7 meet i 5 /1.0.0 /0.0\n"),
-        (
-            Kind::Open,
-            Some(1),
-            Some(5),
-            "step 7 open i 5 1 /1.0.0 /0.0\n",
-        ),
-        (Kind::Open, Some(0), None, "step 7 open i - 0 /1.0.0 /0.0\n"),
-        (Kind::Close, None, None, "step 7 close i /1.0.0 /0.0\n"),
-        (Kind::Sync, None, None, "step 7 sync i /1.0.0 /0.0\n"),
-    ];
-    for (kind, arm, bits, expected) in cases {
-        let event = event(rt.alloc(), kind, arm, bits)?;
-        let reply = Reply::Stepped(7, event);
-        let said = is_written(rt.alloc(), Command::Ready, reply, expected.as_bytes())?;
-        assert!(rt; said, "{expected}");
-    }
-    Ok(())
+/// The reply itself.
+fn reply(alloc: Global, told: Told) -> Result<Reply, AllocError> {
+    Ok(match told {
+        Told::Stepped(kind, arm, bits) => Reply::Stepped(7, event(alloc, kind, arm, bits)?),
+        Told::NoneReady => Reply::Ready(Items::new(alloc)),
+        Told::Ready => {
+            let turn = event(alloc, Kind::Turn, None, None)?;
+            Reply::Ready(Items::from_vec(vec![in alloc; turn]?))
+        }
+        Told::Consequences => Reply::Consequences(Items::from_vec(vec![in alloc; 3, 4]?)),
+        Told::Rolled => Reply::Rolled(3),
+        Told::Blamed => Reply::Blamed(3),
+    })
 }
 
-/// Whether the reply is written so in a session on `ONE`.
+/// Whether the reply is written so in a session on this system.
 fn is_written(
     alloc: Global,
-    command: Command,
-    reply: Reply,
-    expected: &[u8],
-) -> Result<bool, Fail> {
-    let checked = checked(alloc)?;
-    let text = write_reply(alloc, &checked, &Line::Asked(command), &reply)?;
-    Ok(text.as_slice() == expected)
+    checked: &Checked,
+    told: Told,
+    expected: &str,
+) -> Result<bool, AllocError> {
+    let reply = reply(alloc, told)?;
+    let text = write_reply(alloc, checked, &Line::Asked(Command::Ready), &reply)?;
+    Ok(text.as_slice() == expected.as_bytes())
 }
 
-#[test]
-fn replies_of_numbers_have_their_texts(rt: HostRuntime) -> Result<(), Fail> {
-    let alloc = rt.alloc();
-    assert!(rt; is_written(alloc, Command::Roll(2), Reply::Rolled(3), b"rolled 3\n")?);
-    assert!(rt; is_written(alloc, Command::Blame(0), Reply::Blamed(3), b"blame 3\n")?);
-    let needed = Reply::Refused(Refusal::NeededBy(3));
-    assert!(rt; is_written(alloc, Command::Undo(2), needed, b"refused 24 3\n")?);
-    Ok(())
-}
+const CASES: [(Told, &str); 12] = [
+    (
+        Told::Stepped(Kind::Turn, None, None),
+        "step 7 turn /1.0.0\n",
+    ),
+    (
+        Told::Stepped(Kind::Test, Some(2), None),
+        "step 7 test 2 /1.0.0\n",
+    ),
+    (
+        Told::Stepped(Kind::Test, None, None),
+        "step 7 test none /1.0.0\n",
+    ),
+    (
+        Told::Stepped(Kind::Open, Some(1), Some(5)),
+        "step 7 open i 5 1 /1.0.0 /0.0\n",
+    ),
+    (
+        Told::Stepped(Kind::Open, Some(0), None),
+        "step 7 open i - 0 /1.0.0 /0.0\n",
+    ),
+    (
+        Told::Stepped(Kind::Close, None, None),
+        "step 7 close i /1.0.0 /0.0\n",
+    ),
+    (
+        Told::Stepped(Kind::Sync, None, None),
+        "step 7 sync i /1.0.0 /0.0\n",
+    ),
+    (Told::NoneReady, "ready 0\n"),
+    (Told::Ready, "ready 1\n  turn /1.0.0\n"),
+    (Told::Consequences, "consequences 3 4\n"),
+    (Told::Rolled, "rolled 3\n"),
+    (Told::Blamed, "blame 3\n"),
+];
 
 #[test]
-fn replies_of_lists_have_their_texts(rt: HostRuntime) -> Result<(), Fail> {
-    let alloc = rt.alloc();
-    let ready = Reply::Ready(Items::new(alloc));
-    assert!(rt; is_written(alloc, Command::Ready, ready, b"ready 0\n")?);
-    let tickets = Reply::Consequences(Items::from_vec(vec![in alloc; 3, 4]?));
-    let asked = Command::Consequences(3);
-    assert!(rt; is_written(alloc, asked, tickets, b"consequences 3 4\n")?);
-    Ok(())
-}
-
-#[test]
-fn ready_events_have_their_text(rt: HostRuntime) -> Result<(), Fail> {
-    let alloc = rt.alloc();
-    let turn = event(alloc, Kind::Turn, None, None)?;
-    let ready = Reply::Ready(Items::from_vec(vec![in alloc; turn]?));
-    let expected = b"ready 1\n  turn /1.0.0\n";
-    assert!(rt; is_written(alloc, Command::Ready, ready, expected)?);
+fn answers_have_their_texts(rt: HostRuntime) -> Result<(), Fail> {
+    let checked = checked(rt.alloc(), ONE)?;
+    for (told, expected) in CASES {
+        assert!(rt;
+            is_written(rt.alloc(), &checked, told, expected)?,
+            "{expected}"
+        );
+    }
     Ok(())
 }

@@ -1,32 +1,23 @@
-//! Tests of the way from a source text and a stimulus to the elaborated system, and of the lines of a session. There is
-//! nothing else in this crate: a crate with tests is proved twice, with them and without.
+//! Tests of what the libraries of the front end and of the session show and no run of the program does: want of memory,
+//! readers and writers that fail, the answers to lines that come later, what is public beside them. The rest stands in
+//! tests/runs. There is nothing else in this crate: a crate with tests is proved twice, with them and without.
 #![tactic(auto)]
 
 #[cfg(test)]
 mod answers;
 #[cfg(test)]
-mod decisions;
-#[cfg(test)]
-mod elaboration;
-#[cfg(test)]
 mod expressions;
 #[cfg(test)]
-mod lines;
+mod faults;
 #[cfg(test)]
 mod one;
 #[cfg(test)]
 mod parsing;
 #[cfg(test)]
-mod passes;
-#[cfg(test)]
 mod sharing;
 #[cfg(test)]
-mod sizes;
-#[cfg(test)]
-mod stimuli;
+mod streams;
 #[cfg(test)]
 mod systems;
 #[cfg(test)]
 mod transcripts;
-#[cfg(test)]
-mod typing;

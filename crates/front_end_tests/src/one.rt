@@ -1,4 +1,4 @@
-//! A description for sessions: a value in and out again.
+//! Descriptions that are accepted, and one for sessions: a value in and out again.
 
 use debug_session::accept;
 use sharing_check::Checked;
@@ -10,6 +10,7 @@ variable x : byte begin i -> x ; o <- x end";
 
 pub const FIVE: &[u8] = b"i = 5\n";
 
-pub fn checked(alloc: Global) -> Result<Checked, Fail> {
-    Ok(accept(alloc, ONE, FIVE)?)
+/// The system of the source, with a stimulus that says nothing.
+pub fn checked(alloc: Global, source: &[u8]) -> Result<Checked, Fail> {
+    Ok(accept(alloc, source, b"")?)
 }

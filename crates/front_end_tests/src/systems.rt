@@ -1,11 +1,11 @@
 //! What a checked system tells of its branches, places, lines and names.
 
+use crate::one::checked;
 use address::{Address, read};
-use debug_session::accept;
+use elaborate::QualifiedName;
 use sharing_check::Checked;
-use std::alloc::{AllocError, Global};
+use std::alloc::Global;
 use std::test::Fail;
-use syntax::Name;
 
 /// A buffer with two places, in one loop, on the lines 2 to 4.
 const BUFFER: &[u8] =
@@ -30,163 +30,140 @@ select a then
 o <- a | b then
 o <- b end end end";
 
-fn place(alloc: Global, text: &str) -> Result<Address, Fail> {
-    Ok(read(alloc, text.as_bytes())?.ok_or("an address")?)
+/// What is told of a place.
+#[derive(Clone, Copy)]
+enum Told {
+    Branch(Option<u32>),
+    Line(Option<u64>),
+    /// whether a `select` opens there
+    Select(bool),
 }
 
-fn checked(alloc: Global, source: &[u8]) -> Result<Checked, Fail> {
-    Ok(accept(alloc, source, b"")?)
-}
-
-/// Whether there is a name, and it is this one.
-fn is_named(name: Option<&Name>, text: &str) -> bool {
-    match name {
-        Some(name) => name.text() == text.as_bytes(),
-        None => false,
+fn is_told(checked: &Checked, place: &Address, told: Told) -> bool {
+    match told {
+        Told::Branch(branch) => checked.branch(place) == branch,
+        Told::Line(line) => checked.line(place) == line,
+        Told::Select(opens) => checked.select(place) == opens,
     }
 }
 
+/// Places, and what is told of each.
+type Places = &'static [(&'static str, Told)];
+
+const IN_BUFFER: Places = &[
+    ("/0.0", Told::Branch(Some(0))),
+    ("/0.1.0", Told::Branch(Some(0))),
+    ("/1.0.0", Told::Branch(Some(1))),
+    ("/3.0", Told::Branch(None)),
+];
+
+const IN_ROW: Places = &[
+    ("/0/0.0", Told::Branch(Some(0))),
+    ("/0/1.1.0", Told::Branch(Some(1))),
+    ("/0/1", Told::Branch(Some(1))),
+    ("/0/2.0", Told::Branch(None)),
+    ("/0.0", Told::Branch(None)),
+    ("/1.0.0", Told::Branch(Some(2))),
+    ("/2.7", Told::Branch(Some(3))),
+    ("/3.0", Told::Branch(None)),
+    ("/0/0.0", Told::Line(Some(2))),
+    ("/0/0.1.0", Told::Line(Some(2))),
+    ("/0/1.3.1.0", Told::Line(Some(3))),
+    ("/0/1.3.1.1", Told::Line(Some(3))),
+    ("/0/1.3.1.2", Told::Line(None)),
+    ("/0/1.3.2", Told::Line(None)),
+    ("/0/2.0", Told::Line(None)),
+    ("/0.0", Told::Line(None)),
+    ("/1.0.0", Told::Line(None)),
+];
+
+/// The loop, the choice as it opens and as it closes, and what its arms do.
+const IN_MERGE: Places = &[
+    ("/0.2", Told::Line(Some(2))),
+    ("/0.3.0", Told::Line(Some(3))),
+    ("/0.3.2", Told::Line(Some(3))),
+    ("/0.3.1.0", Told::Line(Some(4))),
+    ("/0.1.0", Told::Select(true)),
+    ("/0.3.0", Told::Select(true)),
+    ("/0.0", Told::Select(false)),
+    ("/0.1.1.0", Told::Select(false)),
+    ("/0.1.2", Told::Select(false)),
+    ("/1.0.0", Told::Select(false)),
+];
+
+/// The first of the places of which something else is told.
+fn first_other(
+    alloc: Global,
+    checked: &Checked,
+    places: Places,
+) -> Result<Option<&'static str>, Fail> {
+    for (text, told) in places {
+        let place = read(alloc, text.as_bytes())?.ok_or("an address")?;
+        if !is_told(checked, &place, *told) {
+            return Ok(Some(*text));
+        }
+    }
+    Ok(None)
+}
+
+/// Sources with the numbers of their branches.
+const CASES: [(&[u8], u32, Places); 3] = [
+    (BUFFER, 3, IN_BUFFER),
+    (ROW, 4, IN_ROW),
+    (MERGE, 4, IN_MERGE),
+];
+
 #[test]
-fn branches_are_counted(rt: HostRuntime) -> Result<(), Fail> {
-    let cases: [(&[u8], u32); 3] = [(BUFFER, 3), (ROW, 4), (MERGE, 4)];
-    for (source, branches) in cases {
+fn places_have_branches_lines_and_selects(rt: HostRuntime) -> Result<(), Fail> {
+    for (source, branches, places) in CASES {
         let checked = checked(rt.alloc(), source)?;
         assert_eq!(rt; checked.branches(), branches);
+        assert_eq!(rt; first_other(rt.alloc(), &checked, places)?, None);
     }
     Ok(())
 }
 
-#[test]
-fn a_place_of_a_parallel_lies_in_a_branch(rt: HostRuntime) -> Result<(), Fail> {
-    let cases: [(&str, Option<u32>); 8] = [
-        ("/0/0.0", Some(0)),
-        ("/0/1.1.0", Some(1)),
-        ("/0/1", Some(1)),
-        ("/0/2.0", None),
-        ("/0.0", None),
-        ("/1.0.0", Some(2)),
-        ("/2.7", Some(3)),
-        ("/3.0", None),
-    ];
-    let checked = checked(rt.alloc(), ROW)?;
-    for (text, branch) in cases {
-        let place = place(rt.alloc(), text)?;
-        assert_eq!(rt; checked.branch(&place), branch, "{text}");
-    }
-    Ok(())
-}
-
-#[test]
-fn a_body_that_is_no_parallel_is_one_branch(rt: HostRuntime) -> Result<(), Fail> {
-    let cases: [(&str, Option<u32>); 4] = [
-        ("/0.0", Some(0)),
-        ("/0.1.0", Some(0)),
-        ("/1.0.0", Some(1)),
-        ("/3.0", None),
-    ];
-    let checked = checked(rt.alloc(), BUFFER)?;
-    for (text, branch) in cases {
-        let place = place(rt.alloc(), text)?;
-        assert_eq!(rt; checked.branch(&place), branch, "{text}");
-    }
-    Ok(())
-}
+const BEGINS: [(u64, bool); 6] = [
+    (0, false),
+    (1, false),
+    (2, true),
+    (3, true),
+    (4, true),
+    (5, false),
+];
 
 #[test]
 fn commands_begin_on_lines(rt: HostRuntime) -> Result<(), Fail> {
     let checked = checked(rt.alloc(), BUFFER)?;
-    let cases: [(u64, bool); 6] = [
-        (0, false),
-        (1, false),
-        (2, true),
-        (3, true),
-        (4, true),
-        (5, false),
-    ];
-    for (line, begins) in cases {
+    for (line, begins) in BEGINS {
         assert_eq!(rt; checked.begins(line), begins, "{line}");
     }
     Ok(())
 }
 
-#[test]
-fn a_place_has_the_line_of_its_command(rt: HostRuntime) -> Result<(), Fail> {
-    let cases: [(&str, Option<u64>); 9] = [
-        ("/0/0.0", Some(2)),
-        ("/0/0.1.0", Some(2)),
-        ("/0/1.3.1.0", Some(3)),
-        ("/0/1.3.1.1", Some(3)),
-        ("/0/1.3.1.2", None),
-        ("/0/1.3.2", None),
-        ("/0/2.0", None),
-        ("/0.0", None),
-        ("/1.0.0", None),
-    ];
-    let checked = checked(rt.alloc(), ROW)?;
-    for (text, line) in cases {
-        let place = place(rt.alloc(), text)?;
-        assert_eq!(rt; checked.line(&place), line, "{text}");
+/// Whether there is a name, and it is this one.
+fn is_named(name: Option<&QualifiedName>, text: &str) -> bool {
+    match name {
+        Some(name) => name.is(text.as_bytes()),
+        None => false,
     }
-    Ok(())
-}
-
-#[test]
-fn arms_have_the_line_of_the_first(rt: HostRuntime) -> Result<(), Fail> {
-    // The loop, the choice as it opens and as it closes, and what its arms do.
-    let cases: [(&str, Option<u64>); 4] = [
-        ("/0.2", Some(2)),
-        ("/0.3.0", Some(3)),
-        ("/0.3.2", Some(3)),
-        ("/0.3.1.0", Some(4)),
-    ];
-    let checked = checked(rt.alloc(), MERGE)?;
-    for (text, line) in cases {
-        let place = place(rt.alloc(), text)?;
-        assert_eq!(rt; checked.line(&place), line, "{text}");
-    }
-    Ok(())
-}
-
-#[test]
-fn a_select_opens_at_one_place_of_a_turn(rt: HostRuntime) -> Result<(), Fail> {
-    let cases: [(&str, bool); 6] = [
-        ("/0.1.0", true),
-        ("/0.3.0", true),
-        ("/0.0", false),
-        ("/0.1.1.0", false),
-        ("/0.1.2", false),
-        ("/1.0.0", false),
-    ];
-    let checked = checked(rt.alloc(), MERGE)?;
-    for (text, opens) in cases {
-        let place = place(rt.alloc(), text)?;
-        assert_eq!(rt; checked.select(&place), opens, "{text}");
-    }
-    Ok(())
-}
-
-#[test]
-fn names_are_those_of_the_system(rt: HostRuntime) -> Result<(), Fail> {
-    let buffer = checked(rt.alloc(), BUFFER)?;
-    assert_eq!(rt; buffer.variable(b"y"), Some(1));
-    assert!(rt; is_named(buffer.variable_name(0), "x"));
-    assert!(rt; is_named(buffer.channel_name(1), "o"));
-    let row = checked(rt.alloc(), ROW)?;
-    assert_eq!(rt; row.variable(b"1:x"), Some(0));
-    assert_eq!(rt; row.variable(b"x"), None);
-    assert!(rt; is_named(row.variable_name(1), "2:x"));
-    Ok(())
 }
 
 /// A clone of the system, which is gone itself.
-fn clone_alone(checked: Checked) -> Result<Checked, AllocError> {
-    checked.clone()
+fn cloned(alloc: Global) -> Result<Checked, Fail> {
+    let original = checked(alloc, ROW)?;
+    Ok(original.clone()?)
 }
 
 #[test]
 fn a_clone_outlives_the_original(rt: HostRuntime) -> Result<(), Fail> {
-    let clone = clone_alone(checked(rt.alloc(), ROW)?)?;
+    let clone = cloned(rt.alloc())?;
     assert_eq!(rt; clone.branches(), 4);
     assert_eq!(rt; clone.variable(b"2:x"), Some(1));
+    assert_eq!(rt; clone.variable(b"x"), None);
+    assert!(rt; is_named(clone.variable_name(1), "2:x"));
+    assert!(rt; clone.variable_name(2).is_none());
+    assert!(rt; is_named(clone.channel_name(2), "c"));
+    assert!(rt; clone.channel_name(3).is_none());
     Ok(())
 }

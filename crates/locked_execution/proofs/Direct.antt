@@ -1,10 +1,9 @@
 -- The first live event that depends directly on another is the first that depends on it.
-use Rattle.std.proofs.Common.{◌≡◌, ◌≢◌, ◌⊎◌, inl, inr, ℕ, suc, ◌<◌, ◌≤◌, List, [], ◌∷◌, ◌++◌, refl, sym, ap, subst, arith}
-use Rattle.elaborate.specs.Lists.{In, Every}
+use Rattle.std.proofs.Common.{◌≡◌, ◌⊎◌, inl, inr, ℕ, suc, ◌<◌, ◌≤◌, [], ◌∷◌, ◌++◌, refl, sym, ap, subst, arith}
 use Rattle.calculus.specs.Dependence.{Directly}
 use Rattle.calculus.specs.Live.{Live, Rising, LiveAt, Follows, same, later, Without, ended, stays, leaves, FirstDependent, NoDependent}
 use Rattle.calculus.specs.declared.event.Event.{Event}
-use Rattle.calculus.proofs.Lists.{every-in, in-left, in-right, in-parts}
+use Rattle.calculus.proofs.Lists.{every-in, in-right, in-parts}
 use Rattle.calculus.proofs.Tickets.{rising-in, rising-one, rising-parts}
 use Rattle.locked_execution.specs.Dependents.{NoneDirectly, FirstDirectly}
 

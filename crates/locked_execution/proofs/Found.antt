@@ -1,23 +1,22 @@
 -- What a loop over a list has found so far.
-use Rattle.std.proofs.Common.{◌≡◌, ◌⊎◌, ◌↔◌, inl, inr, ℕ, zero, suc, ◌+◌, ◌==◌, ◌<◌, ◌≤◌, List, [], ◌∷◌, ◌++◌, Bool, true, false, cond, length, take, drop, get_or, Option, Some, None, IsTrue, refl, sym, ◌∙◌, ap, subst, arith, slice_get}
+use Rattle.std.proofs.Common.{◌≡◌, ◌⊎◌, ◌↔◌, inl, inr, ℕ, zero, suc, ◌+◌, ◌==◌, ◌<◌, ◌≤◌, List, [], ◌∷◌, ◌++◌, Bool, true, false, cond, length, take, drop, get_or, Some, IsTrue, refl, sym, ◌∙◌, ap, subst, arith}
 use Rattle.std.proofs.lemmas.Bool.Decides.{nat_tests}
 use Rattle.std.specs.Prelude.{nat_lt}
 use Rattle.std.specs.Ordering.{is_lt}
-use Rattle.std.specs.Option.{option_map}
 use Rattle.std.specs.declared.cmp.Ordering.{Ordering}
 use Rattle.std.specs.declared.cmp.Ordering.TheVariants.{Equal}
-use Rattle.elaborate.specs.Lists.{In, Every}
+use Rattle.elaborate.specs.Lists.{In}
 use Rattle.elaborate.specs.Expression.{is_in}
 use Rattle.address.specs.Order.{order_of}
 use Rattle.calculus.specs.Events.{acting}
 use Rattle.calculus.specs.Dependence.{Directly, WritesFor}
 use Rattle.calculus.specs.Choices.{choice_of}
 use Rattle.calculus.specs.Ready.{other}
-use Rattle.calculus.specs.Live.{Live, LiveAt, NoneAt, events}
+use Rattle.calculus.specs.Live.{Live, LiveAt, NoneAt}
 use Rattle.calculus.specs.declared.event.Event.{Event}
 use Rattle.calculus.specs.declared.event.Choice.{Choice}
 use Rattle.calculus.proofs.Options.{some-injective}
-use Rattle.calculus.proofs.Lists.{in-left, in-right, in-parts, every-in, every-of}
+use Rattle.calculus.proofs.Lists.{in-parts, every-in, every-of}
 use Rattle.locked_execution.specs.Choosing.{HasNone}
 use Rattle.locked_execution.specs.Dependents.{StandsAt, NoneDirectly, FirstDirectly}
 use Rattle.locked_execution.specs.Sorting.{sooner_by, is_sooner}

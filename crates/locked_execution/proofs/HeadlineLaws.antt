@@ -1,5 +1,5 @@
 -- What a designer may rely on holds of every sound execution.
-use Rattle.std.proofs.Common.{◌≡◌, ℕ, ◌+◌, ◌<◌, ◌≤◌, List, [], ◌∷◌, ◌++◌, length, take, get_or, refl, sym, ◌∙◌, ap, subst, arith}
+use Rattle.std.proofs.Common.{◌≡◌, ℕ, ◌+◌, ◌<◌, ◌≤◌, List, [], ◌∷◌, ◌++◌, length, take, get_or, refl, sym, ◌∙◌, ap, subst}
 use Rattle.elaborate.specs.Lists.{Every}
 use Rattle.calculus.specs.Object.{Object}
 use Rattle.calculus.specs.Does.{Answers}
@@ -10,8 +10,8 @@ use Rattle.calculus.specs.declared.command.Reply.{Reply}
 use Rattle.calculus.specs.Opening.{opening}
 use Rattle.calculus.specs.Live.{Live}
 use Rattle.elaborate.specs.declared.system.System.{System}
-use Rattle.calculus.proofs.ObjectLaws.{begins-sound, state-in-every-order, step-then-undo, undoes-exactly, needed-exactly, rolls-exactly, tickets-grow, answered-joins, stays-over-lists}
-use Rattle.calculus.proofs.SomeReplies.{steps-exactly}
+use Rattle.calculus.proofs.ObjectLaws.{begins-sound, state-in-every-order, step-then-undo, undoes-exactly, needed-exactly, rolls-exactly, rolls-value-exactly, tickets-grow, answered-joins}
+use Rattle.calculus.proofs.SomeReplies.{steps-exactly, rolls-where-live, rolls-value-where-written}
 use Rattle.calculus.proofs.Lists.{every-in}
 use Rattle.locked_execution.specs.Asked.{asked}
 use Rattle.locked_execution.specs.Headline.{Headline, Grows}
@@ -32,7 +32,10 @@ headline o s =
       restores = λ m c t e does. step-then-undo o m c t e s does;
       undoes = λ t e live. undoes-exactly o t e s live;
       needed = λ t u e live. needed-exactly o t u e s live;
+      rolled = λ t. rolls-where-live o t s;
       rolls = λ o' t n does. rolls-exactly o o' t n s does;
+      value_rolled = λ x. rolls-value-where-written o x s;
+      rolls_value = λ o' x n does. let roll = (rolls-value-exactly o o' x n).0 does in (roll.0, roll.1.0, roll.2);
     }
 
 pub grows : (o o' : Object) (cs : List Command) (replies : List Reply) → Sound o → Answered o cs replies o' → Grows o o'

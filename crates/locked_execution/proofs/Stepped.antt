@@ -1,8 +1,8 @@
 -- What a step answers, from the state and the ready list.
-use Rattle.std.proofs.Common.{◌≡◌, inl, inr, ℕ, suc, ◌<◌, ◌≤◌, List, ◌∷◌, ◌++◌, length, take, drop, get_or, Option, Some, None, Result, refl, sym, ◌∙◌, ap, subst, slice_get}
-use Rattle.std.specs.Prelude.{IfOk}
+use Rattle.std.proofs.Common.{◌≡◌, inl, inr, ℕ, suc, ◌<◌, ◌≤◌, List, length, take, drop, get_or, Option, Some, None, Result, Ok, Err, refl, sym, ◌∙◌, ap, subst, slice_get}
+use Rattle.std.specs.Prelude.{IfOk, OnOk, OnErr, MatchOption, MatchResult}
 use Rattle.std.proofs.lemmas.Result.{IfOk-weaker}
-use Rattle.elaborate.specs.Lists.{In}
+use Rattle.value.specs.Word.{Word}
 use Rattle.calculus.specs.Steps.{State}
 use Rattle.calculus.specs.StepOf.{run_of}
 use Rattle.std.specs.Option.{option_map}
@@ -10,7 +10,7 @@ use Rattle.calculus.specs.Live.{Live, events}
 use Rattle.calculus.specs.Choices.{choice_of}
 use Rattle.calculus.specs.Ready.{ReadyList, Possible, Chosen}
 use Rattle.calculus.specs.Object.{Object, Reaches, most_live, last_ticket, with_event}
-use Rattle.calculus.specs.Does.{Answers}
+use Rattle.calculus.specs.Does.{Does, Answers, MayWantMemory, RefusesStep}
 use Rattle.calculus.specs.Sound.{Sound}
 use Rattle.calculus.specs.Plain.{state_of}
 use Rattle.calculus.specs.WellFormed.{WellFormed}
@@ -19,13 +19,14 @@ use Rattle.calculus.specs.declared.event.Choice.{Choice}
 use Rattle.calculus.specs.declared.plain.Plain.{Plain}
 use Rattle.calculus.specs.declared.command.Command.{Command}
 use Rattle.calculus.specs.declared.command.Reply.{Reply}
-use Rattle.calculus.specs.declared.command.Refusal.TheVariants.{NotReady, HistoryFull, Spent, Memory}
+use Rattle.calculus.specs.declared.command.Refusal.{Refusal}
+use Rattle.calculus.specs.declared.command.Refusal.TheVariants.{NotReady, HistoryFull, NeverWritten, Spent, Memory}
 use Rattle.calculus.proofs.Options.{none-some}
 use Rattle.calculus.proofs.StepOf.{run-found, run-only}
 use Rattle.calculus.proofs.Orders.{run-formed}
 use Rattle.calculus.proofs.Effects.{sound-formed}
 use Rattle.calculus.proofs.ReadyLists.{first-chosen}
-use Rattle.locked_execution.specs.Choosing.{HasNone, FirstWith}
+use Rattle.locked_execution.specs.Choosing.{HasNone, FirstWith, NotTaken}
 use Rattle.locked_execution.proofs.Entries.{parts-at, got-at}
 
 -- the live events run
@@ -47,36 +48,61 @@ ready-of o p r reaches i =
     IfOk-weaker r (λ es. ReadyList (state_of p) es) (λ es. (T : State) × Reaches o T × ReadyList T es) (λ es h. (state_of p, reaches, h)) i
 
 -- no event of the ready list has the choice
-pub chosen-none : (o : Object) (c : Choice) (es : List Event) → (T : State) × Reaches o T × ReadyList T es → HasNone c es
-    → (T : State) × Reaches o T × (Possible T c → ⊥)
-chosen-none o c es h none = (h.0, h.1, λ p. none p.0 ((h.2.exactly p.0).1 p.1) p.2)
+chosen-none : (T : State) (c : Choice) (es : List Event) → ReadyList T es → HasNone c es → Possible T c → ⊥
+chosen-none T c es ready none p = none p.0 ((ready.exactly p.0).1 p.1) p.2
 
 -- the first event of the ready list with the choice
-pub chosen-first : (o : Object) (c : Choice) (es : List Event) (i : ℕ) (e : Event) → (T : State) × Reaches o T × ReadyList T es →
-    slice_get es i ≡ Some e → choice_of e ≡ c → HasNone c (take i es) → (T : State) × Reaches o T × Chosen T c e
-chosen-first o c es i e h at same none = (
-  h.0,
-  h.1,
-  first-chosen h.0 c (take i es) (drop (suc i) es) e (subst (λ (k : List Event). ReadyList h.0 k) (parts-at es i e at) h.2) same none,
-)
+chosen-first : (T : State) (c : Choice) (es : List Event) (i : ℕ) (e : Event) → ReadyList T es → slice_get es i ≡ Some e → choice_of e ≡ c → HasNone c (take i es) →
+    Chosen T c e
+chosen-first T c es i e ready at same none =
+    first-chosen T c (take i es) (drop (suc i) es) e (subst (λ (k : List Event). ReadyList T k) (parts-at es i e at) ready) same none
 
-module _ (o : Object) (c : Choice) (T : State) (e : Event) (reaches : Reaches o T) (chosen : Chosen T c e) where
-  pub full-answers : most_live ≤ length o.live → Answers o (Command.Step c) (Reply.Refused HistoryFull) o
-  full-answers full = inl (((T, reaches, (e, chosen.allowed, chosen.choice)), full), refl)
+-- the event that the choice means, where it was found
+pub chosen-of : (T : State) (c : Choice) (found : Option Event) (e : Event) → MatchOption found (Possible T c → ⊥) (λ f. Chosen T c f) → found ≡ Some e →
+    Chosen T c e
+chosen-of T c found e told is = subst (λ (x : Option Event). MatchOption x (Possible T c → ⊥) (λ f. Chosen T c f)) is told
 
-  pub spent-answers : length o.live < most_live → last_ticket < o.next → Answers o (Command.Step c) (Reply.Refused Spent) o
-  spent-answers room spent = inl (((T, reaches, (e, chosen.allowed, chosen.choice)), room, spent), refl)
+-- why a step is refused, from what was found
+pub not-taken : (o : Object) (c : Choice) (found : Option Event) (why : Refusal) (T : State) → Reaches o T →
+    MatchOption found (Possible T c → ⊥) (λ e. Chosen T c e) → NotTaken found (length o.live) o.next why → RefusesStep o c why
+not-taken o c None NotReady T reaches none h = (T, reaches, none)
+not-taken o c (Some e) NotReady T reaches one h = cc
+not-taken o c None HistoryFull T reaches none h = let off = h.0 in cc
+not-taken o c (Some e) HistoryFull T reaches one h = ((T, reaches, (e, one.allowed, one.choice)), h.1)
+not-taken o c None Spent T reaches none h = let off = h.0 in cc
+not-taken o c (Some e) Spent T reaches one h = ((T, reaches, (e, one.allowed, one.choice)), h.1, h.2)
+not-taken o c found _ T reaches told h = absurd h
 
-  pub step-answers : (o' : Object) (answered : Event) → answered ≡ e → length o.live < most_live → o.next ≤ last_ticket → o' ≡ with_event o e →
-      Answers o (Command.Step c) (Reply.Stepped o.next answered) o'
-  step-answers o' answered is room left after =
-      inl (refl, room, left, (T, reaches, subst (λ (f : Event). Chosen T c f) (sym is) chosen), after ∙ ap (with_event o) (sym is))
+-- a step that is taken, as far as there was memory for it
+pub step-done : {E : Type 0} (o o' : Object) (c : Choice) (e : Event) (T : State) (r : Result Reply E) → Reaches o T → Chosen T c e →
+    length o.live < most_live → o.next ≤ last_ticket → IfOk r (λ reply. reply ≡ Reply.Stepped o.next e) → OnOk r (o' ≡ with_event o e) →
+    IfOk r (λ reply. Does o (Command.Step c) reply o')
+step-done o o' c e T (Ok reply) reaches chosen room left is after =
+    subst (λ (x : Reply). Does o (Command.Step c) x o') (sym is) (refl, room, left, (T, reaches, chosen), after)
+step-done o o' c e T (Err x) reaches chosen room left is after = tt
 
-pub memory-answers : (o o' : Object) (c : Command) → o' ≡ o → Answers o c (Reply.Refused Memory) o'
-memory-answers o o' c h = inr (refl, h)
+-- the value that is told, from the store
+pub tells-value : (o : Object) (x : ℕ) (T : State) (v : Option Word) (reply : Reply) → Reaches o T → v ≡ slice_get T.store x →
+    MatchOption v (reply ≡ Reply.Refused NeverWritten) (λ held. reply ≡ Reply.Value held) → Does o (Command.Value x) reply o
+tells-value o x T None reply reaches is told =
+    subst (λ (y : Reply). Does o (Command.Value x) y o) (sym told) ((T, reaches, sym is), refl)
+tells-value o x T (Some held) reply reaches is told =
+    subst (λ (y : Reply). Does o (Command.Value x) y o) (sym told) ((T, reaches, sym is), refl)
 
-pub not-ready-answers : (o : Object) (c : Choice) → (T : State) × Reaches o T × (Possible T c → ⊥) → Answers o (Command.Step c) (Reply.Refused NotReady) o
-not-ready-answers o c none = inl (none, refl)
+-- what is answered where a call may want memory
+pub answers-of : {E : Type 0} (o o' : Object) (asked c : Command) (r : Result Reply E) (reply : Reply) → asked ≡ c → IfOk r (λ told. Does o c told o') →
+    OnErr r (MayWantMemory o c) → OnErr r (o' ≡ o) → MatchResult r (λ told. reply ≡ told) (λ _. reply ≡ Reply.Refused Memory) → Answers o asked reply o'
+answers-of o o' asked c r reply one does wants same told = subst (λ (x : Command). Answers o x reply o') (sym one) (by-result r does wants same told)
+  where
+    by-result : {E : Type 0} (r : Result Reply E) → IfOk r (λ told. Does o c told o') → OnErr r (MayWantMemory o c) → OnErr r (o' ≡ o) →
+        MatchResult r (λ told. reply ≡ told) (λ _. reply ≡ Reply.Refused Memory) → Answers o c reply o'
+    by-result (Ok told) does wants same is = inl (subst (λ (x : Reply). Does o c x o') (sym is) does)
+    by-result (Err x) does wants same is = inr (wants, is, same)
+
+-- a fact that holds holds on an error
+pub on-error : {X E : Type 0} {P : Type 0} (r : Result X E) → P → OnErr r P
+on-error (Ok x) p = tt
+on-error (Err e) p = p
 
 -- a replay that finds nothing
 pub replay-none : (o : Object) (l : Live) (p : Option Plain) → Sound o → l ≡ o.live → p ≡ None → option_map state_of p ≡ run_of o.opening (events l) → ⊥
@@ -87,14 +113,13 @@ pub replay-some : (o : Object) (l : Live) (p : Option Plain) (q : Plain) → l �
 replay-some o l p q el ep h = reaches-found o (state_of q) (sym (ap (option_map state_of) ep) ∙ h ∙ ap (λ k. run_of o.opening (events k)) el)
 
 -- the same, of the lists of the code
-pub chosen-here : (o : Object) (c : Choice) (es items slice : List Event) (i : ℕ) (x : Event) → (T : State) × Reaches o T × ReadyList T es → items ≡ es → slice ≡ items →
-    FirstWith c slice i → x ≡ get_or items i x → (T : State) × Reaches o T × Chosen T c x
-chosen-here o c es items slice i x ready ei is first taken =
+pub chosen-here : (T : State) (c : Choice) (es items slice : List Event) (i : ℕ) (x : Event) → ReadyList T es → items ≡ es → slice ≡ items →
+    FirstWith c slice i → x ≡ get_or items i x → Chosen T c x
+chosen-here T c es items slice i x ready ei is first taken =
     let at : slice_get es i ≡ Some first.0 = ap (λ (k : List Event). slice_get k i) (sym (is ∙ ei)) ∙ first.1 in
     let one : x ≡ first.0 = taken ∙ got-at items i first.0 x (ap (λ (k : List Event). slice_get k i) (sym is) ∙ first.1) in
-    let found = chosen-first o c es i first.0 ready at first.2 (subst (λ (k : List Event). HasNone c (take i k)) (is ∙ ei) first.3) in
-    (found.0, found.1, subst (λ (e : Event). Chosen found.0 c e) (sym one) found.2)
+    subst (λ (e : Event). Chosen T c e) (sym one)
+    (chosen-first T c es i first.0 ready at first.2 (subst (λ (k : List Event). HasNone c (take i k)) (is ∙ ei) first.3))
 
-pub chosen-nowhere : (o : Object) (c : Choice) (es items slice : List Event) → (T : State) × Reaches o T × ReadyList T es → items ≡ es → slice ≡ items → HasNone c slice →
-    (T : State) × Reaches o T × (Possible T c → ⊥)
-chosen-nowhere o c es items slice ready ei is none = chosen-none o c es ready (subst (λ (k : List Event). HasNone c k) (is ∙ ei) none)
+pub chosen-nowhere : (T : State) (c : Choice) (es items slice : List Event) → ReadyList T es → items ≡ es → slice ≡ items → HasNone c slice → Possible T c → ⊥
+chosen-nowhere T c es items slice ready ei is none = chosen-none T c es ready (subst (λ (k : List Event). HasNone c k) (is ∙ ei) none)

@@ -1,21 +1,19 @@
 -- What a rollback takes out, and what it and the questions about followers answer.
-use Rattle.std.proofs.Common.{◌≡◌, ◌⊎◌, inl, inr, ℕ, ◌+◌, ◌-◌, ◌≤◌, List, [], ◌∷◌, length, Bool, true, false, not, cond, filter, refl, sym, ◌∙◌, ap, subst, arith}
+use Rattle.std.proofs.Common.{◌≡◌, inl, inr, ℕ, ◌-◌, ◌≤◌, List, [], ◌∷◌, length, Bool, true, false, not, cond, filter, Result, Ok, Err, refl, sym, subst, arith}
+use Rattle.std.specs.Prelude.{IfOk}
 use Rattle.elaborate.specs.Lists.{In}
 use Rattle.elaborate.specs.Expression.{is_in}
-use Rattle.calculus.specs.Live.{Live, LiveAt, Follows, Without, ended, stays, leaves, FollowersList, NoneAt, LastWriter, NoWriter}
+use Rattle.calculus.specs.Live.{Live, LiveAt, Follows, Without, ended, stays, leaves, FollowersList, LastWriter}
 use Rattle.calculus.specs.Object.{Object, with_live}
-use Rattle.calculus.specs.Does.{Does, Answers, TakesOut}
-use Rattle.calculus.specs.Sound.{Sound}
+use Rattle.calculus.specs.Does.{Does, TakesOut, RefusesTicket}
 use Rattle.calculus.specs.declared.event.Event.{Event}
 use Rattle.calculus.specs.declared.command.Command.{Command}
 use Rattle.calculus.specs.declared.command.Reply.{Reply}
 use Rattle.calculus.specs.declared.command.Refusal.{Refusal}
-use Rattle.calculus.specs.declared.command.Refusal.TheVariants.{Memory, NotReady, HistoryFull, NoSuchEvent, NeededBy, NeverWritten, Spent}
-use Rattle.locked_execution.specs.Following.{WritesLast}
+use Rattle.calculus.specs.declared.command.Refusal.TheVariants.{NoSuchEvent}
 use Rattle.locked_execution.proofs.Found.{is-in, in-is}
 use Rattle.locked_execution.specs.Dependents.{StandsAt}
 use Rattle.locked_execution.proofs.Undone.{live-at}
-use Rattle.locked_execution.proofs.Gathering.{last-is-last}
 
 -- the entries of other tickets
 abbrev pub others : List ℕ → Live → Live
@@ -41,22 +39,21 @@ takes-out o o' t n before after old new ts k all kept eb ea eo en less number is
   is,
 )
 
--- why a rollback is refused: not for want of a live event, where there is one
-refused-value : (o o' : Object) (x t : ℕ) (why : Refusal) → LastWriter o.live x t → Answers o (Command.Roll t) (Reply.Refused why) o' →
-    Answers o (Command.RollValue x) (Reply.Refused why) o'
-refused-value o o' x t NoSuchEvent last h = elim h [ inl d ↦ absurd (d.0 last.event last.live) | inr m ↦ cc ]
-refused-value o o' x t Memory last h = elim h [ inl d ↦ absurd d.0 | inr m ↦ inr (refl, m.1) ]
-refused-value o o' x t NotReady last h = elim h [ inl d ↦ absurd d.0 | inr m ↦ cc ]
-refused-value o o' x t HistoryFull last h = elim h [ inl d ↦ absurd d.0 | inr m ↦ cc ]
-refused-value o o' x t (NeededBy u) last h = elim h [ inl d ↦ absurd d.0 | inr m ↦ cc ]
-refused-value o o' x t NeverWritten last h = elim h [ inl d ↦ absurd d.0 | inr m ↦ cc ]
-refused-value o o' x t Spent last h = elim h [ inl d ↦ absurd d.0 | inr m ↦ cc ]
+-- a live event is not refused
+live-refused : (o : Object) (t : ℕ) (e : Event) (why : Refusal) → LiveAt o.live t e → RefusesTicket o t why → ⊥
+live-refused o t e NoSuchEvent live h = h e live
+live-refused o t e _ live h = absurd h
 
 -- the rollback of a variable is that of its last writer
-pub roll-of-value : (o o' : Object) (x t : ℕ) (reply : Reply) → LastWriter o.live x t → Answers o (Command.Roll t) reply o' → Answers o (Command.RollValue x) reply o'
-roll-of-value o o' x t (Reply.Rolled n) last h = elim h [ inl d ↦ inl (t, last, d.1) | inr m ↦ cc ]
-roll-of-value o o' x t (Reply.Refused why) last h = refused-value o o' x t why last h
-roll-of-value o o' x t _ last h = elim h [ inl d ↦ absurd d | inr m ↦ inr m ]
+value-rolled : (o o' : Object) (x t : ℕ) (reply : Reply) → LastWriter o.live x t → Does o (Command.Roll t) reply o' → Does o (Command.RollValue x) reply o'
+value-rolled o o' x t (Reply.Rolled n) last h = (t, last, h.1)
+value-rolled o o' x t (Reply.Refused why) last h = absurd (live-refused o t last.event why last.live h.0)
+value-rolled o o' x t _ last h = absurd h
+
+pub roll-of-value : {E : Type 0} (o o' : Object) (x t : ℕ) (r : Result Reply E) → LastWriter o.live x t → IfOk r (λ reply. Does o (Command.Roll t) reply o') →
+    IfOk r (λ reply. Does o (Command.RollValue x) reply o')
+roll-of-value o o' x t (Ok reply) last h = value-rolled o o' x t reply last h
+roll-of-value o o' x t (Err e) last h = tt
 
 -- the live event of the ticket
 pub live-of : (l k : Live) (t i : ℕ) → k ≡ l → StandsAt k t i → (e : Event) × LiveAt l t e

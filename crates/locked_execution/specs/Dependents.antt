@@ -1,5 +1,5 @@
 -- Which of the live events after an event depends directly on it.
-use Rattle.std.specs.Prelude.{◌≡◌, ℕ, List, ◌∷◌, ◌++◌, Some, slice_get}
+use Rattle.std.specs.Prelude.{◌≡◌, ℕ, ◌∷◌, ◌++◌, Some, slice_get}
 use Rattle.elaborate.specs.Lists.{Every}
 use Rattle.calculus.specs.Dependence.{Directly}
 use Rattle.calculus.specs.Live.{Live}

@@ -1,9 +1,9 @@
 -- What a designer may rely on after any commands by any sessions.
-use Rattle.std.specs.Prelude.{◌≡◌, ◌⊎◌, ◌↔◌, ℕ, ◌+◌, ◌<◌, ◌≤◌, length}
+use Rattle.std.specs.Prelude.{◌≡◌, ◌⊎◌, ◌↔◌, ℕ, ◌+◌, ◌<◌, ◌≤◌, length, Some}
 use Rattle.elaborate.specs.Lists.{In}
 use Rattle.calculus.specs.Steps.{State}
 use Rattle.calculus.specs.Dependence.{Causes, Kept}
-use Rattle.calculus.specs.Live.{events, LiveAt}
+use Rattle.calculus.specs.Live.{events, LiveAt, LastWriter}
 use Rattle.calculus.specs.Object.{Object, Reaches, most_live, last_ticket}
 use Rattle.calculus.specs.Does.{CanStep, Does}
 use Rattle.calculus.specs.Sound.{Sound}
@@ -34,11 +34,21 @@ pub record Headline (o : Object) : Type 0 where
   -- else the first that does is named
   pub needed : (t u : ℕ) (e : Event) → LiveAt o.live t e →
       Does o (Command.Undo t) (Reply.Refused (NeededBy u)) o ↔ LeastDependent o.live e u
-  -- a rollback leaves exactly the events that do not depend on its event, and they run
+  -- an event is rolled back exactly where it is live
+  pub rolled : (t : ℕ) →
+      ((n : ℕ) × (o' : Object) × Does o (Command.Roll t) (Reply.Rolled n) o') ↔ ((e : Event) × LiveAt o.live t e)
+  -- that leaves exactly the events that do not depend on it, and they run
   pub rolls : (o' : Object) (t n : ℕ) → Does o (Command.Roll t) (Reply.Rolled n) o' →
       (e : Event) × LiveAt o.live t e × Kept (Causes (events o.live) e) (events o.live) (events o'.live)
       × ((u : ℕ) (f : Event) → LiveAt o'.live u f ↔ (LiveAt o.live u f × (Causes (events o.live) e f → ⊥)))
       × (n + length o'.live ≡ length o.live) × ((T : State) × Reaches o' T)
+  -- a variable is rolled back exactly where a live event wrote it
+  pub value_rolled : (x : ℕ) →
+      ((n : ℕ) × (o' : Object) × Does o (Command.RollValue x) (Reply.Rolled n) o')
+      ↔ ((t : ℕ) × (e : Event) × LiveAt o.live t e × (e.written ≡ Some x))
+  -- that is the rollback of the last event that wrote it
+  pub rolls_value : (o' : Object) (x n : ℕ) → Does o (Command.RollValue x) (Reply.Rolled n) o' →
+      (t : ℕ) × LastWriter o.live x t × Does o (Command.Roll t) (Reply.Rolled n) o'
 
 -- tickets only grow, and none names an event that is not the one it named
 pub record Grows (o o' : Object) : Type 0 where

@@ -1,6 +1,5 @@
 -- The live events as they lie in memory.
 use Rattle.sharing_check.specs.declared.checked.Checked.{Checked}
-use Rattle.calculus.specs.Opening.{opening}
 use Rattle.calculus.specs.Object.{Object}
 use Rattle.locked_execution.specs.Held.{Held, object}
 use Rattle.locked_execution.specs.declared.history.History.{History}

@@ -1,6 +1,6 @@
 // Questions, which change nothing.
-ghost use Rattle.std.specs.Prelude.{◌≡◌, IfOk};
-ghost use Rattle.calculus.specs.Does.{Answers};
+ghost use Rattle.std.specs.Prelude.{◌≡◌, IfOk, MatchOption};
+ghost use Rattle.calculus.specs.Does.{Does};
 ghost use Rattle.calculus.specs.Sound.{Sound};
 ghost use Rattle.locked_execution.specs.Histories.{execution};
 
@@ -9,41 +9,48 @@ use calculus::{Command, Event, Refusal, Reply};
 use sharing_check::Checked;
 use std::alloc::{AllocError, Global};
 use syntax::Items;
+use value::Value;
 
 impl History {
     /// The live events.
-    pub(crate) fn tell_live(&self, alloc: Global, system: &Checked) -> Reply
-        ensures { Answers (execution system.now self.now) Command.Live result (execution system.now self.now) }
+    pub(crate) fn tell_live(&self, alloc: Global, system: &Checked) -> Result<Reply, AllocError>
+        ensures { IfOk result (λ reply. Does (execution system.now self.now) Command.Live reply (execution system.now self.now)) }
     {
-        match copy_live(alloc, self.live.as_slice()) {
-            Ok(live) => Reply::Live(live),
-            Err(_) => Reply::Refused(Refusal::Memory),
-        }
+        let live = copy_live(alloc, self.live.as_slice())?;
+        Ok(Reply::Live(live))
     }
 
     /// The value of the variable now.
-    pub(crate) fn tell_value(&self, alloc: Global, system: &Checked, variable: u32) -> Reply
+    pub(crate) fn tell_value(
+        &self,
+        alloc: Global,
+        system: &Checked,
+        variable: u32,
+    ) -> Result<Reply, AllocError>
         requires { Sound (execution system.now self.now) }
-        ensures { Answers (execution system.now self.now) (Command.Value variable) result (execution system.now self.now) }
+        ensures { IfOk result (λ reply. Does (execution system.now self.now) (Command.Value variable) reply (execution system.now self.now)) }
     {
-        let Ok(state) = self.state(alloc, system) else {
-            return Reply::Refused(Refusal::Memory);
-        };
-        match state.value(variable) {
-            Some(value) => Reply::Value(value),
-            None => Reply::Refused(Refusal::NeverWritten),
-        }
+        let state = self.state(alloc, system)?;
+        Ok(value_told(state.value(variable)))
     }
 
     /// The events that may be taken now.
-    pub(crate) fn tell_ready(&self, alloc: Global, system: &Checked) -> Reply
+    pub(crate) fn tell_ready(&self, alloc: Global, system: &Checked) -> Result<Reply, AllocError>
         requires { Sound (execution system.now self.now) }
-        ensures { Answers (execution system.now self.now) Command.Ready result (execution system.now self.now) }
+        ensures { IfOk result (λ reply. Does (execution system.now self.now) Command.Ready reply (execution system.now self.now)) }
     {
-        match self.ready(alloc, system) {
-            Ok(events) => Reply::Ready(events),
-            Err(_) => Reply::Refused(Refusal::Memory),
-        }
+        let events = self.ready(alloc, system)?;
+        Ok(Reply::Ready(events))
+    }
+}
+
+/// The value of a variable, or that there is no such variable.
+fn value_told(value: Option<Value>) -> Reply
+    ensures { MatchOption value (result ≡ Reply.Refused Refusal.NeverWritten) (λ held. result ≡ Reply.Value held) }
+{
+    match value {
+        Some(held) => Reply::Value(held),
+        None => Reply::Refused(Refusal::NeverWritten),
     }
 }
 

@@ -45,6 +45,13 @@ impl Desk {
         &self.machine
     }
 
+    /// What holds of every desk at every moment: nothing is done, the contract says it.
+    pub fn is_sound(&self)
+        ensures { Headline (object self.now) }
+    {
+        self.machine.is_sound();
+    }
+
     /// Answers the command of a session, 0 to 15. Where there is no memory for it, it is refused and nothing changes.
     pub fn perform(&mut self, session: u32, command: &Command) -> Reply
         requires { session < 16 }
@@ -70,7 +77,7 @@ pub fn run_commands(
     ensures tickets { Grows (object desk.old) (object desk.new) }
     ensures system { desk.new.checked ≡ desk.old.checked }
 {
-    desk.machine().is_sound();
+    desk.is_sound();
     let mut replies = Vec::with_capacity(alloc, commands.len())?;
     for (session, command) in commands {
         let reply = desk.perform(*session, command);

@@ -2,6 +2,7 @@ ghost use Rattle.std.specs.Prelude.{◌≡◌, [], IfOk, MatchOption, slice_get,
 ghost use Rattle.calculus.specs.Does.{Answers};
 ghost use Rattle.calculus.specs.Sound.{Sound};
 ghost use Rattle.locked_execution.specs.Held.{object};
+ghost use Rattle.locked_execution.specs.Headline.{Headline};
 
 use crate::history::History;
 use calculus::{Command, Event, Reply};
@@ -76,9 +77,9 @@ impl Machine {
         self.history.next
     }
 
-    /// What holds of it at every moment.
-    pub(crate) fn is_sound(&self)
-        ensures { Sound (object self.now) }
+    /// What holds of every machine at every moment: nothing is done, the contract says it.
+    pub fn is_sound(&self)
+        ensures { Headline (object self.now) }
     {
         let _history = &self.history;
     }

@@ -2,7 +2,8 @@
 ghost use Rattle.std.specs.Prelude.{◌≡◌, IfOk, IsTrue, MatchOption, Some, true, false, slice_get};
 ghost use Rattle.calculus.specs.Plain.{state_of};
 ghost use Rattle.calculus.specs.Tests.{same_event};
-ghost use Rattle.calculus.specs.Ready.{ReadyList};
+ghost use Rattle.calculus.specs.Steps.{State};
+ghost use Rattle.calculus.specs.Ready.{ReadyList, Possible, Chosen};
 ghost use Rattle.calculus.specs.WellFormed.{WellFormed};
 ghost use Rattle.locked_execution.specs.Choosing.{HasNone, FirstWith};
 ghost use Rattle.locked_execution.specs.Insertion.{inserted};
@@ -48,8 +49,20 @@ fn is_there(sorted: &[Event], place: usize, event: &Event) -> bool
     }
 }
 
+/// The event that the choice means, where these are the events that are allowed, in order. `None` where no event has
+/// the choice.
+pub(crate) fn chosen(events: Items<Event>, choice: &Choice) -> Option<Event>
+    ensures { (S : State) → ReadyList S events → MatchOption result (Possible S choice.now → ⊥) (λ event. Chosen S choice.now event) }
+{
+    let mut events = events.into_vec();
+    match first_with(events.as_slice(), choice) {
+        Some(place) => Some(events.swap_remove(place)),
+        None => None,
+    }
+}
+
 /// Where the first event with this choice stands.
-pub(crate) fn first_with(events: &[Event], choice: &Choice) -> Option<usize>
+fn first_with(events: &[Event], choice: &Choice) -> Option<usize>
     ensures { MatchOption result (HasNone choice.now events.now) (λ i. FirstWith choice.now events.now i) }
 {
     for (i, event) in events.iter().enumerate() {

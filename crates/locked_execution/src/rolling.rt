@@ -1,39 +1,40 @@
 // Taking an event back with all that depend on it, and the questions about them.
 ghost use Rattle.sharing_check.specs.declared.checked.Checked.{Checked};
-ghost use Rattle.std.specs.Prelude.{◌≡◌, ◌≤◌, ℕ, not, filter, vec_len};
+ghost use Rattle.std.specs.Prelude.{◌≡◌, ◌≤◌, ℕ, not, filter, vec_len, IfOk, OnErr};
 ghost use Rattle.elaborate.specs.Expression.{is_in};
-ghost use Rattle.calculus.specs.Live.{LiveAt, FollowersList};
+ghost use Rattle.calculus.specs.Live.{LiveAt, LastWriter, FollowersList};
 ghost use Rattle.calculus.specs.Sound.{Sound};
-ghost use Rattle.calculus.specs.Does.{Answers, Does, TakesOut};
+ghost use Rattle.calculus.specs.Does.{Does, TakesOut};
 ghost use Rattle.locked_execution.specs.Histories.{execution};
 
 use crate::following::{followers, is_among, last_writer};
 use crate::history::History;
 use crate::scan::place_of;
 use calculus::{Command, Event, Refusal, Reply};
-use std::alloc::Global;
+use std::alloc::{AllocError, Global};
 use syntax::Items;
 
 impl History {
     /// Takes the event of this ticket out, and all live events that depend on it.
-    pub(crate) fn roll(&mut self, alloc: Global, ticket: u64) -> Reply
-        ensures { (system : Checked) → Sound (execution system self.old) → Answers (execution system self.old) (Command.Roll ticket) result (execution system self.new) }
+    pub(crate) fn roll(&mut self, alloc: Global, ticket: u64) -> Result<Reply, AllocError>
+        ensures done { (system : Checked) → Sound (execution system self.old) → IfOk result (λ reply. Does (execution system self.old) (Command.Roll ticket) reply (execution system self.new)) }
+        ensures wanted { OnErr result ((e : Event) × LiveAt self.old.live.items ticket e) }
+        ensures unchanged { (system : Checked) → OnErr result (execution system self.new ≡ execution system self.old) }
     {
         match place_of(self.live.as_slice(), ticket) {
             Some(_) => self.roll_live(alloc, ticket),
-            None => Reply::Refused(Refusal::NoSuchEvent),
+            None => Ok(Reply::Refused(Refusal::NoSuchEvent)),
         }
     }
 
     /// Takes the live event of this ticket out, and all live events that depend on it.
-    fn roll_live(&mut self, alloc: Global, ticket: u64) -> Reply
+    fn roll_live(&mut self, alloc: Global, ticket: u64) -> Result<Reply, AllocError>
         requires { (e : Event) × LiveAt self.old.live.items ticket e }
-        ensures { (system : Checked) → Sound (execution system self.old) → Answers (execution system self.old) (Command.Roll ticket) result (execution system self.new) }
+        ensures done { (system : Checked) → Sound (execution system self.old) → IfOk result (λ reply. Does (execution system self.old) (Command.Roll ticket) reply (execution system self.new)) }
+        ensures unchanged { (system : Checked) → OnErr result (execution system self.new ≡ execution system self.old) }
     {
-        match followers(alloc, self.live.as_slice(), ticket) {
-            Ok(tickets) => Reply::Rolled(self.take_out(tickets.as_slice())),
-            Err(_) => Reply::Refused(Refusal::Memory),
-        }
+        let tickets = followers(alloc, self.live.as_slice(), ticket)?;
+        Ok(Reply::Rolled(self.take_out(tickets.as_slice())))
     }
 
     /// Takes the events of these tickets out, and tells how many they are.
@@ -46,12 +47,14 @@ impl History {
     }
 
     /// Takes the last event that wrote the variable out, and all live events that depend on it.
-    pub(crate) fn roll_value(&mut self, alloc: Global, variable: u32) -> Reply
-        ensures { (system : Checked) → Sound (execution system self.old) → Answers (execution system self.old) (Command.RollValue variable) result (execution system self.new) }
+    pub(crate) fn roll_value(&mut self, alloc: Global, variable: u32) -> Result<Reply, AllocError>
+        ensures done { (system : Checked) → Sound (execution system self.old) → IfOk result (λ reply. Does (execution system self.old) (Command.RollValue variable) reply (execution system self.new)) }
+        ensures wanted { (system : Checked) → Sound (execution system self.old) → OnErr result ((t : ℕ) × LastWriter self.old.live.items variable t) }
+        ensures unchanged { (system : Checked) → OnErr result (execution system self.new ≡ execution system self.old) }
     {
         match last_writer(self.live.as_slice(), variable) {
             Some(ticket) => self.roll(alloc, ticket),
-            None => Reply::Refused(Refusal::NeverWritten),
+            None => Ok(Reply::Refused(Refusal::NeverWritten)),
         }
     }
 
@@ -66,24 +69,23 @@ impl History {
     }
 
     /// The tickets of the live events that depend on the one of this ticket.
-    pub(crate) fn tell_consequences(&self, alloc: Global, ticket: u64) -> Reply
-        ensures { (system : Checked) → Sound (execution system self.now) → Answers (execution system self.now) (Command.Consequences ticket) result (execution system self.now) }
+    pub(crate) fn tell_consequences(&self, alloc: Global, ticket: u64) -> Result<Reply, AllocError>
+        ensures done { (system : Checked) → Sound (execution system self.now) → IfOk result (λ reply. Does (execution system self.now) (Command.Consequences ticket) reply (execution system self.now)) }
+        ensures wanted { OnErr result ((e : Event) × LiveAt self.now.live.items ticket e) }
     {
         match place_of(self.live.as_slice(), ticket) {
             Some(_) => self.tell_followers(alloc, ticket),
-            None => Reply::Refused(Refusal::NoSuchEvent),
+            None => Ok(Reply::Refused(Refusal::NoSuchEvent)),
         }
     }
 
     /// The tickets of the live events that depend on the live event of this ticket.
-    fn tell_followers(&self, alloc: Global, ticket: u64) -> Reply
+    fn tell_followers(&self, alloc: Global, ticket: u64) -> Result<Reply, AllocError>
         requires { (e : Event) × LiveAt self.now.live.items ticket e }
-        ensures { (system : Checked) → Sound (execution system self.now) → Answers (execution system self.now) (Command.Consequences ticket) result (execution system self.now) }
+        ensures { (system : Checked) → Sound (execution system self.now) → IfOk result (λ reply. Does (execution system self.now) (Command.Consequences ticket) reply (execution system self.now)) }
     {
-        match followers(alloc, self.live.as_slice(), ticket) {
-            Ok(tickets) => Reply::Consequences(Items::from_vec(tickets)),
-            Err(_) => Reply::Refused(Refusal::Memory),
-        }
+        let tickets = followers(alloc, self.live.as_slice(), ticket)?;
+        Ok(Reply::Consequences(Items::from_vec(tickets)))
     }
 }
 

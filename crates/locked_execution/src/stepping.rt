@@ -1,16 +1,17 @@
 // Taking one event.
-ghost use Rattle.std.specs.Prelude.{IfOk, MatchOption};
+ghost use Rattle.std.specs.Prelude.{◌≡◌, ◌≤◌, ◌<◌, length, Some, IfOk, IfErr, OnOk, OnErr};
 ghost use Rattle.sharing_check.specs.declared.checked.Checked.{Checked};
 ghost use Rattle.calculus.specs.Steps.{State};
-ghost use Rattle.calculus.specs.Object.{Reaches};
+ghost use Rattle.calculus.specs.Object.{Reaches, most_live, last_ticket, with_event};
 ghost use Rattle.calculus.specs.Plain.{state_of};
-ghost use Rattle.calculus.specs.Ready.{Possible, Chosen, ReadyList};
-ghost use Rattle.calculus.specs.Does.{Answers};
+ghost use Rattle.calculus.specs.Ready.{ReadyList};
+ghost use Rattle.calculus.specs.Does.{Does};
 ghost use Rattle.calculus.specs.Sound.{Sound};
+ghost use Rattle.locked_execution.specs.Choosing.{NotTaken};
 ghost use Rattle.locked_execution.specs.Histories.{execution};
 
 use crate::history::History;
-use crate::ready::{first_with, ready_events};
+use crate::ready::{chosen, ready_events};
 use calculus::{
     Choice, Command, Event, LAST_TICKET, MOST_LIVE_EVENTS, Plain, Refusal, Reply, replay_live,
 };
@@ -20,55 +21,52 @@ use syntax::Items;
 
 impl History {
     /// Takes the event that the choice means.
-    pub(crate) fn step(&mut self, alloc: Global, system: &Checked, choice: &Choice) -> Reply
-        requires { Sound (execution system.now self.old) }
-        ensures { Answers (execution system.now self.old) (Command.Step choice.now) result (execution system.now self.new) }
-    {
-        match self.chosen(alloc, system, choice) {
-            Ok(Some(event)) => self.add(alloc, event),
-            Ok(None) => Reply::Refused(Refusal::NotReady),
-            Err(_) => Reply::Refused(Refusal::Memory),
-        }
-    }
-
-    /// Adds an event that is allowed, within the limits.
-    fn add(&mut self, alloc: Global, event: Event) -> Reply
-        ensures { (system : Checked) (choice : Choice) (T : State) → Reaches (execution system self.old) T → Chosen T choice event → Answers (execution system self.old) (Command.Step choice) result (execution system self.new) }
-    {
-        if self.live.len() as u64 >= MOST_LIVE_EVENTS {
-            return Reply::Refused(Refusal::HistoryFull);
-        }
-        if self.next > LAST_TICKET {
-            return Reply::Refused(Refusal::Spent);
-        }
-        let ticket = self.next;
-        let Ok(answered) = event.copy(alloc) else {
-            return Reply::Refused(Refusal::Memory);
-        };
-        match self.live.push((ticket, event)) {
-            Ok(()) => {
-                self.next = ticket + 1;
-                Reply::Stepped(ticket, answered)
-            }
-            Err(_) => Reply::Refused(Refusal::Memory),
-        }
-    }
-
-    /// The event that the choice means now. `None` where none with the choice is allowed.
-    fn chosen(
-        &self,
+    pub(crate) fn step(
+        &mut self,
         alloc: Global,
         system: &Checked,
         choice: &Choice,
-    ) -> Result<Option<Event>, AllocError>
-        requires { Sound (execution system.now self.now) }
-        ensures { IfOk result (λ r. MatchOption r ((T : State) × Reaches (execution system.now self.now) T × (Possible T choice.now → ⊥)) (λ e. (T : State) × Reaches (execution system.now self.now) T × Chosen T choice.now e)) }
+    ) -> Result<Reply, AllocError>
+        requires { Sound (execution system.now self.old) }
+        ensures done { IfOk result (λ reply. Does (execution system.now self.old) (Command.Step choice.now) reply (execution system.now self.new)) }
+        ensures unchanged { OnErr result (execution system.now self.new ≡ execution system.now self.old) }
     {
-        let mut events = self.ready(alloc, system)?.into_vec();
-        match first_with(events.as_slice(), choice) {
-            Some(place) => Ok(Some(events.swap_remove(place))),
-            None => Ok(None),
+        let events = self.ready(alloc, system)?;
+        match self.admitted(chosen(events, choice)) {
+            Ok(event) => self.add(alloc, event),
+            Err(why) => Ok(Reply::Refused(why)),
         }
+    }
+
+    /// The event, where there is one and the limits leave room for it; else why none is taken.
+    fn admitted(&self, found: Option<Event>) -> Result<Event, Refusal>
+        ensures taken { IfOk result (λ event. (found ≡ Some event) × (length self.now.live.items < most_live) × (self.now.next ≤ last_ticket)) }
+        ensures refused { IfErr result (λ why. NotTaken found (length self.now.live.items) self.now.next why) }
+    {
+        let Some(event) = found else {
+            return Err(Refusal::NotReady);
+        };
+        if self.live.len() as u64 >= MOST_LIVE_EVENTS {
+            return Err(Refusal::HistoryFull);
+        }
+        if self.next > LAST_TICKET {
+            return Err(Refusal::Spent);
+        }
+        Ok(event)
+    }
+
+    /// Adds the event under the next ticket.
+    fn add(&mut self, alloc: Global, event: Event) -> Result<Reply, AllocError>
+        requires { self.old.next ≤ last_ticket }
+        ensures done { IfOk result (λ reply. reply ≡ Reply.Stepped self.old.next event) }
+        ensures added { (system : Checked) → OnOk result (execution system self.new ≡ with_event (execution system self.old) event) }
+        ensures unchanged { (system : Checked) → OnErr result (execution system self.new ≡ execution system self.old) }
+    {
+        let ticket = self.next;
+        let answered = event.copy(alloc)?;
+        self.live.push((ticket, event))?;
+        self.next = ticket + 1;
+        Ok(Reply::Stepped(ticket, answered))
     }
 
     /// The events that are allowed now, in order.

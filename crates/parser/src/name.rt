@@ -54,15 +54,31 @@ pub fn width(cursor: &mut Cursor<'_>) -> Result<Width, Halt>
     })
 }
 
+/// `number bits`, as a type
+#[tactic(auto, unfolding(crate::specs::Reading::type_by_width, crate::specs::Readers::bind, crate::specs::Readers::pure))]
+fn type_by_width(cursor: &mut Cursor<'_>) -> Result<TypeName, Halt>
+    ensures { Reads (reading.type_by_width (place cursor.old)) result (place cursor.new) }
+{
+    Ok(TypeName::Bits(width(cursor)?))
+}
+
+/// A type's name
+#[tactic(auto, unfolding(crate::specs::Reading::type_by_name, crate::specs::Readers::bind, crate::specs::Readers::pure))]
+fn type_by_name(cursor: &mut Cursor<'_>) -> Result<TypeName, Halt>
+    ensures { Reads (reading.type_by_name (place cursor.old)) result (place cursor.new) }
+{
+    Ok(TypeName::Named(cursor.identifier()?))
+}
+
 /// A type's name or `number bits`
-#[tactic(auto, unfolding(crate::specs::Reading::type_name_of, crate::specs::Reading::type_by_width, crate::specs::Reading::type_by_name, crate::specs::Readers::branch, crate::specs::Readers::bind, crate::specs::Readers::pure))]
+#[tactic(auto, unfolding(crate::specs::Reading::type_name_of, crate::specs::Readers::branch))]
 pub fn type_name(cursor: &mut Cursor<'_>) -> Result<TypeName, Halt>
     ensures { Reads (reading.type_name_of (place cursor.old)) result (place cursor.new) }
 {
     if cursor.sees(Kind::Number) {
-        Ok(TypeName::Bits(width(cursor)?))
+        type_by_width(cursor)
     } else {
-        Ok(TypeName::Named(cursor.identifier()?))
+        type_by_name(cursor)
     }
 }
 
@@ -75,23 +91,40 @@ pub fn type_behind(cursor: &mut Cursor<'_>) -> Result<TypeName, Halt>
     type_name(cursor)
 }
 
-/// A number or a name
-#[tactic(auto, unfolding(crate::specs::Reading::label_of, crate::specs::Reading::label_by_number, crate::specs::Reading::label_by_name, crate::specs::Readers::branch, crate::specs::Readers::bind, crate::specs::Readers::pure))]
-fn label(cursor: &mut Cursor<'_>) -> Result<Label, Halt>
-    ensures { Reads (reading.label_of (place cursor.old)) result (place cursor.new) }
+/// A number, as a label
+#[tactic(auto, unfolding(crate::specs::Reading::label_by_number, crate::specs::Readers::bind, crate::specs::Readers::pure))]
+fn label_by_number(cursor: &mut Cursor<'_>) -> Result<Label, Halt>
+    ensures { Reads (reading.label_by_number (place cursor.old)) result (place cursor.new) }
 {
-    if cursor.sees(Kind::Number) {
-        let number = cursor.take(Kind::Number)?;
-        return Ok(Label {
-            span: number.span,
-            value: LabelValue::Number(number.number),
-        });
-    }
+    let number = cursor.take(Kind::Number)?;
+    Ok(Label {
+        span: number.span,
+        value: LabelValue::Number(number.number),
+    })
+}
+
+/// A name, as a label
+#[tactic(auto, unfolding(crate::specs::Reading::label_by_name, crate::specs::Readers::bind, crate::specs::Readers::pure))]
+fn label_by_name(cursor: &mut Cursor<'_>) -> Result<Label, Halt>
+    ensures { Reads (reading.label_by_name (place cursor.old)) result (place cursor.new) }
+{
     let name = cursor.identifier()?;
     Ok(Label {
         span: name.span,
         value: LabelValue::Name(name.name),
     })
+}
+
+/// A number or a name
+#[tactic(auto, unfolding(crate::specs::Reading::label_of, crate::specs::Readers::branch))]
+fn label(cursor: &mut Cursor<'_>) -> Result<Label, Halt>
+    ensures { Reads (reading.label_of (place cursor.old)) result (place cursor.new) }
+{
+    if cursor.sees(Kind::Number) {
+        label_by_number(cursor)
+    } else {
+        label_by_name(cursor)
+    }
 }
 
 /// `,` and the label behind it.

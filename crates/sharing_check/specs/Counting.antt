@@ -1,5 +1,5 @@
 -- How many branches use each channel at one time: what a table of widths says, and what residuals amount to.
-use Rattle.std.specs.Prelude.{ℕ, ◌+◌, max, min, List, [], ◌∷◌, Option, None, Some, unwrap_or, cond, ◌==◌, nat_eq, nat_lt, Bool, true, false, ◌||◌, slice_get}
+use Rattle.std.specs.Prelude.{ℕ, ◌+◌, max, min, List, [], ◌∷◌, Option, None, Some, length, unwrap_or, cond, ◌==◌, nat_eq, nat_lt, Bool, true, false, ◌||◌, slice_get}
 use Rattle.std.specs.Map.{lookup}
 use Rattle.elaborate.specs.Residual.{Residual}
 use Rattle.elaborate.specs.Translation.{OnChannel, residual_of}
@@ -72,6 +72,14 @@ listed entries side c = cut (of_side side (stored entries c))
 
 abbrev pub noted : Widths → Table
 noted widths = listed widths.by_channel.entries
+
+-- the one with more channels, the first where they have equally many
+abbrev pub larger : Widths → Widths → Widths
+larger a b = cond (nat_lt (length a.by_channel.entries) (length b.by_channel.entries)) b a
+
+-- the other one
+abbrev pub smaller : Widths → Widths → Widths
+smaller a b = cond (nat_lt (length a.by_channel.entries) (length b.by_channel.entries)) a b
 
 -- uses of channel d
 unfoldable pub uses : ℕ → Width → Table

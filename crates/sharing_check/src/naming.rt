@@ -4,7 +4,7 @@ ghost use Rattle.std.specs.Option.{option_copied};
 ghost use Rattle.elaborate.specs.Named as named;
 
 use crate::Checked;
-use syntax::Name;
+use elaborate::QualifiedName;
 
 impl Checked {
     /// The number of the first variable of this name.
@@ -15,14 +15,14 @@ impl Checked {
     }
 
     /// The name of the variable of this number.
-    pub fn variable_name(&self, number: u32) -> Option<&Name>
+    pub fn variable_name(&self, number: u32) -> Option<&QualifiedName>
         ensures { option_copied result ≡ named.variable_name_at self.now.variables number }
     {
         self.system().variable_name(number)
     }
 
     /// The name of the channel of this number.
-    pub fn channel_name(&self, number: u32) -> Option<&Name>
+    pub fn channel_name(&self, number: u32) -> Option<&QualifiedName>
         ensures { option_copied result ≡ named.channel_name_at self.now.channels number }
     {
         self.system().channel_name(number)

@@ -32,17 +32,18 @@ impl Checked {
         system_places::begins_on(self.system(), line)
     }
 
-    /// The line of the command of this place, from 1. None for a place of the environment, and for an address that is no
-    /// place of a command. The arms of a choice have the same places: there it is the line in the first arm that has one,
-    /// in order, what stands behind `else` as the last.
+    /// The line of the command of this place, from 1, whichever arms were taken. None for a place of the environment, and
+    /// for an address that is no place of a command. The arms of a choice have the same places: there it is the line in
+    /// the first arm that has one, in order, what stands behind `else` as the last. The line at which an event acts
+    /// depends on the arms that were taken, and is `line_after` of crate `event_places`.
     pub fn line(&self, place: &Address) -> Option<u64>
         ensures { result ≡ line_at self.now place.now }
     {
         system_places::line_at(self.system(), place)
     }
 
-    /// Whether the place is one at which a `select` opens. The arms of a choice have the same places: there it is that of
-    /// some arm.
+    /// Whether the place is one at which a `select` opens, whichever arms were taken. The arms of a choice have the same
+    /// places: there it is that of some arm. After the arms that were taken it is `select_after` of crate `event_places`.
     pub fn select(&self, place: &Address) -> bool
         ensures { result ≡ is_open_of_select self.now place.now }
     {

@@ -131,12 +131,19 @@ impl Widths {
     fn merge(&mut self, how: Together, other: Widths) -> Result<(), AllocError>
         ensures { OnOk result (model.noted self.new ≡ model.join how (model.noted self.old) (model.noted other)) }
     {
-        if self.by_channel.len() < other.by_channel.len() {
-            let smaller = mem::replace(self, other);
-            self.add_each(how, &smaller)
-        } else {
-            self.add_each(how, &other)
-        }
+        let mut smaller = other;
+        put_larger_first(self, &mut smaller);
+        self.add_each(how, &smaller)
+    }
+}
+
+/// Makes the one with fewer channels the second.
+fn put_larger_first(one: &mut Widths, other: &mut Widths)
+    ensures larger { one.new ≡ model.larger one.old other.old }
+    ensures smaller { other.new ≡ model.smaller one.old other.old }
+{
+    if one.by_channel.len() < other.by_channel.len() {
+        mem::swap(one, other);
     }
 }
 

@@ -1,9 +1,10 @@
--- The commands whose places an address may be, and their lines.
+-- The commands whose places an address may be, and their lines, whichever arms were taken.
 --
 -- A place at the command p: an assignment and a receive p itself; a send and a sync p.0 and p.1; a loop and a while p.(2k),
 -- with the body at p.(2k + 1), for each turn k; an `if` and a `case` p.0, with the chosen arm at p.1; an enclosed input, a
 -- `select` and an `arbitrate` p.0 and p.2, with the body of the opened arm at p.1; child i of a sequence stands at p.i, and
--- child i of a parallel at p/i. So the arms of one choice have the same places.
+-- child i of a parallel at p/i. So the arms of one choice have the same places, and an address may be a place of several
+-- commands. Of which one it is once an arm was taken, `TakenArms` says.
 use Rattle.std.specs.Prelude.{ℕ, ◌%◌, ◌==◌, ◌&&◌, ◌||◌, not, if◌then◌else◌, List, [], ◌∷◌, Bool, true, false, Option, None, Some, is_some, nat_lt, slice_get}
 use Rattle.std.specs.Option.{option_or}
 use Rattle.address.specs.declared.Entry.{Entry}

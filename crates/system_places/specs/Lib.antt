@@ -1,3 +1,4 @@
 pub mod CommandPlaces
 pub mod LinesBegun
 pub mod SystemBranches
+pub mod TakenArms

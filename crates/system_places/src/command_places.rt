@@ -12,7 +12,7 @@ use syntax::Items;
 
 /// How the places of a command, and those at which its bodies stand, are numbered.
 #[derive(Clone, Copy)]
-enum Form {
+pub(crate) enum Form {
     /// 0 and 1, without a body
     Held,
     /// each even number, with a body at each odd one
@@ -37,7 +37,7 @@ impl Form {
     }
 
     /// Whether a body stands at this number.
-    fn is_body_number(self, number: u32) -> bool
+    pub(crate) fn is_body_number(self, number: u32) -> bool
         ensures { result ≡ model.is_body_number self number }
     {
         match self {
@@ -48,7 +48,7 @@ impl Form {
     }
 
     /// Whether the way is to a place of a command.
-    fn is_own(self, way: &[Entry]) -> bool
+    pub(crate) fn is_own(self, way: &[Entry]) -> bool
         ensures { result ≡ model.is_own self way.now }
     {
         match way {
@@ -270,17 +270,17 @@ fn found_at(all: bool, system: &System, place: &[Entry]) -> Option<u64>
     }
 }
 
-/// The line of the command of this place, from 1. None for a place of the environment, and for an address that is no place
-/// of a command. The arms of a choice have the same places: there it is the line in the first arm that has one, in order,
-/// what stands behind `else` as the last.
+/// The line of the command of this place, from 1, whichever arms were taken. None for a place of the environment, and for
+/// an address that is no place of a command. The arms of a choice have the same places: there it is the line in the first
+/// arm that has one, in order, what stands behind `else` as the last. `line_under` knows which arm stands there.
 pub fn line_at(system: &System, place: &Address) -> Option<u64>
     ensures { result ≡ model.line_at system.now place.now }
 {
     found_at(true, system, place.entries())
 }
 
-/// Whether the place is one at which a `select` opens. The arms of a choice have the same places: there it is that of some
-/// arm.
+/// Whether the place is one at which a `select` opens, whichever arms were taken. The arms of a choice have the same places:
+/// there it is that of some arm. `is_open_under` knows which arm stands there.
 pub fn is_open_of_select(system: &System, place: &Address) -> bool
     ensures { result ≡ model.is_open_of_select system.now place.now }
 {

@@ -1,5 +1,5 @@
 // What a description declares: types, and procedures with their ports and locals.
-ghost use Rattle.std.specs.Prelude.{◌≡◌, ◌≤◌, ◌^◌, [], ◌∷◌, ◌++◌, length, map, Ok, IfOk, OnOk};
+ghost use Rattle.std.specs.Prelude.{◌≡◌, ◌≤◌, ◌^◌, [], ◌∷◌, ◌++◌, length, map, Ok, IfOk, IfErr, OnOk};
 ghost use Rattle.types.specs.Commands.{visible_in};
 ghost use Rattle.types.specs.Declarations as spec;
 ghost use Rattle.types.specs.Names.{entries, declared, is_fresh};
@@ -202,7 +202,8 @@ fn declare_name(
 
 /// The place as a number of 32 bits. More names than those would not fit into memory.
 fn place_of(place: usize) -> Result<u32, AllocError>
-    ensures { IfOk result (λ number. number ≡ place) }
+    ensures same { IfOk result (λ number. number ≡ place) }
+    ensures beyond { IfErr result (λ _. 2 ^ 32 ≤ place) }
 {
     if place < 1 << 32 {
         Ok(place as u32)

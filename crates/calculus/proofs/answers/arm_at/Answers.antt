@@ -1,4 +1,4 @@
-use Rattle.std.proofs.Common.{◌≡◌, ap, sym, ◌∙◌}
+use Rattle.std.proofs.Common.{ap, sym, ◌∙◌}
 use Rattle.std.specs.Option.{option_copied}
 use Rattle.calculus.proofs.TreeAnswers.{arm_copied, arm_missed}
 use Rattle.calculus.proofs.answers.arm_at.Goals as goal

@@ -14,8 +14,10 @@ returns-in_err-said-clause-answered g c =
 pub returns-in_err-answer-clause-answered : goal.returns-in_err-answer-clause-answered
 returns-in_err-answer-clause-answered g c =
     let p = err_from_is_err_and c.from_residual-in_err-answer.result c.from_residual-in_err-answer.ensures.1 in
-    line-unmade c.args.desk.now.checked (object c.args.desk.now) (object c.answer_to.new.desk) c.args.line.now c.args.number
-    (g.W.Write.contents c.args.writer.now) c.from_residual-in_err-answer.result (p.1 ∙ ap Err p.2)
+    line-unmade c.args.desk.now.checked c.checked.result.now (object c.args.desk.now) (object c.answer_to.new.desk)
+    c.args.line.now c.args.number (g.W.Write.contents c.args.writer.now) c.in_ok-said.said
+    c.from_residual-in_err-answer.result (c.checked.ensures ∙ ap (λ h. h.checked) c.machine.ensures) c.in_ok-said.ensures.line
+    c.in_err-answer.ensures.memory (p.1 ∙ ap Err p.2)
 
 pub returns-clause-answered : goal.returns-clause-answered
 returns-clause-answered g c =

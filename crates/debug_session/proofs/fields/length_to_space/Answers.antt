@@ -1,4 +1,4 @@
-use Rattle.std.proofs.Common.{◌<◌, length, arith}
+use Rattle.std.proofs.Common.{arith}
 use Rattle.std.proofs.lemmas.List.Elements.{All-more}
 use Rattle.debug_session.specs.Fields.{IsNoSpace}
 use Rattle.debug_session.proofs.CutLemmas.{begins-at, end-of-field}

@@ -1,4 +1,4 @@
-use Rattle.debug_session.proofs.NumberLemmas.{no-ticket-field, ticket-read}
+use Rattle.debug_session.proofs.NumberLemmas.{ticket-read}
 use Rattle.debug_session.proofs.fields.read_ticket.Goals as goal
 
 pub returns : goal.returns

@@ -1,3 +1,4 @@
+use Rattle.std.proofs.Common.{inl, inr}
 use Rattle.debug_session.proofs.LineLemmas.{takes-ended, takes-last, takes-part}
 use Rattle.debug_session.proofs.input.read_line.Goals as goal
 
@@ -17,4 +18,5 @@ pub returns-in-Err : goal.returns-in-Err
 returns-in-Err g c =
     takes-part (g.R.Read.remaining c.args.reader.now) (g.R.Read.remaining c.read_until-read.new.self) c.clear.new.self.items
     c.read_until-read.new.buf.items c.strip_end.new.line.items c.fault_of.result c.clear.ensures.items c.if-strip_end.ensures
-    c.read_until-read.ensures.stops c.read_until-read.ensures.none_lost c.fault_of.ensures
+    c.read_until-read.ensures.stops c.read_until-read.ensures.none_lost
+    (elim c.fault_of.ensures [ inl memory ↦ inl memory.0 | inr failed ↦ inr failed.0 ])

@@ -1,9 +1,8 @@
-use Rattle.std.proofs.Common.{subst, ◌∙◌, arith}
+use Rattle.std.proofs.Common.{◌∙◌, arith}
 use Rattle.calculus.proofs.ObjectLaws.{stays-over-lists}
-use Rattle.calculus.specs.Sound.{Sound}
 use Rattle.locked_execution.specs.Asked.{asked}
-use Rattle.locked_execution.specs.Held.{Held, object}
-use Rattle.locked_execution.proofs.HeadlineLaws.{headline, grows, answered-more, session-within}
+use Rattle.locked_execution.specs.Held.{object}
+use Rattle.locked_execution.proofs.HeadlineLaws.{headline, grows, answered-more}
 use Rattle.locked_execution.proofs.desk.run_commands.Goals as goal
 use Rattle.std.proofs.Common.{take}
 
@@ -19,16 +18,15 @@ loop-session-preserved c = record {
 }
 
 pub returns-in_err-replies-clause-headline : goal.returns-in_err-replies-clause-headline
-returns-in_err-replies-clause-headline c =
-    headline (object c.args.desk.now) (subst (λ (h : Held). Sound (object h)) c.machine.ensures c.is_sound.ensures)
+returns-in_err-replies-clause-headline c = c.is_sound.ensures
 
 pub returns-clause-headline : goal.returns-clause-headline
 returns-clause-headline c =
     headline (object c.loop-session.desk)
     (stays-over-lists (object c.args.desk.now) (object c.loop-session.desk) (asked (take c.loop-session.session-index c.args.commands.now))
-    c.loop-session.replies.items (subst (λ (h : Held). Sound (object h)) c.machine.ensures c.is_sound.ensures) c.loop-session.invariant.answered)
+    c.loop-session.replies.items c.is_sound.ensures.sound c.loop-session.invariant.answered)
 
 pub returns-clause-tickets : goal.returns-clause-tickets
 returns-clause-tickets c =
     grows (object c.args.desk.now) (object c.loop-session.desk) (asked (take c.loop-session.session-index c.args.commands.now))
-    c.loop-session.replies.items (subst (λ (h : Held). Sound (object h)) c.machine.ensures c.is_sound.ensures) c.loop-session.invariant.answered
+    c.loop-session.replies.items c.is_sound.ensures.sound c.loop-session.invariant.answered

@@ -1,4 +1,4 @@
-use Rattle.std.proofs.Common.{◌≡◌, ◌≤◌, length, take, vec_len}
+use Rattle.std.proofs.Common.{◌≡◌, length, take, vec_len}
 use Rattle.std.specs.Vec.{vec_capacity}
 use Rattle.calculus.specs.Answered.{Answered}
 use Rattle.locked_execution.specs.Held.{object}

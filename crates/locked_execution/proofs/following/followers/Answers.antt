@@ -1,4 +1,3 @@
-use Rattle.std.proofs.Common.{◌∙◌}
 use Rattle.locked_execution.proofs.Gathering.{gathered-all, followers-step}
 use Rattle.locked_execution.proofs.following.followers.Goals as goal
 

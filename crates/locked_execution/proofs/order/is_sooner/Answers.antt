@@ -1,4 +1,4 @@
-use Rattle.std.proofs.Common.{◌≡◌, ap, ◌∙◌, sym}
+use Rattle.std.proofs.Common.{◌∙◌}
 use Rattle.address.specs.Order.{order_of}
 use Rattle.locked_execution.proofs.Found.{sooner-by-other}
 use Rattle.locked_execution.proofs.order.is_sooner.Goals as goal

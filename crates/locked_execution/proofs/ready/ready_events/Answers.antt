@@ -1,7 +1,5 @@
-use Rattle.std.proofs.Common.{List, sym, subst, ◌∙◌}
 use Rattle.calculus.specs.Plain.{state_of}
-use Rattle.calculus.specs.declared.event.Event.{Event}
-use Rattle.locked_execution.proofs.Sooner.{Sorting, sorting-start, sorting-step, sorting-stop}
+use Rattle.locked_execution.proofs.Sooner.{sorting-start, sorting-step, sorting-stop}
 use Rattle.locked_execution.proofs.ready.ready_events.Goals as goal
 
 pub loop-event-init : goal.loop-event-init

@@ -1,0 +1,23 @@
+use Rattle.std.proofs.Common.{◌≡◌, refl, inl, inr}
+use Rattle.command_line.proofs.ServingLemmas.{debug-not-had, debug-session}
+use Rattle.command_line.proofs.running.answer_script.Goals as goal
+
+pub returns-in_err-source : goal.returns-in_err-source
+returns-in_err-source g c =
+    debug-not-had (g.F.Files.holds c.args.files.now) c.args.file.now c.args.stimulus.now ((c.args.reader.now ≡ c.args.reader.now) × (c.args.out.now ≡ c.args.out.now))
+    (g.I.Read.remaining c.args.reader.now) (g.I.Read.remaining c.args.reader.now) (g.O.Write.contents c.args.out.now) (g.O.Write.contents c.args.out.now)
+    c.from_residual.result c.in_err-source.field-0.0 (inl c.in_err-source.ensures) c.from_residual.ensures.1 (refl, refl)
+
+pub returns-in_err-values : goal.returns-in_err-values
+returns-in_err-values g c =
+    debug-not-had (g.F.Files.holds c.args.files.now) c.args.file.now c.args.stimulus.now ((c.args.reader.now ≡ c.args.reader.now) × (c.args.out.now ≡ c.args.out.now))
+    (g.I.Read.remaining c.args.reader.now) (g.I.Read.remaining c.args.reader.now) (g.O.Write.contents c.args.out.now) (g.O.Write.contents c.args.out.now)
+    c.from_residual-in_err-values.result c.in_err-values.field-0.0 (inr c.in_err-values.ensures)
+    c.from_residual-in_err-values.ensures.1 (refl, refl)
+
+pub returns : goal.returns
+returns g c =
+    debug-session (g.F.Files.holds c.args.files.now) c.args.file.now c.args.stimulus.now ((c.answer_over.new.reader ≡ c.args.reader.now) × (c.answer_over.new.out ≡ c.args.out.now))
+    (g.I.Read.remaining c.args.reader.now) (g.I.Read.remaining c.answer_over.new.reader) (g.O.Write.contents c.args.out.now) (g.O.Write.contents c.answer_over.new.out)
+    c.answer_over.result c.in_ok-source.source.items c.in_ok-values.values.items c.as_slice.result.now c.as_slice-2.result.now
+    c.in_ok-source.ensures c.in_ok-values.ensures c.as_slice.ensures.value c.as_slice-2.ensures.value c.answer_over.ensures

@@ -1,0 +1,2 @@
+pub mod EventPlaces
+pub mod Laws

@@ -1,0 +1,86 @@
+//! The line of a place in the arm that was taken, and whether a `select` opens there.
+
+use crate::told::place;
+use address::Address;
+use calculus::{Choice, Command, Reply};
+use debug_session::accept;
+use event_places::{line_after, select_after};
+use locked_execution::{Desk, Machine};
+use sharing_check::Checked;
+use std::alloc::Global;
+use std::test::Fail;
+
+/// Each arm on a line of its own; the `else` is taken.
+const IF_ON_2: &str = "procedure p is variable x : 8 bits begin
+    if x = 1 then
+        x := 5
+    else
+        x := 6
+    end end";
+
+/// A `select` in one arm and an `arbitrate` in the other, which is taken.
+const ARBITRATE_TAKEN: &str = "procedure p (input a, b : 8 bits) is variable g : 1 bits begin
+    if g then select a then continue end
+    else arbitrate a then continue | b then continue end
+    end end";
+
+/// The same, and the `select` is taken.
+const SELECT_TAKEN: &str = "procedure p (input a, b : 8 bits) is variable g : 1 bits begin
+    if not g then select a then continue end
+    else arbitrate a then continue | b then continue end
+    end end";
+
+fn desk(alloc: Global, source: &str) -> Result<Desk, Fail> {
+    let checked = accept(alloc, source.as_bytes(), b"")?;
+    Ok(Desk::new(Machine::new(alloc, checked)?))
+}
+
+/// Takes a step, and answers the live events.
+fn live_after(alloc: Global, desk: &mut Desk, step: &[u8]) -> Result<Reply, Fail> {
+    let place = place(alloc, step)?;
+    let _stepped = desk.perform(0, &Command::Step(Choice { place, arm: 0 }));
+    Ok(desk.perform(0, &Command::Live))
+}
+
+fn line_in(checked: &Checked, live: &Reply, place: &Address) -> Option<u64> {
+    match live {
+        Reply::Live(entries) => line_after(checked, entries.as_slice(), place),
+        _ => None,
+    }
+}
+
+fn is_select_in(checked: &Checked, live: &Reply, place: &Address) -> bool {
+    match live {
+        Reply::Live(entries) => select_after(checked, entries.as_slice(), place),
+        _ => false,
+    }
+}
+
+#[test]
+fn a_place_has_the_line_in_the_arm_that_was_taken(rt: HostRuntime) -> Result<(), Fail> {
+    let mut desk = desk(rt.alloc(), IF_ON_2)?;
+    let test = place(rt.alloc(), b"/0.0")?;
+    let arm = place(rt.alloc(), b"/0.1")?;
+    let before = desk.perform(0, &Command::Live);
+    assert_eq!(rt; line_in(desk.machine().checked(), &before, &test), Some(2));
+    assert_eq!(rt; line_in(desk.machine().checked(), &before, &arm), None);
+    let after = live_after(rt.alloc(), &mut desk, b"/0.0")?;
+    assert_eq!(rt; line_in(desk.machine().checked(), &after, &arm), Some(5));
+    assert_eq!(rt; desk.machine().checked().line(&arm), Some(3));
+    Ok(())
+}
+
+#[test]
+fn a_select_opens_where_its_arm_was_taken(rt: HostRuntime) -> Result<(), Fail> {
+    let open = place(rt.alloc(), b"/0.1.0")?;
+    for (source, is_select) in [(ARBITRATE_TAKEN, false), (SELECT_TAKEN, true)] {
+        let mut desk = desk(rt.alloc(), source)?;
+        let live = live_after(rt.alloc(), &mut desk, b"/0.0")?;
+        assert_eq!(rt;
+            is_select_in(desk.machine().checked(), &live, &open),
+            is_select
+        );
+        assert!(rt; desk.machine().checked().select(&open));
+    }
+    Ok(())
+}

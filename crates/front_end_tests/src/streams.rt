@@ -1,0 +1,208 @@
+//! How a session uses its reader and its writer: when it asks, when it flushes, and what their failures become.
+
+use crate::one::{FIVE, ONE};
+use debug_session::{Fault, debug};
+use std::cell::Cell;
+use std::io;
+use std::io::{BufRead, BufWriter, ErrorKind, Read, Write};
+use std::test::Fail;
+
+/// What reader and writer see of each other.
+#[derive(Drop)]
+struct Log {
+    /// lines that the reader gave
+    given: Cell<usize>,
+    /// bytes that the writer took
+    taken: Cell<usize>,
+    /// bytes of these that were flushed
+    flushed: Cell<usize>,
+    /// whether a line was asked for before the answers to those before it were flushed
+    is_early: Cell<bool>,
+}
+
+/// How long the answer to each line `live` is.
+const ANSWER: usize = 7;
+
+/// A reader that is asked for one line at a time.
+#[derive(Drop)]
+struct Asked<'a> {
+    rest: &'a [u8],
+    /// what is left of the line that was asked for
+    shown: usize,
+    log: &'a Log,
+}
+
+impl Asked<'_> {
+    /// Shows the next line.
+    fn show(&mut self) {
+        if self.log.flushed.get() < ANSWER.saturating_mul(self.log.given.get()) {
+            self.log.is_early.set(true);
+        }
+        self.shown = self.rest.len().min(5);
+        self.log.given.set(self.log.given.get().saturating_add(1));
+    }
+}
+
+impl Read for Asked<'_> {
+    fn read(&mut self, _buf: &mut [u8]) -> io::Result<usize> {
+        Ok(0)
+    }
+}
+
+impl BufRead for Asked<'_> {
+    fn fill_buf(&mut self) -> io::Result<&[u8]> {
+        if self.shown == 0 {
+            self.show();
+        }
+        Ok(&self.rest[..self.shown.min(self.rest.len())])
+    }
+
+    fn consume(&mut self, amount: usize) {
+        let count = amount.min(self.shown).min(self.rest.len());
+        self.rest = &self.rest[count..];
+        self.shown -= count;
+    }
+}
+
+/// A writer that counts.
+#[derive(Drop)]
+struct Counting<'a> {
+    log: &'a Log,
+}
+
+impl Write for Counting<'_> {
+    fn write(&mut self, buf: &[u8]) -> io::Result<usize> {
+        self.log
+            .taken
+            .set(self.log.taken.get().saturating_add(buf.len()));
+        Ok(buf.len())
+    }
+
+    fn flush(&mut self) -> io::Result<()> {
+        self.log.flushed.set(self.log.taken.get());
+        Ok(())
+    }
+}
+
+#[test]
+fn each_answer_is_flushed_before_the_next_line_is_asked_for(rt: HostRuntime) -> Result<(), Fail> {
+    let log = Log {
+        given: Cell::new(0),
+        taken: Cell::new(0),
+        flushed: Cell::new(0),
+        is_early: Cell::new(false),
+    };
+    let mut reader = Asked {
+        rest: b"live\nlive\nlive\n",
+        shown: 0,
+        log: &log,
+    };
+    let mut writer = Counting { log: &log };
+    debug(rt.alloc(), &mut reader, &mut writer, ONE, FIVE)?;
+    assert!(rt; !log.is_early.get());
+    assert_eq!(rt; log.flushed.get(), 3 * ANSWER);
+    Ok(())
+}
+
+#[test]
+fn a_writer_with_a_buffer_is_flushed(rt: HostRuntime) -> Result<(), Fail> {
+    let mut reader: &[u8] = b"live\nvalue x";
+    let mut out = BufWriter::new(rt.alloc(), Vec::with_capacity(rt.alloc(), 64)?)?;
+    debug(rt.alloc(), &mut reader, &mut out, ONE, FIVE)?;
+    assert_eq!(rt; out.get_ref().as_slice(), b"live 0\nvalue x 0\n".as_slice());
+    Ok(())
+}
+
+/// A reader that fails once in this way, and then gives a line.
+#[derive(Drop)]
+struct Failing {
+    first: Option<ErrorKind>,
+}
+
+impl Read for Failing {
+    fn read(&mut self, _buf: &mut [u8]) -> io::Result<usize> {
+        Ok(0)
+    }
+}
+
+impl BufRead for Failing {
+    fn fill_buf(&mut self) -> io::Result<&[u8]> {
+        match self.first.take() {
+            Some(kind) => Err(kind.into()),
+            None => Ok(b""),
+        }
+    }
+
+    fn consume(&mut self, _amount: usize) {}
+}
+
+#[test]
+fn a_failed_read_is_what_its_kind_says(rt: HostRuntime) -> Result<(), Fail> {
+    let cases = [
+        (ErrorKind::Interrupted, Ok(())),
+        (ErrorKind::OutOfMemory, Err(Fault::Memory)),
+        (ErrorKind::Other, Err(Fault::ReadFailed)),
+        (ErrorKind::UnexpectedEof, Err(Fault::ReadFailed)),
+    ];
+    for (kind, expected) in cases {
+        let mut reader = Failing { first: Some(kind) };
+        let mut out: Vec<u8> = Vec::new(rt.alloc());
+        let ended = debug(rt.alloc(), &mut reader, &mut out, ONE, FIVE);
+        assert!(rt; ended == expected, "{kind:?}");
+    }
+    Ok(())
+}
+
+/// A writer that fails once in this way, or takes nothing once.
+#[derive(Drop)]
+struct Faltering {
+    first: Option<Result<usize, ErrorKind>>,
+    taken: Vec<u8>,
+}
+
+impl Write for Faltering {
+    fn write(&mut self, buf: &[u8]) -> io::Result<usize> {
+        match self.first.take() {
+            Some(Ok(count)) => Ok(count.min(buf.len())),
+            Some(Err(kind)) => Err(kind.into()),
+            None => {
+                self.taken.extend_from_slice(buf)?;
+                Ok(buf.len())
+            }
+        }
+    }
+
+    fn flush(&mut self) -> io::Result<()> {
+        Ok(())
+    }
+}
+
+#[test]
+fn a_write_is_made_again_after_an_interruption_alone(rt: HostRuntime) -> Result<(), Fail> {
+    let cases = [
+        (Err(ErrorKind::Interrupted), Ok(()), b"live 0\n".as_slice()),
+        (Ok(0), Err(Fault::WriteFailed), b"".as_slice()),
+        (
+            Err(ErrorKind::WouldBlock),
+            Err(Fault::WriteFailed),
+            b"".as_slice(),
+        ),
+        (
+            Err(ErrorKind::OutOfMemory),
+            Err(Fault::WriteFailed),
+            b"".as_slice(),
+        ),
+    ];
+    for (first, expected, bytes) in cases {
+        let mut reader: &[u8] = b"live\n";
+        let taken = Vec::with_capacity(rt.alloc(), 64)?;
+        let mut out = Faltering {
+            first: Some(first),
+            taken,
+        };
+        let ended = debug(rt.alloc(), &mut reader, &mut out, ONE, FIVE);
+        assert!(rt; ended == expected, "{first:?}");
+        assert!(rt; out.taken.as_slice() == bytes, "{first:?}");
+    }
+    Ok(())
+}
