@@ -6,7 +6,7 @@ build_takes="about half an hour on 4 processors"
 
 needs_toolchain() {
     command -v rt >/dev/null && return
-    echo "the Rattle toolchain (rt) is not on the PATH; README.md says which one is needed" >&2
+    echo "balsadbg: the Rattle toolchain (rt) is not on the PATH; README.md says which one is needed" >&2
     exit 1
 }
 
@@ -26,7 +26,7 @@ crates_of_program() {
         }' crates.txt
 }
 
-# One line that differs where the toolchain or any text that the program is made of differs.
+# One line that differs where the toolchain or any text that the program is made of differs. It asks for the toolchain.
 texts() {
     local kit
     kit=$(dirname "$(readlink -f "$(command -v rt)")")/../KIT-ID
@@ -37,7 +37,7 @@ texts() {
 
 # Whether the program that is kept was built from the texts that stand here.
 is_kept() {
-    [ -x "$kept" ] && [ "$(cat "$kept.texts" 2>/dev/null)" = "$(texts)" ]
+    command -v rt >/dev/null && [ -x "$kept" ] && [ "$(cat "$kept.texts" 2>/dev/null)" = "$(texts)" ]
 }
 
 # Keeps the program $1, which was built from the texts $2.

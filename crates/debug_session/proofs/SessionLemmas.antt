@@ -105,41 +105,43 @@ session-unread s o m read left left' wrote held number line fault p (one, takes,
   Consumes-then read left left' (flat_map with_end p.lines) line p.taken takes,
   p.given,
   elim which [
-    | inl memory ↦ subst (Stopped s o (flat_map with_end p.lines ++ line) p.output) (sym memory)
+    | inl memory ↦ subst (Stopped s o (IfSome read (λ _. IsAtEnd left')) (flat_map with_end p.lines ++ line) p.output) (sym memory)
         (p.lines, line, (m, p.answered), inl (record { joined = refl; each = p.each; unended = one }))
-    | inr failed ↦ subst (Stopped s o (flat_map with_end p.lines ++ line) p.output) (sym failed)
+    | inr failed ↦ subst (Stopped s o (IfSome read (λ _. IsAtEnd left')) (flat_map with_end p.lines ++ line) p.output) (sym failed)
         (p.lines, line, record { joined = refl; each = p.each; unended = one }, (m, p.answered))
   ],
 )
 
--- a line with its end, or without
-line-taken : (left left' : Option (List ℕ)) (line : List ℕ) (complete : Bool) → TakesLine left left' line complete
-    → (tail : List ℕ) × IsEnding tail × Consumes left left' (line ++ tail)
-line-taken left left' line true h = (10 ∷ [], inl refl, h.1)
-line-taken left left' line false h = ([], inr refl, subst (Consumes left left') (sym (append-nil line)) h.1.0)
+-- a line with its end, or without where the reader, whose bytes were known from `read` on, is at its end
+line-taken : (read left left' : Option (List ℕ)) (taken line : List ℕ) (complete : Bool) → Consumes read left taken
+    → TakesLine left left' line complete
+    → (tail : List ℕ) × IsEnding (IfSome read (λ _. IsAtEnd left')) tail × Consumes left left' (line ++ tail)
+line-taken read left left' taken line true k h = (10 ∷ [], inl refl, h.1)
+line-taken read left left' taken line false k h =
+    ([], inr (refl, end-known read left left' taken k h.1.1), subst (Consumes left left') (sym (append-nil line)) h.1.0)
 
 -- the lines so far and the next, with its end or without
-lines-and-line : (lines : List (List ℕ)) (line tail : List ℕ) → Every IsLine lines → IsLine line → IsEnding tail
-    → EndWith (flat_map with_end lines ++ (line ++ tail)) lines line
-lines-and-line lines line tail h k e = record { tail = tail; joined = refl; each = h; unended = k; ending = e }
+lines-and-line : (at_end : Type 0) (lines : List (List ℕ)) (line tail : List ℕ) → Every IsLine lines → IsLine line → IsEnding at_end tail
+    → EndWith at_end (flat_map with_end lines ++ (line ++ tail)) lines line
+lines-and-line at_end lines line tail h k e = record { tail = tail; joined = refl; each = h; unended = k; ending = e }
 
 -- the line that was taken is not answered, or only a part of its answer is out
-stopped-at : (s : System) (o m : Object) (lines : List (List ℕ)) (output line tail given : List ℕ) (number : ℕ) (fault : Fault)
-    → Every IsLine lines → IsLine line → IsEnding tail → Transcript s o lines output m → number ≡ suc (length lines)
+stopped-at : (s : System) (o m : Object) (at_end : Type 0) (lines : List (List ℕ)) (output line tail given : List ℕ) (number : ℕ) (fault : Fault)
+    → Every IsLine lines → IsLine line → IsEnding at_end tail → Transcript s o lines output m → number ≡ suc (length lines)
     → LineStops s m line number given fault
-    → Stopped s o (flat_map with_end lines ++ (line ++ tail)) (output ++ given) fault
-stopped-at s o m lines output line tail given number Fault.Memory h one e t c stops =
-    subst (λ g. Stopped s o (flat_map with_end lines ++ (line ++ tail)) g Fault.Memory)
+    → Stopped s o at_end (flat_map with_end lines ++ (line ++ tail)) (output ++ given) fault
+stopped-at s o m at_end lines output line tail given number Fault.Memory h one e t c stops =
+    subst (λ g. Stopped s o at_end (flat_map with_end lines ++ (line ++ tail)) g Fault.Memory)
     (sym (append-nil output) ∙ ap (λ g. output ++ g) (sym stops.0))
-    (lines, line, (m, t), inr (lines-and-line lines line tail h one e, stops.1))
-stopped-at s o m lines output line tail given number (Fault.BadCommand n) h one e t c stops =
-    subst (λ g. Stopped s o (flat_map with_end lines ++ (line ++ tail)) g (Fault.BadCommand n))
+    (lines, line, (m, t), inr (lines-and-line at_end lines line tail h one e, stops.1))
+stopped-at s o m at_end lines output line tail given number (Fault.BadCommand n) h one e t c stops =
+    subst (λ g. Stopped s o at_end (flat_map with_end lines ++ (line ++ tail)) g (Fault.BadCommand n))
     (sym (append-nil output) ∙ ap (λ g. output ++ g) (sym stops.0))
-    (lines, line, lines-and-line lines line tail h one e, (m, t), stops.1 ∙ c, stops.2, stops.3)
-stopped-at s o m lines output line tail given number Fault.WriteFailed h one e t c (answer, missing, o', a, parts) = (
+    (lines, line, lines-and-line at_end lines line tail h one e, (m, t), stops.1 ∙ c, stops.2, stops.3)
+stopped-at s o m at_end lines output line tail given number Fault.WriteFailed h one e t c (answer, missing, o', a, parts) = (
   lines,
   line,
-  lines-and-line lines line tail h one e,
+  lines-and-line at_end lines line tail h one e,
   record {
     answers = output;
     before = m;
@@ -151,24 +153,25 @@ stopped-at s o m lines output line tail given number Fault.WriteFailed h one e t
     out = refl;
   },
 )
-stopped-at s o m lines output line tail given number Fault.ReadFailed h one e t c stops = absurd stops
-stopped-at s o m lines output line tail given number (Fault.Lexer fault) h one e t c stops = absurd stops
-stopped-at s o m lines output line tail given number (Fault.Parser fault) h one e t c stops = absurd stops
-stopped-at s o m lines output line tail given number (Fault.Types fault) h one e t c stops = absurd stops
-stopped-at s o m lines output line tail given number (Fault.Elaborate fault) h one e t c stops = absurd stops
-stopped-at s o m lines output line tail given number (Fault.Sharing fault) h one e t c stops = absurd stops
+stopped-at s o m at_end lines output line tail given number Fault.ReadFailed h one e t c stops = absurd stops
+stopped-at s o m at_end lines output line tail given number (Fault.Lexer fault) h one e t c stops = absurd stops
+stopped-at s o m at_end lines output line tail given number (Fault.Parser fault) h one e t c stops = absurd stops
+stopped-at s o m at_end lines output line tail given number (Fault.Types fault) h one e t c stops = absurd stops
+stopped-at s o m at_end lines output line tail given number (Fault.Elaborate fault) h one e t c stops = absurd stops
+stopped-at s o m at_end lines output line tail given number (Fault.Sharing fault) h one e t c stops = absurd stops
 
 -- a line stopped the session
 pub session-stopped : (s : System) (o m : Object) (read left left' wrote held held' : Option (List ℕ)) (number : ℕ) (line given : List ℕ)
     (complete : Bool) (fault : Fault) → Progress s o read left wrote held m number → TakesLine left left' line complete
     → Appends held held' given → LineStops s m line number given fault → Ends s o read left' wrote held' (Err fault)
 session-stopped s o m read left left' wrote held held' number line given complete fault p takes gives stops =
-    let piece : (tail : List ℕ) × IsEnding tail × Consumes left left' (line ++ tail) = line-taken left left' line complete takes in (
+    let piece : (tail : List ℕ) × IsEnding (IfSome read (λ _. IsAtEnd left')) tail × Consumes left left' (line ++ tail) =
+    line-taken read left left' (flat_map with_end p.lines) line complete p.taken takes in (
       flat_map with_end p.lines ++ (line ++ piece.0),
       p.output ++ given,
       Consumes-then read left left' (flat_map with_end p.lines) (line ++ piece.0) p.taken piece.2,
       Appends-then wrote held held' p.output given p.given gives,
-      stopped-at s o m p.lines p.output line piece.0 given number fault p.each takes.0 piece.1 p.answered p.counted stops,
+      stopped-at s o m (IfSome read (λ _. IsAtEnd left')) p.lines p.output line piece.0 given number fault p.each takes.0 piece.1 p.answered p.counted stops,
     )
 
 -- the empty line

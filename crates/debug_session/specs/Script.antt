@@ -21,14 +21,14 @@ pub record AreLines (bytes : List ℕ) (lines : List (List ℕ)) (last : List �
   pub each : Every IsLine lines
   pub unended : IsLine last
 
--- an end of a line, or none
-abbrev pub IsEnding : List ℕ → Type 0
-IsEnding tail = (tail ≡ 10 ∷ []) ⊎ (tail ≡ [])
+-- an end of a line, or none at the end of all
+abbrev pub IsEnding : Type 0 → List ℕ → Type 0
+IsEnding at_end tail = (tail ≡ 10 ∷ []) ⊎ ((tail ≡ []) × at_end)
 
--- the bytes are these lines, each with its end, and then the line `last`, with its end or without
-pub record EndWith (bytes : List ℕ) (lines : List (List ℕ)) (last : List ℕ) : Type 0 where
+-- the bytes are these lines, each with its end, and then the whole line `last`, which lacks its end only at the end of all
+pub record EndWith (at_end : Type 0) (bytes : List ℕ) (lines : List (List ℕ)) (last : List ℕ) : Type 0 where
   pub tail : List ℕ
   pub joined : bytes ≡ flat_map with_end lines ++ (last ++ tail)
   pub each : Every IsLine lines
   pub unended : IsLine last
-  pub ending : IsEnding tail
+  pub ending : IsEnding at_end tail

@@ -49,28 +49,28 @@ abbrev pub Completed : System → Object → List ℕ → List ℕ → Type 0
 Completed system o taken output =
     (lines : List (List ℕ)) × (last : List ℕ) × AreLines taken lines last × Answered system o (lines ++ last ∷ []) output
 
--- the session took these bytes and stopped at a fault
-abbrev pub Stopped : System → Object → List ℕ → List ℕ → Fault → Type 0
+-- the session took these bytes and stopped at a fault; `at_end` says that the reader is at its end
+abbrev pub Stopped : System → Object → Type 0 → List ℕ → List ℕ → Fault → Type 0
 -- reading failed: the complete lines are answered
-Stopped system o taken output Fault.ReadFailed =
+Stopped system o at_end taken output Fault.ReadFailed =
     (lines : List (List ℕ)) × (last : List ℕ) × AreLines taken lines last × Answered system o lines output
 -- there was no memory to read the last line, or none to answer it: the lines before it are answered
-Stopped system o taken output Fault.Memory =
+Stopped system o at_end taken output Fault.Memory =
     (lines : List (List ℕ)) × (last : List ℕ) × Answered system o lines output
-    × (AreLines taken lines last ⊎ (EndWith taken lines last × LineMayWantMemory system last))
+    × (AreLines taken lines last ⊎ (EndWith at_end taken lines last × LineMayWantMemory system last))
 -- the last line, of this number, says nothing that can be answered: the lines before it are answered
-Stopped system o taken output (Fault.BadCommand number) =
-    (lines : List (List ℕ)) × (last : List ℕ) × EndWith taken lines last × Answered system o lines output
+Stopped system o at_end taken output (Fault.BadCommand number) =
+    (lines : List (List ℕ)) × (last : List ℕ) × EndWith at_end taken lines last × Answered system o lines output
     × (number ≡ suc (length lines)) × (last ≢ []) × AsksNothing system last
 -- writing failed in the answer to the last line: nothing behind that line was taken
-Stopped system o taken output Fault.WriteFailed =
-    (lines : List (List ℕ)) × (last : List ℕ) × EndWith taken lines last × BreaksOff system o lines last output
+Stopped system o at_end taken output Fault.WriteFailed =
+    (lines : List (List ℕ)) × (last : List ℕ) × EndWith at_end taken lines last × BreaksOff system o lines last output
 -- no other fault comes once the session has begun
-Stopped system o taken output (Fault.Lexer fault) = ⊥
-Stopped system o taken output (Fault.Parser fault) = ⊥
-Stopped system o taken output (Fault.Types fault) = ⊥
-Stopped system o taken output (Fault.Elaborate fault) = ⊥
-Stopped system o taken output (Fault.Sharing fault) = ⊥
+Stopped system o at_end taken output (Fault.Lexer fault) = ⊥
+Stopped system o at_end taken output (Fault.Parser fault) = ⊥
+Stopped system o at_end taken output (Fault.Types fault) = ⊥
+Stopped system o at_end taken output (Fault.Elaborate fault) = ⊥
+Stopped system o at_end taken output (Fault.Sharing fault) = ⊥
 
 -- what a session took from its reader and gave to its writer, and how it ended
 abbrev pub Ends : System → Object → Option (List ℕ) → Option (List ℕ) → Option (List ℕ) → Option (List ℕ) → Result (Unit {0}) Fault → Type 0
@@ -78,7 +78,7 @@ Ends system o read left wrote held result =
     (taken : List ℕ) × (given : List ℕ) × Consumes read left taken × Appends wrote held given
     × MatchResult result
     (λ _. IfSome read (λ _. IsAtEnd left) × Completed system o taken given)
-    (λ fault. Stopped system o taken given fault)
+    (λ fault. Stopped system o (IfSome read (λ _. IsAtEnd left)) taken given fault)
 
 -- what came of source and stimulus: they were refused, or there was no memory to begin with, and nothing was read and
 -- nothing written; or they gave a system, and the session on it ended so
