@@ -1,8 +1,8 @@
 -- The acting side of an event tells its kind and its channel.
 use Rattle.std.proofs.Common.{◌≡◌, List, false, Some, None, refl, sym, ap, subst, ◌∙◌}
 use Rattle.calculus.specs.Moves.{Move, Local, assigns, tests, turns, sends, receives, syncs, opens, releases, closes}
-use Rattle.elaborate.specs.Expression.{Store}
-use Rattle.elaborate.specs.Residual.{Residual}
+use Rattle.system.specs.Expression.{Store}
+use Rattle.system.specs.Residual.{Residual}
 use Rattle.calculus.specs.Events.{Located, Makes, assigning, testing, turning, meeting, opening, opening_without_data, shutting, syncing, acting}
 use Rattle.calculus.specs.Steps.{State, Step}
 use Rattle.calculus.specs.declared.event.Event.{Event}

@@ -4,8 +4,8 @@ use Rattle.std.proofs.lemmas.Bool.{eqb-true, eq-eqb, ne_eqb}
 use Rattle.address.specs.declared.Entry.TheVariants.{Ordered, Branch}
 use Rattle.calculus.specs.Moves.{Place, Move, assigns, tests, turns, sends, receives, syncs, opens, releases, closes, Local}
 use Rattle.value.specs.Word.{Word}
-use Rattle.elaborate.specs.Expression.{Expression, Decision, by_guards}
-use Rattle.elaborate.specs.Residual.{Residual, done, halted, inside, beside, assign, send, receive, sync, held, loop, while, test, choose, closing, drain, Arms, within, along, arm_at, opened}
+use Rattle.system.specs.Expression.{Expression, Decision, by_guards}
+use Rattle.system.specs.Residual.{Residual, done, halted, inside, beside, assign, send, receive, sync, held, loop, while, test, choose, closing, drain, Arms, within, along, arm_at, opened}
 use Rattle.calculus.specs.After.{Ask, to_assign, to_test, to_turn, to_send, to_hold, to_receive, to_open, to_sync, to_release, to_close, asks, Answer, around, at_place, at_act, in_child, in_branch, after_assign, after_send, after_receive, after_sync, after_held, after_loop, after_while, after_test, after_open, after_choose, after_closing, after_drain, after}
 use Rattle.calculus.proofs.Options.{none-some, cond-some}
 use Rattle.calculus.proofs.WellFormed.{WellFormed}

@@ -1,9 +1,9 @@
 -- The list of allowed events has exactly the events that are allowed.
 use Rattle.std.proofs.Common.{◌≡◌, ◌⊎◌, inl, inr, List, [], ◌∷◌, Option, Some, None, true, false, refl, sym, ◌∙◌, ap, subst}
 use Rattle.address.specs.Places.{Apart}
-use Rattle.elaborate.specs.Lists.{In}
-use Rattle.elaborate.specs.Expression.{Store}
-use Rattle.elaborate.specs.Residual.{Residual}
+use Rattle.system.specs.Lists.{In}
+use Rattle.system.specs.Expression.{Store}
+use Rattle.system.specs.Residual.{Residual}
 use Rattle.calculus.specs.Moves.{Move, Local, assigns, tests, turns, sends, receives, syncs, opens, releases, closes}
 use Rattle.calculus.specs.Events.{Located, at, sent, Makes, assigning, testing, turning, meeting, opening, opening_without_data, shutting, syncing, store_after}
 use Rattle.calculus.specs.Made.{event_of}

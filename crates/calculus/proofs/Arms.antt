@@ -1,8 +1,8 @@
 -- The arms of a test as a list, and the constructors that erase what is finished.
 use Rattle.std.proofs.Common.{◌≡◌, ℕ, List, [], ◌∷◌, ◌++◌, map, cond, None, Some, refl, ap}
 use Rattle.value.specs.Word.{Word}
-use Rattle.elaborate.specs.Residual.{Residual, done, inside, beside, arm, within, along, put_residual, put_arms}
-use Rattle.elaborate.specs.Translation.{arms_of}
+use Rattle.system.specs.Residual.{Residual, done, inside, beside, arm, within, along, put_residual, put_arms}
+use Rattle.system.specs.Translation.{arms_of}
 use Rattle.calculus.specs.Left.{is_done}
 
 -- a value is put into each arm

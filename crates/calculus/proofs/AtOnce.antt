@@ -4,9 +4,9 @@ use Rattle.address.specs.declared.Entry.{Entry}
 use Rattle.address.specs.declared.Entry.TheVariants.{Ordered, Branch}
 use Rattle.calculus.specs.Moves.{Place, Move, Local}
 use Rattle.address.specs.Places.{Apart}
-use Rattle.elaborate.specs.Residual.{Residual, done, halted, inside, beside, assign, send, receive, sync, held, loop, while, test, choose, closing, drain}
+use Rattle.system.specs.Residual.{Residual, done, halted, inside, beside, assign, send, receive, sync, held, loop, while, test, choose, closing, drain}
 use Rattle.calculus.proofs.WellFormed.{WellFormed}
-use Rattle.elaborate.specs.Expression.{Store}
+use Rattle.system.specs.Expression.{Store}
 use Rattle.calculus.specs.Events.{Located, Makes, assigning, testing, turning, meeting, opening, opening_without_data, shutting, syncing}
 use Rattle.calculus.specs.Steps.{Moves}
 use Rattle.calculus.specs.declared.event.Event.{Event}

@@ -1,6 +1,6 @@
 -- Going back: a part of the live events on which none of the others had a kept follower.
 use Rattle.std.proofs.Common.{◌≡◌, inl, inr, ℕ, suc, ◌<◌, ◌≤◌, [], ◌∷◌, ◌++◌, length, refl, ap, subst, arith}
-use Rattle.elaborate.specs.Lists.{In, Every}
+use Rattle.system.specs.Lists.{In, Every}
 use Rattle.calculus.specs.Steps.{State}
 use Rattle.calculus.specs.Runs.{Run}
 use Rattle.calculus.specs.Dependence.{Directly}

@@ -1,8 +1,8 @@
 -- Children of a sequence or a parallel, put together from the last on.
 use Rattle.std.proofs.Common.{◌≡◌, ℕ, suc, ◌+◌, List, [], ◌∷◌, ◌++◌, length, map, refl, sym, ap, ◌∙◌, zero-add, arith}
 use Rattle.std.proofs.lemmas.List.{map-append, length-map}
-use Rattle.elaborate.specs.Residual.{Residual, done, within, along}
-use Rattle.elaborate.specs.Translation.{in_sequence, in_parallel}
+use Rattle.system.specs.Residual.{Residual, done, within, along}
+use Rattle.system.specs.Translation.{in_sequence, in_parallel}
 use Rattle.calculus.specs.declared.left.Left.{Left}
 use Rattle.calculus.specs.Left.{residual_of_left}
 use Rattle.calculus.specs.Children.{sequence_onto, parallel_onto}

@@ -9,7 +9,7 @@ use Rattle.calculus.specs.Events.{Located, Makes, assigning, testing, turning, m
 use Rattle.calculus.specs.Steps.{State, Allowed}
 use Rattle.calculus.specs.Choices.{choice_of, opened_arm}
 use Rattle.calculus.specs.Ready.{other, Chosen}
-use Rattle.elaborate.specs.Expression.{Store}
+use Rattle.system.specs.Expression.{Store}
 use Rattle.calculus.specs.declared.event.Event.{Event}
 use Rattle.calculus.specs.declared.event.Choice.{Choice}
 use Rattle.calculus.specs.declared.event.Kind.{Kind}

@@ -2,8 +2,8 @@
 use Rattle.std.proofs.Common.{◌≡◌, ℕ, ◌≤◌, List, [], ◌∷◌, Option, Some, None, true, false, Bool, inl, inr, sym, refl, ap, subst, ◌∙◌, arith}
 use Rattle.address.specs.Places.{Apart}
 use Rattle.address.proofs.Places.{apart-symmetric}
-use Rattle.elaborate.specs.Expression.{Store}
-use Rattle.elaborate.specs.Residual.{Residual}
+use Rattle.system.specs.Expression.{Store}
+use Rattle.system.specs.Residual.{Residual}
 use Rattle.sharing_check.specs.Measure.{sending, syncing}
 use Rattle.sharing_check.specs.Sharing.{KeepsSharing}
 use Rattle.calculus.specs.Moves.{Place, Move, sends, receives, syncs, opens, releases, closes}

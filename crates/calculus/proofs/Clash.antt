@@ -4,8 +4,8 @@ use Rattle.std.proofs.Math.Nat.{le-max_left}
 use Rattle.address.specs.declared.Entry.TheVariants.{Ordered, Branch}
 use Rattle.calculus.specs.Moves.{Place, Move, assigns, tests, turns, sends, receives, syncs, opens, releases, closes, Local}
 use Rattle.address.specs.Places.{Apart}
-use Rattle.elaborate.specs.Expression.{variables, decision_variables}
-use Rattle.elaborate.specs.Residual.{Residual, done, halted, inside, beside, assign, send, receive, sync, held, loop, while, test, choose, closing, drain}
+use Rattle.system.specs.Expression.{variables, decision_variables}
+use Rattle.system.specs.Residual.{Residual, done, halted, inside, beside, assign, send, receive, sync, held, loop, while, test, choose, closing, drain}
 use Rattle.calculus.specs.Events.{Located}
 use Rattle.sharing_check.specs.Measure.{Measure, amount, most}
 use Rattle.calculus.proofs.WellFormed.{WellFormed}

@@ -1,11 +1,11 @@
 -- What was done once is behind: each later move is after it or in another branch.
 use Rattle.calculus.proofs.Lists.{every-map}
 use Rattle.std.proofs.Common.{◌≡◌, ◌⊎◌, inl, inr, ℕ, List, [], ◌∷◌, arith}
-use Rattle.elaborate.specs.Lists.{Every}
+use Rattle.system.specs.Lists.{Every}
 use Rattle.calculus.specs.Moves.{Place}
 use Rattle.address.specs.Places.{Before, Apart}
 use Rattle.address.specs.declared.Entry.TheVariants.{Ordered, Branch}
-use Rattle.elaborate.specs.Residual.{Residual}
+use Rattle.system.specs.Residual.{Residual}
 use Rattle.calculus.specs.Events.{Located}
 use Rattle.calculus.specs.Steps.{Moves}
 use Rattle.address.proofs.Places.{before-irreflexive, before-asymmetric, before-not-apart, apart-symmetric, apart-irreflexive}

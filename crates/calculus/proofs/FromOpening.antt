@@ -1,6 +1,6 @@
 -- The laws of runs, for the runs of a system from its opening state.
 use Rattle.std.proofs.Common.{◌≡◌, ℕ, List, ◌∷◌, Some, refl, ap, sym, ◌∙◌}
-use Rattle.elaborate.specs.Expression.{Store}
+use Rattle.system.specs.Expression.{Store}
 use Rattle.sharing_check.specs.Rule.{is_sync, is_shared}
 use Rattle.calculus.specs.Choices.{opened_arm, choice_of}
 use Rattle.calculus.specs.Dependence.{Directly}

@@ -2,7 +2,7 @@
 use Rattle.std.proofs.Common.{◌≡◌, inl, inr, ℕ, ◌+◌, ◌*◌, ◌≤◌, [], ◌∷◌, arith}
 use Rattle.calculus.specs.Moves.{Place, Move, Local}
 use Rattle.address.specs.declared.Entry.TheVariants.{Ordered, Branch}
-use Rattle.elaborate.specs.Residual.{Residual, done, halted, inside, beside, assign, send, receive, sync, held, loop, while, test, choose, closing, drain, arm_at, opened}
+use Rattle.system.specs.Residual.{Residual, done, halted, inside, beside, assign, send, receive, sync, held, loop, while, test, choose, closing, drain, arm_at, opened}
 use Rattle.calculus.proofs.WellFormed.{StartsFrom, BranchesFrom, WellFormed, formed-within, branches-along, formed-along, formed-opened, formed-arm_at}
 
 -- a residual that starts from n moves at an ordered place from n on

@@ -1,6 +1,6 @@
 -- Steps keep the rule on sharing.
 use Rattle.std.proofs.Common.{ℕ, ◌≤◌, List, [], ◌∷◌, Bool, subst, le_refl, le_trans}
-use Rattle.elaborate.specs.Residual.{Residual}
+use Rattle.system.specs.Residual.{Residual}
 use Rattle.calculus.specs.Events.{Located}
 use Rattle.calculus.specs.Steps.{State, Moves, Step}
 use Rattle.calculus.specs.Runs.{Run}

@@ -2,10 +2,10 @@
 use Rattle.calculus.proofs.Lists.{every-right}
 use Rattle.std.proofs.Common.{◌≡◌, ◌⊎◌, ℕ, ◌+◌, List, [], ◌∷◌, ◌++◌, Some, inl, inr, sym, refl, subst, ⊎_elim, arith}
 use Rattle.address.specs.declared.Entry.TheVariants.{Ordered, Branch}
-use Rattle.elaborate.specs.Lists.{In}
+use Rattle.system.specs.Lists.{In}
 use Rattle.calculus.specs.Moves.{Place, Move, Local, receives}
 use Rattle.address.specs.Places.{Apart}
-use Rattle.elaborate.specs.Residual.{Residual, done, inside, beside, receive, within, along}
+use Rattle.system.specs.Residual.{Residual, done, inside, beside, receive, within, along}
 use Rattle.calculus.specs.Events.{Located, at}
 use Rattle.calculus.specs.Steps.{Moves}
 use Rattle.calculus.proofs.WellFormed.{WellFormed, StartsFrom}

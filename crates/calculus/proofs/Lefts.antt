@@ -1,8 +1,8 @@
 -- Trees in memory as arms.
 use Rattle.std.proofs.Common.{◌≡◌, ℕ, zero, suc, List, [], ◌∷◌, ◌++◌, map, slice_get, None, Some, refl, sym, ap, ◌∙◌}
 use Rattle.std.proofs.lemmas.List.{map-append}
-use Rattle.elaborate.specs.Residual.{Residual, done, arm_at}
-use Rattle.elaborate.specs.Translation.{arms_of}
+use Rattle.system.specs.Residual.{Residual, done, arm_at}
+use Rattle.system.specs.Translation.{arms_of}
 use Rattle.calculus.specs.declared.left.Left.{Left}
 use Rattle.calculus.specs.Left.{residual_of_left}
 use Rattle.calculus.proofs.Arms.{arms_of_last}

@@ -8,7 +8,7 @@ use Rattle.calculus.specs.Moves.{Place, Move, assigns, tests, turns, sends, rece
 use Rattle.address.specs.Places.{Apart}
 use Rattle.address.specs.Order.{order_of}
 use Rattle.value.specs.Word.{Word}
-use Rattle.elaborate.specs.Expression.{Expression, Store, variables, decide, ascending}
+use Rattle.system.specs.Expression.{Expression, Store, variables, decide, ascending}
 use Rattle.calculus.specs.Events.{Located, at, sent, Makes, assigning, testing, turning, meeting, opening, opening_without_data, shutting, syncing}
 use Rattle.calculus.specs.Made.{asked, all_ask, event_of, made_alone, made_together, made_by_send, made_by_held_send, made_by_held_sync, made_by_release, made_by_sync}
 use Rattle.calculus.specs.Tests.{apart, same_option, same_word}

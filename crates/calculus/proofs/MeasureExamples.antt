@@ -1,7 +1,7 @@
 -- Amounts of small commands.
 use Rattle.std.proofs.Common.{◌≡◌, ℕ, [], ◌∷◌, refl}
-use Rattle.elaborate.specs.Expression.{word, constant, variable}
-use Rattle.elaborate.specs.Residual.{Residual, done, inside, beside, assign, send, receive, sync, choose, no_arms, arm}
+use Rattle.system.specs.Expression.{word, constant, variable}
+use Rattle.system.specs.Residual.{Residual, done, inside, beside, assign, send, receive, sync, choose, no_arms, arm}
 use Rattle.sharing_check.specs.Measure.{amount, sending, receiving, syncing, on_variable}
 
 -- y := x

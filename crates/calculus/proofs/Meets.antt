@@ -1,7 +1,7 @@
 -- Two moves that make an event, and those that make none.
 use Rattle.std.proofs.Common.{◌≡◌, ℕ, List, Bool, Option, None, refl}
 use Rattle.value.specs.Word.{Word}
-use Rattle.elaborate.specs.Expression.{Expression, Store, variables, ascending}
+use Rattle.system.specs.Expression.{Expression, Store, variables, ascending}
 use Rattle.calculus.specs.Moves as model
 use Rattle.calculus.specs.Moves.{Place}
 use Rattle.calculus.specs.Events.{sent}

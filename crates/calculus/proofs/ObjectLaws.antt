@@ -2,7 +2,7 @@
 use Rattle.std.proofs.Common.{◌≡◌, ℕ, suc, ◌+◌, ◌<◌, ◌≤◌, List, [], ◌∷◌, ◌++◌, length, refl, sym, ◌∙◌, ap, subst, arith}
 use Rattle.calculus.specs.Steps.{State, Allowed}
 use Rattle.calculus.specs.Dependence.{Causes}
-use Rattle.elaborate.specs.declared.system.System.{System}
+use Rattle.system.specs.declared.system.System.{System}
 use Rattle.sharing_check.specs.Sharing.{KeepsSharing}
 use Rattle.sharing_check.specs.Rule.{SharesWell, is_sync, is_shared}
 use Rattle.calculus.specs.Opening.{opening}

@@ -2,8 +2,8 @@
 -- so that no two are equal and no two have one acting address.
 use Rattle.calculus.proofs.Lists.{every-in, every-left, every-right, every-map}
 use Rattle.std.proofs.Common.{◌≡◌, inl, inr, List, [], ◌∷◌, ◌++◌, Option, Some, None, refl, sym, ap, subst}
-use Rattle.elaborate.specs.Lists.{In, Every}
-use Rattle.elaborate.specs.Residual.{Residual}
+use Rattle.system.specs.Lists.{In, Every}
+use Rattle.system.specs.Residual.{Residual}
 use Rattle.calculus.specs.Moves.{Place}
 use Rattle.calculus.specs.Events.{Located, Makes, places, acting, acting_at}
 use Rattle.calculus.specs.Steps.{State, Moves}

@@ -2,8 +2,8 @@
 use Rattle.calculus.proofs.AtOnce.{OffersAll, offered}
 use Rattle.std.proofs.Common.{◌≡◌, List, [], ◌∷◌, Some, None, refl, sym, ap, subst, ◌∙◌}
 use Rattle.calculus.specs.Moves.{Place, Local}
-use Rattle.elaborate.specs.Expression.{Store, variables, decide, decision_variables, ascending}
-use Rattle.elaborate.specs.Residual.{Residual}
+use Rattle.system.specs.Expression.{Store, variables, decide, decision_variables, ascending}
+use Rattle.system.specs.Residual.{Residual}
 use Rattle.calculus.specs.Events.{Located, sent, Makes, places, assigning, testing, turning, meeting, opening, opening_without_data, shutting, syncing}
 use Rattle.calculus.specs.Steps.{State, Step}
 use Rattle.calculus.specs.declared.event.Event.{Event}

@@ -1,6 +1,6 @@
 -- Orders of a run: an event moves past all that do not depend on it, and every respecting order leads to the same state.
 use Rattle.std.proofs.Common.{◌≡◌, List, [], ◌∷◌, ◌++◌, refl, sym, subst}
-use Rattle.elaborate.specs.Lists.{Every}
+use Rattle.system.specs.Lists.{Every}
 use Rattle.calculus.specs.Steps.{State, Step}
 use Rattle.calculus.specs.Runs.{Run}
 use Rattle.calculus.specs.Dependence.{Directly}

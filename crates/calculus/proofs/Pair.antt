@@ -4,7 +4,7 @@ use Rattle.std.proofs.Common.{◌≡◌, ◌⊎◌, inl, inr, ℕ, ◌+◌, ◌*
 use Rattle.calculus.specs.Moves.{Place, Move, Local}
 use Rattle.address.specs.Places.{Before, Apart}
 use Rattle.address.specs.declared.Entry.TheVariants.{Ordered, Branch}
-use Rattle.elaborate.specs.Residual.{Residual, done, halted, inside, beside, assign, send, receive, sync, held, loop, while, test, choose, closing, drain, within, along, arm_at, opened}
+use Rattle.system.specs.Residual.{Residual, done, halted, inside, beside, assign, send, receive, sync, held, loop, while, test, choose, closing, drain, within, along, arm_at, opened}
 use Rattle.calculus.proofs.Smart.{local_within, within_local, local_along, along_left, along_right}
 use Rattle.calculus.proofs.WellFormed.{StartsFrom, WellFormed, starts-within}
 use Rattle.calculus.proofs.Kept.{starts-place, branches-place, StartsAt, BranchesAt}

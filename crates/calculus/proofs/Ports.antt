@@ -1,9 +1,9 @@
 -- What the environment is to do on a port, as children of a sequence.
 use Rattle.std.proofs.Common.{◌≡◌, ℕ, suc, List, [], ◌∷◌, map, refl, ap}
 use Rattle.value.specs.Word.{Word}
-use Rattle.elaborate.specs.Expression.{constant}
-use Rattle.elaborate.specs.Residual.{send, within}
-use Rattle.elaborate.specs.Translation.{in_sequence, feed_from}
+use Rattle.system.specs.Expression.{constant}
+use Rattle.system.specs.Residual.{send, within}
+use Rattle.system.specs.Translation.{in_sequence, feed_from}
 
 feed_from_is : (k c w : ℕ) (vs : List Word) → feed_from k c w vs ≡ in_sequence k (map (λ v. send c w (constant v)) vs)
 feed_from_is k c w [] = refl

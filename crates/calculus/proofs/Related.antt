@@ -1,11 +1,11 @@
 -- The ordering law: of two related events of one run, the earlier has an address before an address of the later.
 use Rattle.std.proofs.Common.{◌≡◌, ◌⊎◌, ℕ, ◌+◌, ◌≤◌, List, [], ◌∷◌, ◌++◌, Some, true, false, Bool, inl, inr, ⊎_elim, sym, refl, subst, arith, le_trans, append_assoc}
-use Rattle.elaborate.specs.Lists.{In}
+use Rattle.system.specs.Lists.{In}
 use Rattle.address.specs.Places.{Before, Apart}
-use Rattle.elaborate.specs.Residual.{Residual}
+use Rattle.system.specs.Residual.{Residual}
 use Rattle.calculus.specs.Events.{Located, Makes, places}
 use Rattle.calculus.specs.Steps.{State, Moves, Step}
-use Rattle.elaborate.specs.Expression.{Store}
+use Rattle.system.specs.Expression.{Store}
 use Rattle.calculus.specs.Runs.{Run}
 use Rattle.calculus.specs.Dependence.{SomeBefore}
 use Rattle.sharing_check.specs.Measure.{Measure, amount, sending, syncing, on_variable}

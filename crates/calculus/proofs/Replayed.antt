@@ -3,7 +3,7 @@ use Rattle.std.proofs.Common.{◌≡◌, List, Option, Some, None, Result, sym, 
 use Rattle.std.specs.Prelude.{IfOk, MatchOption}
 use Rattle.std.specs.Option.{option_map, IfSome}
 use Rattle.std.proofs.lemmas.Result.{IfOk-weaker}
-use Rattle.elaborate.specs.declared.system.System.{System}
+use Rattle.system.specs.declared.system.System.{System}
 use Rattle.sharing_check.specs.Rule.{SharesWell}
 use Rattle.calculus.specs.Ruled.{RelatedInOrder, OneForEachChoice}
 use Rattle.calculus.specs.Steps.{State}

@@ -1,7 +1,7 @@
 -- Respecting orders of a list that runs, gone through one event after another.
 use Rattle.calculus.proofs.Lists.{in-left, in-right, in-parts, every-of}
 use Rattle.std.proofs.Common.{◌≡◌, inl, inr, List, [], ◌∷◌, ◌++◌, refl, sym, subst}
-use Rattle.elaborate.specs.Lists.{In}
+use Rattle.system.specs.Lists.{In}
 use Rattle.calculus.specs.Steps.{State}
 use Rattle.calculus.specs.Runs.{Run}
 use Rattle.calculus.specs.Dependence.{Directly, Earlier, Rearranged, Respecting}

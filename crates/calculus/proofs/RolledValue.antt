@@ -1,7 +1,7 @@
 -- A rollback of a variable leaves it with the value that it had before its last live writer.
 use Rattle.std.proofs.Common.{◌≡◌, inl, inr, ℕ, suc, ◌<◌, ◌≤◌, List, [], ◌∷◌, ◌++◌, Some, refl, sym, ◌∙◌, ap, subst, arith}
-use Rattle.elaborate.specs.Lists.{In}
-use Rattle.elaborate.specs.Expression.{get, Store}
+use Rattle.system.specs.Lists.{In}
+use Rattle.system.specs.Expression.{get, Store}
 use Rattle.calculus.specs.Steps.{State}
 use Rattle.calculus.specs.Runs.{Run}
 use Rattle.calculus.specs.Live.{Live, events, Rising, LiveAt, Follows, same, Without, ended, stays, leaves, LastWriter, NoWriter}

@@ -2,12 +2,12 @@
 use Rattle.std.proofs.Common.{ℕ, zero, suc, ◌+◌, ◌≤◌, max, List, [], ◌∷◌, map, sum_by, arith, le_refl, le_trans, zero-le}
 use Rattle.std.proofs.lemmas.List.Sums.{sum_by-cons}
 use Rattle.value.specs.Word.{Word}
-use Rattle.elaborate.specs.Expression.{constant}
-use Rattle.elaborate.specs.Residual.{send, sync}
-use Rattle.elaborate.specs.Translation.{in_parallel, residual_of, feed_from, syncs_from, branch_of, opening_residual}
-use Rattle.elaborate.specs.declared.system.System.{System}
-use Rattle.elaborate.specs.declared.system.Branch.{Branch}
-use Rattle.elaborate.specs.declared.system.Branch.TheVariants.{Feed, Drain, Syncs}
+use Rattle.system.specs.Expression.{constant}
+use Rattle.system.specs.Residual.{send, sync}
+use Rattle.system.specs.Translation.{in_parallel, residual_of, feed_from, syncs_from, branch_of, opening_residual}
+use Rattle.system.specs.declared.system.System.{System}
+use Rattle.system.specs.declared.system.Branch.{Branch}
+use Rattle.system.specs.declared.system.Branch.TheVariants.{Feed, Drain, Syncs}
 use Rattle.sharing_check.specs.Measure.{Measure, amount, sum_together, sending, receiving, syncing, on_variable, variable_together}
 use Rattle.sharing_check.specs.Sharing.{KeepsSharing}
 use Rattle.sharing_check.specs.Rule.{is_sync, is_shared, sender_on, receiver_on, user_on, width, SharesWell}

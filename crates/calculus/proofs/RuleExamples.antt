@@ -1,19 +1,19 @@
 -- The rule on sharing, on small systems.
 use Rattle.std.proofs.Common.{◌≡◌, ◌+◌, ◌≤◌, List, [], ◌∷◌, sum_by, refl, subst, sym, arith, ◌∙◌}
-use Rattle.elaborate.specs.declared.command.Command.{Command}
-use Rattle.elaborate.specs.declared.command.Action as Action
-use Rattle.elaborate.specs.Residual.{Residual, receive}
-use Rattle.elaborate.specs.Translation.{OnChannel, OnGuard, OnLabels, action_layer, arm_layer, command_layer, guarded_layer, labelled_layer, residual_of}
-use Rattle.elaborate.specs.declared.expression.Use.{Use}
-use Rattle.elaborate.specs.declared.system.System.{System}
-use Rattle.elaborate.specs.declared.system.Branch.{Branch}
-use Rattle.elaborate.specs.declared.system.Branch.TheVariants.{Feed}
+use Rattle.system.specs.declared.command.Command.{Command}
+use Rattle.system.specs.declared.command.Action as Action
+use Rattle.system.specs.Residual.{Residual, receive}
+use Rattle.system.specs.Translation.{OnChannel, OnGuard, OnLabels, action_layer, arm_layer, command_layer, guarded_layer, labelled_layer, residual_of}
+use Rattle.system.specs.declared.expression.Use.{Use}
+use Rattle.system.specs.declared.system.System.{System}
+use Rattle.system.specs.declared.system.Branch.{Branch}
+use Rattle.system.specs.declared.system.Branch.TheVariants.{Feed}
 use Rattle.sharing_check.specs.Measure.{amount, sending, receiving, syncing}
 use Rattle.sharing_check.specs.Sharing.{OneBranchWrites}
 use Rattle.sharing_check.specs.Rule.{sender_on, receiver_on, user_on, SharesWell}
 use Rattle.calculus.proofs.VariableRule.{only_bound}
-use Rattle.elaborate.specs.declared.command.Action.TheOpen.{Action-F}
-use Rattle.elaborate.specs.declared.command.Action.TheFolds.{fold-roll-Action, fold-roll-Command}
+use Rattle.system.specs.declared.command.Action.TheOpen.{Action-F}
+use Rattle.system.specs.declared.command.Action.TheFolds.{fold-roll-Action, fold-roll-Command}
 
 -- a name in the source
 abbrev name : Use

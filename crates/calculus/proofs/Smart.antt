@@ -2,7 +2,7 @@
 use Rattle.std.proofs.Common.{◌≡◌, ◌⊎◌, inl, inr, ℕ, ◌∷◌, refl}
 use Rattle.calculus.specs.Moves.{Place, Move, Local}
 use Rattle.address.specs.declared.Entry.TheVariants.{Ordered, Branch}
-use Rattle.elaborate.specs.Residual.{Residual, done, inside, beside, within, along}
+use Rattle.system.specs.Residual.{Residual, done, inside, beside, within, along}
 
 -- a move of `within` is one of `inside`, or of what comes next if the child is finished
 pub local_within : (i : ℕ) (child next : Residual) (a : Place) (m : Move) (q : Residual) →

@@ -2,7 +2,7 @@
 use Rattle.std.proofs.Common.{◌≡◌, ◌↔◌, List, [], ◌∷◌, Option, Some, None, refl, sym, ap, subst, ◌∙◌}
 use Rattle.std.specs.Option.{option_and_then}
 use Rattle.calculus.specs.Moves.{Place, Move}
-use Rattle.elaborate.specs.Residual.{Residual}
+use Rattle.system.specs.Residual.{Residual}
 use Rattle.calculus.specs.Events.{Located, at, store_after}
 use Rattle.calculus.specs.Steps.{State, Moves, Step}
 use Rattle.calculus.specs.Runs.{Run}

@@ -1,9 +1,9 @@
 -- What the moves of an event have to do with its addresses and with the store.
 use Rattle.std.proofs.Common.{◌≡◌, inl, inr, ℕ, List, [], ◌∷◌, Some, None, refl, sym, ◌∙◌, ap, subst, true, false}
-use Rattle.elaborate.specs.Lists.{In, Every}
+use Rattle.system.specs.Lists.{In, Every}
 use Rattle.calculus.specs.Moves.{Place, assigns, sends, receives, opens}
 use Rattle.value.specs.Word.{Word, resized}
-use Rattle.elaborate.specs.Expression.{Expression, Store, variables, ascending, decision_variables}
+use Rattle.system.specs.Expression.{Expression, Store, variables, ascending, decision_variables}
 use Rattle.calculus.specs.Events.{Located, at, Makes, assigning, testing, turning, meeting, opening, opening_without_data, shutting, syncing, sent, places}
 use Rattle.calculus.specs.declared.event.Event.{Event}
 use Rattle.calculus.specs.declared.event.Kind.TheVariants.{Assign, Meet, Open}

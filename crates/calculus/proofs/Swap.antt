@@ -1,11 +1,11 @@
 -- Two neighbours of a run swap unless the second depends directly on the first.
 use Rattle.calculus.proofs.Lists.{every-map}
 use Rattle.std.proofs.Common.{inl, inr, List, [], ◌∷◌, refl, sym, ◌∙◌, ap, subst}
-use Rattle.elaborate.specs.Lists.{In, Every}
+use Rattle.system.specs.Lists.{In, Every}
 use Rattle.calculus.specs.Moves.{Place, Local}
 use Rattle.address.specs.Places.{Before}
-use Rattle.elaborate.specs.Residual.{Residual}
-use Rattle.elaborate.specs.Expression.{get}
+use Rattle.system.specs.Residual.{Residual}
+use Rattle.system.specs.Expression.{get}
 use Rattle.calculus.specs.Events.{Located, places, store_after}
 use Rattle.calculus.specs.Steps.{State, Step, Moves}
 use Rattle.calculus.specs.Dependence.{Directly}

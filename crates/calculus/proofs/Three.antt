@@ -3,7 +3,7 @@ use Rattle.std.proofs.Common.{ℕ, ◌+◌, ◌*◌, ◌≤◌, List, [], inl, i
 use Rattle.std.proofs.Math.Nat.{le-max_left}
 use Rattle.calculus.specs.Moves.{Place, Move, Local}
 use Rattle.address.specs.Places.{Apart}
-use Rattle.elaborate.specs.Residual.{Residual, done, halted, inside, beside, assign, send, receive, sync, held, loop, while, test, choose, closing, drain}
+use Rattle.system.specs.Residual.{Residual, done, halted, inside, beside, assign, send, receive, sync, held, loop, while, test, choose, closing, drain}
 use Rattle.calculus.specs.Events.{Located}
 use Rattle.sharing_check.specs.Measure.{amount, syncing}
 use Rattle.calculus.proofs.WellFormed.{WellFormed}

@@ -2,7 +2,7 @@
 use Rattle.std.proofs.Common.{◌≡◌, inl, inr, ℕ, ◌*◌, [], ◌∷◌, refl, subst}
 use Rattle.address.specs.Places.{Apart}
 use Rattle.address.specs.declared.Entry.TheVariants.{Ordered, Branch}
-use Rattle.elaborate.specs.Residual.{Residual, done, halted, inside, beside, assign, send, receive, sync, held, loop, while, test, choose, closing, drain, within, along}
+use Rattle.system.specs.Residual.{Residual, done, halted, inside, beside, assign, send, receive, sync, held, loop, while, test, choose, closing, drain, within, along}
 use Rattle.calculus.specs.Moves.{Place, Move, Local}
 use Rattle.calculus.proofs.Smart.{within_local, along_left, along_right}
 

@@ -2,8 +2,8 @@
 use Rattle.std.proofs.Common.{◌≡◌, ℕ, List, map, slice_get, Option, Some, None, Result, sym, ap, ◌∙◌}
 use Rattle.std.specs.Prelude.{IfOk}
 use Rattle.std.proofs.lemmas.Result.{IfOk-weaker}
-use Rattle.elaborate.specs.Residual.{Residual, done, inside, beside, within, along, arm_at}
-use Rattle.elaborate.specs.Translation.{arms_of}
+use Rattle.system.specs.Residual.{Residual, done, inside, beside, within, along, arm_at}
+use Rattle.system.specs.Translation.{arms_of}
 use Rattle.calculus.specs.Moves.{Place}
 use Rattle.calculus.specs.After.{Ask, around, after}
 use Rattle.calculus.specs.Below.{below_child, below_branch}

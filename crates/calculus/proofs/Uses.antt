@@ -1,9 +1,9 @@
 -- The moves of an event use its channel and its variables.
 use Rattle.std.proofs.Common.{◌≡◌, ◌⊎◌, ℕ, ◌≤◌, max, List, [], ◌∷◌, Some, None, true, false, Bool, ◌==◌, nat_lt, if◌then◌else◌, inl, inr, ⊎_elim, refl, arith, le_trans}
 use Rattle.std.proofs.Math.Nat.{le-max_left, le-max_right}
-use Rattle.elaborate.specs.Lists.{In}
+use Rattle.system.specs.Lists.{In}
 use Rattle.address.specs.Places.{Apart}
-use Rattle.elaborate.specs.Expression.{Store, variables, decision_variables, ascending, inserted}
+use Rattle.system.specs.Expression.{Store, variables, decision_variables, ascending, inserted}
 use Rattle.calculus.specs.Moves.{sends, receives, syncs, opens, releases, closes, assigns, tests}
 use Rattle.calculus.specs.Events.{Located, at, Makes, assigning, testing, turning, meeting, opening, opening_without_data, shutting, syncing as syncs_together, places}
 use Rattle.sharing_check.specs.Measure.{Measure, most, only, sending, syncing, on_variable}

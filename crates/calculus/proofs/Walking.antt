@@ -4,10 +4,10 @@ use Rattle.std.specs.Prelude.{IfOk}
 use Rattle.std.proofs.lemmas.Result.{IfOk-weaker}
 use Rattle.address.specs.declared.Entry.{Entry}
 use Rattle.address.specs.declared.Entry.TheVariants.{Ordered, Branch}
-use Rattle.elaborate.specs.declared.expression.Expression.{Expression}
-use Rattle.elaborate.specs.Expression.{Store}
-use Rattle.elaborate.specs.Residual.{Residual}
-use Rattle.elaborate.specs.Translation.{expression_of}
+use Rattle.system.specs.declared.expression.Expression.{Expression}
+use Rattle.system.specs.Expression.{Store}
+use Rattle.system.specs.Residual.{Residual}
+use Rattle.system.specs.Translation.{expression_of}
 use Rattle.calculus.specs.Moves.{Place, sends, syncs}
 use Rattle.calculus.specs.Events.{Located, at}
 use Rattle.calculus.specs.AllowedEvents.{behind, offers, events_among, allowed_events}

@@ -1,7 +1,7 @@
 -- Well formed residuals: how they are made, and that a received value leaves them so.
 use Rattle.std.proofs.Common.{ℕ, zero, suc, ◌+◌, ◌≤◌, Option, Some, None, arith}
 use Rattle.value.specs.Word.{Word}
-use Rattle.elaborate.specs.Residual.{Residual, done, inside, beside, held, loop, while, test, choose, closing, Arms, no_arms, arm, within, along, arm_at, put_residual, put_arms, opened}
+use Rattle.system.specs.Residual.{Residual, done, inside, beside, held, loop, while, test, choose, closing, Arms, no_arms, arm, within, along, arm_at, put_residual, put_arms, opened}
 pub use Rattle.calculus.specs.WellFormed.{StartsFrom, BranchesFrom, WellFormed, WellFormedArms}
 
 -- what starts from m starts from a lesser number

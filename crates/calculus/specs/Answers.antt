@@ -1,7 +1,7 @@
 -- What the values of the code mean: what is asked, and the move that answers.
 use Rattle.std.specs.Prelude.{Option, None, Some}
-use Rattle.elaborate.specs.Translation.{expression_of}
-use Rattle.elaborate.specs.Decisions.{decision_of}
+use Rattle.system.specs.Translation.{expression_of}
+use Rattle.system.specs.Decisions.{decision_of}
 use Rattle.calculus.specs.Moves as model
 use Rattle.calculus.specs.After as after
 use Rattle.calculus.specs.Left.{residual_of_left}

@@ -1,6 +1,6 @@
 -- From the live events before some commands to those after them: first back, then forth.
 use Rattle.std.specs.Prelude.{ℕ, suc, List, [], ◌∷◌, ◌++◌, cond}
-use Rattle.elaborate.specs.Expression.{is_in}
+use Rattle.system.specs.Expression.{is_in}
 use Rattle.calculus.specs.Live.{Live}
 use Rattle.calculus.specs.Choices.{choice_of}
 use Rattle.calculus.specs.declared.command.Command.{Command}

@@ -1,6 +1,6 @@
 -- Children of a sequence or a parallel with what comes after the last of them.
 use Rattle.std.specs.Prelude.{ℕ, suc, List, [], ◌∷◌}
-use Rattle.elaborate.specs.Residual.{Residual, within, along}
+use Rattle.system.specs.Residual.{Residual, within, along}
 
 -- children of a sequence from place n on, and then `next`
 abbrev pub sequence_onto : ℕ → List Residual → Residual → Residual

@@ -5,7 +5,7 @@ use Rattle.calculus.specs.Moves.{Place, Move, assigns, tests, turns, sends, rece
 use Rattle.address.specs.Places.{Apart}
 use Rattle.address.specs.Order.{order_of}
 use Rattle.value.specs.Word.{Word, resized}
-use Rattle.elaborate.specs.Expression.{Expression, Decision, Store, value, put, variables, decision_variables, decide, ascending}
+use Rattle.system.specs.Expression.{Expression, Decision, Store, value, put, variables, decision_variables, decide, ascending}
 use Rattle.calculus.specs.declared.event.Event.{Event}
 use Rattle.calculus.specs.declared.event.Kind.{Kind}
 use Rattle.calculus.specs.declared.event.Kind.TheVariants.{Assign, Test, Turn, Meet, Open, Close, Sync}

@@ -2,12 +2,12 @@
 use Rattle.std.specs.Prelude.{◌≡◌, ◌↔◌, ◌⊎◌, List, ◌∷◌, ◌++◌, Some}
 use Rattle.calculus.specs.StepOf.{run_of}
 use Rattle.address.specs.Places.{Apart, Before}
-use Rattle.elaborate.specs.Residual.{Residual}
+use Rattle.system.specs.Residual.{Residual}
 use Rattle.calculus.specs.AllowedEvents.{allowed_events}
 use Rattle.calculus.specs.Moves.{Place, Move, Local}
-use Rattle.elaborate.specs.Lists.{In}
-use Rattle.elaborate.specs.Translation.{opening_residual}
-use Rattle.elaborate.specs.declared.system.System.{System}
+use Rattle.system.specs.Lists.{In}
+use Rattle.system.specs.Translation.{opening_residual}
+use Rattle.system.specs.declared.system.System.{System}
 use Rattle.sharing_check.specs.Rule.{is_shared, SharesWell}
 use Rattle.calculus.specs.Choices.{choice_of}
 use Rattle.calculus.specs.Dependence.{SomeBefore, Directly, Earlier, Causes, Kept, Rearranged, Respecting}

@@ -1,8 +1,8 @@
 -- The residual that a tree in memory stands for.
 use Rattle.std.specs.Prelude.{Bool, true, false, None}
-use Rattle.elaborate.specs.Residual.{Residual, done, halted, inside, beside, assign, send, receive, sync, held, loop, while, test, choose, closing, drain}
-use Rattle.elaborate.specs.Translation.{expression_of, arms_of}
-use Rattle.elaborate.specs.Decisions.{decision_of}
+use Rattle.system.specs.Residual.{Residual, done, halted, inside, beside, assign, send, receive, sync, held, loop, while, test, choose, closing, drain}
+use Rattle.system.specs.Translation.{expression_of, arms_of}
+use Rattle.system.specs.Decisions.{decision_of}
 use Rattle.calculus.specs.declared.left.Left.{Left}
 use Rattle.calculus.specs.declared.left.Left.TheOpen.{Left-F}
 use Rattle.calculus.specs.declared.left.Left.TheFolds.{fold-Left}

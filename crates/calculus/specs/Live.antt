@@ -1,6 +1,6 @@
 -- The live events of an execution, with their tickets.
 use Rattle.std.specs.Prelude.{◌≡◌, ◌≢◌, ◌↔◌, ℕ, suc, ◌<◌, ◌≤◌, List, [], ◌∷◌, Some}
-use Rattle.elaborate.specs.Lists.{In}
+use Rattle.system.specs.Lists.{In}
 use Rattle.calculus.specs.Dependence.{Directly}
 use Rattle.calculus.specs.InOrder.{InOrder}
 use Rattle.calculus.specs.declared.event.Event.{Event}

@@ -4,7 +4,7 @@ use Rattle.std.specs.Ordering.{is_lt}
 use Rattle.calculus.specs.Moves.{Place, Move, assigns, tests, turns, sends, receives, syncs, opens, releases, closes}
 use Rattle.address.specs.Order.{order_of}
 use Rattle.value.specs.Word.{Word}
-use Rattle.elaborate.specs.Expression.{Expression, Store, variables, decision_variables, decide, ascending}
+use Rattle.system.specs.Expression.{Expression, Store, variables, decision_variables, decide, ascending}
 use Rattle.calculus.specs.Events.{Located, sent}
 use Rattle.calculus.specs.After.{Ask, to_assign, to_test, to_turn, to_send, to_hold, to_receive, to_open, to_sync, to_release, to_close, asks}
 use Rattle.calculus.specs.Tests.{apart, same_option, same_word}

@@ -1,8 +1,8 @@
 -- The laws of the object of one execution.
 use Rattle.std.specs.Prelude.{◌≡◌, ◌≢◌, ◌⊎◌, ◌↔◌, ℕ, suc, ◌+◌, ◌<◌, ◌≤◌, List, [], ◌∷◌, ◌++◌, length, Some}
-use Rattle.elaborate.specs.Lists.{In}
-use Rattle.elaborate.specs.Expression.{get}
-use Rattle.elaborate.specs.declared.system.System.{System}
+use Rattle.system.specs.Lists.{In}
+use Rattle.system.specs.Expression.{get}
+use Rattle.system.specs.declared.system.System.{System}
 use Rattle.sharing_check.specs.Rule.{SharesWell}
 use Rattle.calculus.specs.Steps.{State, Step, Allowed}
 use Rattle.calculus.specs.Runs.{Run}

@@ -1,6 +1,6 @@
 -- The state in which each run of a system begins.
-use Rattle.elaborate.specs.declared.system.System.{System}
-use Rattle.elaborate.specs.Translation.{opening_residual, opening_store}
+use Rattle.system.specs.declared.system.System.{System}
+use Rattle.system.specs.Translation.{opening_residual, opening_store}
 use Rattle.calculus.specs.Steps.{State}
 
 -- nothing is done yet, and every variable is 0

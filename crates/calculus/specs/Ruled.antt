@@ -1,6 +1,6 @@
 -- What the rule on sharing gives to a run.
 use Rattle.std.specs.Prelude.{◌≡◌, List}
-use Rattle.elaborate.specs.declared.system.System.{System}
+use Rattle.system.specs.declared.system.System.{System}
 use Rattle.sharing_check.specs.Rule.{is_shared}
 use Rattle.calculus.specs.Choices.{choice_of}
 use Rattle.calculus.specs.Dependence.{SomeBefore, Earlier}

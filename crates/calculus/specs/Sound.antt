@@ -1,6 +1,6 @@
 -- What holds of an object at every moment.
 use Rattle.std.specs.Prelude.{◌≡◌, suc, ◌≤◌, length}
-use Rattle.elaborate.specs.declared.system.System.{System}
+use Rattle.system.specs.declared.system.System.{System}
 use Rattle.calculus.specs.Steps.{State}
 use Rattle.calculus.specs.Opening.{opening}
 use Rattle.calculus.specs.Live.{Rising}

@@ -2,7 +2,7 @@
 use Rattle.std.specs.Prelude.{List, [], ◌∷◌, cond, Option, Some, None}
 use Rattle.std.specs.Option.{option_and_then}
 use Rattle.calculus.specs.Moves.{Place}
-use Rattle.elaborate.specs.Residual.{Residual}
+use Rattle.system.specs.Residual.{Residual}
 use Rattle.calculus.specs.Events.{Located, at, store_after}
 use Rattle.calculus.specs.Steps.{State}
 use Rattle.calculus.specs.After.{Ask, after}

@@ -1,7 +1,7 @@
 -- One event, taken in a state.
 use Rattle.std.specs.Prelude.{◌≡◌, List, [], ◌∷◌}
-use Rattle.elaborate.specs.Expression.{Store}
-use Rattle.elaborate.specs.Residual.{Residual}
+use Rattle.system.specs.Expression.{Store}
+use Rattle.system.specs.Residual.{Residual}
 use Rattle.calculus.specs.Moves.{Local}
 use Rattle.calculus.specs.Events.{Located, Makes, store_after}
 use Rattle.calculus.specs.declared.event.Event.{Event}

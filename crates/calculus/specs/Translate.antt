@@ -1,10 +1,10 @@
 -- What the arms of commands are to do, by the layers of the translation of commands.
-use Rattle.elaborate.specs.Residual.{Residual}
-use Rattle.elaborate.specs.Translation.{OnChannel, OnGuard, OnLabels, action_layer, arm_layer, command_layer, guarded_layer, labelled_layer}
-use Rattle.elaborate.specs.declared.command.Arm.{Arm}
-use Rattle.elaborate.specs.declared.command.Guarded.{Guarded}
-use Rattle.elaborate.specs.declared.command.Labelled.{Labelled}
-use Rattle.elaborate.specs.declared.command.Action.TheFolds.{fold-Arm, fold-Guarded, fold-Labelled}
+use Rattle.system.specs.Residual.{Residual}
+use Rattle.system.specs.Translation.{OnChannel, OnGuard, OnLabels, action_layer, arm_layer, command_layer, guarded_layer, labelled_layer}
+use Rattle.system.specs.declared.command.Arm.{Arm}
+use Rattle.system.specs.declared.command.Guarded.{Guarded}
+use Rattle.system.specs.declared.command.Labelled.{Labelled}
+use Rattle.system.specs.declared.command.Action.TheFolds.{fold-Arm, fold-Guarded, fold-Labelled}
 
 -- an arm of `if`
 abbrev pub guarded_of : Guarded → OnGuard

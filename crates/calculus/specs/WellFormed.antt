@@ -1,6 +1,6 @@
 -- Numbers only go up: what a residual offers next is numbered past what it has done.
 use Rattle.std.specs.Prelude.{ℕ, ◌+◌, ◌*◌, ◌≤◌}
-use Rattle.elaborate.specs.Residual.{Residual, done, inside, beside, loop, while, test, choose, held, closing, Arms, no_arms, arm}
+use Rattle.system.specs.Residual.{Residual, done, inside, beside, loop, while, test, choose, held, closing, Arms, no_arms, arm}
 
 -- its moves are at ordered places from n on
 abbrev pub StartsFrom : ℕ → Residual → Type 0

@@ -1,9 +1,9 @@
 // What each form of command answers to what is asked at a place.
 ghost use Rattle.std.specs.Prelude.{◌≡◌, ◌+◌, ◌*◌, ◌<◌, ◌^◌, [], ◌∷◌, map, slice_get, Some, None, false, IfOk};
-ghost use Rattle.elaborate.specs.Expression as expression;
-ghost use Rattle.elaborate.specs.Residual as residual;
-ghost use Rattle.elaborate.specs.Translation.{expression_of, arms_of};
-ghost use Rattle.elaborate.specs.Decisions.{decision_of};
+ghost use Rattle.system.specs.Expression as expression;
+ghost use Rattle.system.specs.Residual as residual;
+ghost use Rattle.system.specs.Translation.{expression_of, arms_of};
+ghost use Rattle.system.specs.Decisions.{decision_of};
 ghost use Rattle.calculus.specs.After as model;
 ghost use Rattle.calculus.specs.Left.{residual_of_left};
 ghost use Rattle.calculus.specs.Answers.{ask_of, move_of, answer_of};
@@ -12,9 +12,9 @@ use crate::left::{Left, along, within};
 use crate::moves::{Ask, Move, Moved};
 use crate::place::{is_act, is_here, is_turn};
 use address::Entry;
-use elaborate::{Decision, Expression};
 use std::alloc::{AllocError, Global};
 use syntax::{Boxed, Items};
+use system::{Decision, Expression};
 use value::{Value, Width};
 
 /// The answer of a move and what is left after it.

@@ -6,8 +6,8 @@ ghost use Rattle.calculus.specs.Tests.{same_event};
 
 use crate::same::{same_kind, same_numbers, same_place, same_places, same_values, same_variables};
 use address::Address;
-use elaborate::Variables;
 use std::alloc::{AllocError, Global};
+use system::Variables;
 use value::Value;
 
 /// The kinds of event.

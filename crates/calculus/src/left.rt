@@ -1,12 +1,12 @@
 ghost use Rattle.std.specs.Prelude.{◌≡◌, map, IfOk};
-ghost use Rattle.elaborate.specs.Residual as model;
-ghost use Rattle.elaborate.specs.Translation.{arms_of};
-ghost use Rattle.elaborate.specs.Decisions.{decision_of};
+ghost use Rattle.system.specs.Residual as model;
+ghost use Rattle.system.specs.Translation.{arms_of};
+ghost use Rattle.system.specs.Decisions.{decision_of};
 ghost use Rattle.calculus.specs.Left.{residual_of_left, is_done};
 
-use elaborate::{Decision, Expression};
 use std::alloc::{AllocError, Global};
 use syntax::{Boxed, Items};
+use system::{Decision, Expression};
 use value::{Value, Width};
 
 /// What is still to do at a place: a tree without its finished parts, with a copy of every expression in it.

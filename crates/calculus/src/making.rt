@@ -1,19 +1,19 @@
 // The event that moves make over the values of the variables.
 ghost use Rattle.std.specs.Prelude.{◌≡◌, [], Some, None, IfOk};
-ghost use Rattle.elaborate.specs.Translation.{expression_of};
+ghost use Rattle.system.specs.Translation.{expression_of};
 ghost use Rattle.calculus.specs.Events.{sent};
 ghost use Rattle.calculus.specs.Made as model;
 ghost use Rattle.calculus.specs.Moves as moves;
 ghost use Rattle.calculus.specs.Meets.{met, opened_by_send};
 ghost use Rattle.calculus.specs.Answers.{move_of};
-ghost use Rattle.elaborate.specs.Decisions.{decision_of};
+ghost use Rattle.system.specs.Decisions.{decision_of};
 
 use crate::moves::Move;
 use crate::same::{same_arms, same_values};
 use crate::{Event, Kind};
 use address::{Address, compare};
-use elaborate::{Decision, Expression, Variables};
 use std::alloc::{AllocError, Global};
+use system::{Decision, Expression, Variables};
 use value::{Value, Width};
 
 /// What is sent, at the channel's width.

@@ -1,6 +1,6 @@
 use crate::left::Left;
-use elaborate::{Decision, Expression};
 use syntax::Boxed;
+use system::{Decision, Expression};
 use value::{Value, Width};
 
 /// What an event asks for at one of its places.

@@ -4,7 +4,7 @@ ghost use Rattle.calculus.specs.Tests.{same_kind, same_place, same_option, same_
 
 use crate::Kind;
 use address::Address;
-use elaborate::Variables;
+use system::Variables;
 use value::Value;
 
 /// Whether two kinds are equal.

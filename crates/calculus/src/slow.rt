@@ -11,9 +11,9 @@ ghost use Rattle.calculus.specs.Live.{events};
 use crate::start::opening;
 use crate::step::step;
 use crate::{Event, Plain};
-use elaborate::System;
 use sharing_check::Checked;
 use std::alloc::{AllocError, Global};
+use system::System;
 
 /// The state to which the events lead in their order, from the state before the first event. `None` where one of them
 /// is not possible when its turn comes.

@@ -1,8 +1,8 @@
 // The state before the first event.
 ghost use Rattle.std.specs.Prelude.{◌≡◌, ◌∷◌, map, IfOk};
-ghost use Rattle.elaborate.specs.Expression.{constant, word};
-ghost use Rattle.elaborate.specs.Residual as residual;
-ghost use Rattle.elaborate.specs.Translation as translation;
+ghost use Rattle.system.specs.Expression.{constant, word};
+ghost use Rattle.system.specs.Residual as residual;
+ghost use Rattle.system.specs.Translation as translation;
 ghost use Rattle.calculus.specs.Left.{residual_of_left};
 ghost use Rattle.calculus.specs.Plain.{state_of};
 ghost use Rattle.calculus.specs.Opening.{opening};
@@ -10,9 +10,9 @@ ghost use Rattle.calculus.specs.Opening.{opening};
 use crate::Plain;
 use crate::left::{Left, within};
 use crate::translate::{in_parallel, in_sequence, left_of};
-use elaborate::{Branch, Expression, System, Variable};
 use std::alloc::{AllocError, Global};
 use syntax::{Boxed, Items};
+use system::{Branch, Expression, System, Variable};
 use value::{Value, Width};
 
 /// The state of the system before its first event.

@@ -1,7 +1,7 @@
 // One event, taken in a state.
 ghost use Rattle.std.specs.Prelude.{◌≡◌, Option, Some, IfOk, cond, None};
 ghost use Rattle.std.specs.Option.{option_map, option_and_then};
-ghost use Rattle.elaborate.specs.Expression as expression;
+ghost use Rattle.system.specs.Expression as expression;
 ghost use Rattle.calculus.specs.Left.{residual_of_left};
 ghost use Rattle.calculus.specs.Answers.{ask_of, move_of};
 ghost use Rattle.calculus.specs.After as after;

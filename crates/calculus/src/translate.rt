@@ -1,16 +1,16 @@
 // What a system is to do, as a tree in memory.
 ghost use Rattle.std.specs.Prelude.{◌≡◌, List, [], ◌∷◌, map, is_some, IfOk, None};
 ghost use Rattle.std.specs.Option.{option_map};
-ghost use Rattle.elaborate.specs.Expression as expression;
-ghost use Rattle.elaborate.specs.Residual as residual;
-ghost use Rattle.elaborate.specs.Translation as translation;
+ghost use Rattle.system.specs.Expression as expression;
+ghost use Rattle.system.specs.Residual as residual;
+ghost use Rattle.system.specs.Translation as translation;
 ghost use Rattle.calculus.specs.Left.{residual_of_left};
 ghost use Rattle.calculus.specs.Translate.{guarded_of, labelled_of, arm_of};
 
 use crate::left::{Left, along, within};
-use elaborate::{Action, Arm, Command, Decision, Expression, Guarded, Labelled};
 use std::alloc::{AllocError, Global};
 use syntax::{Boxed, Items};
+use system::{Action, Arm, Command, Decision, Expression, Guarded, Labelled};
 
 /// What the command is to do.
 #[cycle(left_of)]

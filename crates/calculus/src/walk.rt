@@ -1,8 +1,8 @@
 // The moves that are offered now: a walk through what is left to do.
 ghost use Rattle.std.specs.Prelude.{◌≡◌, ◌*◌, ◌^◌, ◌≤◌, [], ◌∷◌, ◌++◌, map, Some, None, true, false, IfOk, OnErr};
-ghost use Rattle.elaborate.specs.Expression as expression;
-ghost use Rattle.elaborate.specs.Translation.{expression_of};
-ghost use Rattle.elaborate.specs.Decisions.{decision_of};
+ghost use Rattle.system.specs.Expression as expression;
+ghost use Rattle.system.specs.Translation.{expression_of};
+ghost use Rattle.system.specs.Decisions.{decision_of};
 ghost use Rattle.calculus.specs.Moves as moves;
 ghost use Rattle.calculus.specs.Events.{at};
 ghost use Rattle.calculus.specs.Left.{residual_of_left};
@@ -14,9 +14,9 @@ use crate::answers::one_guard;
 use crate::left::Left;
 use crate::moves::Move;
 use address::{Address, Entry};
-use elaborate::{Decision, Expression};
 use std::alloc::{AllocError, Global};
 use syntax::{Boxed, Items};
+use system::{Decision, Expression};
 use value::{Value, Width};
 
 /// A move that is possible at a place; of an open it is not said yet what is received.

@@ -2,7 +2,7 @@
 use Rattle.std.proofs.Common.{◌≡◌, ◌⊎◌, inl, inr, ℕ, List, [], Option, Some, Ok, Err, ap, sym, ◌∙◌, subst, refl}
 use Rattle.std.specs.Result.{IsErrAnd}
 use Rattle.std.specs.Io.KnownBytes.{Appends}
-use Rattle.elaborate.specs.declared.system.System.{System}
+use Rattle.system.specs.declared.system.System.{System}
 use Rattle.debug_session.specs.Accepting.{Gives, IsRefused}
 use Rattle.debug_session.specs.Pieces.{WritingStops}
 use Rattle.debug_session.specs.Transcript.{Debugged}

@@ -1,7 +1,7 @@
 -- What a run does for a request: what the libraries give for the bytes of the files that it names.
 use Rattle.std.specs.Prelude.{◌≡◌, ◌⊎◌, ℕ, List, [], ◌∷◌, ◌++◌, codes, Option, Some, None, Result, Ok, Err, MatchResult}
 use Rattle.std.specs.Io.KnownBytes.{Appends}
-use Rattle.elaborate.specs.declared.system.System.{System}
+use Rattle.system.specs.declared.system.System.{System}
 use Rattle.debug_session.specs.Accepting.{Gives, IsRefused}
 use Rattle.debug_session.specs.Transcript.{Debugged}
 use Rattle.debug_session.specs.declared.fault.Fault as session

@@ -6,7 +6,7 @@ use Rattle.elaborate.specs.StimulusText.{lines, AreEntries, FirstOther}
 use Rattle.elaborate.specs.declared.fault.Fault as elaborate
 use Rattle.elaborate.specs.declared.fault.Fault.TheVariants as no_system
 use Rattle.elaborate.specs.declared.stimulus.Entry.{Entry}
-use Rattle.elaborate.specs.declared.system.System.{System}
+use Rattle.system.specs.declared.system.System.{System}
 use Rattle.lexer.specs.Refusal as lexer
 use Rattle.lexer.specs.Tokens.{AreTokens}
 use Rattle.lexer.specs.declared.fault.Fault as lexer_fault

@@ -5,8 +5,8 @@ use Rattle.std.proofs.lemmas.Fmt.{decimal_injective}
 use Rattle.address.specs.declared.Entry.{Entry}
 use Rattle.address.specs.Text.{text_of}
 use Rattle.address.proofs.Finds.{text_of-injective}
-use Rattle.elaborate.specs.Named.{variable_from}
-use Rattle.elaborate.specs.declared.system.System.{System}
+use Rattle.system.specs.Named.{variable_from}
+use Rattle.system.specs.declared.system.System.{System}
 use Rattle.calculus.specs.declared.event.Choice.{Choice}
 use Rattle.calculus.specs.declared.command.Command.{Command}
 use Rattle.debug_session.specs.declared.line.Line.{Line}

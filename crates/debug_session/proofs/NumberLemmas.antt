@@ -3,8 +3,8 @@ use Rattle.std.proofs.Common.{◌≡◌, ℕ, ◌<◌, ◌^◌, List, [], Option
 use Rattle.std.specs.Option.{SomeIff}
 use Rattle.std.specs.Fmt.{decimal}
 use Rattle.std.proofs.lemmas.Fmt.{decimal_injective}
-use Rattle.elaborate.specs.Named.{variable_from}
-use Rattle.elaborate.specs.declared.system.System.{System}
+use Rattle.system.specs.Named.{variable_from}
+use Rattle.system.specs.declared.system.System.{System}
 use Rattle.debug_session.specs.EventText.{field}
 use Rattle.debug_session.specs.Fields.{IsNoField}
 use Rattle.debug_session.specs.Numbers.{ReadsNumber, IsNoNumber}

@@ -1,7 +1,7 @@
 -- How one line is answered.
 use Rattle.std.proofs.Common.{◌≡◌, ℕ, List, [], Option, MatchResult, Result, Ok, Err, refl, sym, subst, ◌∙◌, inl, inr}
 use Rattle.std.specs.Io.KnownBytes.{Appends}
-use Rattle.elaborate.specs.declared.system.System.{System}
+use Rattle.system.specs.declared.system.System.{System}
 use Rattle.calculus.specs.Object.{Object}
 use Rattle.calculus.specs.declared.command.Command.{Command}
 use Rattle.debug_session.specs.declared.line.Line.{Line}

@@ -5,8 +5,8 @@ use Rattle.std.specs.List.{flat_map}
 use Rattle.std.specs.Io.KnownBytes.{Appends, Consumes, IsAtEnd}
 use Rattle.std.proofs.lemmas.List.Concat.{flat_map-append}
 use Rattle.std.proofs.lemmas.List.Elements.{All-nil}
-use Rattle.elaborate.specs.Lists.{Every}
-use Rattle.elaborate.specs.declared.system.System.{System}
+use Rattle.system.specs.Lists.{Every}
+use Rattle.system.specs.declared.system.System.{System}
 use Rattle.calculus.specs.Object.{Object, new_object}
 use Rattle.calculus.specs.Opening.{opening}
 use Rattle.locked_execution.specs.Held.{Held, object}

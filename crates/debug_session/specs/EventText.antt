@@ -4,8 +4,8 @@ use Rattle.std.specs.Fmt.{decimal}
 use Rattle.value.specs.Word.{Word}
 use Rattle.address.specs.Text.{text_of}
 use Rattle.address.specs.declared.Entry.{Entry}
-use Rattle.elaborate.specs.declared.system.System.{System}
-use Rattle.elaborate.specs.Named.{variable_name_at, channel_name_at}
+use Rattle.system.specs.declared.system.System.{System}
+use Rattle.system.specs.Named.{variable_name_at, channel_name_at}
 use Rattle.calculus.specs.declared.event.Event.{Event}
 use Rattle.calculus.specs.declared.event.Kind.{Kind}
 use Rattle.calculus.specs.declared.event.Kind.TheVariants.{Assign, Test, Turn, Meet, Open, Close, Sync}

@@ -3,8 +3,8 @@ use Rattle.std.specs.Prelude.{ℕ, ◌≡◌, ◌≢◌, ◌<◌, ◌^◌, ◌�
 use Rattle.std.specs.Fmt.{decimal}
 use Rattle.address.specs.Text.{text_of}
 use Rattle.address.specs.Reading.{NumbersFit}
-use Rattle.elaborate.specs.declared.system.System.{System}
-use Rattle.elaborate.specs.Named.{variable_from}
+use Rattle.system.specs.declared.system.System.{System}
+use Rattle.system.specs.Named.{variable_from}
 use Rattle.calculus.specs.declared.event.Choice.{Choice}
 use Rattle.calculus.specs.declared.command.Command.{Command}
 use Rattle.debug_session.specs.declared.line.Line.{Line}

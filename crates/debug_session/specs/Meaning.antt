@@ -1,6 +1,6 @@
 -- A line says one thing.
 use Rattle.std.specs.Prelude.{ℕ, ◌≡◌, List}
-use Rattle.elaborate.specs.declared.system.System.{System}
+use Rattle.system.specs.declared.system.System.{System}
 use Rattle.debug_session.specs.declared.line.Line.{Line}
 use Rattle.debug_session.specs.Lines.{Says}
 

@@ -1,7 +1,7 @@
 -- One line taken from a reader, and one answer given to a writer.
 use Rattle.std.specs.Prelude.{ℕ, ◌≡◌, ◌≢◌, ◌⊎◌, ◌++◌, List, [], Bool, Option, IfSome, MatchBool}
 use Rattle.std.specs.Io.KnownBytes.{Consumes, IsAtEnd}
-use Rattle.elaborate.specs.declared.system.System.{System}
+use Rattle.system.specs.declared.system.System.{System}
 use Rattle.calculus.specs.Object.{Object}
 use Rattle.debug_session.specs.declared.fault.Fault.{Fault}
 use Rattle.debug_session.specs.Lines.{AsksNothing, LineMayWantMemory}

@@ -2,7 +2,7 @@
 use Rattle.std.specs.Prelude.{ℕ, List, [], ◌∷◌, ◌++◌, codes, Some, length}
 use Rattle.std.specs.List.{flat_map}
 use Rattle.std.specs.Fmt.{decimal}
-use Rattle.elaborate.specs.declared.system.System.{System}
+use Rattle.system.specs.declared.system.System.{System}
 use Rattle.calculus.specs.Refusals.{number_of}
 use Rattle.calculus.specs.declared.event.Event.{Event}
 use Rattle.calculus.specs.declared.command.Command.{Command}

@@ -1,7 +1,7 @@
 -- What is answered to the lines of a script, and how a session ends.
 use Rattle.std.specs.Prelude.{ℕ, suc, ◌≡◌, ◌≢◌, List, [], ◌∷◌, ◌++◌, length, Option, Result, Err, MatchResult, IfSome, ◌⊎◌}
 use Rattle.std.specs.Io.KnownBytes.{Appends, Consumes, IsAtEnd}
-use Rattle.elaborate.specs.declared.system.System.{System}
+use Rattle.system.specs.declared.system.System.{System}
 use Rattle.calculus.specs.Object.{Object, new_object}
 use Rattle.calculus.specs.Opening.{opening}
 use Rattle.calculus.specs.Does.{Answers}

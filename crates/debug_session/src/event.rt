@@ -8,8 +8,8 @@ use crate::text::{
     add_arm, add_bytes, add_channel, add_place, add_second, add_value, add_variable,
 };
 use calculus::{Event, Kind};
-use elaborate::System;
 use std::alloc::AllocError;
+use system::System;
 
 /// Adds the text of the event behind what is there.
 pub(crate) fn add_event(out: &mut Vec<u8>, system: &System, event: &Event) -> Result<(), AllocError>

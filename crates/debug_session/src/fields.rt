@@ -7,8 +7,8 @@ ghost use Rattle.debug_session.specs.Lines.{IsNumber, IsNoTicket, IsVariable, Is
 
 use crate::number::read_number;
 use calculus::Choice;
-use elaborate::System;
 use std::alloc::{AllocError, Global};
+use system::System;
 
 /// The part of `text` before its first space, and the part from there on.
 pub(crate) fn cut_at_space(text: &[u8]) -> (&[u8], &[u8])

@@ -7,9 +7,9 @@ use crate::fields::{cut_at_space, read_choice, read_ticket, read_variable};
 use crate::word::Word;
 use crate::{Fault, Line};
 use calculus::Command;
-use elaborate::System;
 use sharing_check::Checked;
 use std::alloc::{AllocError, Global};
+use system::System;
 
 /// What the line, without byte 10, says. `number` counts lines from 1 and is what a fault names.
 ///

@@ -8,9 +8,9 @@ use crate::Line;
 use crate::event::add_event;
 use crate::text::{add_bytes, add_decimal, add_field, add_number, add_variable};
 use calculus::{Command, Event, Refusal, Reply};
-use elaborate::System;
 use sharing_check::Checked;
 use std::alloc::{AllocError, Global};
+use system::System;
 
 /// The bytes with which the line is answered where this is the reply to its command: each line with byte 10 at its
 /// end. Variables and channels that the description has not are written as `?`. It is an error if there is no memory.

@@ -5,9 +5,9 @@ ghost use Rattle.address.specs.Text.{text_of};
 ghost use Rattle.debug_session.specs.EventText.{field, variable_text, channel_text, value_text, arm_text, place_text};
 
 use address::Address;
-use elaborate::{QualifiedName, System};
 use std::alloc::AllocError;
 use std::io::Write;
+use system::{QualifiedName, System};
 use value::Value;
 
 /// Adds bytes.

@@ -5,7 +5,7 @@ use Rattle.std.specs.List.{list_all}
 use Rattle.std.specs.Fmt.{decimal}
 use Rattle.lexer.specs.Bytes.{is_name_byte}
 use Rattle.lexer.specs.Names.{is_name, is_word}
-use Rattle.elaborate.specs.Lists.{Every}
+use Rattle.system.specs.Lists.{Every}
 use Rattle.elaborate.specs.Words.{Without, StartsWith, IsBefore}
 use Rattle.elaborate.specs.StimulusText.{Text, numbers_text, given_text, IsWithin, Gives, HasForm}
 use Rattle.elaborate.specs.StimulusReading.{Reads, IsNoNumber, ReadsNumbers, IsNoNumbers, ReadsGiven, IsNoGiven, IsNoEntry}

@@ -1,4 +1,3 @@
-pub mod Insertions
 pub mod Weights
 pub mod Cuts
 pub mod Numbers
@@ -9,4 +8,3 @@ pub mod Sizes
 pub mod Calls
 pub mod PlaceLemmas
 pub mod LookupLemmas
-pub mod HashLemmas

@@ -2,7 +2,7 @@
 use Rattle.std.proofs.Common.{◌≡◌, ℕ, ◌<◌, ◌^◌, List, [], ◌∷◌, ◌++◌, length, take, drop, refl, ap, sym, ◌∙◌, subst, append_assoc}
 use Rattle.std.proofs.lemmas.List.{take-append-drop, append-nil}
 use Rattle.std.specs.Fmt.{decimal}
-use Rattle.elaborate.specs.Lists.{Every}
+use Rattle.system.specs.Lists.{Every}
 use Rattle.elaborate.specs.Words.{Without, StartsWith, IsBefore}
 use Rattle.elaborate.specs.StimulusText.{Text, numbers_text}
 use Rattle.elaborate.specs.StimulusReading.{Reads, IsNoNumber, ReadsNext, BeginsNoNumber, ReadsNumbers, IsNoNumbers}

@@ -6,12 +6,12 @@ use Rattle.elaborate.specs.Entering.{scope_of, entered}
 use Rattle.elaborate.specs.declared.made.Made.{Made}
 use Rattle.elaborate.specs.declared.scope.Scope.{Scope}
 use Rattle.elaborate.specs.declared.scope.Entrance.{Entrance}
-use Rattle.elaborate.specs.declared.command.Action as tree
-use Rattle.elaborate.specs.declared.command.Action.TheViews as action
-use Rattle.elaborate.specs.declared.command.Arm as tree_arm
-use Rattle.elaborate.specs.declared.command.Command as tree_command
-use Rattle.elaborate.specs.declared.command.Guarded as tree_guarded
-use Rattle.elaborate.specs.declared.command.Labelled as tree_labelled
+use Rattle.system.specs.declared.command.Action as tree
+use Rattle.system.specs.declared.command.Action.TheViews as action
+use Rattle.system.specs.declared.command.Arm as tree_arm
+use Rattle.system.specs.declared.command.Command as tree_command
+use Rattle.system.specs.declared.command.Guarded as tree_guarded
+use Rattle.system.specs.declared.command.Labelled as tree_labelled
 use Rattle.types.specs.declared.typed.Command.{Command}
 use Rattle.types.specs.declared.typed.Procedure.{Procedure}
 use Rattle.types.specs.declared.typed.Action.TheOpen.{Action-F, Arm-F, Command-F, Guarded-F, Labelled-F}

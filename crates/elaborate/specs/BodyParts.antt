@@ -1,10 +1,10 @@
 -- What is made of the parts of a command that are no commands themselves.
 use Rattle.std.specs.Prelude.{ℕ, List}
 use Rattle.elaborate.specs.Body.{Meaning, ProcedureMeaning, action_meaning, arm_meaning, command_meaning, guarded_meaning, labelled_meaning}
-use Rattle.elaborate.specs.declared.command.Arm as tree_arm
-use Rattle.elaborate.specs.declared.command.Command as tree_command
-use Rattle.elaborate.specs.declared.command.Guarded as tree_guarded
-use Rattle.elaborate.specs.declared.command.Labelled as tree_labelled
+use Rattle.system.specs.declared.command.Arm as tree_arm
+use Rattle.system.specs.declared.command.Command as tree_command
+use Rattle.system.specs.declared.command.Guarded as tree_guarded
+use Rattle.system.specs.declared.command.Labelled as tree_labelled
 use Rattle.types.specs.declared.typed.Guarded.{Guarded}
 use Rattle.types.specs.declared.typed.Labelled.{Labelled}
 use Rattle.types.specs.declared.typed.Arm.{Arm}

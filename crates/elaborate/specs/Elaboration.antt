@@ -7,11 +7,11 @@ use Rattle.elaborate.specs.Making.{nothing_made, ports_onto, Numbered}
 use Rattle.elaborate.specs.Root.{root_ports}
 use Rattle.elaborate.specs.Size.{whole, system_size, IsSmall}
 use Rattle.elaborate.specs.declared.count.Size.{Size}
-use Rattle.elaborate.specs.declared.command.Command as tree_command
+use Rattle.system.specs.declared.command.Command as tree_command
 use Rattle.elaborate.specs.declared.fault.Fault.{Fault}
 use Rattle.elaborate.specs.declared.fault.Fault.TheVariants.{Memory, TooManyNodes, BadStimulus}
 use Rattle.elaborate.specs.declared.stimulus.Entry.{Entry}
-use Rattle.elaborate.specs.declared.system.System.{System}
+use Rattle.system.specs.declared.system.System.{System}
 use Rattle.types.specs.declared.typed.Procedure.{Procedure}
 
 -- the channels of the root's ports, made first

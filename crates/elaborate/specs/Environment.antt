@@ -1,13 +1,13 @@
 -- What the environment does on the ports of the root.
 use Rattle.std.specs.Prelude.{ℕ, suc, ◌+◌, min, List, [], ◌∷◌, Option, Some, None, map}
 use Rattle.value.specs.Word.{Word, resized}
-use Rattle.elaborate.specs.Expression.{word}
+use Rattle.system.specs.Expression.{word}
 use Rattle.elaborate.specs.Fit.{entry_named}
 use Rattle.elaborate.specs.declared.stimulus.Given.{Given}
 use Rattle.elaborate.specs.declared.stimulus.Given.TheVariants.{Values, Syncs}
 use Rattle.elaborate.specs.declared.stimulus.Entry.{Entry}
-use Rattle.elaborate.specs.declared.system.Branch.{Branch}
-use Rattle.elaborate.specs.declared.system.Branch.TheVariants as branch
+use Rattle.system.specs.declared.system.Branch.{Branch}
+use Rattle.system.specs.declared.system.Branch.TheVariants as branch
 use Rattle.types.specs.declared.typed.Port.{Port}
 use Rattle.types.specs.declared.typed.PortKind.{PortKind}
 use Rattle.types.specs.declared.typed.PortKind.TheVariants as kind

@@ -1,7 +1,7 @@
 -- Commands without commands in them.
 use Rattle.elaborate.specs.Scopes.{channel_use, variable_use, expression_in}
 use Rattle.elaborate.specs.declared.scope.Scope.{Scope}
-use Rattle.elaborate.specs.declared.command.Action as tree
+use Rattle.system.specs.declared.command.Action as tree
 use Rattle.types.specs.declared.typed.Action.{Action, out-Action}
 use Rattle.types.specs.declared.typed.Command.{Command}
 use Rattle.types.specs.declared.typed.Arm.{Arm}

@@ -1,9 +1,3 @@
-pub mod Lists
-pub mod Expression
-pub mod Variables
-pub mod Residual
-pub mod Translation
-pub mod Decisions
 pub mod StimulusText
 pub mod Fit
 pub mod Words
@@ -16,7 +10,6 @@ pub mod Scopes
 pub mod Making
 pub mod Body
 pub mod Operators
-pub mod Prefix
 pub mod Numbers
 pub mod PortKinds
 pub mod Entering
@@ -24,7 +17,4 @@ pub mod BodyParts
 pub mod Leaf
 pub mod Root
 pub mod Elaboration
-pub mod Named
 pub mod Places
-pub mod Hashing
-pub mod SharedPrefix

@@ -7,10 +7,10 @@ use Rattle.types.specs.declared.typed.Port.{Port}
 use Rattle.elaborate.specs.Environment.{number_of}
 use Rattle.elaborate.specs.PortKinds.{kind_of_port}
 use Rattle.elaborate.specs.declared.made.Made.{Made}
-use Rattle.elaborate.specs.declared.system.Variable.{Variable}
-use Rattle.elaborate.specs.declared.system.Channel.{Channel}
-use Rattle.elaborate.specs.declared.system.ChannelKind.{ChannelKind}
-use Rattle.elaborate.specs.declared.system.ChannelKind.TheVariants as kind
+use Rattle.system.specs.declared.system.Variable.{Variable}
+use Rattle.system.specs.declared.system.Channel.{Channel}
+use Rattle.system.specs.declared.system.ChannelKind.{ChannelKind}
+use Rattle.system.specs.declared.system.ChannelKind.TheVariants as kind
 
 -- numbers that were given, and what is made then
 pub record Numbered : Type 0 where

@@ -2,8 +2,8 @@
 use Rattle.value.specs.declared.Comparison.TheVariants as comparison
 use Rattle.syntax.specs.declared.expression.Operator.{Operator}
 use Rattle.syntax.specs.declared.expression.Operator.TheVariants as written
-use Rattle.elaborate.specs.declared.expression.Operator as elaborated
-use Rattle.elaborate.specs.declared.expression.Operator.TheVariants as operator
+use Rattle.system.specs.declared.expression.Operator as elaborated
+use Rattle.system.specs.declared.expression.Operator.TheVariants as operator
 
 -- the operator that is written so
 abbrev pub operator_of : Operator → elaborated.Operator

@@ -1,8 +1,8 @@
 -- What passes over a port.
 use Rattle.types.specs.declared.typed.PortKind.{PortKind}
 use Rattle.types.specs.declared.typed.PortKind.TheVariants as port
-use Rattle.elaborate.specs.declared.system.ChannelKind.{ChannelKind}
-use Rattle.elaborate.specs.declared.system.ChannelKind.TheVariants as kind
+use Rattle.system.specs.declared.system.ChannelKind.{ChannelKind}
+use Rattle.system.specs.declared.system.ChannelKind.TheVariants as kind
 
 -- values of the port's width, or nothing
 abbrev pub kind_of_port : PortKind → ChannelKind

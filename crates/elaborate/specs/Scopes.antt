@@ -2,7 +2,7 @@
 use Rattle.std.specs.Prelude.{ℕ, List, map}
 use Rattle.elaborate.specs.Numbers.{number_at}
 use Rattle.elaborate.specs.Operators.{operator_of}
-use Rattle.elaborate.specs.Prefix.{prefix_of_call}
+use Rattle.system.specs.Prefix.{prefix_of_call}
 use Rattle.types.specs.declared.typed.Place.{Place}
 use Rattle.types.specs.declared.typed.Place.TheVariants as place
 use Rattle.types.specs.declared.typed.ChannelUse.{ChannelUse}
@@ -12,9 +12,9 @@ use Rattle.types.specs.declared.typed.Expression.TheOpen.{Expression-F}
 use Rattle.types.specs.declared.typed.Expression.TheFolds.{fold-Expression}
 use Rattle.elaborate.specs.declared.scope.Scope.{Scope}
 use Rattle.elaborate.specs.declared.scope.Entrance.{Entrance}
-use Rattle.elaborate.specs.declared.expression.Use.{Use}
-use Rattle.elaborate.specs.declared.expression.Expression as named
-use Rattle.elaborate.specs.declared.expression.Expression.TheViews as expression
+use Rattle.system.specs.declared.expression.Use.{Use}
+use Rattle.system.specs.declared.expression.Expression as named
+use Rattle.system.specs.declared.expression.Expression.TheViews as expression
 
 -- the channel that a place stands for
 abbrev pub channel_at : Scope → Place → ℕ

@@ -1,7 +1,7 @@
 -- What reading the parts of a line of a stimulus finds.
 use Rattle.std.specs.Prelude.{◌≡◌, ℕ, ◌<◌, ◌^◌, List, [], ◌∷◌, ◌++◌, ◌⊎◌}
 use Rattle.std.specs.Fmt.{decimal}
-use Rattle.elaborate.specs.Lists.{Every}
+use Rattle.system.specs.Lists.{Every}
 use Rattle.elaborate.specs.Words.{StartsWith}
 use Rattle.elaborate.specs.StimulusText.{Text, numbers_text, given_text, IsWithin, Gives}
 use Rattle.elaborate.specs.declared.stimulus.Given.{Given}

@@ -1,6 +1,6 @@
 -- The text of a stimulus: which lines it may have, and what each gives.
 use Rattle.std.specs.Prelude.{◌≡◌, ℕ, suc, ◌<◌, ◌≤◌, ◌^◌, ◌==◌, if◌then◌else◌, List, [], ◌∷◌, ◌++◌, IsTrue, ◌⊎◌}
-use Rattle.elaborate.specs.Lists.{Every}
+use Rattle.system.specs.Lists.{Every}
 use Rattle.std.specs.Fmt.{decimal}
 use Rattle.lexer.specs.Names.{is_name}
 use Rattle.elaborate.specs.declared.stimulus.Given.{Given}

@@ -9,9 +9,9 @@ use crate::forms::{
 };
 use crate::made::Made;
 use crate::scope::{Entrance, Scope};
-use crate::{Action, Arm, Command, Guarded, Labelled};
 use std::alloc::{AllocError, Global};
 use syntax::Items;
+use system::{Action, Arm, Command, Guarded, Labelled};
 use types::Procedure;
 
 /// The command with numbers for its names and bodies for its calls. `earlier` has the procedures that it may call.

@@ -7,9 +7,9 @@ ghost use Rattle.elaborate.specs.Fit as fit;
 use crate::lookups::NamedEntries;
 use crate::made::number_of;
 use crate::stimulus::{Entry, Given};
-use crate::system::Branch;
 use std::alloc::{AllocError, Global};
 use syntax::Items;
+use system::Branch;
 use types::{Port, PortKind};
 use value::{Value, Width};
 

@@ -2,9 +2,9 @@
 ghost use Rattle.std.specs.Prelude.{◌≡◌, IfOk};
 
 use crate::scope::Scope;
-use crate::{Action, Arm, Command, Guarded, Labelled};
 use std::alloc::{AllocError, Global};
 use syntax::Items;
+use system::{Action, Arm, Command, Guarded, Labelled};
 use types::ChannelUse;
 
 #[inline(never)]

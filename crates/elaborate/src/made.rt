@@ -3,11 +3,10 @@ ghost use Rattle.std.specs.Prelude.{◌≡◌, [], length, IfOk, OnOk};
 ghost use Rattle.elaborate.specs.Environment.{number_of};
 ghost use Rattle.elaborate.specs.PortKinds.{kind_of_port};
 
-use crate::prefix::Prefix;
 use crate::scope::{Entrance, Scope};
-use crate::{Channel, ChannelKind, QualifiedName, Variable};
 use std::alloc::{AllocError, Global};
 use syntax::Items;
+use system::{Channel, ChannelKind, Prefix, QualifiedName, Variable};
 use types::{Local, LocalKind, Port, PortKind};
 
 /// What is made so far.

@@ -10,11 +10,11 @@ use crate::environment::branches;
 use crate::lookups::{NamedEntries, NamedPorts};
 use crate::made::Made;
 use crate::ports::{misfit, value_count};
-use crate::prefix::Prefix;
 use crate::scope::Entrance;
 use crate::stimulus::Entry;
-use crate::{Fault, Stimulus, System, VariableTable};
+use crate::{Fault, Stimulus};
 use std::alloc::{AllocError, Global};
+use system::{Prefix, System, VariableTable};
 use types::{Port, Procedure, Typed};
 
 /// The one system that the description and the stimulus give: its last procedure is the root, whose body is the main

@@ -3,10 +3,9 @@ ghost use Rattle.std.specs.Prelude.{◌≡◌, IfOk};
 ghost use Rattle.elaborate.specs.Operators.{operator_of};
 ghost use Rattle.elaborate.specs.Numbers.{number_at};
 
-use crate::prefix::Prefix;
-use crate::{Expression, Operator, Use};
 use std::alloc::{AllocError, Global};
 use syntax::{Boxed, Items};
+use system::{Expression, Operator, Prefix, Use};
 use types::{ChannelUse, Place, VariableUse};
 use value::Comparison;
 

@@ -4,7 +4,7 @@
 -- two events of a run have one acting address.
 use Rattle.std.specs.Prelude.{ℕ, List, [], ◌∷◌, ◌++◌, Bool, Option, None, if◌then◌else◌}
 use Rattle.address.specs.declared.Entry.TheVariants.{Ordered}
-use Rattle.elaborate.specs.declared.system.System.{System}
+use Rattle.system.specs.declared.system.System.{System}
 use Rattle.system_places.specs.TakenArms.{line_under, is_open_under}
 use Rattle.calculus.specs.Events.{acting}
 use Rattle.calculus.specs.Moves.{Place}

@@ -1,7 +1,7 @@
 -- What the arms that were taken are, in a run.
 use Rattle.std.specs.Prelude.{◌≡◌, List, None}
-use Rattle.elaborate.specs.Lists.{In}
-use Rattle.elaborate.specs.declared.system.System.{System}
+use Rattle.system.specs.Lists.{In}
+use Rattle.system.specs.declared.system.System.{System}
 use Rattle.calculus.specs.Events.{acting}
 use Rattle.calculus.specs.Moves.{Place}
 use Rattle.calculus.specs.Opening.{opening}

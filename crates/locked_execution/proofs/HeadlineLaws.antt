@@ -1,6 +1,6 @@
 -- What a designer may rely on holds of every sound execution.
 use Rattle.std.proofs.Common.{◌≡◌, ℕ, ◌+◌, ◌<◌, ◌≤◌, List, [], ◌∷◌, ◌++◌, length, take, get_or, refl, sym, ◌∙◌, ap, subst}
-use Rattle.elaborate.specs.Lists.{Every}
+use Rattle.system.specs.Lists.{Every}
 use Rattle.calculus.specs.Object.{Object}
 use Rattle.calculus.specs.Does.{Answers}
 use Rattle.calculus.specs.Answered.{Answered}
@@ -9,7 +9,7 @@ use Rattle.calculus.specs.declared.command.Command.{Command}
 use Rattle.calculus.specs.declared.command.Reply.{Reply}
 use Rattle.calculus.specs.Opening.{opening}
 use Rattle.calculus.specs.Live.{Live}
-use Rattle.elaborate.specs.declared.system.System.{System}
+use Rattle.system.specs.declared.system.System.{System}
 use Rattle.calculus.proofs.ObjectLaws.{begins-sound, state-in-every-order, step-then-undo, undoes-exactly, needed-exactly, rolls-exactly, rolls-value-exactly, tickets-grow, answered-joins}
 use Rattle.calculus.proofs.SomeReplies.{steps-exactly, rolls-where-live, rolls-value-where-written}
 use Rattle.calculus.proofs.Lists.{every-in}

@@ -1,8 +1,8 @@
 -- What a rollback takes out, and what it and the questions about followers answer.
 use Rattle.std.proofs.Common.{◌≡◌, inl, inr, ℕ, ◌-◌, ◌≤◌, List, [], ◌∷◌, length, Bool, true, false, not, cond, filter, Result, Ok, Err, refl, sym, subst, arith}
 use Rattle.std.specs.Prelude.{IfOk}
-use Rattle.elaborate.specs.Lists.{In}
-use Rattle.elaborate.specs.Expression.{is_in}
+use Rattle.system.specs.Lists.{In}
+use Rattle.system.specs.Expression.{is_in}
 use Rattle.calculus.specs.Live.{Live, LiveAt, Follows, Without, ended, stays, leaves, FollowersList, LastWriter}
 use Rattle.calculus.specs.Object.{Object, with_live}
 use Rattle.calculus.specs.Does.{Does, TakesOut, RefusesTicket}

@@ -1,6 +1,6 @@
 -- The first event of a list with a choice, and why an event is not taken.
 use Rattle.std.specs.Prelude.{◌≡◌, ◌<◌, ◌≤◌, ℕ, List, Option, Some, None, IsSome, take, slice_get}
-use Rattle.elaborate.specs.Lists.{In}
+use Rattle.system.specs.Lists.{In}
 use Rattle.calculus.specs.Choices.{choice_of}
 use Rattle.calculus.specs.Object.{most_live, last_ticket}
 use Rattle.calculus.specs.declared.event.Event.{Event}

@@ -1,6 +1,6 @@
 -- Which of the live events after an event depends directly on it.
 use Rattle.std.specs.Prelude.{◌≡◌, ℕ, ◌∷◌, ◌++◌, Some, slice_get}
-use Rattle.elaborate.specs.Lists.{Every}
+use Rattle.system.specs.Lists.{Every}
 use Rattle.calculus.specs.Dependence.{Directly}
 use Rattle.calculus.specs.Live.{Live}
 use Rattle.calculus.specs.declared.event.Event.{Event}

@@ -1,6 +1,6 @@
 -- Who follows, as it is gathered from the first live event to the last.
 use Rattle.std.specs.Prelude.{◌≡◌, ◌↔◌, ℕ, ◌<◌, List, ◌∷◌, ◌++◌, Some}
-use Rattle.elaborate.specs.Lists.{In}
+use Rattle.system.specs.Lists.{In}
 use Rattle.calculus.specs.Dependence.{Directly}
 use Rattle.calculus.specs.InOrder.{InOrder}
 use Rattle.calculus.specs.Live.{Live, LiveAt, Follows, NoWriter}

@@ -1,8 +1,8 @@
 // Which event depends directly on which.
 ghost use Rattle.std.specs.Prelude.{◌≡◌, ◌↔◌, Some, IsTrue};
 ghost use Rattle.address.specs.Places.{Before};
-ghost use Rattle.elaborate.specs.Lists.{In};
-ghost use Rattle.elaborate.specs.Expression.{is_in};
+ghost use Rattle.system.specs.Lists.{In};
+ghost use Rattle.system.specs.Expression.{is_in};
 ghost use Rattle.calculus.specs.Moves.{Place};
 ghost use Rattle.calculus.specs.Events.{places};
 ghost use Rattle.calculus.specs.Dependence.{Directly, SomeBefore, OnOneChannel, WritesFor};

@@ -1,5 +1,5 @@
 ghost use Rattle.std.specs.Prelude.{◌≡◌, ◌<◌, IfOk, OnErr};
-ghost use Rattle.elaborate.specs.Lists.{Every};
+ghost use Rattle.system.specs.Lists.{Every};
 ghost use Rattle.calculus.specs.Does.{Answers};
 ghost use Rattle.calculus.specs.Answered.{Answered};
 ghost use Rattle.calculus.specs.Sound.{Sound};
@@ -21,7 +21,7 @@ pub struct Desk {
 impl Model for Desk {
     ghost use Rattle.locked_execution.specs.Held.{Held};
     ghost use Rattle.std.specs.Coded.{codes};
-    ghost use Rattle.elaborate.specs.contracts.system.System as whole;
+    ghost use Rattle.system.specs.contracts.system.System as whole;
 
     ghost Value = { Held };
 

@@ -1,6 +1,6 @@
 // Who depends on an event, and who wrote a variable last.
 ghost use Rattle.std.specs.Prelude.{◌≡◌, ◌⊎◌, ◌↔◌, ℕ, [], ◌∷◌, ◌++◌, cond, Some, IsTrue, IfOk, MatchOption};
-ghost use Rattle.elaborate.specs.Expression.{is_in};
+ghost use Rattle.system.specs.Expression.{is_in};
 ghost use Rattle.calculus.specs.Live.{Rising, FollowersList, NoWriter};
 ghost use Rattle.locked_execution.specs.Following.{Leads, DependsOnSome, WritesLast};
 

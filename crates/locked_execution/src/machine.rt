@@ -22,7 +22,7 @@ pub struct Machine {
 impl Model for Machine {
     ghost use Rattle.locked_execution.specs.Held.{Held};
     ghost use Rattle.std.specs.Coded.{codes};
-    ghost use Rattle.elaborate.specs.contracts.system.System as whole;
+    ghost use Rattle.system.specs.contracts.system.System as whole;
 
     ghost Value = { Held };
 

@@ -1,7 +1,7 @@
 // Taking an event back with all that depend on it, and the questions about them.
 ghost use Rattle.sharing_check.specs.declared.checked.Checked.{Checked};
 ghost use Rattle.std.specs.Prelude.{◌≡◌, ◌≤◌, ℕ, not, filter, vec_len, IfOk, OnErr};
-ghost use Rattle.elaborate.specs.Expression.{is_in};
+ghost use Rattle.system.specs.Expression.{is_in};
 ghost use Rattle.calculus.specs.Live.{LiveAt, LastWriter, FollowersList};
 ghost use Rattle.calculus.specs.Sound.{Sound};
 ghost use Rattle.calculus.specs.Does.{Does, TakesOut};

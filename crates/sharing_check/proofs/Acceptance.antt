@@ -1,6 +1,6 @@
 -- A system in which no uses clash and no channel passes its width keeps the rule.
 use Rattle.std.proofs.Common.{inl, inr, ⊎_elim, ℕ, ◌≤◌, ◌<◌, refl}
-use Rattle.elaborate.specs.declared.system.System.{System}
+use Rattle.system.specs.declared.system.System.{System}
 use Rattle.sharing_check.specs.Rule.{SharesWell}
 use Rattle.sharing_check.specs.Refusal.{NoClash, NonePasses, Accepts}
 use Rattle.sharing_check.specs.Refused.{PassesWidth}

@@ -4,22 +4,22 @@ use Rattle.std.proofs.lemmas.List.{map-append}
 use Rattle.address.specs.declared.Entry.{Entry}
 use Rattle.address.specs.declared.Entry.TheVariants.{Ordered, Branch}
 use Rattle.address.specs.Places.{Apart}
-use Rattle.elaborate.specs.Lists.{In}
-use Rattle.elaborate.specs.declared.expression.Use.{Use}
-use Rattle.elaborate.specs.declared.expression.Expression.{Expression}
-use Rattle.elaborate.specs.declared.expression.Expression.TheOpen.{Expression-F}
-use Rattle.elaborate.specs.declared.expression.Expression.TheFolds.{map-Expression, fold-roll-Expression, ind-Expression}
-use Rattle.elaborate.specs.declared.expression.Expression.TheViews.{roll-Expression}
-use Rattle.elaborate.specs.declared.system.System.{System}
-use Rattle.elaborate.specs.declared.system.Variable.{Variable}
-use Rattle.elaborate.specs.declared.command.Action.{Action}
-use Rattle.elaborate.specs.declared.command.Arm.{Arm}
-use Rattle.elaborate.specs.declared.command.Command.{Command}
-use Rattle.elaborate.specs.declared.command.Guarded.{Guarded}
-use Rattle.elaborate.specs.declared.command.Labelled.{Labelled}
-use Rattle.elaborate.specs.declared.command.Action.TheOpen.{Action-F}
-use Rattle.elaborate.specs.declared.command.Action.TheFolds.{map-Action, fold-Action, fold-roll-Action, fold-roll-Arm, fold-roll-Command, fold-roll-Guarded, fold-roll-Labelled, ind-Command}
-use Rattle.elaborate.specs.declared.command.Action.TheViews.{roll-Action, roll-Arm, roll-Command, roll-Guarded, roll-Labelled}
+use Rattle.system.specs.Lists.{In}
+use Rattle.system.specs.declared.expression.Use.{Use}
+use Rattle.system.specs.declared.expression.Expression.{Expression}
+use Rattle.system.specs.declared.expression.Expression.TheOpen.{Expression-F}
+use Rattle.system.specs.declared.expression.Expression.TheFolds.{map-Expression, fold-roll-Expression, ind-Expression}
+use Rattle.system.specs.declared.expression.Expression.TheViews.{roll-Expression}
+use Rattle.system.specs.declared.system.System.{System}
+use Rattle.system.specs.declared.system.Variable.{Variable}
+use Rattle.system.specs.declared.command.Action.{Action}
+use Rattle.system.specs.declared.command.Arm.{Arm}
+use Rattle.system.specs.declared.command.Command.{Command}
+use Rattle.system.specs.declared.command.Guarded.{Guarded}
+use Rattle.system.specs.declared.command.Labelled.{Labelled}
+use Rattle.system.specs.declared.command.Action.TheOpen.{Action-F}
+use Rattle.system.specs.declared.command.Action.TheFolds.{map-Action, fold-Action, fold-roll-Action, fold-roll-Arm, fold-roll-Command, fold-roll-Guarded, fold-roll-Labelled, ind-Command}
+use Rattle.system.specs.declared.command.Action.TheViews.{roll-Action, roll-Arm, roll-Command, roll-Guarded, roll-Labelled}
 use Rattle.sharing_check.specs.Gathering.{gathered, Gathers, mentioned, reading, reading_layer, in_turn, side_by_side, gathering_layer, arm_layer, command_layer, guarded_layer, labelled_layer, gathering, gathering_arm, gathering_guarded, gathering_labelled}
 use Rattle.sharing_check.specs.Refused.{ClashesAt, Least}
 use Rattle.sharing_check.specs.Uses.{VariableUse, here, named, named_layer, numbered, reads, uses_layer, arm_uses, command_uses, guarded_uses, labelled_uses, uses_of}

@@ -3,7 +3,7 @@ use Rattle.std.proofs.Common.{◌≡◌, ◌≢◌, ⊎_elim, ℕ, suc, ◌≤�
 use Rattle.address.specs.declared.Entry.{Entry}
 use Rattle.address.specs.declared.Entry.TheVariants.{Ordered}
 use Rattle.address.specs.Places.{Apart}
-use Rattle.elaborate.specs.Lists.{In}
+use Rattle.system.specs.Lists.{In}
 use Rattle.sharing_check.specs.Gathering.{Gathers, in_turn}
 use Rattle.sharing_check.specs.Uses.{VariableUse, behind, numbered}
 use Rattle.sharing_check.proofs.FitsParts.{in_either, from_behind}

@@ -4,8 +4,8 @@ use Rattle.std.proofs.lemmas.List.{append-nil}
 use Rattle.address.specs.declared.Entry.{Entry}
 use Rattle.address.specs.declared.Entry.TheVariants.{Branch}
 use Rattle.address.specs.Places.{Apart}
-use Rattle.elaborate.specs.Lists.{In}
-use Rattle.elaborate.specs.declared.system.Variable.{Variable}
+use Rattle.system.specs.Lists.{In}
+use Rattle.system.specs.declared.system.Variable.{Variable}
 use Rattle.sharing_check.specs.Crossing.{Table}
 use Rattle.sharing_check.specs.Gathering.{Gathered, gathered, put_back, beside, all_beside, side_by_side}
 use Rattle.sharing_check.specs.Uses.{VariableUse, behind, numbered}

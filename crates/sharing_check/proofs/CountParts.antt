@@ -1,9 +1,9 @@
 -- What residuals amount to, put together from their parts.
 use Rattle.std.proofs.Common.{◌≡◌, ℕ, suc, ◌+◌, max, List, [], ◌∷◌, Option, None, Some, Bool, true, false, cond, ◌==◌, refl, sym, ap, ◌∙◌, arith}
-use Rattle.elaborate.specs.Expression.{Expression, Decision, variables, decision_variables}
-use Rattle.elaborate.specs.Residual as residual
-use Rattle.elaborate.specs.Residual.{Residual, Arms, no_arms, arm, done, halted, test, choose, within, along}
-use Rattle.elaborate.specs.Translation.{OnChannel, in_sequence, in_parallel, arms_of, choose_of}
+use Rattle.system.specs.Expression.{Expression, Decision, variables, decision_variables}
+use Rattle.system.specs.Residual as residual
+use Rattle.system.specs.Residual.{Residual, Arms, no_arms, arm, done, halted, test, choose, within, along}
+use Rattle.system.specs.Translation.{OnChannel, in_sequence, in_parallel, arms_of, choose_of}
 use Rattle.sharing_check.specs.declared.widths.Together.TheVariants.{InOneBranch}
 use Rattle.sharing_check.specs.declared.widths.Width.{Width}
 use Rattle.sharing_check.specs.Measure.{amount, amount_of_arms, most}

@@ -1,10 +1,10 @@
 -- What the uses of a system amount to: the widths of its channels.
 use Rattle.std.proofs.Common.{◌≡◌, ℕ, ◌+◌, List, [], ◌∷◌, Bool, true, false, cond, ◌==◌, sum_by, refl, ◌∙◌, arith}
 use Rattle.std.proofs.lemmas.List.Sums.{sum_by-cons}
-use Rattle.elaborate.specs.Translation.{residual_of}
-use Rattle.elaborate.specs.declared.system.System.{System}
-use Rattle.elaborate.specs.declared.system.Branch.{Branch}
-use Rattle.elaborate.specs.declared.system.Branch.TheVariants.{Feed, Drain, Syncs}
+use Rattle.system.specs.Translation.{residual_of}
+use Rattle.system.specs.declared.system.System.{System}
+use Rattle.system.specs.declared.system.Branch.{Branch}
+use Rattle.system.specs.declared.system.Branch.TheVariants.{Feed, Drain, Syncs}
 use Rattle.sharing_check.specs.Measure.{amount}
 use Rattle.sharing_check.specs.Rule.{sender_on, receiver_on, user_on, width}
 use Rattle.sharing_check.specs.Counting.{Side, senders, receivers, users, Table, cut, join, of_side, uses, measure, used_by, use_of, with_environment, used_in}

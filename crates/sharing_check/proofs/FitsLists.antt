@@ -3,9 +3,9 @@ use Rattle.std.proofs.Common.{◌≡◌, ◌≢◌, inl, ⊎_elim, ℕ, suc, ◌
 use Rattle.address.specs.declared.Entry.{Entry}
 use Rattle.address.specs.declared.Entry.TheVariants.{Ordered, Branch}
 use Rattle.address.specs.Places.{Apart}
-use Rattle.elaborate.specs.Lists.{In}
-use Rattle.elaborate.specs.Residual.{Residual, Arms, no_arms, arm}
-use Rattle.elaborate.specs.Translation.{in_sequence, in_parallel, arms_of}
+use Rattle.system.specs.Lists.{In}
+use Rattle.system.specs.Residual.{Residual, Arms, no_arms, arm}
+use Rattle.system.specs.Translation.{in_sequence, in_parallel, arms_of}
 use Rattle.sharing_check.specs.Uses.{VariableUse, behind, numbered}
 use Rattle.sharing_check.proofs.FitsParts.{Fits, FitsArms, in_either, from_behind, fits_done, fits_behind, fits_left, fits_right, fits_within, fits_along, used_behind, used_left, used_right, written_behind, written_left, written_right, free_behind, free_left, free_right}
 

@@ -1,13 +1,13 @@
 -- The variables that an expression names are those of its value.
 use Rattle.std.proofs.Common.{◌≡◌, ◌⊎◌, inl, inr, ⊎_elim, ℕ, List, [], ◌∷◌, ◌++◌, map, refl, sym, subst, false}
-use Rattle.elaborate.specs.Lists.{In}
-use Rattle.elaborate.specs.Expression as model
-use Rattle.elaborate.specs.Translation.{expression_of, expression_layer}
-use Rattle.elaborate.specs.declared.expression.Use.{Use}
-use Rattle.elaborate.specs.declared.expression.Expression.{Expression}
-use Rattle.elaborate.specs.declared.expression.Expression.TheOpen.{Expression-F}
-use Rattle.elaborate.specs.declared.expression.Expression.TheFolds.{map-Expression, fold-roll-Expression, ind-Expression}
-use Rattle.elaborate.specs.declared.expression.Expression.TheViews.{roll-Expression}
+use Rattle.system.specs.Lists.{In}
+use Rattle.system.specs.Expression as model
+use Rattle.system.specs.Translation.{expression_of, expression_layer}
+use Rattle.system.specs.declared.expression.Use.{Use}
+use Rattle.system.specs.declared.expression.Expression.{Expression}
+use Rattle.system.specs.declared.expression.Expression.TheOpen.{Expression-F}
+use Rattle.system.specs.declared.expression.Expression.TheFolds.{map-Expression, fold-roll-Expression, ind-Expression}
+use Rattle.system.specs.declared.expression.Expression.TheViews.{roll-Expression}
 use Rattle.sharing_check.specs.Uses.{here, named, named_layer, reads}
 use Rattle.sharing_check.proofs.FitsParts.{Used}
 

@@ -1,19 +1,19 @@
 -- In a command whose uses do not clash, a variable that one branch writes is used by no other.
 use Rattle.std.proofs.Common.{◌≡◌, ◌⊎◌, inl, inr, ⊎_elim, ℕ, suc, List, [], ◌∷◌, ◌++◌, map, None, Some, refl, sym, ap, subst, false}
 use Rattle.address.specs.declared.Entry.TheVariants.{Ordered, Branch}
-use Rattle.elaborate.specs.Lists.{In}
-use Rattle.elaborate.specs.Expression.{variables, variables_of_all, Decision, decision_variables}
-use Rattle.elaborate.specs.Residual.{Residual, Arms, test}
-use Rattle.elaborate.specs.Translation.{OnChannel, OnGuard, OnLabels, in_sequence, in_parallel, arms_of, if_of, choose_of, action_layer, arm_layer, command_layer, guarded_layer, labelled_layer, expression_of, residual_of}
-use Rattle.elaborate.specs.declared.expression.Expression.{Expression}
-use Rattle.elaborate.specs.declared.command.Action.{Action}
-use Rattle.elaborate.specs.declared.command.Arm.{Arm}
-use Rattle.elaborate.specs.declared.command.Command.{Command}
-use Rattle.elaborate.specs.declared.command.Guarded.{Guarded}
-use Rattle.elaborate.specs.declared.command.Labelled.{Labelled}
-use Rattle.elaborate.specs.declared.command.Action.TheOpen.{Action-F}
-use Rattle.elaborate.specs.declared.command.Action.TheFolds.{map-Action, fold-Action, fold-Arm, fold-Guarded, fold-Labelled, fold-roll-Action, fold-roll-Arm, fold-roll-Command, fold-roll-Guarded, fold-roll-Labelled, ind-Command}
-use Rattle.elaborate.specs.declared.command.Action.TheViews.{roll-Action, roll-Arm, roll-Command, roll-Guarded, roll-Labelled}
+use Rattle.system.specs.Lists.{In}
+use Rattle.system.specs.Expression.{variables, variables_of_all, Decision, decision_variables}
+use Rattle.system.specs.Residual.{Residual, Arms, test}
+use Rattle.system.specs.Translation.{OnChannel, OnGuard, OnLabels, in_sequence, in_parallel, arms_of, if_of, choose_of, action_layer, arm_layer, command_layer, guarded_layer, labelled_layer, expression_of, residual_of}
+use Rattle.system.specs.declared.expression.Expression.{Expression}
+use Rattle.system.specs.declared.command.Action.{Action}
+use Rattle.system.specs.declared.command.Arm.{Arm}
+use Rattle.system.specs.declared.command.Command.{Command}
+use Rattle.system.specs.declared.command.Guarded.{Guarded}
+use Rattle.system.specs.declared.command.Labelled.{Labelled}
+use Rattle.system.specs.declared.command.Action.TheOpen.{Action-F}
+use Rattle.system.specs.declared.command.Action.TheFolds.{map-Action, fold-Action, fold-Arm, fold-Guarded, fold-Labelled, fold-roll-Action, fold-roll-Arm, fold-roll-Command, fold-roll-Guarded, fold-roll-Labelled, ind-Command}
+use Rattle.system.specs.declared.command.Action.TheViews.{roll-Action, roll-Arm, roll-Command, roll-Guarded, roll-Labelled}
 use Rattle.sharing_check.specs.Uses.{VariableUse, numbered, reads, uses_layer, arm_uses, command_uses, guarded_uses, labelled_uses, uses_of}
 use Rattle.sharing_check.specs.Rule.{is_shared}
 use Rattle.sharing_check.specs.Laws.{ClashFreeKeepsTheRule}

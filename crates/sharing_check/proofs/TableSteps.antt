@@ -4,7 +4,7 @@ use Rattle.std.proofs.lemmas.List.{at_drop_more}
 use Rattle.std.proofs.lemmas.Option.{slice_get_within, get_or_from_slice_get, slice_get-get_or}
 use Rattle.std.specs.Map.{lookup}
 use Rattle.indexmap.specs.IndexMap.{insert_entry}
-use Rattle.elaborate.specs.declared.system.Variable.{Variable}
+use Rattle.system.specs.declared.system.Variable.{Variable}
 use Rattle.sharing_check.specs.declared.touched.Touched.{Touched}
 use Rattle.sharing_check.specs.Crossing.{Table, together, nowhere, touched_at, noted, noted_all, clash, with_clash, least_with}
 

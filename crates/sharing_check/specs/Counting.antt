@@ -1,11 +1,11 @@
 -- How many branches use each channel at one time: what a table of widths says, and what residuals amount to.
 use Rattle.std.specs.Prelude.{ℕ, ◌+◌, max, min, List, [], ◌∷◌, Option, None, Some, length, unwrap_or, cond, ◌==◌, nat_eq, nat_lt, Bool, true, false, ◌||◌, slice_get}
 use Rattle.std.specs.Map.{lookup}
-use Rattle.elaborate.specs.Residual.{Residual}
-use Rattle.elaborate.specs.Translation.{OnChannel, residual_of}
-use Rattle.elaborate.specs.declared.system.System.{System}
-use Rattle.elaborate.specs.declared.system.Branch.{Branch}
-use Rattle.elaborate.specs.declared.system.Branch.TheVariants.{Feed, Drain, Syncs}
+use Rattle.system.specs.Residual.{Residual}
+use Rattle.system.specs.Translation.{OnChannel, residual_of}
+use Rattle.system.specs.declared.system.System.{System}
+use Rattle.system.specs.declared.system.Branch.{Branch}
+use Rattle.system.specs.declared.system.Branch.TheVariants.{Feed, Drain, Syncs}
 use Rattle.sharing_check.specs.declared.widths.Together.{Together}
 use Rattle.sharing_check.specs.declared.widths.Together.TheVariants.{InOneBranch, InBranches}
 use Rattle.sharing_check.specs.declared.widths.Width.{Width}

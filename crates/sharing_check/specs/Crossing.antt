@@ -2,7 +2,7 @@
 use Rattle.std.specs.Prelude.{ℕ, min, List, [], ◌∷◌, length, Bool, true, false, cond, nat_eq, nat_lt, Option, None, Some, is_some, unwrap_or, slice_get}
 use Rattle.std.specs.Map.{lookup}
 use Rattle.indexmap.specs.IndexMap.{insert_entry}
-use Rattle.elaborate.specs.declared.system.Variable.{Variable}
+use Rattle.system.specs.declared.system.Variable.{Variable}
 use Rattle.sharing_check.specs.Rule.{is_shared_variable}
 use Rattle.sharing_check.specs.declared.touched.Touched.{Touched}
 

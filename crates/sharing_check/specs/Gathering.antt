@@ -1,16 +1,16 @@
 -- Where variables are touched in a command and the least offset of a use that clashes, found in one walk.
 use Rattle.std.specs.Prelude.{ℕ, List, [], ◌∷◌, Bool, true, false, Option, None, Some}
-use Rattle.elaborate.specs.declared.expression.Use.{Use}
-use Rattle.elaborate.specs.declared.expression.Expression.{Expression}
-use Rattle.elaborate.specs.declared.expression.Expression.TheOpen.{Expression-F}
-use Rattle.elaborate.specs.declared.expression.Expression.TheFolds.{fold-Expression}
-use Rattle.elaborate.specs.declared.system.Variable.{Variable}
-use Rattle.elaborate.specs.declared.command.Arm.{Arm}
-use Rattle.elaborate.specs.declared.command.Command.{Command}
-use Rattle.elaborate.specs.declared.command.Guarded.{Guarded}
-use Rattle.elaborate.specs.declared.command.Labelled.{Labelled}
-use Rattle.elaborate.specs.declared.command.Action.TheOpen.{Action-F, Arm-F, Command-F, Guarded-F, Labelled-F}
-use Rattle.elaborate.specs.declared.command.Action.TheFolds.{fold-Command, fold-Arm, fold-Guarded, fold-Labelled}
+use Rattle.system.specs.declared.expression.Use.{Use}
+use Rattle.system.specs.declared.expression.Expression.{Expression}
+use Rattle.system.specs.declared.expression.Expression.TheOpen.{Expression-F}
+use Rattle.system.specs.declared.expression.Expression.TheFolds.{fold-Expression}
+use Rattle.system.specs.declared.system.Variable.{Variable}
+use Rattle.system.specs.declared.command.Arm.{Arm}
+use Rattle.system.specs.declared.command.Command.{Command}
+use Rattle.system.specs.declared.command.Guarded.{Guarded}
+use Rattle.system.specs.declared.command.Labelled.{Labelled}
+use Rattle.system.specs.declared.command.Action.TheOpen.{Action-F, Arm-F, Command-F, Guarded-F, Labelled-F}
+use Rattle.system.specs.declared.command.Action.TheFolds.{fold-Command, fold-Arm, fold-Guarded, fold-Labelled}
 use Rattle.sharing_check.specs.Crossing.{Table, touched_here, noted, noted_all, least_with, larger, smaller}
 
 -- what is found so far

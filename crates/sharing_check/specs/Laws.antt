@@ -1,8 +1,8 @@
 -- The laws of the rule on sharing.
 use Rattle.std.specs.Prelude.{◌≡◌, ℕ, false}
-use Rattle.elaborate.specs.Lists.{In}
-use Rattle.elaborate.specs.Translation.{residual_of}
-use Rattle.elaborate.specs.declared.system.System.{System}
+use Rattle.system.specs.Lists.{In}
+use Rattle.system.specs.Translation.{residual_of}
+use Rattle.system.specs.declared.system.System.{System}
 use Rattle.sharing_check.specs.Sharing.{OneBranchWrites}
 use Rattle.sharing_check.specs.Rule.{is_shared}
 use Rattle.sharing_check.specs.Uses.{VariableUse, uses_of}

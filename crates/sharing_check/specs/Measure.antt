@@ -1,7 +1,7 @@
 -- How many uses of a channel or a variable a residual has at places apart: the width.
 use Rattle.std.specs.Prelude.{ℕ, zero, suc, ◌+◌, max, List, [], ◌∷◌, cond, ◌==◌}
-use Rattle.elaborate.specs.Expression.{variables, decision_variables}
-use Rattle.elaborate.specs.Residual.{Residual, done, halted, inside, beside, assign, send, receive, sync, held, loop, while, test, choose, closing, drain, Arms, no_arms, arm}
+use Rattle.system.specs.Expression.{variables, decision_variables}
+use Rattle.system.specs.Residual.{Residual, done, halted, inside, beside, assign, send, receive, sync, held, loop, while, test, choose, closing, drain, Arms, no_arms, arm}
 
 -- how the amounts of two branches add up, and what each use counts
 pub record Measure : Type 0 where

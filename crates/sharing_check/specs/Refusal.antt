@@ -1,6 +1,6 @@
 -- What stands for a refusal in messages, and which system gets which.
 use Rattle.std.specs.Prelude.{ℕ, Option, Some, None}
-use Rattle.elaborate.specs.declared.system.System.{System}
+use Rattle.system.specs.declared.system.System.{System}
 use Rattle.sharing_check.specs.Rule.{SharesWell}
 use Rattle.sharing_check.specs.Refused.{ClashesAt, PassesAt, Least}
 use Rattle.sharing_check.specs.declared.fault.Fault.{Fault}

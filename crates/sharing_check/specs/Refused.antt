@@ -1,9 +1,9 @@
 -- Why a system is refused, and where.
 use Rattle.std.specs.Prelude.{◌≡◌, ◌⊎◌, ℕ, ◌≤◌, ◌<◌, true, false, Option, None, Some, slice_get}
-use Rattle.elaborate.specs.Lists.{In}
+use Rattle.system.specs.Lists.{In}
 use Rattle.address.specs.Places.{Apart}
-use Rattle.elaborate.specs.declared.system.System.{System}
-use Rattle.elaborate.specs.declared.system.Channel.{Channel}
+use Rattle.system.specs.declared.system.System.{System}
+use Rattle.system.specs.declared.system.Channel.{Channel}
 use Rattle.sharing_check.specs.Measure.{sending, receiving, syncing}
 use Rattle.sharing_check.specs.Rule.{is_sync, is_shared, width, sender_on, receiver_on, user_on}
 use Rattle.sharing_check.specs.Uses.{VariableUse, uses_of}

@@ -1,13 +1,13 @@
 -- The rule on sharing, as the language states it: what the branches of one system may use at one time.
 use Rattle.std.specs.Prelude.{◌≡◌, ℕ, ◌+◌, ◌≤◌, Bool, true, false, Option, None, Some, sum_by, slice_get}
-use Rattle.elaborate.specs.Translation.{residual_of}
-use Rattle.elaborate.specs.declared.system.System.{System}
-use Rattle.elaborate.specs.declared.system.Variable.{Variable}
-use Rattle.elaborate.specs.declared.system.Channel.{Channel}
-use Rattle.elaborate.specs.declared.system.ChannelKind.{ChannelKind}
-use Rattle.elaborate.specs.declared.system.ChannelKind.TheVariants.{Data, Sync}
-use Rattle.elaborate.specs.declared.system.Branch.{Branch}
-use Rattle.elaborate.specs.declared.system.Branch.TheVariants.{Feed, Drain, Syncs}
+use Rattle.system.specs.Translation.{residual_of}
+use Rattle.system.specs.declared.system.System.{System}
+use Rattle.system.specs.declared.system.Variable.{Variable}
+use Rattle.system.specs.declared.system.Channel.{Channel}
+use Rattle.system.specs.declared.system.ChannelKind.{ChannelKind}
+use Rattle.system.specs.declared.system.ChannelKind.TheVariants.{Data, Sync}
+use Rattle.system.specs.declared.system.Branch.{Branch}
+use Rattle.system.specs.declared.system.Branch.TheVariants.{Feed, Drain, Syncs}
 use Rattle.sharing_check.specs.Measure.{Measure, amount, only, sending, receiving, syncing}
 use Rattle.sharing_check.specs.Sharing.{OneBranchWrites}
 

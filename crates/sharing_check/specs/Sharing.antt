@@ -1,8 +1,8 @@
 -- The rule on sharing, as limits of the widths of a residual.
 use Rattle.std.specs.Prelude.{◌≡◌, ◌⊎◌, ℕ, ◌≤◌, Bool, true, false}
-use Rattle.elaborate.specs.Lists.{In}
-use Rattle.elaborate.specs.Expression.{variables, decision_variables}
-use Rattle.elaborate.specs.Residual.{Residual, inside, beside, assign, send, receive, loop, while, test, choose, Arms, no_arms, arm}
+use Rattle.system.specs.Lists.{In}
+use Rattle.system.specs.Expression.{variables, decision_variables}
+use Rattle.system.specs.Residual.{Residual, inside, beside, assign, send, receive, loop, while, test, choose, Arms, no_arms, arm}
 use Rattle.sharing_check.specs.Measure.{amount, sending, receiving, syncing, on_variable}
 
 -- a data channel has at most one sender and one receiver at a time

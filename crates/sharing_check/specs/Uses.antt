@@ -2,13 +2,13 @@
 use Rattle.std.specs.Prelude.{ℕ, suc, List, [], ◌∷◌, ◌++◌, Bool, true, false, Option, None, Some, map}
 use Rattle.address.specs.declared.Entry.{Entry}
 use Rattle.address.specs.declared.Entry.TheVariants.{Ordered, Branch}
-use Rattle.elaborate.specs.declared.expression.Use.{Use}
-use Rattle.elaborate.specs.declared.expression.Expression.{Expression}
-use Rattle.elaborate.specs.declared.expression.Expression.TheOpen.{Expression-F}
-use Rattle.elaborate.specs.declared.expression.Expression.TheFolds.{fold-Expression}
-use Rattle.elaborate.specs.declared.command.Command.{Command}
-use Rattle.elaborate.specs.declared.command.Action.TheOpen.{Action-F, Arm-F, Command-F, Guarded-F, Labelled-F}
-use Rattle.elaborate.specs.declared.command.Action.TheFolds.{fold-Command}
+use Rattle.system.specs.declared.expression.Use.{Use}
+use Rattle.system.specs.declared.expression.Expression.{Expression}
+use Rattle.system.specs.declared.expression.Expression.TheOpen.{Expression-F}
+use Rattle.system.specs.declared.expression.Expression.TheFolds.{fold-Expression}
+use Rattle.system.specs.declared.command.Command.{Command}
+use Rattle.system.specs.declared.command.Action.TheOpen.{Action-F, Arm-F, Command-F, Guarded-F, Labelled-F}
+use Rattle.system.specs.declared.command.Action.TheFolds.{fold-Command}
 
 -- a use of a variable
 pub record VariableUse : Type 0 where

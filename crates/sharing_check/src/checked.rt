@@ -4,10 +4,10 @@ ghost use Rattle.sharing_check.specs.Refusal.{Accepts, Refuses};
 use crate::Fault;
 use crate::clashes::least_clash;
 use crate::widths::least_passing;
-use elaborate::System;
 use std::alloc::{AllocError, Global};
 use std::marker::Model;
 use std::sync::Arc;
+use system::System;
 
 /// A system that keeps the rule on sharing, which contracts see as the system. A clone shares it with the original.
 #[derive(Drop)]
@@ -16,8 +16,8 @@ pub struct Checked {
 }
 
 impl Model for Checked {
-    ghost use Rattle.elaborate.specs.declared.system.System.{System};
-    ghost use Rattle.elaborate.specs.contracts.system.System as whole;
+    ghost use Rattle.system.specs.declared.system.System.{System};
+    ghost use Rattle.system.specs.contracts.system.System as whole;
 
     ghost Value = { System };
 

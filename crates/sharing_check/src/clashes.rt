@@ -6,8 +6,8 @@ ghost use Rattle.sharing_check.specs.Gathering as model;
 ghost use Rattle.sharing_check.specs.Refused.{ClashesAt, Least};
 
 use crate::found::Found;
-use elaborate::{Action, Arm, Command, Expression, Guarded, Labelled, System, Variable};
 use std::alloc::{AllocError, Global};
+use system::{Action, Arm, Command, Expression, Guarded, Labelled, System, Variable};
 
 /// The least offset of a use that clashes with another one.
 pub fn least_clash(alloc: Global, system: &System) -> Result<Option<u64>, AllocError>

@@ -3,10 +3,10 @@ ghost use Rattle.sharing_check.specs.Gathering as model;
 
 use crate::touched::Touched;
 use crate::touches::{Touches, put_larger_first};
-use elaborate::{Use, Variable};
 use std::alloc::{AllocError, Global};
 use std::marker::Model;
 use std::mem;
+use system::{Use, Variable};
 
 /// What is found in the commands so far.
 #[derive(Drop)]

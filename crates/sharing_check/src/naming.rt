@@ -1,10 +1,10 @@
 // Variables and channels of a system, by name and by number.
 ghost use Rattle.std.specs.Prelude.{◌≡◌};
 ghost use Rattle.std.specs.Option.{option_copied};
-ghost use Rattle.elaborate.specs.Named as named;
+ghost use Rattle.system.specs.Named as named;
 
 use crate::Checked;
-use elaborate::QualifiedName;
+use system::QualifiedName;
 
 impl Checked {
     /// The number of the first variable of this name.

@@ -3,11 +3,11 @@ ghost use Rattle.sharing_check.specs.Crossing as model;
 ghost use Rattle.sharing_check.specs.Rule.{is_shared_variable};
 
 use crate::touched::{Touched, lesser};
-use elaborate::Variable;
 use indexmap::IndexMap;
 use std::alloc::{AllocError, Global};
 use std::marker::Model;
 use std::mem;
+use system::Variable;
 
 /// Where a part of a command touches variables, by their numbers.
 #[derive(Drop)]

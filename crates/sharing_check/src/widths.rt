@@ -5,16 +5,16 @@
 ghost use Rattle.std.specs.Prelude.{◌≡◌, ℕ, None, nat_eq, map, IfOk, OnOk, MatchOption};
 ghost use Rattle.std.specs.Option.{option_map};
 ghost use Rattle.indexmap.specs.IndexMap.{IsUnique};
-ghost use Rattle.elaborate.specs.Translation.{residual_of};
+ghost use Rattle.system.specs.Translation.{residual_of};
 ghost use Rattle.sharing_check.specs.Counting as model;
 ghost use Rattle.sharing_check.specs.CountingParts.{of_guarded, of_labelled, of_arm};
 ghost use Rattle.sharing_check.specs.Rule.{is_sync};
 ghost use Rattle.sharing_check.specs.Refused.{PassesAt, Least};
 
-use elaborate::{Action, Arm, Branch, ChannelKind, Command, Guarded, Labelled, System};
 use indexmap::IndexMap;
 use std::alloc::{AllocError, Global};
 use std::mem;
+use system::{Action, Arm, Branch, ChannelKind, Command, Guarded, Labelled, System};
 
 /// How the uses of two parts go together.
 #[derive(Clone, Copy)]

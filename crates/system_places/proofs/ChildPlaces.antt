@@ -4,7 +4,7 @@ use Rattle.std.proofs.lemmas.Option.{slice_get-map}
 use Rattle.std.specs.Prelude.{Option, Some, None, slice_get}
 use Rattle.std.specs.Option.{option_map}
 use Rattle.address.specs.declared.Entry.{Entry}
-use Rattle.elaborate.specs.declared.command.Command.{Command}
+use Rattle.system.specs.declared.command.Command.{Command}
 use Rattle.system_places.specs.CommandPlaces.{Found, in_last, in_child}
 
 -- the child is there

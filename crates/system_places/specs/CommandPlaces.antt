@@ -9,13 +9,13 @@ use Rattle.std.specs.Prelude.{ℕ, ◌%◌, ◌==◌, ◌&&◌, ◌||◌, not, i
 use Rattle.std.specs.Option.{option_or}
 use Rattle.address.specs.declared.Entry.{Entry}
 use Rattle.address.specs.declared.Entry.TheVariants.{Ordered, Branch}
-use Rattle.elaborate.specs.declared.command.Arm.{Arm}
-use Rattle.elaborate.specs.declared.command.Command.{Command}
-use Rattle.elaborate.specs.declared.command.Guarded.{Guarded}
-use Rattle.elaborate.specs.declared.command.Labelled.{Labelled}
-use Rattle.elaborate.specs.declared.command.Action.TheOpen.{Action-F, Arm-F, Command-F, Guarded-F, Labelled-F}
-use Rattle.elaborate.specs.declared.command.Action.TheFolds.{fold-Command, fold-Arm, fold-Guarded, fold-Labelled}
-use Rattle.elaborate.specs.declared.system.System.{System}
+use Rattle.system.specs.declared.command.Arm.{Arm}
+use Rattle.system.specs.declared.command.Command.{Command}
+use Rattle.system.specs.declared.command.Guarded.{Guarded}
+use Rattle.system.specs.declared.command.Labelled.{Labelled}
+use Rattle.system.specs.declared.command.Action.TheOpen.{Action-F, Arm-F, Command-F, Guarded-F, Labelled-F}
+use Rattle.system.specs.declared.command.Action.TheFolds.{fold-Command, fold-Arm, fold-Guarded, fold-Labelled}
+use Rattle.system.specs.declared.system.System.{System}
 use Rattle.system_places.specs.declared.command_places.Form.{Form}
 use Rattle.system_places.specs.declared.command_places.Form.TheVariants.{Held, Turns, Test, Choice}
 

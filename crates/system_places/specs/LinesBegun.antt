@@ -1,11 +1,11 @@
 -- The lines on which commands begin.
 use Rattle.std.specs.Prelude.{ℕ, ◌==◌, ◌||◌, List, [], ◌∷◌, Bool, false, Option, None, Some}
-use Rattle.elaborate.specs.declared.command.Arm.{Arm}
-use Rattle.elaborate.specs.declared.command.Command.{Command}
-use Rattle.elaborate.specs.declared.command.Guarded.{Guarded}
-use Rattle.elaborate.specs.declared.command.Labelled.{Labelled}
-use Rattle.elaborate.specs.declared.command.Action.TheOpen.{Action-F, Arm-F, Command-F, Guarded-F, Labelled-F}
-use Rattle.elaborate.specs.declared.command.Action.TheFolds.{fold-Command, fold-Arm, fold-Guarded, fold-Labelled}
+use Rattle.system.specs.declared.command.Arm.{Arm}
+use Rattle.system.specs.declared.command.Command.{Command}
+use Rattle.system.specs.declared.command.Guarded.{Guarded}
+use Rattle.system.specs.declared.command.Labelled.{Labelled}
+use Rattle.system.specs.declared.command.Action.TheOpen.{Action-F, Arm-F, Command-F, Guarded-F, Labelled-F}
+use Rattle.system.specs.declared.command.Action.TheFolds.{fold-Command, fold-Arm, fold-Guarded, fold-Labelled}
 
 -- whether one of them does, or one before them
 abbrev pub any_onto : Bool → List Bool → Bool

@@ -3,14 +3,14 @@
 use Rattle.std.specs.Prelude.{ℕ, ◌+◌, ◌-◌, min, ◌==◌, nat_lt, nat_le, if◌then◌else◌, List, [], ◌∷◌, Option, None, Some, length}
 use Rattle.address.specs.declared.Entry.{Entry}
 use Rattle.address.specs.declared.Entry.TheVariants.{Ordered, Branch}
-use Rattle.elaborate.specs.declared.command.Action.{Action, out-Action}
-use Rattle.elaborate.specs.declared.command.Action.TheOpen.{Action-F}
-use Rattle.elaborate.specs.declared.command.Arm.{Arm}
-use Rattle.elaborate.specs.declared.command.Command.{Command, out-Command}
-use Rattle.elaborate.specs.declared.command.Guarded.{Guarded}
-use Rattle.elaborate.specs.declared.command.Labelled.{Labelled}
-use Rattle.elaborate.specs.declared.system.System.{System}
-use Rattle.elaborate.specs.Named.{as_number}
+use Rattle.system.specs.declared.command.Action.{Action, out-Action}
+use Rattle.system.specs.declared.command.Action.TheOpen.{Action-F}
+use Rattle.system.specs.declared.command.Arm.{Arm}
+use Rattle.system.specs.declared.command.Command.{Command, out-Command}
+use Rattle.system.specs.declared.command.Guarded.{Guarded}
+use Rattle.system.specs.declared.command.Labelled.{Labelled}
+use Rattle.system.specs.declared.system.System.{System}
+use Rattle.system.specs.Named.{as_number}
 
 -- the children of a parallel; no other command has any here
 abbrev pub children_of_parallel : Action-F Action Arm Command Guarded Labelled → Option (List Command)

@@ -6,13 +6,13 @@ use Rattle.std.specs.Prelude.{ℕ, ◌-◌, ◌==◌, ◌&&◌, if◌then◌else
 use Rattle.std.specs.Option.{option_or}
 use Rattle.address.specs.declared.Entry.{Entry}
 use Rattle.address.specs.declared.Entry.TheVariants.{Ordered, Branch}
-use Rattle.elaborate.specs.declared.command.Action.{Action, out-Action}
-use Rattle.elaborate.specs.declared.command.Action.TheOpen.{Action-F}
-use Rattle.elaborate.specs.declared.command.Arm.{Arm, out-Arm}
-use Rattle.elaborate.specs.declared.command.Command.{Command, out-Command}
-use Rattle.elaborate.specs.declared.command.Guarded.{Guarded, out-Guarded}
-use Rattle.elaborate.specs.declared.command.Labelled.{Labelled, out-Labelled}
-use Rattle.elaborate.specs.declared.system.System.{System}
+use Rattle.system.specs.declared.command.Action.{Action, out-Action}
+use Rattle.system.specs.declared.command.Action.TheOpen.{Action-F}
+use Rattle.system.specs.declared.command.Arm.{Arm, out-Arm}
+use Rattle.system.specs.declared.command.Command.{Command, out-Command}
+use Rattle.system.specs.declared.command.Guarded.{Guarded, out-Guarded}
+use Rattle.system.specs.declared.command.Labelled.{Labelled, out-Labelled}
+use Rattle.system.specs.declared.system.System.{System}
 use Rattle.system_places.specs.CommandPlaces.{is_body_number, is_own}
 use Rattle.system_places.specs.declared.command_places.Form.TheVariants.{Held, Turns, Test, Choice}
 

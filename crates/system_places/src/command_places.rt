@@ -7,8 +7,8 @@ ghost use Rattle.std.specs.Option.{option_map, option_copied, option_or};
 ghost use Rattle.system_places.specs.CommandPlaces as model;
 
 use address::{Address, Entry};
-use elaborate::{Action, Arm, Command, Guarded, Labelled, System};
 use syntax::Items;
+use system::{Action, Arm, Command, Guarded, Labelled, System};
 
 /// How the places of a command, and those at which its bodies stand, are numbered.
 #[derive(Clone, Copy)]

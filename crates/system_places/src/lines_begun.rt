@@ -3,7 +3,7 @@ ghost use Rattle.std.specs.Prelude.{◌≡◌, false, map};
 ghost use Rattle.std.specs.Option.{option_map};
 ghost use Rattle.system_places.specs.LinesBegun as model;
 
-use elaborate::{Action, Arm, Command, Guarded, Labelled, System};
+use system::{Action, Arm, Command, Guarded, Labelled, System};
 
 /// Whether the command, or one within it, has the line.
 #[cycle(begun)]

@@ -2,11 +2,11 @@
 ghost use Rattle.std.specs.Prelude.{◌≡◌};
 ghost use Rattle.std.specs.Option.{option_copied};
 ghost use Rattle.system_places.specs.SystemBranches as model;
-ghost use Rattle.elaborate.specs.Named as named;
+ghost use Rattle.system.specs.Named as named;
 
 use address::{Address, Entry};
-use elaborate::{Action, Command, System};
 use syntax::Items;
+use system::{Action, Command, System};
 
 /// The children of a command that is a parallel.
 fn parallel_of(command: &Command) -> Option<&Items<Command>>

@@ -9,8 +9,8 @@ ghost use Rattle.system_places.specs.TakenArms as model;
 
 use crate::command_places::Form;
 use address::{Address, Entry};
-use elaborate::{Action, Arm, Command, Guarded, Labelled, System};
 use syntax::Items;
+use system::{Action, Arm, Command, Guarded, Labelled, System};
 
 /// What tells which arms were taken.
 pub trait TakenArms {

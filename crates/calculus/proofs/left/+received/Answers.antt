@@ -1,7 +1,7 @@
 use Rattle.std.proofs.Common.{◌≡◌, rules, arith, map, sym, ap, ◌∙◌, None}
 use Rattle.std.proofs.lemmas.Grind.{common_steps}
-use Rattle.elaborate.specs.Residual.{put_residual}
-use Rattle.elaborate.specs.Translation.{arms_of}
+use Rattle.system.specs.Residual.{put_residual}
+use Rattle.system.specs.Translation.{arms_of}
 use Rattle.calculus.specs.Left.{residual_of_left}
 use Rattle.calculus.proofs.Arms.{put_arms_of}
 use Rattle.calculus.proofs.left.+received.Goals as goal

@@ -1,5 +1,5 @@
 use Rattle.std.proofs.Common.{◌≡◌, ◌++◌, drop, map}
-use Rattle.elaborate.specs.Residual.{put_residual}
+use Rattle.system.specs.Residual.{put_residual}
 use Rattle.calculus.specs.Left.{residual_of_left}
 use Rattle.calculus.proofs.left.+received.Given as goal
 

@@ -1,5 +1,5 @@
 use Rattle.std.proofs.Common.{◌≡◌, ◌∷◌, ◌++◌, drop, map}
-use Rattle.elaborate.specs.Translation.{residual_of, branch_of}
+use Rattle.system.specs.Translation.{residual_of, branch_of}
 use Rattle.calculus.specs.Left.{residual_of_left}
 use Rattle.calculus.proofs.start.branches_of.Given as goal
 

@@ -1,5 +1,5 @@
 use Rattle.std.proofs.Common.{◌≡◌, ◌++◌, drop, map}
-use Rattle.elaborate.specs.Expression.{word}
+use Rattle.system.specs.Expression.{word}
 use Rattle.calculus.proofs.start.first_values.Given as goal
 
 abbrev pub invariant-loop-variable : goal.invariant-loop-variable

@@ -1,6 +1,6 @@
 use Rattle.std.proofs.Common.{◌≡◌, ◌++◌, drop, map}
-use Rattle.elaborate.specs.Expression.{constant}
-use Rattle.elaborate.specs.Residual.{send}
+use Rattle.system.specs.Expression.{constant}
+use Rattle.system.specs.Residual.{send}
 use Rattle.calculus.specs.Left.{residual_of_left}
 use Rattle.calculus.proofs.start.sends_of.Given as goal
 

@@ -1,5 +1,5 @@
 use Rattle.std.proofs.Common.{◌≡◌, ◌≤◌, ◌-◌}
-use Rattle.elaborate.specs.Translation.{syncs_from}
+use Rattle.system.specs.Translation.{syncs_from}
 use Rattle.calculus.specs.Left.{residual_of_left}
 use Rattle.calculus.proofs.start.syncs.Given as goal
 

@@ -2,7 +2,7 @@
 use Rattle.std.proofs.Common.{◌≤◌, length, arith, sym, ◌∙◌, ap}
 use Rattle.std.proofs.lemmas.Bool.Decides.{nat_tests}
 use Rattle.elaborate.specs.Body.{Makes}
-use Rattle.elaborate.specs.declared.command.Command.{Command}
+use Rattle.system.specs.declared.command.Command.{Command}
 use Rattle.elaborate.proofs.Weights.{weight, entered_weight, item_weight, arm_item, guarded_item, labelled_item}
 use Rattle.elaborate.proofs.Calls.{goes_along, enters, ends}
 use Rattle.elaborate.proofs.body.+body.Goals as goal

@@ -1,5 +1,5 @@
 use Rattle.std.proofs.Common.{◌≡◌, drop}
-use Rattle.elaborate.specs.Expression.{is_in}
+use Rattle.system.specs.Expression.{is_in}
 use Rattle.locked_execution.proofs.dependence.reads.Given as goal
 
 abbrev pub invariant-loop-held : goal.invariant-loop-held

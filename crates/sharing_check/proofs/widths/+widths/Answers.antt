@@ -2,14 +2,14 @@
 use Rattle.std.proofs.Common.{◌≡◌, ◌⊎◌, inl, inr, [], ◌∷◌, map, OnOk, sym, ap, ◌∙◌, subst, rules}
 use Rattle.std.specs.Option.{option_map}
 use Rattle.value.specs.declared.width.Width.{Width}
-use Rattle.elaborate.specs.declared.command.Action as action
-use Rattle.elaborate.specs.declared.command.Action.{Action}
-use Rattle.elaborate.specs.declared.command.Action.TheFolds.{the_lemmas}
-use Rattle.elaborate.specs.declared.command.Command.{Command}
-use Rattle.elaborate.specs.declared.expression.Expression.{Expression}
-use Rattle.elaborate.specs.declared.expression.Use.{Use}
-use Rattle.elaborate.specs.Residual as residual
-use Rattle.elaborate.specs.Translation.{expression_of, residual_of, in_sequence, in_parallel, if_of, case_of, choose_of}
+use Rattle.system.specs.declared.command.Action as action
+use Rattle.system.specs.declared.command.Action.{Action}
+use Rattle.system.specs.declared.command.Action.TheFolds.{the_lemmas}
+use Rattle.system.specs.declared.command.Command.{Command}
+use Rattle.system.specs.declared.expression.Expression.{Expression}
+use Rattle.system.specs.declared.expression.Use.{Use}
+use Rattle.system.specs.Residual as residual
+use Rattle.system.specs.Translation.{expression_of, residual_of, in_sequence, in_parallel, if_of, case_of, choose_of}
 use Rattle.sharing_check.specs.declared.widths.Together.TheVariants.{InOneBranch}
 use Rattle.sharing_check.specs.Counting.{Table, nothing, noted, join, adding, in_turn, last_in_turn, arms_in_turn, side_by_side}
 use Rattle.sharing_check.specs.CountingParts.{of_guarded, of_labelled, of_arm}

@@ -1,6 +1,6 @@
 -- With the parts that are left, the table says what it says of all.
 use Rattle.std.proofs.Common.{◌≡◌, drop, map}
-use Rattle.elaborate.specs.Translation.{residual_of}
+use Rattle.system.specs.Translation.{residual_of}
 use Rattle.sharing_check.specs.Counting.{nothing, noted, in_turn, arms_in_turn, side_by_side}
 use Rattle.sharing_check.specs.CountingParts.{of_guarded, of_labelled, of_arm}
 use Rattle.sharing_check.proofs.widths.+widths.Given as goal

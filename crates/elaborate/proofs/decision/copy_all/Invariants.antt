@@ -1,6 +1,0 @@
-use Rattle.std.proofs.Common.{◌≡◌, ◌++◌, drop}
-use Rattle.elaborate.proofs.decision.copy_all.Given as goal
-
--- the copies are the guards that are passed
-abbrev pub invariant-loop-guard : goal.invariant-loop-guard
-invariant-loop-guard l = l.copies ++ drop l.guard-index l.guards ≡ l.guards

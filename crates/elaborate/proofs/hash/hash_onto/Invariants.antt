@@ -1,6 +1,0 @@
-use Rattle.std.proofs.Common.{◌≡◌, drop}
-use Rattle.elaborate.specs.Hashing as hashing
-use Rattle.elaborate.proofs.hash.hash_onto.Given as goal
-
-abbrev pub invariant-loop-byte : goal.invariant-loop-byte
-invariant-loop-byte l = hashing.hash_onto l.mixed (drop l.byte-index l.bytes) ≡ hashing.hash_onto l.hash l.bytes

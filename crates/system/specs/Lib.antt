@@ -1,0 +1,10 @@
+pub mod Lists
+pub mod Expression
+pub mod Variables
+pub mod Residual
+pub mod Translation
+pub mod Decisions
+pub mod Named
+pub mod Prefix
+pub mod Hashing
+pub mod SharedPrefix

@@ -1,0 +1,23 @@
+-- Variables and channels by name and by number.
+use Rattle.std.specs.Prelude.{ℕ, ◌+◌, nat_eq, nat_le, if◌then◌else◌, List, [], ◌∷◌, Option, Some, None, slice_get}
+use Rattle.std.specs.Option.{option_map}
+use Rattle.std.specs.Cmp.Lexicographic.{pointwise}
+use Rattle.system.specs.declared.system.Variable.{Variable}
+use Rattle.system.specs.declared.system.Channel.{Channel}
+
+-- a place as a number of 32 bits, where it has so many
+abbrev pub as_number : ℕ → Option ℕ
+as_number place = if nat_le place 4294967295 then Some place else None
+
+-- the number of the first variable of this name, where the first of them has this place
+abbrev pub variable_from : ℕ → List Variable → List ℕ → Option ℕ
+variable_from place [] name = None
+variable_from place (v ∷ vs) name = if pointwise nat_eq v.name name then as_number place else variable_from (place + 1) vs name
+
+-- the name of the variable of this number
+abbrev pub variable_name_at : List Variable → ℕ → Option (List ℕ)
+variable_name_at variables number = option_map (λ v. v.name) (slice_get variables number)
+
+-- the name of the channel of this number
+abbrev pub channel_name_at : List Channel → ℕ → Option (List ℕ)
+channel_name_at channels number = option_map (λ c. c.name) (slice_get channels number)

@@ -1,0 +1,110 @@
+// The variables of a system by number and by name.
+ghost use Rattle.std.specs.Prelude.{◌≡◌, ◌<◌, length, drop, slice_get, map, IfOk, OnSome};
+ghost use Rattle.std.specs.Option.{option_copied};
+ghost use Rattle.system.specs.Hashing.{hash_of, places_of_hashes};
+ghost use Rattle.system.specs.Named as named;
+
+use crate::Variable;
+use crate::hash::hash_onto;
+use crate::hash_places::HashPlaces;
+use std::alloc::{AllocError, Global};
+use std::marker::Model;
+use syntax::Items;
+
+/// The variables of a system, which contracts see as the list by number. A number by name is looked up in an index.
+#[derive(Drop)]
+pub struct VariableTable {
+    /// by number
+    variables: Items<Variable>,
+    /// the first number of each hash of a name: two names of one hash are rare
+    places: HashPlaces,
+}
+
+impl Model for VariableTable {
+    ghost use Rattle.std.specs.Prelude.{◌≡◌, List, map};
+    ghost use Rattle.system.specs.declared.system.Variable.{Variable};
+
+    ghost Value = { List Variable };
+
+    ghost use Rattle.system.specs.Hashing.{hash_of, places_of_hashes};
+
+    ghost view = { λ table. table.variables };
+
+    ghost invariant = { λ table. table.places ≡ places_of_hashes (map (λ v. hash_of v.name) table.variables) };
+}
+
+impl VariableTable {
+    /// These variables, the first with number 0.
+    pub fn new(alloc: Global, variables: Items<Variable>) -> Result<VariableTable, AllocError>
+        ensures { IfOk result (λ table. table ≡ variables) }
+    {
+        let places = first_places(alloc, variables.as_slice())?;
+        Ok(VariableTable { variables, places })
+    }
+
+    /// The variables by number.
+    pub fn as_slice(&self) -> &[Variable]
+        ensures { result.now ≡ self.now }
+    {
+        self.variables.as_slice()
+    }
+
+    /// How many variables there are.
+    pub fn len(&self) -> usize
+        ensures { result ≡ length self.now }
+    {
+        self.variables.len()
+    }
+
+    /// The variable of this number, if there are so many.
+    pub fn get(&self, number: usize) -> Option<&Variable>
+        ensures value { option_copied result ≡ slice_get self.now number }
+        ensures within { OnSome result (number < length self.now) }
+    {
+        self.variables.get(number)
+    }
+
+    /// The number of the first variable of this name.
+    pub fn number(&self, name: &[u8]) -> Option<u32>
+        ensures { result ≡ named.variable_from 0 self.now name.now }
+    {
+        match self.places.find(hash_onto(0, name)) {
+            Some(place) => number_from(self.variables.as_slice(), place, name),
+            None => None,
+        }
+    }
+}
+
+/// The first place of each hash of a name.
+fn first_places(alloc: Global, variables: &[Variable]) -> Result<HashPlaces, AllocError>
+    ensures { IfOk result (λ places. places ≡ places_of_hashes (map (λ v. hash_of v.name) variables.now)) }
+{
+    let mut places = HashPlaces::new(alloc);
+    for (place, variable) in variables.iter().enumerate() {
+        places.note(variable.name.hash(), place)?;
+    }
+    Ok(places)
+}
+
+/// The number of the first variable of this name at this place or behind it.
+fn number_from(variables: &[Variable], first: usize, name: &[u8]) -> Option<u32>
+    ensures { result ≡ named.variable_from first (drop first variables.now) name.now }
+{
+    for place in first..variables.len() {
+        if variables[place].name.is(name) {
+            return as_number(place);
+        }
+    }
+    None
+}
+
+/// The place as a number of 32 bits.
+fn as_number(place: usize) -> Option<u32>
+    ensures { result ≡ named.as_number place }
+{
+    if place <= 4294967295 {
+        Some(place as u32)
+    } else {
+        None
+    }
+}
