@@ -1,6 +1,6 @@
 -- What a tree in memory answers, from the answers of its children.
-use Rattle.std.proofs.Common.{◌≡◌, ℕ, List, map, slice_get, Option, Some, None, Result, sym, ap, ◌∙◌}
-use Rattle.std.specs.Prelude.{IfOk}
+use Rattle.std.proofs.Common.{◌≡◌, ℕ, List, map, slice_get, Option, Some, None, Result, Ok, Err, sym, ap, ◌∙◌}
+use Rattle.std.specs.Prelude.{IfOk, MatchResult}
 use Rattle.std.proofs.lemmas.Result.{IfOk-weaker}
 use Rattle.system.specs.Residual.{Residual, done, inside, beside, within, along, arm_at}
 use Rattle.system.specs.Translation.{arms_of}
@@ -73,12 +73,11 @@ rest_answers r k self child rest g h n a answer es eg eh eb ea i =
     ∙ sym (ap (λ z. after k (f z) a) es) in
     IfOk-weaker r (λ x. answer_of x ≡ around (λ t. along n (f h) t) (answer_of answer)) (λ x. answer_of x ≡ after k (f self) a) (λ x p. p ∙ e) i
 
--- a copy of an arm that there is
-pub arm_copied : {E : Type 0} (r : Result Left E) (xs : List Left) (k : ℕ) (x y : Left) → slice_get xs k ≡ Some x → y ≡ x
-    → IfOk r (λ made. made ≡ y) → IfOk r (λ made. residual_of_left made ≡ arm_at (arms_of (map residual_of_left xs) None) k)
-arm_copied r xs k x y h e i =
-    IfOk-weaker r (λ made. made ≡ y) (λ made. residual_of_left made ≡ arm_at (arms_of (map residual_of_left xs) None) k)
-    (λ made p. ap residual_of_left (p ∙ e) ∙ sym (arm_found xs k x h)) i
+-- a clone of an arm that there is
+pub arm_copied : {E : Type 0} (r : Result Left E) (xs : List Left) (k : ℕ) (x : Left) (Q : E → Type 0) → slice_get xs k ≡ Some x
+    → MatchResult r (λ made. made ≡ x) Q → IfOk r (λ made. residual_of_left made ≡ arm_at (arms_of (map residual_of_left xs) None) k)
+arm_copied (Ok made) xs k x Q h e = ap residual_of_left e ∙ sym (arm_found xs k x h)
+arm_copied (Err none) xs k x Q h e = tt
 
 -- nothing past the last arm
 pub arm_missed : {E : Type 0} (r : Result Left E) (xs : List Left) (k : ℕ) → slice_get xs k ≡ None

@@ -34,3 +34,4 @@ pub mod Tests
 pub mod Translate
 pub mod Walk
 pub mod WellFormed
+pub mod formers

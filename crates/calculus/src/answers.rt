@@ -8,9 +8,10 @@ ghost use Rattle.calculus.specs.After as model;
 ghost use Rattle.calculus.specs.Left.{residual_of_left};
 ghost use Rattle.calculus.specs.Answers.{ask_of, move_of, answer_of};
 
-use crate::left::{Left, along, within};
+use crate::left::{Left, along, with_received, within};
 use crate::moves::{Ask, Move, Moved};
 use crate::place::{is_act, is_here, is_turn};
+use crate::shared::Shared;
 use address::Entry;
 use std::alloc::{AllocError, Global};
 use syntax::{Boxed, Items};
@@ -18,7 +19,7 @@ use system::{Decision, Expression};
 use value::{Value, Width};
 
 /// The answer of a move and what is left after it.
-fn moved(alloc: Global, by: Move, left: Boxed<Left>) -> Result<Option<Moved>, AllocError>
+fn moved(alloc: Global, by: Move, left: Shared<Left>) -> Result<Option<Moved>, AllocError>
     ensures { IfOk result (λ r. answer_of r ≡ Some (move_of by, residual_of_left left)) }
 {
     let by = Boxed::new(alloc, by)?;
@@ -30,14 +31,14 @@ pub(crate) fn inside(
     alloc: Global,
     number: u64,
     answer: Option<Moved>,
-    next: &Left,
+    next: &Shared<Left>,
 ) -> Result<Option<Moved>, AllocError>
     ensures { IfOk result (λ r. answer_of r ≡ model.around (λ t. residual.within number t (residual_of_left next.now)) (answer_of answer)) }
 {
     match answer {
         Some(moved) => {
             let Moved { by, left } = moved;
-            let left = within(alloc, number, left, next.copy(alloc)?)?;
+            let left = within(alloc, number, left, next.clone()?)?;
             Ok(Some(Moved { by, left }))
         }
         None => Ok(None),
@@ -49,14 +50,14 @@ pub(crate) fn in_branch(
     alloc: Global,
     number: u64,
     answer: Option<Moved>,
-    rest: &Left,
+    rest: &Shared<Left>,
 ) -> Result<Option<Moved>, AllocError>
     ensures { IfOk result (λ r. answer_of r ≡ model.around (λ t. residual.along number t (residual_of_left rest.now)) (answer_of answer)) }
 {
     match answer {
         Some(moved) => {
             let Moved { by, left } = moved;
-            let left = along(alloc, number, left, rest.copy(alloc)?)?;
+            let left = along(alloc, number, left, rest.clone()?)?;
             Ok(Some(Moved { by, left }))
         }
         None => Ok(None),
@@ -67,7 +68,7 @@ pub(crate) fn in_branch(
 pub(crate) fn beside(
     alloc: Global,
     number: u64,
-    child: &Left,
+    child: &Shared<Left>,
     answer: Option<Moved>,
 ) -> Result<Option<Moved>, AllocError>
     ensures { IfOk result (λ r. answer_of r ≡ model.around (λ t. residual.along number (residual_of_left child.now) t) (answer_of answer)) }
@@ -75,7 +76,7 @@ pub(crate) fn beside(
     match answer {
         Some(moved) => {
             let Moved { by, left } = moved;
-            let left = along(alloc, number, child.copy(alloc)?, left)?;
+            let left = along(alloc, number, child.clone()?, left)?;
             Ok(Some(Moved { by, left }))
         }
         None => Ok(None),
@@ -130,7 +131,7 @@ pub(crate) fn send(
         }
         Ask::Hold => {
             let value = value.copy(alloc)?;
-            let held = Boxed::new(alloc, Left::Held(channel))?;
+            let held = Shared::new(alloc, Left::Held(channel))?;
             moved(alloc, Move::Sends(channel, width, value, true), held)
         }
         _ => Ok(None),
@@ -179,7 +180,7 @@ pub(crate) fn sync(
             moved(alloc, Move::Syncs(channel, false), done)
         }
         Ask::Hold => {
-            let held = Boxed::new(alloc, Left::Held(channel))?;
+            let held = Shared::new(alloc, Left::Held(channel))?;
             moved(alloc, Move::Syncs(channel, true), held)
         }
         _ => Ok(None),
@@ -215,7 +216,7 @@ pub(crate) fn repeat(
     ask: Ask,
     place: &[Entry],
     turn: u64,
-    body: &Left,
+    body: &Shared<Left>,
 ) -> Result<Option<Moved>, AllocError>
     ensures { IfOk result (λ r. answer_of r ≡ model.at_act (2 * turn) place.now (model.after_loop turn (residual_of_left body.now) (ask_of ask))) }
 {
@@ -232,13 +233,13 @@ pub(crate) fn repeat(
 }
 
 /// A loop in a turn.
-fn in_turn(alloc: Global, turn: u64, body: &Left) -> Result<Boxed<Left>, AllocError>
+fn in_turn(alloc: Global, turn: u64, body: &Shared<Left>) -> Result<Shared<Left>, AllocError>
     requires { turn < 2 ^ 32 }
     ensures { IfOk result (λ made. residual_of_left made ≡ residual.within (2 * turn + 1) (residual_of_left body.now) (residual.loop (turn + 1) (residual_of_left body.now))) }
 {
-    let again = body.copy(alloc)?;
-    let next = Boxed::new(alloc, Left::Loop(turn + 1, again))?;
-    within(alloc, 2 * turn + 1, body.copy(alloc)?, next)
+    let again = body.clone()?;
+    let next = Shared::new(alloc, Left::Loop(turn + 1, again))?;
+    within(alloc, 2 * turn + 1, body.clone()?, next)
 }
 
 /// The answer of a while loop before a test.
@@ -249,7 +250,7 @@ pub(crate) fn repeat_while(
     place: &[Entry],
     turn: u64,
     guard: &Expression,
-    body: &Left,
+    body: &Shared<Left>,
 ) -> Result<Option<Moved>, AllocError>
     ensures { IfOk result (λ r. answer_of r ≡ model.at_act (2 * turn) place.now (model.after_while turn (expression_of guard.now) (residual_of_left body.now) (ask_of ask))) }
 {
@@ -279,15 +280,15 @@ fn in_test(
     alloc: Global,
     turn: u64,
     guard: &Expression,
-    body: &Left,
-) -> Result<Boxed<Left>, AllocError>
+    body: &Shared<Left>,
+) -> Result<Shared<Left>, AllocError>
     requires { turn < 2 ^ 32 }
     ensures { IfOk result (λ made. residual_of_left made ≡ residual.within (2 * turn + 1) (residual_of_left body.now) (residual.while (turn + 1) (expression_of guard.now) (residual_of_left body.now))) }
 {
     let guard = guard.copy(alloc)?;
-    let again = body.copy(alloc)?;
-    let next = Boxed::new(alloc, Left::While(turn + 1, guard, again))?;
-    within(alloc, 2 * turn + 1, body.copy(alloc)?, next)
+    let again = body.clone()?;
+    let next = Shared::new(alloc, Left::While(turn + 1, guard, again))?;
+    within(alloc, 2 * turn + 1, body.clone()?, next)
 }
 
 /// The test of a while loop.
@@ -306,7 +307,7 @@ pub(crate) fn test(
     ask: Ask,
     place: &[Entry],
     decision: &Decision,
-    arms: &Items<Boxed<Left>>,
+    arms: &Items<Shared<Left>>,
 ) -> Result<Option<Moved>, AllocError>
     ensures { IfOk result (λ r. answer_of r ≡ model.at_act 0 place.now (model.after_test (decision_of decision.now) (arms_of (map residual_of_left arms.now) None) (ask_of ask))) }
 {
@@ -330,12 +331,12 @@ pub(crate) fn test(
     }
 }
 
-/// A copy of the arm of this number; nothing past the last.
-fn arm_at(alloc: Global, arms: &Items<Boxed<Left>>, arm: u32) -> Result<Boxed<Left>, AllocError>
+/// The arm of this number; nothing past the last.
+fn arm_at(alloc: Global, arms: &Items<Shared<Left>>, arm: u32) -> Result<Shared<Left>, AllocError>
     ensures { IfOk result (λ made. residual_of_left made ≡ residual.arm_at (arms_of (map residual_of_left arms.now) None) arm) }
 {
     match arms.get(arm as usize) {
-        Some(body) => body.get().copy(alloc),
+        Some(body) => body.clone(),
         None => Left::done(alloc),
     }
 }
@@ -347,7 +348,7 @@ pub(crate) fn choose(
     ask: Ask,
     place: &[Entry],
     channels: &[u32],
-    arms: &Items<Boxed<Left>>,
+    arms: &Items<Shared<Left>>,
 ) -> Result<Option<Moved>, AllocError>
     ensures { IfOk result (λ r. answer_of r ≡ model.at_act 0 place.now (model.after_choose channels.now (arms_of (map residual_of_left arms.now) None) (ask_of ask))) }
 {
@@ -364,7 +365,7 @@ pub(crate) fn choose(
 fn open(
     alloc: Global,
     channels: &[u32],
-    arms: &Items<Boxed<Left>>,
+    arms: &Items<Shared<Left>>,
     arm: u32,
     received: Option<Value>,
 ) -> Result<Option<Moved>, AllocError>
@@ -380,7 +381,7 @@ fn open(
 fn open_on(
     alloc: Global,
     channel: u32,
-    arms: &Items<Boxed<Left>>,
+    arms: &Items<Shared<Left>>,
     arm: u32,
     received: Option<Value>,
 ) -> Result<Option<Moved>, AllocError>
@@ -394,15 +395,15 @@ fn open_on(
 fn in_arm(
     alloc: Global,
     channel: u32,
-    arms: &Items<Boxed<Left>>,
+    arms: &Items<Shared<Left>>,
     arm: u32,
     received: &Option<Value>,
-) -> Result<Boxed<Left>, AllocError>
+) -> Result<Shared<Left>, AllocError>
     ensures { IfOk result (λ made. residual_of_left made ≡ residual.within 1 (residual.opened channel received.now (residual.arm_at (arms_of (map residual_of_left arms.now) None) arm)) (residual.closing channel)) }
 {
     let body = arm_at(alloc, arms, arm)?;
     let body = opened(alloc, channel, received, body)?;
-    let closing = Boxed::new(alloc, Left::Closing(channel))?;
+    let closing = Shared::new(alloc, Left::Closing(channel))?;
     within(alloc, 1, body, closing)
 }
 
@@ -411,13 +412,13 @@ fn opened(
     alloc: Global,
     channel: u32,
     received: &Option<Value>,
-    body: Boxed<Left>,
-) -> Result<Boxed<Left>, AllocError>
+    body: Shared<Left>,
+) -> Result<Shared<Left>, AllocError>
     ensures { IfOk result (λ made. residual_of_left made ≡ residual.opened channel received.now (residual_of_left body)) }
 {
     match received {
         None => Ok(body),
-        Some(value) => body.get().with_received(alloc, channel, *value),
+        Some(value) => with_received(alloc, body.get(), channel, *value),
     }
 }
 
@@ -459,7 +460,7 @@ pub(crate) fn drain(
     }
     match ask {
         Ask::Receive => {
-            let left = Boxed::new(alloc, Left::Drain(channel, act + 1))?;
+            let left = Shared::new(alloc, Left::Drain(channel, act + 1))?;
             moved(alloc, Move::Receives(channel, None), left)
         }
         _ => Ok(None),

@@ -4,20 +4,21 @@ ghost use Rattle.system.specs.Translation.{arms_of};
 ghost use Rattle.system.specs.Decisions.{decision_of};
 ghost use Rattle.calculus.specs.Left.{residual_of_left, is_done};
 
+use crate::shared::Shared;
 use std::alloc::{AllocError, Global};
-use syntax::{Boxed, Items};
+use syntax::Items;
 use system::{Decision, Expression};
 use value::{Value, Width};
 
-/// What is still to do at a place: a tree without its finished parts, with a copy of every expression in it.
-#[derive(Drop)]
+/// What is still to do at a place: a tree without its finished parts, with a copy of every expression in it. Trees share
+/// their parts.
 pub(crate) enum Left {
     Done,
     Halted,
     /// a child in order, and what comes after it
-    Inside(u64, Boxed<Left>, Boxed<Left>),
+    Inside(u64, Shared<Left>, Shared<Left>),
     /// a child in a branch, and the other branches
-    Beside(u64, Boxed<Left>, Boxed<Left>),
+    Beside(u64, Shared<Left>, Shared<Left>),
     Assign(u32, Width, Expression),
     Send(u32, Width, Expression),
     /// on the channel, into the variable
@@ -26,35 +27,60 @@ pub(crate) enum Left {
     /// a send or sync whose partner has opened and not yet closed
     Held(u32),
     /// a loop before the turn of this number
-    Loop(u64, Boxed<Left>),
+    Loop(u64, Shared<Left>),
     /// a while loop before the test of this number
-    While(u64, Expression, Boxed<Left>),
-    Test(Decision, Items<Boxed<Left>>),
+    While(u64, Expression, Shared<Left>),
+    Test(Decision, Shared<Items<Shared<Left>>>),
     /// the channel of each arm, and the arms
-    Choose(Items<u32>, Items<Boxed<Left>>),
+    Choose(Items<u32>, Shared<Items<Shared<Left>>>),
     /// the close of an opened arm, on its channel
     Closing(u32),
     /// receives on an output port, before the act of this number
     Drain(u32, u64),
 }
 
+// A loop along a sequence or branches, so that many take no stack.
+impl Drop for Left {
+    fn drop(mut self) {
+        loop {
+            match self {
+                Left::Inside(_, _child, next) => match next.into_inner() {
+                    Some(next) => self = next,
+                    None => return,
+                },
+                Left::Beside(_, _child, rest) => match rest.into_inner() {
+                    Some(rest) => self = rest,
+                    None => return,
+                },
+                Left::Done | Left::Halted => return,
+                Left::Assign(_, _, _) | Left::Send(_, _, _) => return,
+                Left::Receive(_, _) | Left::Sync(_) | Left::Held(_) => return,
+                Left::Loop(_, _) | Left::While(_, _, _) => return,
+                Left::Test(_, _) | Left::Choose(_, _) => return,
+                Left::Closing(_) | Left::Drain(_, _) => return,
+            }
+        }
+    }
+}
+
 impl Left {
     /// Nothing.
-    pub(crate) fn done(alloc: Global) -> Result<Boxed<Left>, AllocError>
+    pub(crate) fn done(alloc: Global) -> Result<Shared<Left>, AllocError>
         ensures { IfOk result (λ made. residual_of_left made ≡ model.done) }
     {
-        Boxed::new(alloc, Left::Done)
+        Shared::new(alloc, Left::Done)
     }
 
     /// A test with these arms.
     pub(crate) fn test(
         alloc: Global,
         decision: Decision,
-        arms: Items<Boxed<Left>>,
-    ) -> Result<Boxed<Left>, AllocError>
+        arms: Items<Shared<Left>>,
+    ) -> Result<Shared<Left>, AllocError>
         ensures { IfOk result (λ made. residual_of_left made ≡ model.test (decision_of decision) (arms_of (map residual_of_left arms) None)) }
     {
-        Boxed::new(alloc, Left::Test(decision, arms))
+        let arms = Shared::new(alloc, arms)?;
+        Shared::new(alloc, Left::Test(decision, arms))
     }
 
     /// Whether nothing is left.
@@ -79,148 +105,81 @@ impl Left {
             | Left::Drain(_, _) => false,
         }
     }
-
-    /// An equal tree in memory of its own.
-    #[cycle(copy)]
-    pub(crate) fn copy(&self, alloc: Global) -> Result<Boxed<Left>, AllocError>
-        ensures { IfOk result (λ made. made ≡ self.now) }
-    {
-        match self {
-            Left::Done => Boxed::new(alloc, Left::Done),
-            Left::Halted => Boxed::new(alloc, Left::Halted),
-            Left::Inside(number, child, next) => {
-                let child = child.get().copy(alloc)?;
-                let next = next.get().copy(alloc)?;
-                Boxed::new(alloc, Left::Inside(*number, child, next))
-            }
-            Left::Beside(number, child, rest) => {
-                let child = child.get().copy(alloc)?;
-                let rest = rest.get().copy(alloc)?;
-                Boxed::new(alloc, Left::Beside(*number, child, rest))
-            }
-            Left::Assign(variable, width, value) => {
-                let value = value.copy(alloc)?;
-                Boxed::new(alloc, Left::Assign(*variable, *width, value))
-            }
-            Left::Send(channel, width, value) => {
-                let value = value.copy(alloc)?;
-                Boxed::new(alloc, Left::Send(*channel, *width, value))
-            }
-            Left::Receive(channel, variable) => {
-                Boxed::new(alloc, Left::Receive(*channel, *variable))
-            }
-            Left::Sync(channel) => Boxed::new(alloc, Left::Sync(*channel)),
-            Left::Held(channel) => Boxed::new(alloc, Left::Held(*channel)),
-            Left::Loop(turn, body) => {
-                let body = body.get().copy(alloc)?;
-                Boxed::new(alloc, Left::Loop(*turn, body))
-            }
-            Left::While(turn, guard, body) => {
-                let guard = guard.copy(alloc)?;
-                let body = body.get().copy(alloc)?;
-                Boxed::new(alloc, Left::While(*turn, guard, body))
-            }
-            Left::Test(decision, arms) => {
-                let decision = decision.copy(alloc)?;
-                let arms = copy_all(alloc, arms.as_slice())?;
-                Boxed::new(alloc, Left::Test(decision, arms))
-            }
-            Left::Choose(channels, arms) => {
-                let channels = Vec::from_slice(alloc, channels.as_slice())?;
-                let arms = copy_all(alloc, arms.as_slice())?;
-                Boxed::new(alloc, Left::Choose(Items::from_vec(channels), arms))
-            }
-            Left::Closing(channel) => Boxed::new(alloc, Left::Closing(*channel)),
-            Left::Drain(channel, act) => Boxed::new(alloc, Left::Drain(*channel, *act)),
-        }
-    }
-
-    /// A copy in which the value, cut or widened to the channel's width, stands for each name of the channel.
-    #[cycle(received)]
-    pub(crate) fn with_received(
-        &self,
-        alloc: Global,
-        channel: u32,
-        value: Value,
-    ) -> Result<Boxed<Left>, AllocError>
-        ensures { IfOk result (λ made. residual_of_left made ≡ model.put_residual channel value (residual_of_left self.now)) }
-    {
-        match self {
-            Left::Inside(number, child, next) => {
-                let child = child.get().with_received(alloc, channel, value)?;
-                let next = next.get().with_received(alloc, channel, value)?;
-                Boxed::new(alloc, Left::Inside(*number, child, next))
-            }
-            Left::Beside(number, child, rest) => {
-                let child = child.get().with_received(alloc, channel, value)?;
-                let rest = rest.get().with_received(alloc, channel, value)?;
-                Boxed::new(alloc, Left::Beside(*number, child, rest))
-            }
-            Left::Assign(variable, width, written) => {
-                let written = written.with_received(alloc, channel, value)?;
-                Boxed::new(alloc, Left::Assign(*variable, *width, written))
-            }
-            Left::Send(on, width, sent) => {
-                let sent = sent.with_received(alloc, channel, value)?;
-                Boxed::new(alloc, Left::Send(*on, *width, sent))
-            }
-            Left::Loop(turn, body) => {
-                let body = body.get().with_received(alloc, channel, value)?;
-                Boxed::new(alloc, Left::Loop(*turn, body))
-            }
-            Left::While(turn, guard, body) => {
-                let guard = guard.with_received(alloc, channel, value)?;
-                let body = body.get().with_received(alloc, channel, value)?;
-                Boxed::new(alloc, Left::While(*turn, guard, body))
-            }
-            Left::Test(decision, arms) => {
-                let decision = decision.with_received(alloc, channel, value)?;
-                let arms = all_with_received(alloc, arms.as_slice(), channel, value)?;
-                Boxed::new(alloc, Left::Test(decision, arms))
-            }
-            Left::Choose(channels, arms) => {
-                let channels = Vec::from_slice(alloc, channels.as_slice())?;
-                let arms = all_with_received(alloc, arms.as_slice(), channel, value)?;
-                Boxed::new(alloc, Left::Choose(Items::from_vec(channels), arms))
-            }
-            Left::Done => Boxed::new(alloc, Left::Done),
-            Left::Halted => Boxed::new(alloc, Left::Halted),
-            Left::Receive(on, variable) => Boxed::new(alloc, Left::Receive(*on, *variable)),
-            Left::Sync(on) => Boxed::new(alloc, Left::Sync(*on)),
-            Left::Held(on) => Boxed::new(alloc, Left::Held(*on)),
-            Left::Closing(on) => Boxed::new(alloc, Left::Closing(*on)),
-            Left::Drain(on, act) => Boxed::new(alloc, Left::Drain(*on, *act)),
-        }
-    }
 }
 
-/// Equal trees in memory of their own.
-#[cycle(copy)]
-fn copy_all(alloc: Global, trees: &[Boxed<Left>]) -> Result<Items<Boxed<Left>>, AllocError>
-    ensures { IfOk result (λ made. made ≡ trees.now) }
+/// The tree in which the value, cut or widened to the channel's width, stands for each name of the channel.
+#[cycle(received)]
+pub(crate) fn with_received(
+    alloc: Global,
+    left: &Left,
+    channel: u32,
+    value: Value,
+) -> Result<Shared<Left>, AllocError>
+    ensures { IfOk result (λ made. residual_of_left made ≡ model.put_residual channel value (residual_of_left left.now)) }
 {
-    let mut copies = Items::with_capacity(alloc, trees.len())?;
-    for tree in trees {
-        copies.push(tree.get().copy(alloc)?)?;
+    match left {
+        Left::Inside(number, child, next) => {
+            let child = with_received(alloc, child.get(), channel, value)?;
+            let next = with_received(alloc, next.get(), channel, value)?;
+            Shared::new(alloc, Left::Inside(*number, child, next))
+        }
+        Left::Beside(number, child, rest) => {
+            let child = with_received(alloc, child.get(), channel, value)?;
+            let rest = with_received(alloc, rest.get(), channel, value)?;
+            Shared::new(alloc, Left::Beside(*number, child, rest))
+        }
+        Left::Assign(variable, width, written) => {
+            let written = written.with_received(alloc, channel, value)?;
+            Shared::new(alloc, Left::Assign(*variable, *width, written))
+        }
+        Left::Send(on, width, sent) => {
+            let sent = sent.with_received(alloc, channel, value)?;
+            Shared::new(alloc, Left::Send(*on, *width, sent))
+        }
+        Left::Loop(turn, body) => {
+            let body = with_received(alloc, body.get(), channel, value)?;
+            Shared::new(alloc, Left::Loop(*turn, body))
+        }
+        Left::While(turn, guard, body) => {
+            let guard = guard.with_received(alloc, channel, value)?;
+            let body = with_received(alloc, body.get(), channel, value)?;
+            Shared::new(alloc, Left::While(*turn, guard, body))
+        }
+        Left::Test(decision, arms) => {
+            let decision = decision.with_received(alloc, channel, value)?;
+            let arms = all_with_received(alloc, arms.get().as_slice(), channel, value)?;
+            Shared::new(alloc, Left::Test(decision, arms))
+        }
+        Left::Choose(channels, arms) => {
+            let channels = Vec::from_slice(alloc, channels.as_slice())?;
+            let arms = all_with_received(alloc, arms.get().as_slice(), channel, value)?;
+            Shared::new(alloc, Left::Choose(Items::from_vec(channels), arms))
+        }
+        Left::Done => Shared::new(alloc, Left::Done),
+        Left::Halted => Shared::new(alloc, Left::Halted),
+        Left::Receive(on, variable) => Shared::new(alloc, Left::Receive(*on, *variable)),
+        Left::Sync(on) => Shared::new(alloc, Left::Sync(*on)),
+        Left::Held(on) => Shared::new(alloc, Left::Held(*on)),
+        Left::Closing(on) => Shared::new(alloc, Left::Closing(*on)),
+        Left::Drain(on, act) => Shared::new(alloc, Left::Drain(*on, *act)),
     }
-    Ok(copies)
 }
 
-/// Copies of arms in which the value stands for each name of the channel.
+/// Arms in which the value stands for each name of the channel.
 #[cycle(received)]
 fn all_with_received(
     alloc: Global,
-    arms: &[Boxed<Left>],
+    arms: &[Shared<Left>],
     channel: u32,
     value: Value,
-) -> Result<Items<Boxed<Left>>, AllocError>
+) -> Result<Shared<Items<Shared<Left>>>, AllocError>
     ensures { IfOk result (λ made. arms_of (map residual_of_left made) None ≡ model.put_arms channel value (arms_of (map residual_of_left arms.now) None)) }
 {
     let mut copies = Items::with_capacity(alloc, arms.len())?;
     for arm in arms {
-        copies.push(arm.get().with_received(alloc, channel, value)?)?;
+        copies.push(with_received(alloc, arm.get(), channel, value)?)?;
     }
-    Ok(copies)
+    Shared::new(alloc, copies)
 }
 
 /// The child at a place in order and then what comes next; a finished child is erased.
@@ -228,15 +187,15 @@ fn all_with_received(
 pub(crate) fn within(
     alloc: Global,
     number: u64,
-    child: Boxed<Left>,
-    next: Boxed<Left>,
-) -> Result<Boxed<Left>, AllocError>
+    child: Shared<Left>,
+    next: Shared<Left>,
+) -> Result<Shared<Left>, AllocError>
     ensures { IfOk result (λ made. residual_of_left made ≡ model.within number (residual_of_left child) (residual_of_left next)) }
 {
     if child.get().is_done() {
         Ok(next)
     } else {
-        Boxed::new(alloc, Left::Inside(number, child, next))
+        Shared::new(alloc, Left::Inside(number, child, next))
     }
 }
 
@@ -245,14 +204,14 @@ pub(crate) fn within(
 pub(crate) fn along(
     alloc: Global,
     number: u64,
-    child: Boxed<Left>,
-    rest: Boxed<Left>,
-) -> Result<Boxed<Left>, AllocError>
+    child: Shared<Left>,
+    rest: Shared<Left>,
+) -> Result<Shared<Left>, AllocError>
     ensures { IfOk result (λ made. residual_of_left made ≡ model.along number (residual_of_left child) (residual_of_left rest)) }
 {
     if child.get().is_done() {
         Ok(rest)
     } else {
-        Boxed::new(alloc, Left::Beside(number, child, rest))
+        Shared::new(alloc, Left::Beside(number, child, rest))
     }
 }

@@ -17,6 +17,7 @@ mod offers;
 mod place;
 mod plain;
 mod same;
+mod shared;
 mod slow;
 mod start;
 mod step;

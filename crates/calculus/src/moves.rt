@@ -1,4 +1,5 @@
 use crate::left::Left;
+use crate::shared::Shared;
 use syntax::Boxed;
 use system::{Decision, Expression};
 use value::{Value, Width};
@@ -45,5 +46,5 @@ pub(crate) enum Move {
 #[derive(Drop)]
 pub(crate) struct Moved {
     pub(crate) by: Boxed<Move>,
-    pub(crate) left: Boxed<Left>,
+    pub(crate) left: Shared<Left>,
 }

@@ -25,18 +25,18 @@ pub(crate) fn after(
         Left::Inside(number, child, next) => match below_child(place, *number) {
             Some(below) => {
                 let answer = after(alloc, ask, child.get(), below)?;
-                answers::inside(alloc, *number, answer, next.get())
+                answers::inside(alloc, *number, answer, next)
             }
             None => Ok(None),
         },
         Left::Beside(number, child, rest) => match below_branch(place, *number) {
             Some(below) => {
                 let answer = after(alloc, ask, child.get(), below)?;
-                answers::in_branch(alloc, *number, answer, rest.get())
+                answers::in_branch(alloc, *number, answer, rest)
             }
             None => {
                 let answer = after(alloc, ask, rest.get(), place)?;
-                answers::beside(alloc, *number, child.get(), answer)
+                answers::beside(alloc, *number, child, answer)
             }
         },
         Left::Assign(variable, width, value) => {
@@ -50,13 +50,13 @@ pub(crate) fn after(
         }
         Left::Sync(channel) => answers::sync(alloc, ask, place, *channel),
         Left::Held(channel) => answers::held(alloc, ask, place, *channel),
-        Left::Loop(turn, body) => answers::repeat(alloc, ask, place, *turn, body.get()),
+        Left::Loop(turn, body) => answers::repeat(alloc, ask, place, *turn, body),
         Left::While(turn, guard, body) => {
-            answers::repeat_while(alloc, ask, place, *turn, guard, body.get())
+            answers::repeat_while(alloc, ask, place, *turn, guard, body)
         }
-        Left::Test(decision, arms) => { answers::test(alloc, ask, place, decision, arms) }
+        Left::Test(decision, arms) => { answers::test(alloc, ask, place, decision, arms.get()) }
         Left::Choose(channels, arms) => {
-            answers::choose(alloc, ask, place, channels.as_slice(), arms)
+            answers::choose(alloc, ask, place, channels.as_slice(), arms.get())
         }
         Left::Closing(channel) => answers::close(alloc, ask, place, *channel),
         Left::Drain(channel, act) => answers::drain(alloc, ask, place, *channel, *act),

@@ -2,13 +2,13 @@ ghost use Rattle.std.specs.Prelude.{◌≡◌, slice_get};
 ghost use Rattle.calculus.specs.Plain.{state_of};
 
 use crate::left::Left;
-use syntax::Boxed;
+use crate::shared::Shared;
 use value::Value;
 
 /// The state of a run as the slow replay holds it: what is still to do, and the values of the variables.
 #[derive(Drop)]
 pub struct Plain {
-    pub(crate) left: Boxed<Left>,
+    pub(crate) left: Shared<Left>,
     pub(crate) values: Vec<Value>,
 }
 

@@ -18,7 +18,7 @@ use system::System;
 /// The state to which the events lead in their order, from the state before the first event. `None` where one of them
 /// is not possible when its turn comes.
 ///
-/// It copies all that is still to do at each event: it is slow, and is there to be compared with.
+/// It goes through all events from the first: it is slow, and is there to be compared with.
 pub fn replay(
     alloc: Global,
     system: &Checked,

@@ -9,9 +9,10 @@ ghost use Rattle.calculus.specs.Opening.{opening};
 
 use crate::Plain;
 use crate::left::{Left, within};
+use crate::shared::Shared;
 use crate::translate::{in_parallel, in_sequence, left_of};
 use std::alloc::{AllocError, Global};
-use syntax::{Boxed, Items};
+use syntax::Items;
 use system::{Branch, Expression, System, Variable};
 use value::{Value, Width};
 
@@ -26,7 +27,7 @@ pub(crate) fn opening(alloc: Global, system: &System) -> Result<Plain, AllocErro
 }
 
 /// What the root's body is to do, and then what the environment is to do on each port.
-fn branches_of(alloc: Global, system: &System) -> Result<Items<Boxed<Left>>, AllocError>
+fn branches_of(alloc: Global, system: &System) -> Result<Items<Shared<Left>>, AllocError>
     ensures { IfOk result (λ made. map residual_of_left made ≡ translation.residual_of system.now.main ∷ map translation.branch_of system.now.environment) }
 {
     let mut lefts = Items::with_capacity(alloc, 1)?;
@@ -38,12 +39,12 @@ fn branches_of(alloc: Global, system: &System) -> Result<Items<Boxed<Left>>, All
 }
 
 /// What the environment is to do on one port.
-fn branch_left(alloc: Global, branch: &Branch) -> Result<Boxed<Left>, AllocError>
+fn branch_left(alloc: Global, branch: &Branch) -> Result<Shared<Left>, AllocError>
     ensures { IfOk result (λ made. residual_of_left made ≡ translation.branch_of branch.now) }
 {
     match branch {
         Branch::Feed(channel, width, values) => feed(alloc, *channel, *width, values.as_slice()),
-        Branch::Drain(channel) => Boxed::new(alloc, Left::Drain(*channel, 0)),
+        Branch::Drain(channel) => Shared::new(alloc, Left::Drain(*channel, 0)),
         Branch::Syncs(channel, count) => syncs(alloc, *channel, *count),
     }
 }
@@ -55,7 +56,7 @@ fn feed(
     channel: u32,
     width: Width,
     values: &[Value],
-) -> Result<Boxed<Left>, AllocError>
+) -> Result<Shared<Left>, AllocError>
     ensures { IfOk result (λ made. residual_of_left made ≡ translation.feed_from 0 channel width values.now) }
 {
     let sends = sends_of(alloc, channel, width, values)?;
@@ -68,7 +69,7 @@ fn sends_of(
     channel: u32,
     width: Width,
     values: &[Value],
-) -> Result<Items<Boxed<Left>>, AllocError>
+) -> Result<Items<Shared<Left>>, AllocError>
     ensures { IfOk result (λ made. map residual_of_left made ≡ map (λ v. residual.send channel width (constant v)) values.now) }
 {
     let mut sends = Items::with_capacity(alloc, values.len())?;
@@ -84,17 +85,17 @@ fn send_of(
     channel: u32,
     width: Width,
     value: Value,
-) -> Result<Boxed<Left>, AllocError>
+) -> Result<Shared<Left>, AllocError>
     ensures { IfOk result (λ made. residual_of_left made ≡ residual.send channel width (constant value)) }
 {
-    Boxed::new(
+    Shared::new(
         alloc,
         Left::Send(channel, width, Expression::Constant(value)),
     )
 }
 
 /// So many handshakes in order.
-fn syncs(alloc: Global, channel: u32, count: u32) -> Result<Boxed<Left>, AllocError>
+fn syncs(alloc: Global, channel: u32, count: u32) -> Result<Shared<Left>, AllocError>
     ensures { IfOk result (λ made. residual_of_left made ≡ translation.syncs_from 0 channel count) }
 {
     let mut left = Left::done(alloc)?;
@@ -107,10 +108,10 @@ fn syncs(alloc: Global, channel: u32, count: u32) -> Result<Boxed<Left>, AllocEr
 }
 
 /// A handshake.
-fn sync_of(alloc: Global, channel: u32) -> Result<Boxed<Left>, AllocError>
+fn sync_of(alloc: Global, channel: u32) -> Result<Shared<Left>, AllocError>
     ensures { IfOk result (λ made. residual_of_left made ≡ residual.sync channel) }
 {
-    Boxed::new(alloc, Left::Sync(channel))
+    Shared::new(alloc, Left::Sync(channel))
 }
 
 /// Every variable at 0.

@@ -17,10 +17,10 @@ use crate::left::Left;
 use crate::making::{made_alone, made_together};
 use crate::moves::{Ask, Move, Moved};
 use crate::offers::after;
+use crate::shared::Shared;
 use crate::{Event, Kind, Plain};
 use address::Address;
 use std::alloc::{AllocError, Global};
-use syntax::Boxed;
 use value::Value;
 
 /// The state after the event. `None` where the event is not possible.
@@ -151,7 +151,7 @@ fn agreed(
     alloc: Global,
     state: &Plain,
     event: &Event,
-    left: Boxed<Left>,
+    left: Shared<Left>,
     made: Option<Event>,
 ) -> Result<Option<Plain>, AllocError>
     ensures { IfOk result (λ r. option_map state_of r ≡ agreed (state_of state.now) event.now (residual_of_left left) made) }

@@ -8,38 +8,39 @@ ghost use Rattle.calculus.specs.Left.{residual_of_left};
 ghost use Rattle.calculus.specs.Translate.{guarded_of, labelled_of, arm_of};
 
 use crate::left::{Left, along, within};
+use crate::shared::Shared;
 use std::alloc::{AllocError, Global};
-use syntax::{Boxed, Items};
+use syntax::Items;
 use system::{Action, Arm, Command, Decision, Expression, Guarded, Labelled};
 
 /// What the command is to do.
 #[cycle(left_of)]
-pub(crate) fn left_of(alloc: Global, command: &Command) -> Result<Boxed<Left>, AllocError>
+pub(crate) fn left_of(alloc: Global, command: &Command) -> Result<Shared<Left>, AllocError>
     ensures { IfOk result (λ made. residual_of_left made ≡ translation.residual_of command.now) }
 {
     match command.action.get() {
-        Action::Continue => Boxed::new(alloc, Left::Done),
-        Action::Halt => Boxed::new(alloc, Left::Halted),
+        Action::Continue => Shared::new(alloc, Left::Done),
+        Action::Halt => Shared::new(alloc, Left::Halted),
         Action::Assign(variable, width, value) => {
             let value = value.copy(alloc)?;
-            Boxed::new(alloc, Left::Assign(variable.number, *width, value))
+            Shared::new(alloc, Left::Assign(variable.number, *width, value))
         }
         Action::Send(channel, width, value) => {
             let value = value.copy(alloc)?;
-            Boxed::new(alloc, Left::Send(channel.number, *width, value))
+            Shared::new(alloc, Left::Send(channel.number, *width, value))
         }
         Action::Receive(channel, variable) => {
-            Boxed::new(alloc, Left::Receive(channel.number, variable.number))
+            Shared::new(alloc, Left::Receive(channel.number, variable.number))
         }
-        Action::Sync(channel) => Boxed::new(alloc, Left::Sync(channel.number)),
+        Action::Sync(channel) => Shared::new(alloc, Left::Sync(channel.number)),
         Action::Loop(body) => {
             let body = left_of(alloc, body)?;
-            Boxed::new(alloc, Left::Loop(0, body))
+            Shared::new(alloc, Left::Loop(0, body))
         }
         Action::While(guard, body) => {
             let guard = guard.copy(alloc)?;
             let body = left_of(alloc, body)?;
-            Boxed::new(alloc, Left::While(0, guard, body))
+            Shared::new(alloc, Left::While(0, guard, body))
         }
         Action::If(arms, last) => {
             let bodies = bodies_of_if(alloc, arms.as_slice())?;
@@ -72,7 +73,7 @@ pub(crate) fn left_of(alloc: Global, command: &Command) -> Result<Boxed<Left>, A
 
 /// What each of the commands is to do.
 #[cycle(left_of)]
-fn lefts_of(alloc: Global, commands: &[Command]) -> Result<Items<Boxed<Left>>, AllocError>
+fn lefts_of(alloc: Global, commands: &[Command]) -> Result<Items<Shared<Left>>, AllocError>
     ensures { IfOk result (λ made. map residual_of_left made ≡ map translation.residual_of commands.now) }
 {
     let mut lefts = Items::with_capacity(alloc, commands.len())?;
@@ -84,7 +85,7 @@ fn lefts_of(alloc: Global, commands: &[Command]) -> Result<Items<Boxed<Left>>, A
 
 /// What the body of each arm of an `if` is to do.
 #[cycle(left_of)]
-fn bodies_of_if(alloc: Global, arms: &[Guarded]) -> Result<Items<Boxed<Left>>, AllocError>
+fn bodies_of_if(alloc: Global, arms: &[Guarded]) -> Result<Items<Shared<Left>>, AllocError>
     ensures { IfOk result (λ made. map residual_of_left made ≡ map (λ a. a.body) (map guarded_of arms.now)) }
 {
     let mut lefts = Items::with_capacity(alloc, arms.len())?;
@@ -96,7 +97,7 @@ fn bodies_of_if(alloc: Global, arms: &[Guarded]) -> Result<Items<Boxed<Left>>, A
 
 /// What the body of each arm of a `case` is to do.
 #[cycle(left_of)]
-fn bodies_of_case(alloc: Global, arms: &[Labelled]) -> Result<Items<Boxed<Left>>, AllocError>
+fn bodies_of_case(alloc: Global, arms: &[Labelled]) -> Result<Items<Shared<Left>>, AllocError>
     ensures { IfOk result (λ made. map residual_of_left made ≡ map (λ a. a.body) (map labelled_of arms.now)) }
 {
     let mut lefts = Items::with_capacity(alloc, arms.len())?;
@@ -108,7 +109,7 @@ fn bodies_of_case(alloc: Global, arms: &[Labelled]) -> Result<Items<Boxed<Left>>
 
 /// What the body of each arm that waits on a channel is to do.
 #[cycle(left_of)]
-fn bodies_of_arms(alloc: Global, arms: &[Arm]) -> Result<Items<Boxed<Left>>, AllocError>
+fn bodies_of_arms(alloc: Global, arms: &[Arm]) -> Result<Items<Shared<Left>>, AllocError>
     ensures { IfOk result (λ made. map residual_of_left made ≡ map (λ a. a.body) (map arm_of arms.now)) }
 {
     let mut lefts = Items::with_capacity(alloc, arms.len())?;
@@ -120,7 +121,7 @@ fn bodies_of_arms(alloc: Global, arms: &[Arm]) -> Result<Items<Boxed<Left>>, All
 
 /// What the `else` is to do, if there is one.
 #[cycle(left_of)]
-fn left_of_last(alloc: Global, last: &Option<Command>) -> Result<Option<Boxed<Left>>, AllocError>
+fn left_of_last(alloc: Global, last: &Option<Command>) -> Result<Option<Shared<Left>>, AllocError>
     ensures { IfOk result (λ made. option_map residual_of_left made ≡ option_map translation.residual_of last.now) }
 {
     match last {
@@ -162,9 +163,9 @@ fn labels_of(alloc: Global, arms: &[Labelled]) -> Result<Items<Items<u64>>, Allo
 fn if_left(
     alloc: Global,
     arms: &[Guarded],
-    bodies: Items<Boxed<Left>>,
-    last: Option<Boxed<Left>>,
-) -> Result<Boxed<Left>, AllocError>
+    bodies: Items<Shared<Left>>,
+    last: Option<Shared<Left>>,
+) -> Result<Shared<Left>, AllocError>
     ensures { IfOk result (λ made. residual_of_left made ≡ residual.test (expression.by_guards (map (λ a. a.guard) (map guarded_of arms.now)) (is_some last)) (translation.arms_of (map residual_of_left bodies) (option_map residual_of_left last))) }
 {
     let guards = guards_of(alloc, arms)?;
@@ -178,9 +179,9 @@ fn case_left(
     alloc: Global,
     subject: &Expression,
     arms: &[Labelled],
-    bodies: Items<Boxed<Left>>,
-    last: Option<Boxed<Left>>,
-) -> Result<Boxed<Left>, AllocError>
+    bodies: Items<Shared<Left>>,
+    last: Option<Shared<Left>>,
+) -> Result<Shared<Left>, AllocError>
     ensures { IfOk result (λ made. residual_of_left made ≡ residual.test (expression.by_labels (translation.expression_of subject.now) (map (λ a. a.labels) (map labelled_of arms.now)) (is_some last)) (translation.arms_of (map residual_of_left bodies) (option_map residual_of_left last))) }
 {
     let labels = labels_of(alloc, arms)?;
@@ -192,9 +193,9 @@ fn case_left(
 /// The arms with the `else` as the last.
 #[tactic(auto, using(crate::proofs::Lefts::arms_with_last))]
 fn with_last(
-    arms: Items<Boxed<Left>>,
-    last: Option<Boxed<Left>>,
-) -> Result<Items<Boxed<Left>>, AllocError>
+    arms: Items<Shared<Left>>,
+    last: Option<Shared<Left>>,
+) -> Result<Items<Shared<Left>>, AllocError>
     ensures { IfOk result (λ made. translation.arms_of (map residual_of_left made) None ≡ translation.arms_of (map residual_of_left arms) (option_map residual_of_left last)) }
 {
     match last {
@@ -208,37 +209,39 @@ fn with_last(
 }
 
 /// A command that waits for the channel to enclose it.
-fn input_left(alloc: Global, channel: u32, body: Boxed<Left>) -> Result<Boxed<Left>, AllocError>
+fn input_left(alloc: Global, channel: u32, body: Shared<Left>) -> Result<Shared<Left>, AllocError>
     ensures { IfOk result (λ made. residual_of_left made ≡ residual.choose (channel ∷ []) (residual.arm (residual_of_left body) residual.no_arms)) }
 {
     let mut channels = Items::with_capacity(alloc, 1)?;
     channels.push(channel)?;
     let mut arms = Items::with_capacity(alloc, 1)?;
     arms.push(body)?;
-    Boxed::new(alloc, Left::Choose(channels, arms))
+    let arms = Shared::new(alloc, arms)?;
+    Shared::new(alloc, Left::Choose(channels, arms))
 }
 
 /// Arms that wait on their channels, with these bodies.
 fn choose_left(
     alloc: Global,
     arms: &[Arm],
-    bodies: Items<Boxed<Left>>,
-) -> Result<Boxed<Left>, AllocError>
+    bodies: Items<Shared<Left>>,
+) -> Result<Shared<Left>, AllocError>
     ensures { IfOk result (λ made. residual_of_left made ≡ residual.choose (map (λ a. a.channel) (map arm_of arms.now)) (translation.arms_of (map residual_of_left bodies) None)) }
 {
     let mut channels = Items::with_capacity(alloc, arms.len())?;
     for arm in arms {
         channels.push(arm.channel.number)?;
     }
-    Boxed::new(alloc, Left::Choose(channels, bodies))
+    let bodies = Shared::new(alloc, bodies)?;
+    Shared::new(alloc, Left::Choose(channels, bodies))
 }
 
 /// The children one after another.
 #[tactic(auto, using(crate::proofs::Children::sequence_begins))]
 pub(crate) fn in_sequence(
     alloc: Global,
-    children: Items<Boxed<Left>>,
-) -> Result<Boxed<Left>, AllocError>
+    children: Items<Shared<Left>>,
+) -> Result<Shared<Left>, AllocError>
     ensures { IfOk result (λ made. residual_of_left made ≡ translation.in_sequence 0 (map residual_of_left children)) }
 {
     let mut left = Left::done(alloc)?;
@@ -253,8 +256,8 @@ pub(crate) fn in_sequence(
 #[tactic(auto, using(crate::proofs::Children::parallel_begins))]
 pub(crate) fn in_parallel(
     alloc: Global,
-    children: Items<Boxed<Left>>,
-) -> Result<Boxed<Left>, AllocError>
+    children: Items<Shared<Left>>,
+) -> Result<Shared<Left>, AllocError>
     ensures { IfOk result (λ made. residual_of_left made ≡ translation.in_parallel 0 (map residual_of_left children)) }
 {
     let mut left = Left::done(alloc)?;
