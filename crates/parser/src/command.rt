@@ -3,6 +3,7 @@
 
 ghost use Rattle.std.specs.Prelude.{◌≡◌, ◌+◌, ◌^◌, ◌<◌, [], ◌∷◌};
 ghost use Rattle.parser.specs.Nests.{ReadsAt, simple_in, command_in, expression_in};
+ghost use Rattle.parser.specs.Readers.{read};
 ghost use Rattle.parser.specs.Reading as reading;
 ghost use Rattle.parser.specs.Reads.{place, Builds, Reads};
 ghost use Rattle.parser.specs.Trees as trees;
@@ -10,6 +11,7 @@ ghost use Rattle.parser.specs.Trees as trees;
 use crate::cursor::Cursor;
 use crate::expression::expression;
 use crate::fault::Halt;
+use crate::list::{add, one};
 use crate::name::{labels, names};
 use lexer::Kind;
 use syntax::{Action, Arm, CaseArm, Command, Guarded, Identifier, Items, Span};
@@ -23,13 +25,29 @@ struct Parts<F> {
     ghost has_next: { depth + 1 < 2 ^ 64 },
 }
 
-/// A word that is a command by itself.
-#[tactic(auto, unfolding(crate::specs::Reading::word, crate::specs::Readers::bind, crate::specs::Readers::pure))]
-fn word(cursor: &mut Cursor<'_>, kind: Kind, action: Action) -> Result<Command, Halt>
-    ensures { Reads (reading.word kind action (place cursor.old)) result (place cursor.new) }
+/// A command, unless memory is out. It reads no token.
+fn new_command(cursor: &Cursor<'_>, span: Span, action: Action) -> Result<Command, Halt>
+    ensures { Reads (read (trees.command_at span action) (place cursor.now)) result (place cursor.now) }
 {
-    let token = cursor.take(kind)?;
-    Ok(Command::new(cursor.alloc(), token.span, action)?)
+    Ok(Command::new(cursor.alloc(), span, action)?)
+}
+
+/// `continue`
+#[tactic(auto, unfolding(crate::specs::Reading::word, crate::specs::Readers::bind, crate::specs::Readers::pure))]
+fn nothing(cursor: &mut Cursor<'_>) -> Result<Command, Halt>
+    ensures { Reads (reading.word Kind.ContinueWord Action.Continue (place cursor.old)) result (place cursor.new) }
+{
+    let word = cursor.take(Kind::ContinueWord)?;
+    new_command(cursor, word.span, Action::Continue)
+}
+
+/// `halt`
+#[tactic(auto, unfolding(crate::specs::Reading::word, crate::specs::Readers::bind, crate::specs::Readers::pure))]
+fn halt(cursor: &mut Cursor<'_>) -> Result<Command, Halt>
+    ensures { Reads (reading.word Kind.HaltWord Action.Halt (place cursor.old)) result (place cursor.new) }
+{
+    let word = cursor.take(Kind::HaltWord)?;
+    new_command(cursor, word.span, Action::Halt)
 }
 
 /// `sync name`
@@ -40,7 +58,7 @@ fn sync(cursor: &mut Cursor<'_>) -> Result<Command, Halt>
     let start = cursor.take(Kind::SyncWord)?;
     let channel = cursor.identifier()?;
     let span = start.span.through(channel.span);
-    Ok(Command::new(cursor.alloc(), span, Action::Sync(channel))?)
+    new_command(cursor, span, Action::Sync(channel))
 }
 
 /// `:= expression`, behind `target`.
@@ -52,7 +70,7 @@ fn assign(cursor: &mut Cursor<'_>, depth: usize, target: Identifier) -> Result<C
     let value = expression(cursor, depth)?;
     let span = target.span.through(value.span);
     let action = Action::Assign(target, value);
-    Ok(Command::new(cursor.alloc(), span, action)?)
+    new_command(cursor, span, action)
 }
 
 /// `<- expression`, behind `channel`.
@@ -64,7 +82,7 @@ fn send(cursor: &mut Cursor<'_>, depth: usize, channel: Identifier) -> Result<Co
     let value = expression(cursor, depth)?;
     let span = channel.span.through(value.span);
     let action = Action::Send(channel, value);
-    Ok(Command::new(cursor.alloc(), span, action)?)
+    new_command(cursor, span, action)
 }
 
 /// A variable's name, behind `channel ->`.
@@ -75,7 +93,7 @@ fn receive(cursor: &mut Cursor<'_>, channel: Identifier) -> Result<Command, Halt
     let target = cursor.identifier()?;
     let span = channel.span.through(target.span);
     let action = Action::Receive(channel, target);
-    Ok(Command::new(cursor.alloc(), span, action)?)
+    new_command(cursor, span, action)
 }
 
 /// The names in the parentheses of a call, none or more.
@@ -100,7 +118,7 @@ fn call(cursor: &mut Cursor<'_>, procedure: Identifier) -> Result<Command, Halt>
     let end = cursor.take(Kind::RightParenthesis)?;
     let span = procedure.span.through(end.span);
     let action = Action::Call(procedure, arguments);
-    Ok(Command::new(cursor.alloc(), span, action)?)
+    new_command(cursor, span, action)
 }
 
 /// From `start` to the end of the last of `children`.
@@ -133,8 +151,8 @@ impl<F: Fn(&mut Cursor<'_>, usize) -> Result<Command, Halt>> Parts<F> {
         ensures { Builds (reading.one_more (reading.behind Kind.DoubleBar (simple_in self.now.depth)) children.old (place cursor.old)) children.new result (place cursor.new) }
     {
         cursor.take(Kind::DoubleBar)?;
-        children.push(self.part(cursor)?)?;
-        Ok(())
+        let child = self.part(cursor)?;
+        add(children, child)
     }
 
     /// Each `||` that follows and the command behind it.
@@ -162,12 +180,11 @@ impl<F: Fn(&mut Cursor<'_>, usize) -> Result<Command, Halt>> Parts<F> {
         ensures { Reads (reading.joined Kind.DoubleBar Action.Parallel (simple_in self.now.depth) first (place cursor.old)) result (place cursor.new) }
     {
         let start = first.span;
-        let mut children = Items::new(cursor.alloc());
-        children.push(first)?;
+        let mut children = one(cursor.alloc(), first)?;
         self.next_beside(cursor, &mut children)?;
         self.more_beside(cursor, &mut children)?;
         let span = span_over(start, &children);
-        Ok(Command::new(cursor.alloc(), span, Action::Parallel(children))?)
+        new_command(cursor, span, Action::Parallel(children))
     }
 
     /// A simple command, or a parallel of several.
@@ -195,8 +212,8 @@ impl<F: Fn(&mut Cursor<'_>, usize) -> Result<Command, Halt>> Parts<F> {
         ensures { Builds (reading.one_more (reading.behind Kind.Semicolon (reading.parallel_of (simple_in self.now.depth))) children.old (place cursor.old)) children.new result (place cursor.new) }
     {
         cursor.take(Kind::Semicolon)?;
-        children.push(self.parallel(cursor)?)?;
-        Ok(())
+        let child = self.parallel(cursor)?;
+        add(children, child)
     }
 
     /// Each `;` that follows and the command behind it.
@@ -224,12 +241,11 @@ impl<F: Fn(&mut Cursor<'_>, usize) -> Result<Command, Halt>> Parts<F> {
         ensures { Reads (reading.joined Kind.Semicolon Action.Sequence (reading.parallel_of (simple_in self.now.depth)) first (place cursor.old)) result (place cursor.new) }
     {
         let start = first.span;
-        let mut children = Items::new(cursor.alloc());
-        children.push(first)?;
+        let mut children = one(cursor.alloc(), first)?;
         self.next_behind(cursor, &mut children)?;
         self.more_behind(cursor, &mut children)?;
         let span = span_over(start, &children);
-        Ok(Command::new(cursor.alloc(), span, Action::Sequence(children))?)
+        new_command(cursor, span, Action::Sequence(children))
     }
 
     /// Any command.
@@ -279,7 +295,7 @@ impl<F: Fn(&mut Cursor<'_>, usize) -> Result<Command, Halt>> Parts<F> {
         let body = self.body(cursor)?;
         let end = cursor.take(Kind::EndWord)?;
         let action = Action::While(guard, body);
-        Ok(Command::new(cursor.alloc(), start.through(end.span), action)?)
+        new_command(cursor, start.through(end.span), action)
     }
 
     /// `command end`, behind the `loop` at `start`.
@@ -291,7 +307,7 @@ impl<F: Fn(&mut Cursor<'_>, usize) -> Result<Command, Halt>> Parts<F> {
         let body = self.command(cursor)?;
         let end = cursor.take(Kind::EndWord)?;
         let action = Action::Loop(body);
-        Ok(Command::new(cursor.alloc(), start.through(end.span), action)?)
+        new_command(cursor, start.through(end.span), action)
     }
 
     /// `loop .. end`
@@ -308,17 +324,28 @@ impl<F: Fn(&mut Cursor<'_>, usize) -> Result<Command, Halt>> Parts<F> {
         }
     }
 
+    /// `else command`
+    #[tactic(auto, unfolding(crate::specs::Reading::last_body, crate::specs::Readers::bind, crate::specs::Readers::pure))]
+    fn last_body(&self, cursor: &mut Cursor<'_>) -> Result<Option<Command>, Halt>
+        requires { ReadsAt self.now.depth (simple_in self.now.depth) (F.pre self.now.simple) (F.post self.now.simple) }
+        ensures { Reads (reading.last_body (command_in self.now.depth) (expression_in self.now.depth) (place cursor.old)) result (place cursor.new) }
+    {
+        cursor.take(Kind::ElseWord)?;
+        let last = self.command(cursor)?;
+        Ok(Some(last))
+    }
+
     /// `else command`, or nothing.
-    #[tactic(auto, unfolding(crate::specs::Reading::otherwise, crate::specs::Reading::last_body, crate::specs::Readers::branch, crate::specs::Readers::bind, crate::specs::Readers::pure))]
+    #[tactic(auto, unfolding(crate::specs::Reading::otherwise, crate::specs::Readers::branch, crate::specs::Readers::pure))]
     fn otherwise(&self, cursor: &mut Cursor<'_>) -> Result<Option<Command>, Halt>
         requires { ReadsAt self.now.depth (simple_in self.now.depth) (F.pre self.now.simple) (F.post self.now.simple) }
         ensures { Reads (reading.otherwise (command_in self.now.depth) (expression_in self.now.depth) (place cursor.old)) result (place cursor.new) }
     {
-        if !cursor.sees(Kind::ElseWord) {
-            return Ok(None);
+        if cursor.sees(Kind::ElseWord) {
+            self.last_body(cursor)
+        } else {
+            Ok(None)
         }
-        cursor.take(Kind::ElseWord)?;
-        Ok(Some(self.command(cursor)?))
     }
 
     /// `expression then command`
@@ -339,8 +366,8 @@ impl<F: Fn(&mut Cursor<'_>, usize) -> Result<Command, Halt>> Parts<F> {
         ensures { Builds (reading.one_more (reading.behind Kind.Bar (reading.guarded (command_in self.now.depth) (expression_in self.now.depth))) arms.old (place cursor.old)) arms.new result (place cursor.new) }
     {
         cursor.take(Kind::Bar)?;
-        arms.push(self.guarded(cursor)?)?;
-        Ok(())
+        let arm = self.guarded(cursor)?;
+        add(arms, arm)
     }
 
     /// Each `|` that follows and the guarded command behind it.
@@ -363,8 +390,8 @@ impl<F: Fn(&mut Cursor<'_>, usize) -> Result<Command, Halt>> Parts<F> {
         requires { ReadsAt self.now.depth (simple_in self.now.depth) (F.pre self.now.simple) (F.post self.now.simple) }
         ensures { Reads (reading.separated Kind.Bar (reading.guarded (command_in self.now.depth) (expression_in self.now.depth)) (place cursor.old)) result (place cursor.new) }
     {
-        let mut arms = Items::new(cursor.alloc());
-        arms.push(self.guarded(cursor)?)?;
+        let first = self.guarded(cursor)?;
+        let mut arms = one(cursor.alloc(), first)?;
         self.more_guarded(cursor, &mut arms)?;
         Ok(arms)
     }
@@ -381,7 +408,7 @@ impl<F: Fn(&mut Cursor<'_>, usize) -> Result<Command, Halt>> Parts<F> {
         let end = cursor.take(Kind::EndWord)?;
         let span = start.span.through(end.span);
         let action = Action::If(arms, otherwise);
-        Ok(Command::new(cursor.alloc(), span, action)?)
+        new_command(cursor, span, action)
     }
 
     /// `labels then command`
@@ -402,8 +429,8 @@ impl<F: Fn(&mut Cursor<'_>, usize) -> Result<Command, Halt>> Parts<F> {
         ensures { Builds (reading.one_more (reading.behind Kind.Bar (reading.case_arm (command_in self.now.depth) (expression_in self.now.depth))) arms.old (place cursor.old)) arms.new result (place cursor.new) }
     {
         cursor.take(Kind::Bar)?;
-        arms.push(self.case_arm(cursor)?)?;
-        Ok(())
+        let arm = self.case_arm(cursor)?;
+        add(arms, arm)
     }
 
     /// Each `|` that follows and the arm behind it.
@@ -426,8 +453,8 @@ impl<F: Fn(&mut Cursor<'_>, usize) -> Result<Command, Halt>> Parts<F> {
         requires { ReadsAt self.now.depth (simple_in self.now.depth) (F.pre self.now.simple) (F.post self.now.simple) }
         ensures { Reads (reading.separated Kind.Bar (reading.case_arm (command_in self.now.depth) (expression_in self.now.depth)) (place cursor.old)) result (place cursor.new) }
     {
-        let mut arms = Items::new(cursor.alloc());
-        arms.push(self.case_arm(cursor)?)?;
+        let first = self.case_arm(cursor)?;
+        let mut arms = one(cursor.alloc(), first)?;
         self.more_case_arms(cursor, &mut arms)?;
         Ok(arms)
     }
@@ -446,7 +473,7 @@ impl<F: Fn(&mut Cursor<'_>, usize) -> Result<Command, Halt>> Parts<F> {
         let end = cursor.take(Kind::EndWord)?;
         let span = start.span.through(end.span);
         let action = Action::Case(value, arms, otherwise);
-        Ok(Command::new(cursor.alloc(), span, action)?)
+        new_command(cursor, span, action)
     }
 
     /// `name then command`
@@ -467,8 +494,8 @@ impl<F: Fn(&mut Cursor<'_>, usize) -> Result<Command, Halt>> Parts<F> {
         ensures { Builds (reading.one_more (reading.behind Kind.Bar (reading.arm_of (command_in self.now.depth) (expression_in self.now.depth))) arms.old (place cursor.old)) arms.new result (place cursor.new) }
     {
         cursor.take(Kind::Bar)?;
-        arms.push(self.arm(cursor)?)?;
-        Ok(())
+        let arm = self.arm(cursor)?;
+        add(arms, arm)
     }
 
     /// Each `|` that follows and the arm behind it.
@@ -491,8 +518,8 @@ impl<F: Fn(&mut Cursor<'_>, usize) -> Result<Command, Halt>> Parts<F> {
         requires { ReadsAt self.now.depth (simple_in self.now.depth) (F.pre self.now.simple) (F.post self.now.simple) }
         ensures { Reads (reading.separated Kind.Bar (reading.arm_of (command_in self.now.depth) (expression_in self.now.depth)) (place cursor.old)) result (place cursor.new) }
     {
-        let mut arms = Items::new(cursor.alloc());
-        arms.push(self.arm(cursor)?)?;
+        let first = self.arm(cursor)?;
+        let mut arms = one(cursor.alloc(), first)?;
         self.more_arms(cursor, &mut arms)?;
         Ok(arms)
     }
@@ -507,7 +534,7 @@ impl<F: Fn(&mut Cursor<'_>, usize) -> Result<Command, Halt>> Parts<F> {
         let arms = self.arms(cursor)?;
         let end = cursor.take(Kind::EndWord)?;
         let span = start.span.through(end.span);
-        Ok(Command::new(cursor.alloc(), span, Action::Select(arms))?)
+        new_command(cursor, span, Action::Select(arms))
     }
 
     /// `arbitrate .. end`
@@ -523,7 +550,7 @@ impl<F: Fn(&mut Cursor<'_>, usize) -> Result<Command, Halt>> Parts<F> {
         let end = cursor.take(Kind::EndWord)?;
         let span = start.span.through(end.span);
         let action = Action::Arbitrate(first, second);
-        Ok(Command::new(cursor.alloc(), span, action)?)
+        new_command(cursor, span, action)
     }
 
     /// `then command end`, behind `channel ->`.
@@ -537,7 +564,7 @@ impl<F: Fn(&mut Cursor<'_>, usize) -> Result<Command, Halt>> Parts<F> {
         let end = cursor.take(Kind::EndWord)?;
         let span = channel.span.through(end.span);
         let action = Action::Input(channel, body);
-        Ok(Command::new(cursor.alloc(), span, action)?)
+        new_command(cursor, span, action)
     }
 
     /// `->` and what stands behind it, behind `channel`.
@@ -595,9 +622,9 @@ impl<F: Fn(&mut Cursor<'_>, usize) -> Result<Command, Halt>> Parts<F> {
         } else if cursor.sees(Kind::Name) {
             self.named(cursor)
         } else if cursor.sees(Kind::ContinueWord) {
-            word(cursor, Kind::ContinueWord, Action::Continue)
+            nothing(cursor)
         } else {
-            word(cursor, Kind::HaltWord, Action::Halt)
+            halt(cursor)
         }
     }
 

@@ -8,6 +8,7 @@ ghost use Rattle.parser.specs.Reads.{place, Builds, Reads};
 use crate::command::command;
 use crate::cursor::{Cursor, LEVELS};
 use crate::fault::Halt;
+use crate::list::{Item, add, one, separated};
 use crate::name::{names, type_behind, width};
 use lexer::Kind;
 use syntax::{
@@ -15,18 +16,36 @@ use syntax::{
     TypeDeclaration, TypeDefinition,
 };
 
-/// `number bits` or `enumeration names end`
-#[tactic(auto, unfolding(crate::specs::Reading::type_definition, crate::specs::Reading::bits, crate::specs::Reading::enumeration, crate::specs::Readers::branch, crate::specs::Readers::bind, crate::specs::Readers::pure))]
-fn definition(cursor: &mut Cursor<'_>) -> Result<TypeDefinition, Halt>
-    ensures { Reads (reading.type_definition (place cursor.old)) result (place cursor.new) }
+/// `number bits`
+#[tactic(auto, unfolding(crate::specs::Reading::bits, crate::specs::Readers::bind, crate::specs::Readers::pure))]
+fn bits(cursor: &mut Cursor<'_>) -> Result<TypeDefinition, Halt>
+    ensures { Reads (reading.bits (place cursor.old)) result (place cursor.new) }
 {
-    if cursor.sees(Kind::Number) {
-        return Ok(TypeDefinition::Bits(width(cursor)?));
-    }
+    let bits = width(cursor)?;
+    Ok(TypeDefinition::Bits(bits))
+}
+
+/// `enumeration names end`
+#[tactic(auto, unfolding(crate::specs::Reading::enumeration, crate::specs::Readers::bind, crate::specs::Readers::pure))]
+fn enumeration(cursor: &mut Cursor<'_>) -> Result<TypeDefinition, Halt>
+    ensures { Reads (reading.enumeration (place cursor.old)) result (place cursor.new) }
+{
     cursor.take(Kind::EnumerationWord)?;
     let elements = names(cursor)?;
     cursor.take(Kind::EndWord)?;
     Ok(TypeDefinition::Enumeration(elements))
+}
+
+/// `number bits` or `enumeration names end`
+#[tactic(auto, unfolding(crate::specs::Reading::type_definition, crate::specs::Readers::branch))]
+fn definition(cursor: &mut Cursor<'_>) -> Result<TypeDefinition, Halt>
+    ensures { Reads (reading.type_definition (place cursor.old)) result (place cursor.new) }
+{
+    if cursor.sees(Kind::Number) {
+        bits(cursor)
+    } else {
+        enumeration(cursor)
+    }
 }
 
 /// `type name is definition`
@@ -46,8 +65,8 @@ fn type_declaration(cursor: &mut Cursor<'_>) -> Result<TypeDeclaration, Halt>
 fn next_type(cursor: &mut Cursor<'_>, types: &mut Items<TypeDeclaration>) -> Result<(), Halt>
     ensures { Builds (reading.one_more reading.type_declaration types.old (place cursor.old)) types.new result (place cursor.new) }
 {
-    types.push(type_declaration(cursor)?)?;
-    Ok(())
+    let declared = type_declaration(cursor)?;
+    add(types, declared)
 }
 
 /// The declarations of types that follow.
@@ -79,7 +98,8 @@ fn input_port(cursor: &mut Cursor<'_>) -> Result<Port, Halt>
 {
     cursor.take(Kind::InputWord)?;
     let names = names(cursor)?;
-    let kind = PortKind::Input(type_behind(cursor)?);
+    let given = type_behind(cursor)?;
+    let kind = PortKind::Input(given);
     Ok(Port { names, kind })
 }
 
@@ -90,7 +110,8 @@ fn output_port(cursor: &mut Cursor<'_>) -> Result<Port, Halt>
 {
     cursor.take(Kind::OutputWord)?;
     let names = names(cursor)?;
-    let kind = PortKind::Output(type_behind(cursor)?);
+    let given = type_behind(cursor)?;
+    let kind = PortKind::Output(given);
     Ok(Port { names, kind })
 }
 
@@ -118,38 +139,12 @@ fn port(cursor: &mut Cursor<'_>) -> Result<Port, Halt>
     }
 }
 
-/// `;` and the port behind it.
-#[tactic(auto, unfolding(crate::specs::Reading::one_more, crate::specs::Reading::behind, crate::specs::Readers::bind, crate::specs::Readers::pure))]
-fn next_port(cursor: &mut Cursor<'_>, ports: &mut Items<Port>) -> Result<(), Halt>
-    ensures { Builds (reading.one_more (reading.behind Kind.Semicolon reading.port_of) ports.old (place cursor.old)) ports.new result (place cursor.new) }
-{
-    cursor.take(Kind::Semicolon)?;
-    ports.push(port(cursor)?)?;
-    Ok(())
-}
+impl Item for Port {
+    ghost reader = { reading.port_of };
 
-/// Each `;` that follows and the port behind it.
-fn more_ports(cursor: &mut Cursor<'_>, ports: &mut Items<Port>) -> Result<(), Halt>
-    ensures { Builds (reading.several (Kind.Semicolon ∷ []) (reading.behind Kind.Semicolon reading.port_of) ports.old (place cursor.old)) ports.new result (place cursor.new) }
-{
-    for _turn in 0..cursor.rest().len() {
-        if !cursor.sees(Kind::Semicolon) {
-            return Ok(());
-        }
-        next_port(cursor, ports)?;
+    fn item(cursor: &mut Cursor<'_>) -> Result<Port, Halt> {
+        port(cursor)
     }
-    Ok(())
-}
-
-/// `port ; .. ; port`
-#[tactic(auto, unfolding(crate::specs::Reading::separated, crate::specs::Readers::bind, crate::specs::Readers::pure))]
-fn port_items(cursor: &mut Cursor<'_>) -> Result<Items<Port>, Halt>
-    ensures { Reads (reading.separated Kind.Semicolon reading.port_of (place cursor.old)) result (place cursor.new) }
-{
-    let mut ports = Items::new(cursor.alloc());
-    ports.push(port(cursor)?)?;
-    more_ports(cursor, &mut ports)?;
-    Ok(ports)
 }
 
 /// `( port ; .. ; port )`
@@ -158,7 +153,7 @@ fn port_list(cursor: &mut Cursor<'_>) -> Result<Items<Port>, Halt>
     ensures { Reads (reading.port_list (place cursor.old)) result (place cursor.new) }
 {
     cursor.take(Kind::LeftParenthesis)?;
-    let ports = port_items(cursor)?;
+    let ports = separated(cursor, Kind::Semicolon)?;
     cursor.take(Kind::RightParenthesis)?;
     Ok(ports)
 }
@@ -182,7 +177,8 @@ fn variable(cursor: &mut Cursor<'_>) -> Result<Local, Halt>
 {
     cursor.take(Kind::VariableWord)?;
     let names = names(cursor)?;
-    let kind = LocalKind::Variable(type_behind(cursor)?);
+    let given = type_behind(cursor)?;
+    let kind = LocalKind::Variable(given);
     Ok(Local { names, kind })
 }
 
@@ -193,7 +189,8 @@ fn channel(cursor: &mut Cursor<'_>) -> Result<Local, Halt>
 {
     cursor.take(Kind::ChannelWord)?;
     let names = names(cursor)?;
-    let kind = LocalKind::Channel(type_behind(cursor)?);
+    let given = type_behind(cursor)?;
+    let kind = LocalKind::Channel(given);
     Ok(Local { names, kind })
 }
 
@@ -229,8 +226,8 @@ const LOCAL_WORDS: [Kind; 3] = [Kind::VariableWord, Kind::ChannelWord, Kind::Syn
 fn next_local(cursor: &mut Cursor<'_>, locals: &mut Items<Local>) -> Result<(), Halt>
     ensures { Builds (reading.one_more reading.local_of locals.old (place cursor.old)) locals.new result (place cursor.new) }
 {
-    locals.push(local(cursor)?)?;
-    Ok(())
+    let declared = local(cursor)?;
+    add(locals, declared)
 }
 
 /// The declarations of locals that follow.
@@ -297,8 +294,8 @@ fn procedure(cursor: &mut Cursor<'_>) -> Result<Procedure, Halt>
 fn next_procedure(cursor: &mut Cursor<'_>, procedures: &mut Items<Procedure>) -> Result<(), Halt>
     ensures { Builds (reading.one_more (reading.procedure 64) procedures.old (place cursor.old)) procedures.new result (place cursor.new) }
 {
-    procedures.push(procedure(cursor)?)?;
-    Ok(())
+    let declared = procedure(cursor)?;
+    add(procedures, declared)
 }
 
 /// The procedures that follow.
@@ -319,8 +316,8 @@ fn more_procedures(cursor: &mut Cursor<'_>, procedures: &mut Items<Procedure>) -
 fn procedures(cursor: &mut Cursor<'_>) -> Result<Items<Procedure>, Halt>
     ensures { Reads (reading.procedures 64 (place cursor.old)) result (place cursor.new) }
 {
-    let mut procedures = Items::new(cursor.alloc());
-    procedures.push(procedure(cursor)?)?;
+    let first = procedure(cursor)?;
+    let mut procedures = one(cursor.alloc(), first)?;
     more_procedures(cursor, &mut procedures)?;
     Ok(procedures)
 }

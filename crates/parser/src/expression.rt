@@ -1,9 +1,10 @@
 //! Expressions, a function for each rank of operators. What an operand holds is read by a function
 //! value, so that each function but one is proved by itself.
 
-ghost use Rattle.std.specs.Prelude.{◌≡◌, IfOk};
+ghost use Rattle.std.specs.Prelude.{◌≡◌};
 ghost use Rattle.parser.specs.Grammar.{sum_signs, comparison_signs, conjunct_words, expression_words};
 ghost use Rattle.parser.specs.Nests.{ReadsAt, factor_in, expression_in};
+ghost use Rattle.parser.specs.Readers.{read};
 ghost use Rattle.parser.specs.Reading as reading;
 ghost use Rattle.parser.specs.Reads.{place, Reads};
 ghost use Rattle.parser.specs.Trees as trees;
@@ -12,7 +13,6 @@ use crate::cursor::Cursor;
 use crate::fault::Halt;
 use crate::name::type_name;
 use lexer::{Kind, Token};
-use std::alloc::{AllocError, Global};
 use syntax::{Expression, Operator, Shape, Span};
 
 /// What stands between the operands of a sum, of a comparison, of a conjunct and of an expression.
@@ -58,13 +58,20 @@ fn operator_of(sign: Kind) -> Operator
     }
 }
 
+/// An expression, unless memory is out. It reads no token.
+fn new_expression(cursor: &Cursor<'_>, span: Span, shape: Shape) -> Result<Expression, Halt>
+    ensures { Reads (read (trees.expression_at span shape) (place cursor.now)) result (place cursor.now) }
+{
+    Ok(Expression::new(cursor.alloc(), span, shape)?)
+}
+
 #[tactic(auto, unfolding(crate::specs::Reading::number, crate::specs::Readers::bind, crate::specs::Readers::pure))]
 fn number(cursor: &mut Cursor<'_>) -> Result<Expression, Halt>
     ensures { Reads (reading.number (place cursor.old)) result (place cursor.new) }
 {
     let token = cursor.take(Kind::Number)?;
     let shape = Shape::Number(token.number);
-    Ok(Expression::new(cursor.alloc(), token.span, shape)?)
+    new_expression(cursor, token.span, shape)
 }
 
 #[tactic(auto, unfolding(crate::specs::Reading::variable_name, crate::specs::Readers::bind, crate::specs::Readers::pure))]
@@ -73,21 +80,21 @@ fn named(cursor: &mut Cursor<'_>) -> Result<Expression, Halt>
 {
     let name = cursor.identifier()?;
     let shape = Shape::Name(name.name);
-    Ok(Expression::new(cursor.alloc(), name.span, shape)?)
+    new_expression(cursor, name.span, shape)
 }
 
 /// `left` and `right` with the operator between them that `sign` is.
 fn binary(
-    alloc: Global,
+    cursor: &Cursor<'_>,
     sign: &Token,
     left: Expression,
     right: Expression,
-) -> Result<Expression, AllocError>
-    ensures { IfOk result (λ made. made ≡ trees.binary sign.now left right) }
+) -> Result<Expression, Halt>
+    ensures { Reads (read (trees.binary sign.now left right) (place cursor.now)) result (place cursor.now) }
 {
     let span = left.span.through(right.span);
     let shape = Shape::Binary(operator_of(sign.kind), left, right);
-    Expression::new(alloc, span, shape)
+    new_expression(cursor, span, shape)
 }
 
 impl<F: Fn(&mut Cursor<'_>, usize) -> Result<Expression, Halt>> Operands<F> {
@@ -107,7 +114,7 @@ impl<F: Fn(&mut Cursor<'_>, usize) -> Result<Expression, Halt>> Operands<F> {
     {
         let sign = cursor.open_any(self.depth, &SUM_SIGNS)?;
         let right = self.operand(cursor)?;
-        Ok(binary(cursor.alloc(), sign, left, right)?)
+        binary(cursor, sign, left, right)
     }
 
     #[tactic(auto, unfolding(crate::specs::Reading::sum_of, crate::specs::Reading::grouped, crate::specs::Readers::bind))]
@@ -133,7 +140,7 @@ impl<F: Fn(&mut Cursor<'_>, usize) -> Result<Expression, Halt>> Operands<F> {
     {
         let sign = cursor.open_any(self.depth, &COMPARISON_SIGNS)?;
         let right = self.sum(cursor)?;
-        Ok(binary(cursor.alloc(), sign, left, right)?)
+        binary(cursor, sign, left, right)
     }
 
     #[tactic(auto, unfolding(crate::specs::Reading::comparison_of, crate::specs::Readers::branch, crate::specs::Readers::bind, crate::specs::Readers::pure))]
@@ -157,7 +164,7 @@ impl<F: Fn(&mut Cursor<'_>, usize) -> Result<Expression, Halt>> Operands<F> {
     {
         let sign = cursor.open_any(self.depth, &CONJUNCT_WORDS)?;
         let right = self.comparison(cursor)?;
-        Ok(binary(cursor.alloc(), sign, left, right)?)
+        binary(cursor, sign, left, right)
     }
 
     #[tactic(auto, unfolding(crate::specs::Reading::conjunct_of, crate::specs::Reading::grouped, crate::specs::Readers::bind))]
@@ -183,7 +190,7 @@ impl<F: Fn(&mut Cursor<'_>, usize) -> Result<Expression, Halt>> Operands<F> {
     {
         let sign = cursor.open_any(self.depth, &EXPRESSION_WORDS)?;
         let right = self.conjunct(cursor)?;
-        Ok(binary(cursor.alloc(), sign, left, right)?)
+        binary(cursor, sign, left, right)
     }
 
     /// Conjuncts with operators between them.
@@ -223,11 +230,11 @@ impl<F: Fn(&mut Cursor<'_>, usize) -> Result<Expression, Halt>> Operands<F> {
         let start = cursor.open(self.depth, Kind::NotWord)?;
         let operand = self.operand(cursor)?;
         let span = start.span.through(operand.span);
-        Ok(Expression::new(cursor.alloc(), span, Shape::Not(operand))?)
+        new_expression(cursor, span, Shape::Not(operand))
     }
 
     /// `( expression )` or `( expression as type )`
-    #[tactic(auto, unfolding(crate::specs::Reading::parenthesised, crate::specs::Reading::closing, crate::specs::Readers::branch, crate::specs::Readers::bind, crate::specs::Readers::pure))]
+    #[tactic(auto, unfolding(crate::specs::Reading::parenthesised, crate::specs::Readers::branch, crate::specs::Readers::bind, crate::specs::Readers::pure))]
     fn parenthesised(&self, cursor: &mut Cursor<'_>) -> Result<Expression, Halt>
         requires { ReadsAt self.now.depth (factor_in self.now.depth) (F.pre self.now.factor) (F.post self.now.factor) }
         ensures { Reads (reading.parenthesised self.now.depth (factor_in self.now.depth) (expression_in self.now.depth) (place cursor.old)) result (place cursor.new) }
@@ -235,10 +242,10 @@ impl<F: Fn(&mut Cursor<'_>, usize) -> Result<Expression, Halt>> Operands<F> {
         let start = cursor.open(self.depth, Kind::LeftParenthesis)?;
         let inner = self.expression(cursor)?;
         if cursor.sees(Kind::AsWord) {
-            return cast(cursor, start.span, inner);
+            cast(cursor, start.span, inner)
+        } else {
+            closing(cursor, start.span, inner)
         }
-        let end = cursor.take(Kind::RightParenthesis)?;
-        Ok(inner.parenthesised(start.span.through(end.span)))
     }
 
     /// What stands between operators.
@@ -280,7 +287,16 @@ fn cast(cursor: &mut Cursor<'_>, start: Span, operand: Expression) -> Result<Exp
     let to = type_name(cursor)?;
     let end = cursor.take(Kind::RightParenthesis)?;
     let span = start.through(end.span);
-    Ok(Expression::new(cursor.alloc(), span, Shape::Cast(operand, to))?)
+    new_expression(cursor, span, Shape::Cast(operand, to))
+}
+
+/// `)`, behind what begins at `start`.
+#[tactic(auto, unfolding(crate::specs::Reading::closing, crate::specs::Readers::bind, crate::specs::Readers::pure))]
+fn closing(cursor: &mut Cursor<'_>, start: Span, operand: Expression) -> Result<Expression, Halt>
+    ensures { Reads (reading.closing start operand (place cursor.old)) result (place cursor.new) }
+{
+    let end = cursor.take(Kind::RightParenthesis)?;
+    Ok(operand.parenthesised(start.through(end.span)))
 }
 
 /// What stands between operators in a level, inside which so many may be written, this one included.

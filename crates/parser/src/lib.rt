@@ -17,6 +17,7 @@ mod cursor;
 mod declaration;
 mod expression;
 mod fault;
+mod list;
 mod name;
 
 use cursor::{Cursor, LEVELS};

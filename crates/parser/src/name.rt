@@ -1,43 +1,26 @@
-ghost use Rattle.std.specs.Prelude.{[], ◌∷◌};
 ghost use Rattle.parser.specs.Reading as reading;
-ghost use Rattle.parser.specs.Reads.{place, Builds, Reads};
+ghost use Rattle.parser.specs.Reads.{place, Reads};
 
 use crate::cursor::Cursor;
 use crate::fault::Halt;
+use crate::list::{Item, separated};
 use lexer::Kind;
 use syntax::{Identifier, Items, Label, LabelValue, TypeName, Width};
 
-/// `,` and the name behind it.
-#[tactic(auto, unfolding(crate::specs::Reading::one_more, crate::specs::Reading::behind, crate::specs::Readers::bind, crate::specs::Readers::pure))]
-fn next_name(cursor: &mut Cursor<'_>, names: &mut Items<Identifier>) -> Result<(), Halt>
-    ensures { Builds (reading.one_more (reading.behind Kind.Comma reading.identifier) names.old (place cursor.old)) names.new result (place cursor.new) }
-{
-    cursor.take(Kind::Comma)?;
-    names.push(cursor.identifier()?)?;
-    Ok(())
-}
+impl Item for Identifier {
+    ghost reader = { reading.identifier };
 
-/// Each `,` that follows and the name behind it.
-fn more_names(cursor: &mut Cursor<'_>, names: &mut Items<Identifier>) -> Result<(), Halt>
-    ensures { Builds (reading.several (Kind.Comma ∷ []) (reading.behind Kind.Comma reading.identifier) names.old (place cursor.old)) names.new result (place cursor.new) }
-{
-    for _turn in 0..cursor.rest().len() {
-        if !cursor.sees(Kind::Comma) {
-            return Ok(());
-        }
-        next_name(cursor, names)?;
+    fn item(cursor: &mut Cursor<'_>) -> Result<Identifier, Halt> {
+        cursor.identifier()
     }
-    Ok(())
 }
 
 /// `name, .., name`
-#[tactic(auto, unfolding(crate::specs::Reading::names, crate::specs::Reading::separated, crate::specs::Readers::bind, crate::specs::Readers::pure))]
+#[tactic(auto, unfolding(crate::specs::Reading::names))]
 pub fn names(cursor: &mut Cursor<'_>) -> Result<Items<Identifier>, Halt>
     ensures { Reads (reading.names (place cursor.old)) result (place cursor.new) }
 {
-    let mut names = Items::new(cursor.alloc());
-    names.push(cursor.identifier()?)?;
-    more_names(cursor, &mut names)?;
+    let names = separated(cursor, Kind::Comma)?;
     Ok(names)
 }
 
@@ -59,7 +42,8 @@ pub fn width(cursor: &mut Cursor<'_>) -> Result<Width, Halt>
 fn type_by_width(cursor: &mut Cursor<'_>) -> Result<TypeName, Halt>
     ensures { Reads (reading.type_by_width (place cursor.old)) result (place cursor.new) }
 {
-    Ok(TypeName::Bits(width(cursor)?))
+    let bits = width(cursor)?;
+    Ok(TypeName::Bits(bits))
 }
 
 /// A type's name
@@ -67,7 +51,8 @@ fn type_by_width(cursor: &mut Cursor<'_>) -> Result<TypeName, Halt>
 fn type_by_name(cursor: &mut Cursor<'_>) -> Result<TypeName, Halt>
     ensures { Reads (reading.type_by_name (place cursor.old)) result (place cursor.new) }
 {
-    Ok(TypeName::Named(cursor.identifier()?))
+    let name = cursor.identifier()?;
+    Ok(TypeName::Named(name))
 }
 
 /// A type's name or `number bits`
@@ -127,36 +112,18 @@ fn label(cursor: &mut Cursor<'_>) -> Result<Label, Halt>
     }
 }
 
-/// `,` and the label behind it.
-#[tactic(auto, unfolding(crate::specs::Reading::one_more, crate::specs::Reading::behind, crate::specs::Readers::bind, crate::specs::Readers::pure))]
-fn next_label(cursor: &mut Cursor<'_>, labels: &mut Items<Label>) -> Result<(), Halt>
-    ensures { Builds (reading.one_more (reading.behind Kind.Comma reading.label_of) labels.old (place cursor.old)) labels.new result (place cursor.new) }
-{
-    cursor.take(Kind::Comma)?;
-    labels.push(label(cursor)?)?;
-    Ok(())
-}
+impl Item for Label {
+    ghost reader = { reading.label_of };
 
-/// Each `,` that follows and the label behind it.
-fn more_labels(cursor: &mut Cursor<'_>, labels: &mut Items<Label>) -> Result<(), Halt>
-    ensures { Builds (reading.several (Kind.Comma ∷ []) (reading.behind Kind.Comma reading.label_of) labels.old (place cursor.old)) labels.new result (place cursor.new) }
-{
-    for _turn in 0..cursor.rest().len() {
-        if !cursor.sees(Kind::Comma) {
-            return Ok(());
-        }
-        next_label(cursor, labels)?;
+    fn item(cursor: &mut Cursor<'_>) -> Result<Label, Halt> {
+        label(cursor)
     }
-    Ok(())
 }
 
 /// `label, .., label`
-#[tactic(auto, unfolding(crate::specs::Reading::labels, crate::specs::Reading::separated, crate::specs::Readers::bind, crate::specs::Readers::pure))]
+#[tactic(auto, unfolding(crate::specs::Reading::labels))]
 pub fn labels(cursor: &mut Cursor<'_>) -> Result<Items<Label>, Halt>
     ensures { Reads (reading.labels (place cursor.old)) result (place cursor.new) }
 {
-    let mut labels = Items::new(cursor.alloc());
-    labels.push(label(cursor)?)?;
-    more_labels(cursor, &mut labels)?;
-    Ok(labels)
+    separated(cursor, Kind::Comma)
 }
