@@ -1,8 +1,7 @@
 -- The line that tells why a run ended early.
 use Rattle.std.specs.Prelude.{ℕ, List, [], ◌∷◌, ◌++◌, Option, Some, None, codes, decimal}
 use Rattle.debug_session.specs.FaultNumbers.{fault_number, fault_field}
-use Rattle.command_line.specs.declared.fault.Fault.{Fault}
-use Rattle.command_line.specs.declared.fault.Fault.TheVariants.{Refused, NotBuilt}
+use Rattle.debug_session.specs.declared.fault.Fault.{Fault}
 
 -- a refusal by its number, and what stands behind it
 abbrev pub refused_text : ℕ → Option ℕ → List ℕ
@@ -11,8 +10,7 @@ refused_text number None = codes "balsadbg: refused " ++ decimal number
 
 -- what a fault is told by
 abbrev pub fault_text : Fault → List ℕ
-fault_text (Refused fault) = refused_text (fault_number fault) (fault_field fault)
-fault_text NotBuilt = codes "balsadbg: not built"
+fault_text fault = refused_text (fault_number fault) (fault_field fault)
 
 -- the line by which a fault is told
 abbrev pub fault_line : Fault → List ℕ

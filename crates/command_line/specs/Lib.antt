@@ -1,3 +1,2 @@
-pub mod Built
 pub mod FaultLine
 pub mod Serving

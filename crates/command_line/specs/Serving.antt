@@ -4,13 +4,10 @@ use Rattle.std.specs.Io.KnownBytes.{Appends}
 use Rattle.system.specs.declared.system.System.{System}
 use Rattle.debug_session.specs.Accepting.{Gives, IsRefused}
 use Rattle.debug_session.specs.Transcript.{Debugged}
-use Rattle.debug_session.specs.declared.fault.Fault as session
+use Rattle.debug_session.specs.declared.fault.Fault.{Fault}
 use Rattle.debug_session.specs.declared.fault.Fault.TheVariants.{Memory, ReadFailed, WriteFailed}
-use Rattle.command_line.specs.Built.{NeedsLater}
 use Rattle.command_line.specs.FaultLine.{fault_line}
-use Rattle.command_line.specs.declared.fault.Fault.{Fault}
 use Rattle.command_line.specs.declared.request.Request.{Request}
-use Rattle.command_line.specs.declared.fault.Fault.TheVariants.{Refused, NotBuilt}
 
 -- how the work for a request ended
 abbrev pub Done : Type 0
@@ -28,13 +25,13 @@ told_text (Err fault) = fault_line fault
 
 -- a file was not had: there was no memory for it, or its name holds nothing that can be read
 abbrev pub NotHad : (Option (List ℕ) → Type 0) → Fault → Type 0
-NotHad held fault = (fault ≡ Refused Memory) ⊎ ((fault ≡ Refused ReadFailed) × held None)
+NotHad held fault = (fault ≡ Memory) ⊎ ((fault ≡ ReadFailed) × held None)
 
 -- the text is out; or writing failed, and a beginning of it is out
 abbrev pub IsOut : List ℕ → Option (List ℕ) → Option (List ℕ) → Done → Type 0
 IsOut text wrote held done =
     (given : List ℕ) × Appends wrote held given
-    × MatchResult done (λ _. given ≡ text) (λ fault. (fault ≡ Refused WriteFailed) × ((missing : List ℕ) × (text ≡ given ++ missing)))
+    × MatchResult done (λ _. given ≡ text) (λ fault. (fault ≡ WriteFailed) × ((missing : List ℕ) × (text ≡ given ++ missing)))
 
 -- the answer to an accepted description
 abbrev pub accepted_line : List ℕ
@@ -43,19 +40,8 @@ accepted_line = codes "accepted" ++ 10 ∷ []
 -- `check` on these bytes: they are refused and nothing is written, or accepted, which is told
 abbrev pub Checked : List ℕ → Type 0 → Option (List ℕ) → Option (List ℕ) → Done → Type 0
 Checked source untouched wrote held done =
-    ((fault : session.Fault) × IsRefused source [] fault × (done ≡ Err (Refused fault)) × untouched)
+    ((fault : Fault) × IsRefused source [] fault × (done ≡ Err fault) × untouched)
     ⊎ ((system : System) × Gives source [] system × IsOut accepted_line wrote held done)
-
--- how a session ended, as the end of the work
-abbrev pub as_done : Result (Unit {0}) session.Fault → Done
-as_done (Ok done) = Ok done
-as_done (Err fault) = Err (Refused fault)
-
--- `debug` on these bytes: the form of an accepted description comes later and nothing is written, or it is the session
-abbrev pub Session : List ℕ → List ℕ → Type 0 → Option (List ℕ) → Option (List ℕ) → Option (List ℕ) → Option (List ℕ) → Done → Type 0
-Session source stimulus untouched read left wrote held done =
-    (((system : System) × Gives source stimulus system) × NeedsLater source × (done ≡ Err NotBuilt) × untouched)
-    ⊎ ((ended : Result (Unit {0}) session.Fault) × Debugged source stimulus untouched read left wrote held ended × (done ≡ as_done ended))
 
 -- `check` on the file of this name
 abbrev pub ChecksFile : (List ℕ → Option (List ℕ) → Type 0) → List ℕ → Type 0 → Option (List ℕ) → Option (List ℕ) → Done → Type 0
@@ -68,7 +54,7 @@ abbrev pub DebugsFiles : (List ℕ → Option (List ℕ) → Type 0) → List �
 DebugsFiles holds file stimulus untouched read left wrote held done =
     ((fault : Fault) × (NotHad (holds file) fault ⊎ NotHad (holds stimulus) fault) × (done ≡ Err fault) × untouched)
     ⊎ ((source : List ℕ) × (values : List ℕ) × holds file (Some source) × holds stimulus (Some values)
-    × Session source values untouched read left wrote held done)
+    × Debugged source values untouched read left wrote held done)
 
 -- what the run does for the request; `unread` and `unwritten` say that the reader and the writer are as they were
 abbrev pub Serves : (List ℕ → Option (List ℕ) → Type 0) → Request → Type 0 → Type 0 → Option (List ℕ) → Option (List ℕ) → Option (List ℕ) → Option (List ℕ) → Done → Type 0

@@ -3,7 +3,7 @@
 ghost use Rattle.std.specs.Prelude.{ℕ, List, Option, Some, MatchResult, ⊤};
 ghost use Rattle.command_line.specs.Serving.{NotHad};
 
-use crate::fault::Fault;
+use debug_session::Fault;
 use std::alloc::Global;
 use std::fs;
 use std::io::ErrorKind;
@@ -41,8 +41,8 @@ impl<R: fs::Files + AllocGlobal> Files for Disk<'_, R> {
     fn read(&self, _alloc: Global, name: &str) -> Result<Vec<u8>, Fault> {
         match fs::read(self.rt, name) {
             Ok(bytes) => Ok(bytes),
-            Err(error) if error.kind() == ErrorKind::OutOfMemory => Err(Fault::MEMORY),
-            Err(_) => Err(Fault::READ_FAILED),
+            Err(error) if error.kind() == ErrorKind::OutOfMemory => Err(Fault::Memory),
+            Err(_) => Err(Fault::ReadFailed),
         }
     }
 }

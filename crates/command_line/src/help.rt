@@ -39,12 +39,19 @@ pub const DEBUG_LONG: &str = "\
 Step a description forwards and backwards, as a script says. It comes from
 standard input, and each line is answered as soon as it is read:
 
+  ready           list the steps that can be taken now. The last word of each is
+                  its place; behind `sync` it is the first of the two
   step PLACE      take the step that waits at this place: `step TICKET EVENT`
   step PLACE ARM  the same where one of several arms can be taken, from 0
-  undo TICKET     take this step back: `undone TICKET EVENT`. Later steps stay,
-                  as long as none of them depends on it
   live            list the steps that are taken and not taken back
   value X         tell the value of the variable X
+  undo TICKET     take this step back: `undone TICKET EVENT`. Later steps stay,
+                  as long as none of them depends on it
+  consequences TICKET
+                  tell this step and all that depend on it, by their tickets
+  roll TICKET     take all of those back: `rolled COUNT`
+  blame X         tell which step wrote the variable X last: `blame TICKET`
+  rollvalue X     take that step back, with all that depend on it
 
 A place is written like /0.1.0. /0 is the body of the last procedure, and /1,
 /2 and so on are the environment at its ports. Behind that, .N counts what comes
@@ -93,7 +100,8 @@ nothing has changed, and the script goes on:
   22  65536 steps are live
   23  no live step has this ticket
   24  the step with the ticket that is named depends on this one
+  25  no live step has written this variable
   26  no ticket is left
 
 docs/refusals.md has an example and the usual cause of each. A command line that
-cannot be read ends with status 2, and all other runs with status 0.";
+cannot be read ends with status 2. All else ends with status 0.";

@@ -1,14 +1,14 @@
 //! `balsadbg`, the program: a causal-consistent reversible debugger for Balsa.
 #![tactic(auto)]
 
-mod built;
 mod fault;
 mod files;
 mod help;
 mod request;
 mod running;
 
-use fault::Fault;
+use debug_session::Fault;
+use fault::write_fault;
 use files::Disk;
 use running::run;
 use std::io::{BufReader, ErrorKind, Write};
@@ -43,7 +43,7 @@ fn main(rt: HostRuntime) -> ExitCode {
             ExitCode::from(2)
         }
         Err(_) => {
-            let _ = Fault::MEMORY.write(&mut err);
+            let _ = write_fault(Fault::Memory, &mut err);
             ExitCode::from(1)
         }
     }

@@ -2,14 +2,13 @@
 
 ghost use Rattle.std.specs.Prelude.{◌≡◌, ◌≤◌, OnOk};
 ghost use Rattle.std.specs.Io.KnownBytes.{Appends};
-ghost use Rattle.command_line.specs.Serving.{Done, status_of, told_text, Checked, Session, ChecksFile, DebugsFiles, Serves};
+ghost use Rattle.command_line.specs.Serving.{Done, status_of, told_text, Checked, ChecksFile, DebugsFiles, Serves};
 
-use crate::built::check_built;
-use crate::fault::Fault;
+use crate::fault::write_fault;
 use crate::files::Files;
 use crate::request::{Request, requested};
 use clap::Error;
-use debug_session::{accept, debug, write_out};
+use debug_session::{Fault, accept, debug, write_out};
 use std::alloc::Global;
 use std::convert::AsStr;
 use std::io;
@@ -20,8 +19,7 @@ fn check_source<O: Write>(alloc: Global, source: &[u8], out: &mut O) -> Result<(
     ensures { Checked source.now (out.new ≡ out.old) (O.contents out.old) (O.contents out.new) result }
 {
     accept(alloc, source, b"")?;
-    write_out(out, b"accepted\n")?;
-    Ok(())
+    write_out(out, b"accepted\n")
 }
 
 /// Says whether the description in `file` is accepted.
@@ -30,23 +28,6 @@ fn check<F: Files, O: Write>(alloc: Global, file: &str, files: &F, out: &mut O) 
 {
     let source = files.read(alloc, file)?;
     check_source(alloc, source.as_slice(), out)
-}
-
-/// Answers a script over the description, if it can be debugged today.
-fn answer_over<I: BufRead, O: Write>(
-    alloc: Global,
-    source: &[u8],
-    stimulus: &[u8],
-    reader: &mut I,
-    out: &mut O,
-) -> Result<(), Fault>
-    ensures { Session source.now stimulus.now ((reader.new ≡ reader.old) × (out.new ≡ out.old))
-        (I.remaining reader.old) (I.remaining reader.new) (O.contents out.old) (O.contents out.new) result }
-{
-    accept(alloc, source, stimulus)?;
-    check_built(alloc, source)?;
-    debug(alloc, reader, out, source, stimulus)?;
-    Ok(())
 }
 
 /// Answers a script over the description in `file`.
@@ -63,7 +44,7 @@ fn answer_script<F: Files, I: BufRead, O: Write>(
 {
     let source = files.read(alloc, file)?;
     let values = files.read(alloc, stimulus)?;
-    answer_over(alloc, source.as_slice(), values.as_slice(), reader, out)
+    debug(alloc, reader, out, source.as_slice(), values.as_slice())
 }
 
 /// How a run ended.
@@ -89,7 +70,7 @@ fn finish<E: Write>(done: Result<(), Fault>, err: &mut E) -> Ended
         },
         Err(fault) => Ended {
             status: 1,
-            told: fault.write(err),
+            told: write_fault(fault, err),
         },
     }
 }
@@ -146,7 +127,7 @@ fn explain<O: Write, E: Write>(error: &Error, out: &mut O, err: &mut E) -> u8
     }
     match write!(out, "{error}") {
         Ok(()) => 0,
-        Err(_) => finish(Err(Fault::WRITE_FAILED), err).status,
+        Err(_) => finish(Err(Fault::WriteFailed), err).status,
     }
 }
 

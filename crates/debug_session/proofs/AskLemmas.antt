@@ -1,13 +1,12 @@
 -- What a line asks for.
-use Rattle.std.proofs.Common.{◌≡◌, ℕ, true, false, List, [], ◌++◌, Option, Some, None, MatchOption, Result, Ok, Err, IfOk, IfErr, OnErr, ◌≢◌, ◌⊎◌, inr, refl, sym, ap, ◌∙◌, subst}
-use Rattle.std.proofs.lemmas.Bool.{false≢true}
+use Rattle.std.proofs.Common.{◌≡◌, ℕ, List, [], ◌++◌, Option, Some, None, MatchOption, Result, Ok, Err, IfOk, IfErr, OnErr, ◌≢◌, ◌⊎◌, inr, refl, sym, ap, ◌∙◌, subst}
 use Rattle.system.specs.declared.system.System.{System}
 use Rattle.calculus.specs.declared.command.Command.{Command}
 use Rattle.debug_session.specs.declared.word.Word.{Word}
 use Rattle.debug_session.specs.declared.word.Word.TheVariants as words
 use Rattle.debug_session.specs.EventText.{field}
 use Rattle.debug_session.specs.Fields.{BeginsField, CutAtSpace}
-use Rattle.debug_session.specs.Words.{spelling, is_offered, SpellsNothing}
+use Rattle.debug_session.specs.Words.{spelling, SpellsNothing}
 use Rattle.debug_session.specs.declared.line.Line.{Line}
 use Rattle.debug_session.specs.declared.fault.Fault.{Fault}
 use Rattle.debug_session.specs.Lines.{IsNoVariable, IsNoChoice, MayBeChoice, MayBeStep, AsksBy, AsksNothingBy, Asks, AsksNothing, Says}
@@ -41,13 +40,6 @@ asked-parts system line text rest c cut a =
 pub no-word : (system : System) (line text rest : List ℕ) → CutAtSpace line text rest → SpellsNothing text → AsksNothing system line
 no-word system line text rest cut none c a = none a.word (asked-parts system line text rest c cut a).0
 
--- a line whose word is not offered asks for nothing
-pub not-offered : (system : System) (line text rest : List ℕ) (w : Word) → CutAtSpace line text rest → spelling w ≡ text
-    → is_offered w ≡ false → AsksNothing system line
-not-offered system line text rest w cut h off c a =
-    let same : a.word ≡ w = one-word a.word w text (asked-parts system line text rest c cut a).0 h in
-    false≢true (sym off ∙ (ap is_offered (sym same) ∙ a.offered))
-
 -- a line whose word asks for nothing with what is behind it asks for nothing
 pub nothing-behind : (system : System) (line text rest : List ℕ) (w : Word) → CutAtSpace line text rest → spelling w ≡ text
     → AsksNothingBy system w rest → AsksNothing system line
@@ -58,12 +50,11 @@ nothing-behind system line text rest w cut h none c a =
 
 -- a line asks for what its word asks for with what is behind it
 pub asks-behind : (system : System) (line text rest : List ℕ) (w : Word) (c : Command) → CutAtSpace line text rest
-    → spelling w ≡ text → is_offered w ≡ true → AsksBy system w rest c → Asks system line c
-asks-behind system line text rest w c cut h on asked = record {
+    → spelling w ≡ text → AsksBy system w rest c → Asks system line c
+asks-behind system line text rest w c cut h asked = record {
   word = w;
   rest = rest;
   spelled = sym cut.joined ∙ ap (λ t. t ++ rest) (sym h);
-  offered = on;
   asked = asked;
 }
 
@@ -85,18 +76,18 @@ step-nothing system w rest e none = subst (λ v. AsksNothingBy system v rest) (s
 
 -- what is read behind the word is what the line asks for
 asked-found : (system : System) (line text rest : List ℕ) (w : Word) (found : Option Command) → CutAtSpace line text rest
-    → spelling w ≡ text → is_offered w ≡ true → MatchOption found (AsksNothingBy system w rest) (λ c. AsksBy system w rest c)
+    → spelling w ≡ text → MatchOption found (AsksNothingBy system w rest) (λ c. AsksBy system w rest c)
     → MatchOption found (AsksNothing system line) (λ c. Asks system line c)
-asked-found system line text rest w None cut h on none = nothing-behind system line text rest w cut h none
-asked-found system line text rest w (Some c) cut h on some = asks-behind system line text rest w c cut h on some
+asked-found system line text rest w None cut h none = nothing-behind system line text rest w cut h none
+asked-found system line text rest w (Some c) cut h some = asks-behind system line text rest w c cut h some
 
 -- the same of the answer, unless there was no memory
 pub asked-read : {E : Type 0} → (system : System) (line text rest : List ℕ) (w : Word) (r : Result (Option Command) E) → CutAtSpace line text rest
-    → spelling w ≡ text → is_offered w ≡ true
+    → spelling w ≡ text
     → IfOk r (λ found. MatchOption found (AsksNothingBy system w rest) (λ c. AsksBy system w rest c))
     → IfOk r (λ found. MatchOption found (AsksNothing system line) (λ c. Asks system line c))
-asked-read system line text rest w (Ok found) cut h on is = asked-found system line text rest w found cut h on is
-asked-read system line text rest w (Err e) cut h on is = tt
+asked-read system line text rest w (Ok found) cut h is = asked-found system line text rest w found cut h is
+asked-read system line text rest w (Err e) cut h is = tt
 
 -- only a line that may ask for a step takes memory
 pub asked-memory : {A E : Type 0} → (line text rest : List ℕ) (w : Word) (r : Result A E) → CutAtSpace line text rest

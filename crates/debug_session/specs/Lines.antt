@@ -1,5 +1,5 @@
 -- What the lines of a script ask for.
-use Rattle.std.specs.Prelude.{ℕ, ◌≡◌, ◌≢◌, ◌<◌, ◌^◌, ◌⊎◌, IsTrue, Some, List, [], ◌++◌}
+use Rattle.std.specs.Prelude.{ℕ, ◌≡◌, ◌≢◌, ◌<◌, ◌^◌, ◌⊎◌, Some, List, [], ◌++◌}
 use Rattle.std.specs.Fmt.{decimal}
 use Rattle.address.specs.Text.{text_of}
 use Rattle.address.specs.Reading.{NumbersFit}
@@ -11,7 +11,7 @@ use Rattle.debug_session.specs.declared.line.Line.{Line}
 use Rattle.debug_session.specs.declared.word.Word.{Word}
 use Rattle.debug_session.specs.EventText.{field}
 use Rattle.debug_session.specs.Fields.{CutAtSpace}
-use Rattle.debug_session.specs.Words.{spelling, is_offered}
+use Rattle.debug_session.specs.Words.{spelling}
 
 -- a space and this number, which has 64 bits
 abbrev pub IsNumber : ℕ → List ℕ → Type 0
@@ -77,7 +77,6 @@ pub record Asks (system : System) (line : List ℕ) (c : Command) : Type 0 where
   pub word : Word
   pub rest : List ℕ
   pub spelled : line ≡ spelling word ++ rest
-  pub offered : IsTrue (is_offered word)
   pub asked : AsksBy system word rest c
 
 -- the line asks for no command

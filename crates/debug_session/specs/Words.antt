@@ -1,5 +1,5 @@
 -- The words with which the lines of a script begin.
-use Rattle.std.specs.Prelude.{◌≡◌, ℕ, Bool, true, false, List, [], ◌∷◌, codes, Option, Some, None, if◌then◌else◌}
+use Rattle.std.specs.Prelude.{◌≡◌, ℕ, List, [], ◌∷◌, codes, Option, Some, None, if◌then◌else◌}
 use Rattle.std.specs.Str.{bytes_eq}
 use Rattle.debug_session.specs.declared.word.Word.{Word}
 use Rattle.debug_session.specs.declared.word.Word.TheVariants.{Step, Undo, Roll, RollValue, Blame, Ready, Consequences, Live, Value}
@@ -15,18 +15,6 @@ spelling Ready = codes "ready"
 spelling Consequences = codes "consequences"
 spelling Live = codes "live"
 spelling Value = codes "value"
-
--- whether lines may begin with the word today
-abbrev pub is_offered : Word → Bool
-is_offered Step = true
-is_offered Undo = true
-is_offered Roll = false
-is_offered RollValue = false
-is_offered Blame = false
-is_offered Ready = false
-is_offered Consequences = false
-is_offered Live = true
-is_offered Value = true
 
 -- the first of these words that is spelled so
 abbrev pub first_spelled : List Word → List ℕ → Option Word

@@ -50,9 +50,6 @@ fn read_asked(alloc: Global, system: &System, line: &[u8]) -> Result<Option<Comm
     let Some(word) = Word::read(text) else {
         return Ok(None);
     };
-    if !word.is_offered() {
-        return Ok(None);
-    }
     read_behind(alloc, system, word, rest)
 }
 

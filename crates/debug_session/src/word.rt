@@ -50,16 +50,6 @@ impl Word {
             Word::Value => b"value",
         }
     }
-
-    /// Whether lines may begin with the word today.
-    pub(crate) fn is_offered(self) -> bool
-        ensures { result ≡ spec.is_offered self }
-    {
-        match self {
-            Word::Step | Word::Undo | Word::Live | Word::Value => true,
-            Word::Roll | Word::RollValue | Word::Blame | Word::Ready | Word::Consequences => false,
-        }
-    }
 }
 
 /// The first of the words that is spelled so.

@@ -33,15 +33,6 @@ pub const BUFFER: Example = Example {
     stimulus: "i = 5 7",
 };
 
-/// Two buffers in a row, with channel 2 between them.
-pub const BUFFERS: Example = Example {
-    source: "procedure one (input i : 8 bits ; output o : 8 bits) is
-        variable x : 8 bits begin loop i -> x ; o <- x end end
-        procedure p (input i : 8 bits ; output o : 8 bits) is
-        channel c : 8 bits begin one (i, c) || one (c, o) end",
-    stimulus: "i = 5 7",
-};
-
 /// A value that is held until both branches have sent it.
 pub const FORK: Example = Example {
     source: "procedure p (input i : 8 bits ; output a, b : 8 bits) is
@@ -54,12 +45,6 @@ pub const ARBITER: Example = Example {
     source: "procedure p (input a : 8 bits ; output o : 8 bits ; input b : 8 bits) is
         begin arbitrate a then o <- a | b then o <- b end end",
     stimulus: "a = 5\nb = 7",
-};
-
-/// Two variables that are written side by side, turn by turn.
-pub const SETTERS: Example = Example {
-    source: "procedure p is variable x, y : 8 bits begin loop x := 1 || y := 2 end end",
-    stimulus: "",
 };
 
 /// Two branches, one of them with two steps.
@@ -114,12 +99,6 @@ pub const SELECTION: Example = Example {
     stimulus: "",
 };
 
-/// Handshakes for ever, of which the environment makes one.
-pub const PULSE: Example = Example {
-    source: "procedure p (sync s) is begin loop sync s end end",
-    stimulus: "s * 1",
-};
-
 /// Variables that are read in no order, and one of them twice.
 pub const READER: Example = Example {
     source: "procedure p is variable r, a, b, c : 8 bits begin r := ((c or a) and c as 8 bits) end",
@@ -130,43 +109,4 @@ pub const READER: Example = Example {
 pub const GUARDS: Example = Example {
     source: "procedure p is variable x, y : 1 bits begin if y then x := 1 | x then y := 1 end end",
     stimulus: "",
-};
-
-/// Each bit of a received value is turned.
-pub const INVERTER: Example = Example {
-    source: "procedure p (input i : 8 bits ; output o : 8 bits) is begin i -> then o <- not i end end",
-    stimulus: "i = 3",
-};
-
-/// Two received values in one expression.
-pub const ADDER: Example = Example {
-    source: "procedure p (input i, j : 8 bits ; output o : 8 bits) is
-        begin i -> then j -> then o <- (i + j as 8 bits) end end end",
-    stimulus: "i = 3\nj = 9",
-};
-
-/// A received value is looked for among labels.
-const LABELS: &str = "procedure p (input i : 8 bits) is variable x : 8 bits begin
-    i -> then case i of 1, 3 then x := 5 | 2 then x := 6 end end end";
-
-pub const FIRST_LABEL: Example = Example {
-    source: LABELS,
-    stimulus: "i = 1",
-};
-
-pub const SECOND_LABEL: Example = Example {
-    source: LABELS,
-    stimulus: "i = 3",
-};
-
-pub const SECOND_ARM: Example = Example {
-    source: LABELS,
-    stimulus: "i = 2",
-};
-
-/// A received value in a guard.
-pub const RECEIVED_GUARD: Example = Example {
-    source: "procedure p (input i : 8 bits) is variable x : 8 bits begin
-        i -> then if 0 = 1 then x := 5 | i = 3 then x := 6 end end end",
-    stimulus: "i = 3",
 };

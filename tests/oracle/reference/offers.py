@@ -29,7 +29,7 @@ CHOICES = LOOPS.with_more(forms="sync enclose select arbitrate")
 ROLLBACK = CHOICES.with_more(lines="roll rollvalue blame consequences")
 
 OFFERS = {"paths": PATHS, "loops": LOOPS, "choices": CHOICES, "rollback": ROLLBACK}
-TODAY = "paths"
+TODAY = "rollback"
 EVERYTHING = ROLLBACK
 
 

@@ -17,7 +17,7 @@ returns-in_err-values g c =
 
 pub returns : goal.returns
 returns g c =
-    debug-session (g.F.Files.holds c.args.files.now) c.args.file.now c.args.stimulus.now ((c.answer_over.new.reader ≡ c.args.reader.now) × (c.answer_over.new.out ≡ c.args.out.now))
-    (g.I.Read.remaining c.args.reader.now) (g.I.Read.remaining c.answer_over.new.reader) (g.O.Write.contents c.args.out.now) (g.O.Write.contents c.answer_over.new.out)
-    c.answer_over.result c.in_ok-source.source.items c.in_ok-values.values.items c.as_slice.result.now c.as_slice-2.result.now
-    c.in_ok-source.ensures c.in_ok-values.ensures c.as_slice.ensures.value c.as_slice-2.ensures.value c.answer_over.ensures
+    debug-session (g.F.Files.holds c.args.files.now) c.args.file.now c.args.stimulus.now ((c.debug.new.reader ≡ c.args.reader.now) × (c.debug.new.writer ≡ c.args.out.now))
+    (g.I.Read.remaining c.args.reader.now) (g.I.Read.remaining c.debug.new.reader) (g.O.Write.contents c.args.out.now) (g.O.Write.contents c.debug.new.writer)
+    c.debug.result c.in_ok-source.source.items c.in_ok-values.values.items c.as_slice.result.now c.as_slice-2.result.now
+    c.in_ok-source.ensures c.in_ok-values.ensures c.as_slice.ensures.value c.as_slice-2.ensures.value c.debug.ensures

@@ -1,5 +1,5 @@
 use Rattle.std.proofs.Common.{◌≡◌, refl}
-use Rattle.command_line.proofs.ServingLemmas.{checked-refused, checked-untold, checked-told}
+use Rattle.command_line.proofs.ServingLemmas.{checked-refused, checked-told}
 use Rattle.command_line.proofs.running.check_source.Goals as goal
 
 pub returns-in_err-accept : goal.returns-in_err-accept
@@ -7,13 +7,7 @@ returns-in_err-accept g c =
     checked-refused c.args.source.now (c.args.out.now ≡ c.args.out.now) (g.O.Write.contents c.args.out.now) (g.O.Write.contents c.args.out.now) c.from_residual.result c.in_err-accept.field-0.0
     c.in_err-accept.ensures.fault c.from_residual.ensures.1 refl
 
-pub returns-in_err-write_out : goal.returns-in_err-write_out
-returns-in_err-write_out g c =
-    checked-untold c.args.source.now (c.write_out.new.writer ≡ c.args.out.now) (g.O.Write.contents c.args.out.now) (g.O.Write.contents c.write_out.new.writer)
-    c.from_residual-in_err-write_out.result c.in_ok-accept.field-0 c.in_err-write_out.field-0.0
-    c.in_ok-accept.ensures.system c.in_err-write_out.ensures c.from_residual-in_err-write_out.ensures.1
-
 pub returns : goal.returns
 returns g c =
     checked-told c.args.source.now (c.write_out.new.writer ≡ c.args.out.now) (g.O.Write.contents c.args.out.now) (g.O.Write.contents c.write_out.new.writer)
-    c.in_ok-accept.field-0 tt c.in_ok-accept.ensures.system c.in_ok-write_out.ensures
+    c.write_out.result c.in_ok-accept.field-0 c.in_ok-accept.ensures.system c.write_out.ensures

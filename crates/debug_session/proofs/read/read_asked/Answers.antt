@@ -1,5 +1,4 @@
-use Rattle.std.proofs.Common.{sym, ◌∙◌}
-use Rattle.debug_session.proofs.AskLemmas.{no-word, not-offered, asked-read, asked-memory}
+use Rattle.debug_session.proofs.AskLemmas.{no-word, asked-read, asked-memory}
 use Rattle.debug_session.proofs.read.read_asked.Goals as goal
 
 pub returns-in_default-clause-found : goal.returns-in_default-clause-found
@@ -7,16 +6,10 @@ returns-in_default-clause-found c =
     no-word c.args.system.now c.args.line.now c.cut_at_space.result.0.now c.cut_at_space.result.1.now
     c.cut_at_space.ensures c.in_default.ensures
 
-pub returns-then-not-is_offered-clause-found : goal.returns-then-not-is_offered-clause-found
-returns-then-not-is_offered-clause-found c =
-    not-offered c.args.system.now c.args.line.now c.cut_at_space.result.0.now c.cut_at_space.result.1.now c.in-Some.word
-    c.cut_at_space.ensures c.in-Some.ensures (sym c.is_offered.ensures ∙ c.if-not-is_offered.true)
-
 pub returns-clause-found : goal.returns-clause-found
 returns-clause-found c =
     asked-read c.args.system.now c.args.line.now c.cut_at_space.result.0.now c.cut_at_space.result.1.now c.in-Some.word
-    c.read_behind.result c.cut_at_space.ensures c.in-Some.ensures (sym c.is_offered.ensures ∙ c.if-not-is_offered.false)
-    c.read_behind.ensures.found
+    c.read_behind.result c.cut_at_space.ensures c.in-Some.ensures c.read_behind.ensures.found
 
 pub returns-clause-memory : goal.returns-clause-memory
 returns-clause-memory c =
