@@ -3,9 +3,11 @@ use Rattle.std.specs.Prelude.{◌≡◌, ◌⊎◌, ℕ, List, [], ◌∷◌, �
 use Rattle.std.specs.Io.KnownBytes.{Appends}
 use Rattle.system.specs.declared.system.System.{System}
 use Rattle.debug_session.specs.Accepting.{Gives, IsRefused}
+use Rattle.debug_session.specs.Counting.{after_reading, after_writing}
+use Rattle.debug_session.specs.Pieces.{WritingStops}
 use Rattle.debug_session.specs.Transcript.{Debugged}
 use Rattle.debug_session.specs.declared.fault.Fault.{Fault}
-use Rattle.debug_session.specs.declared.fault.Fault.TheVariants.{Memory, ReadFailed, WriteFailed}
+use Rattle.debug_session.specs.declared.fault.Fault.TheVariants.{Memory, ReadFailed}
 use Rattle.command_line.specs.FaultLine.{fault_line}
 use Rattle.command_line.specs.declared.request.Request.{Request}
 
@@ -23,42 +25,51 @@ abbrev pub told_text : Done → List ℕ
 told_text (Ok done) = []
 told_text (Err fault) = fault_line fault
 
+-- the text was written so: it is out, or writing stopped with a beginning of it out
+abbrev pub Told : List ℕ → Option (List ℕ) → Option (List ℕ) → Done → Type 0
+Told text wrote held ended =
+    (given : List ℕ) × Appends wrote held given × MatchResult ended (λ _. given ≡ text) (λ fault. WritingStops text given fault)
+
+-- the writer counted a failure where what ended so has it: at 42 alone
+abbrev pub WriterBlamed : ℕ → ℕ → Done → Type 0
+WriterBlamed before behind ended = behind ≡ after_writing ended before
+
+-- and the reader did at 41 alone
+abbrev pub DevicesBlamed : ℕ → ℕ → ℕ → ℕ → Done → Type 0
+DevicesBlamed read_before read_behind before behind ended = (read_behind ≡ after_reading ended read_before) × WriterBlamed before behind ended
+
 -- a file was not had: there was no memory for it, or its name holds nothing that can be read
 abbrev pub NotHad : (Option (List ℕ) → Type 0) → Fault → Type 0
 NotHad held fault = (fault ≡ Memory) ⊎ ((fault ≡ ReadFailed) × held None)
-
--- the text is out; or writing failed, and a beginning of it is out
-abbrev pub IsOut : List ℕ → Option (List ℕ) → Option (List ℕ) → Done → Type 0
-IsOut text wrote held done =
-    (given : List ℕ) × Appends wrote held given
-    × MatchResult done (λ _. given ≡ text) (λ fault. (fault ≡ WriteFailed) × ((missing : List ℕ) × (text ≡ given ++ missing)))
 
 -- the answer to an accepted description
 abbrev pub accepted_line : List ℕ
 accepted_line = codes "accepted" ++ 10 ∷ []
 
--- `check` on these bytes: they are refused and nothing is written, or accepted, which is told
-abbrev pub Checked : List ℕ → Type 0 → Option (List ℕ) → Option (List ℕ) → Done → Type 0
-Checked source untouched wrote held done =
+-- `check` on these bytes: they are refused and nothing is written, or accepted, which is told; `caused` says that the devices
+-- failed as what ended so has it
+abbrev pub Checked : List ℕ → Type 0 → (Done → Type 0) → Option (List ℕ) → Option (List ℕ) → Done → Type 0
+Checked source untouched caused wrote held done =
     ((fault : Fault) × IsRefused source [] fault × (done ≡ Err fault) × untouched)
-    ⊎ ((system : System) × Gives source [] system × IsOut accepted_line wrote held done)
+    ⊎ ((system : System) × Gives source [] system × Told accepted_line wrote held done × caused done)
 
 -- `check` on the file of this name
-abbrev pub ChecksFile : (List ℕ → Option (List ℕ) → Type 0) → List ℕ → Type 0 → Option (List ℕ) → Option (List ℕ) → Done → Type 0
-ChecksFile holds file untouched wrote held done =
+abbrev pub ChecksFile : (List ℕ → Option (List ℕ) → Type 0) → List ℕ → Type 0 → (Done → Type 0) → Option (List ℕ) → Option (List ℕ) → Done → Type 0
+ChecksFile holds file untouched caused wrote held done =
     ((fault : Fault) × NotHad (holds file) fault × (done ≡ Err fault) × untouched)
-    ⊎ ((source : List ℕ) × holds file (Some source) × Checked source untouched wrote held done)
+    ⊎ ((source : List ℕ) × holds file (Some source) × Checked source untouched caused wrote held done)
 
 -- `debug` on the files of these names, of which the stimulus is read behind the source
-abbrev pub DebugsFiles : (List ℕ → Option (List ℕ) → Type 0) → List ℕ → List ℕ → Type 0 → Option (List ℕ) → Option (List ℕ) → Option (List ℕ) → Option (List ℕ) → Done → Type 0
-DebugsFiles holds file stimulus untouched read left wrote held done =
+abbrev pub DebugsFiles : (List ℕ → Option (List ℕ) → Type 0) → List ℕ → List ℕ → Type 0 → (Done → Type 0) → Option (List ℕ) → Option (List ℕ) → Option (List ℕ) → Option (List ℕ) → Done → Type 0
+DebugsFiles holds file stimulus untouched caused read left wrote held done =
     ((fault : Fault) × (NotHad (holds file) fault ⊎ NotHad (holds stimulus) fault) × (done ≡ Err fault) × untouched)
     ⊎ ((source : List ℕ) × (values : List ℕ) × holds file (Some source) × holds stimulus (Some values)
-    × Debugged source values untouched read left wrote held done)
+    × Debugged source values untouched read left wrote held done × caused done)
 
--- what the run does for the request; `unread` and `unwritten` say that the reader and the writer are as they were
-abbrev pub Serves : (List ℕ → Option (List ℕ) → Type 0) → Request → Type 0 → Type 0 → Option (List ℕ) → Option (List ℕ) → Option (List ℕ) → Option (List ℕ) → Done → Type 0
-Serves holds (Request.Check file) unread unwritten read left wrote held done =
-    unread × ChecksFile holds file.now unwritten wrote held done
-Serves holds (Request.Debug file stimulus) unread unwritten read left wrote held done =
-    DebugsFiles holds file.now stimulus.now (unread × unwritten) read left wrote held done
+-- what the run does for the request; `unread` and `unwritten` say that the reader and the writer are as they were, `written`
+-- that the writer failed as what ended so has it, and `caused` that both did
+abbrev pub Serves : (List ℕ → Option (List ℕ) → Type 0) → Request → Type 0 → Type 0 → (Done → Type 0) → (Done → Type 0) → Option (List ℕ) → Option (List ℕ) → Option (List ℕ) → Option (List ℕ) → Done → Type 0
+Serves holds (Request.Check file) unread unwritten written caused read left wrote held done =
+    unread × ChecksFile holds file.now unwritten written wrote held done
+Serves holds (Request.Debug file stimulus) unread unwritten written caused read left wrote held done =
+    DebugsFiles holds file.now stimulus.now (unread × unwritten) caused read left wrote held done

@@ -40,7 +40,8 @@ Step a description forwards and backwards, as a script says. It comes from
 standard input, and each line is answered as soon as it is read:
 
   ready           list the steps that can be taken now. The last word of each is
-                  its place; behind `sync` it is the first of the two
+                  its place; behind `sync` it is the first of the two. `open`
+                  has its arm before the places
   step PLACE      take the step that waits at this place: `step TICKET EVENT`
   step PLACE ARM  the same where one of several arms can be taken, from 0
   live            list the steps that are taken and not taken back
@@ -84,18 +85,20 @@ status 1. Behind most numbers stands the byte of FILE that is meant, from 0:
   11  this condition is not one bit wide
   12  this label or channel stands in two arms, or the label is too wide
   13  the arguments of this call do not fit the ports
-  14  the system has over 16384 nodes, or over 1024 levels
+  14  the system has over 16384 nodes, or a command inside over 1024 others
   15  this variable is written in one parallel branch and used in another
   16  this channel has two senders, two receivers or three syncs at a time
   17  this channel is open around this place
   41  a file is missing, or reading it or the script failed
   42  writing the answers failed
   51  this line of STIMULUS, from 1, fits no port
-  61  this line of the script, from 1, is none of its lines
+  61  this line of the script, from 1, is none of its lines, or names no
+      variable (a port or a channel is none)
 
 `refused N` as the answer of a script line says that it cannot be done now. Then
 nothing has changed, and the script goes on:
 
+   1  memory is used up
   21  nothing waits at this place with this arm
   22  65536 steps are live
   23  no live step has this ticket

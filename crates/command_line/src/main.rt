@@ -1,19 +1,19 @@
 //! `balsadbg`, the program: a causal-consistent reversible debugger for Balsa.
 #![tactic(auto)]
 
-mod fault;
 mod files;
 mod help;
 mod request;
 mod running;
+mod telling;
 
-use debug_session::Fault;
-use fault::write_fault;
+use debug_session::{Counted, Fault};
 use files::Disk;
 use running::run;
 use std::io::{BufReader, ErrorKind, Write};
 use std::process::ExitCode;
 use std::{env, io};
+use telling::write_fault;
 
 fn words(rt: &HostRuntime) -> io::Result<Vec<String>> {
     Ok(env::args(rt)?.collect(rt.alloc())?)
@@ -22,8 +22,9 @@ fn words(rt: &HostRuntime) -> io::Result<Vec<String>> {
 /// Runs the program on the words and the streams that the system gives it.
 fn run_here(rt: &HostRuntime) -> io::Result<u8> {
     let words = words(rt)?;
-    let mut reader = BufReader::new(rt.alloc(), rt.stdin())?;
-    let (mut out, mut err) = (rt.stdout(), rt.stderr());
+    let mut reader = Counted::new(BufReader::new(rt.alloc(), rt.stdin())?);
+    let mut out = Counted::new(rt.stdout());
+    let mut err = Counted::new(rt.stderr());
     Ok(run(
         rt,
         words.as_slice(),
@@ -35,7 +36,7 @@ fn run_here(rt: &HostRuntime) -> io::Result<u8> {
 }
 
 fn main(rt: HostRuntime) -> ExitCode {
-    let mut err = rt.stderr();
+    let mut err = Counted::new(rt.stderr());
     match run_here(&rt) {
         Ok(status) => ExitCode::from(status),
         Err(error) if error.kind() == ErrorKind::InvalidData => {

@@ -1,30 +1,39 @@
 //! One run of the program, over whatever reads and writes.
 
-ghost use Rattle.std.specs.Prelude.{◌≡◌, ◌≤◌, OnOk};
-ghost use Rattle.std.specs.Io.KnownBytes.{Appends};
-ghost use Rattle.command_line.specs.Serving.{Done, status_of, told_text, Checked, ChecksFile, DebugsFiles, Serves};
+ghost use Rattle.std.specs.Prelude.{◌≡◌, ◌≤◌};
+ghost use Rattle.debug_session.specs.Counting.{device, failures, after_writing};
+ghost use Rattle.command_line.specs.Serving.{Done, Told, status_of, told_text, WriterBlamed, DevicesBlamed, Checked, ChecksFile, DebugsFiles, Serves};
 
-use crate::fault::write_fault;
 use crate::files::Files;
 use crate::request::{Request, requested};
+use crate::telling::write_fault;
 use clap::Error;
-use debug_session::{Fault, accept, debug, write_out};
+use clap::error::ErrorKind;
+use debug_session::{Counted, Fault, accept, debug, write_out};
 use std::alloc::Global;
 use std::convert::AsStr;
-use std::io;
 use std::io::{BufRead, Write};
 
 /// Says whether the description is accepted.
-fn check_source<O: Write>(alloc: Global, source: &[u8], out: &mut O) -> Result<(), Fault>
-    ensures { Checked source.now (out.new ≡ out.old) (O.contents out.old) (O.contents out.new) result }
+fn check_source<O: Write>(alloc: Global, source: &[u8], out: &mut Counted<O>) -> Result<(), Fault>
+    ensures { Checked source.now (out.new ≡ out.old)
+        (WriterBlamed (failures out.old) (failures out.new))
+        (O.contents (device out.old)) (O.contents (device out.new)) result }
 {
     accept(alloc, source, b"")?;
     write_out(out, b"accepted\n")
 }
 
 /// Says whether the description in `file` is accepted.
-fn check<F: Files, O: Write>(alloc: Global, file: &str, files: &F, out: &mut O) -> Result<(), Fault>
-    ensures { ChecksFile (F.holds files.now) file.now (out.new ≡ out.old) (O.contents out.old) (O.contents out.new) result }
+fn check<F: Files, O: Write>(
+    alloc: Global,
+    file: &str,
+    files: &F,
+    out: &mut Counted<O>,
+) -> Result<(), Fault>
+    ensures { ChecksFile (F.holds files.now) file.now (out.new ≡ out.old)
+        (WriterBlamed (failures out.old) (failures out.new))
+        (O.contents (device out.old)) (O.contents (device out.new)) result }
 {
     let source = files.read(alloc, file)?;
     check_source(alloc, source.as_slice(), out)
@@ -36,11 +45,12 @@ fn answer_script<F: Files, I: BufRead, O: Write>(
     file: &str,
     stimulus: &str,
     files: &F,
-    reader: &mut I,
-    out: &mut O,
+    reader: &mut Counted<I>,
+    out: &mut Counted<O>,
 ) -> Result<(), Fault>
     ensures { DebugsFiles (F.holds files.now) file.now stimulus.now ((reader.new ≡ reader.old) × (out.new ≡ out.old))
-        (I.remaining reader.old) (I.remaining reader.new) (O.contents out.old) (O.contents out.new) result }
+        (DevicesBlamed (failures reader.old) (failures reader.new) (failures out.old) (failures out.new))
+        (I.remaining (device reader.old)) (I.remaining (device reader.new)) (O.contents (device out.old)) (O.contents (device out.new)) result }
 {
     let source = files.read(alloc, file)?;
     let values = files.read(alloc, stimulus)?;
@@ -53,14 +63,15 @@ pub struct Ended {
     /// The status to end with: 0 where all was done, 1 where it was refused.
     pub status: u8,
     /// Whether a refusal could be told on standard error.
-    pub told: io::Result<()>,
+    pub told: Result<(), Fault>,
 }
 
 /// The end of a run whose work ended so. A refusal is told on `err`.
-fn finish<E: Write>(done: Result<(), Fault>, err: &mut E) -> Ended
+fn finish<E: Write>(done: Result<(), Fault>, err: &mut Counted<E>) -> Ended
     ensures status { result.status ≡ status_of done }
     ensures range { result.status ≤ 1 }
-    ensures told { OnOk result.told (Appends (E.contents err.old) (E.contents err.new) (told_text done)) }
+    ensures told { Told (told_text done) (E.contents (device err.old)) (E.contents (device err.new)) result.told }
+    ensures failures { failures err.new ≡ after_writing result.told (failures err.old) }
     ensures quiet { result.status ≡ 0 → err.new ≡ err.old }
 {
     match done {
@@ -80,11 +91,13 @@ fn perform<F: Files, I: BufRead, O: Write>(
     alloc: Global,
     request: Request<'_>,
     files: &F,
-    reader: &mut I,
-    out: &mut O,
+    reader: &mut Counted<I>,
+    out: &mut Counted<O>,
 ) -> Result<(), Fault>
     ensures { Serves (F.holds files.now) request.entry (reader.new ≡ reader.old) (out.new ≡ out.old)
-        (I.remaining reader.old) (I.remaining reader.new) (O.contents out.old) (O.contents out.new) result }
+        (WriterBlamed (failures out.old) (failures out.new))
+        (DevicesBlamed (failures reader.old) (failures reader.new) (failures out.old) (failures out.new))
+        (I.remaining (device reader.old)) (I.remaining (device reader.new)) (O.contents (device out.old)) (O.contents (device out.new)) result }
 {
     match request {
         Request::Check { file } => check(alloc, file, files, out),
@@ -99,15 +112,18 @@ pub fn serve<F: Files, I: BufRead, O: Write, E: Write>(
     alloc: Global,
     request: Request<'_>,
     files: &F,
-    reader: &mut I,
-    out: &mut O,
-    err: &mut E,
+    reader: &mut Counted<I>,
+    out: &mut Counted<O>,
+    err: &mut Counted<E>,
 ) -> Ended
     ensures served { (done : Done)
         × Serves (F.holds files.now) request.entry (reader.new ≡ reader.old) (out.new ≡ out.old)
-        (I.remaining reader.old) (I.remaining reader.new) (O.contents out.old) (O.contents out.new) done
+        (WriterBlamed (failures out.old) (failures out.new))
+        (DevicesBlamed (failures reader.old) (failures reader.new) (failures out.old) (failures out.new))
+        (I.remaining (device reader.old)) (I.remaining (device reader.new)) (O.contents (device out.old)) (O.contents (device out.new)) done
         × (result.status ≡ status_of done)
-        × OnOk result.told (Appends (E.contents err.old) (E.contents err.new) (told_text done)) }
+        × Told (told_text done) (E.contents (device err.old)) (E.contents (device err.new)) result.told }
+    ensures failures { failures err.new ≡ after_writing result.told (failures err.old) }
     ensures status { result.status ≤ 1 }
     ensures quiet { result.status ≡ 0 → err.new ≡ err.old }
 {
@@ -116,11 +132,14 @@ pub fn serve<F: Files, I: BufRead, O: Write, E: Write>(
 }
 
 /// Says why there is nothing to do: help was asked for, or the words are mistaken.
-fn explain<O: Write, E: Write>(error: &Error, out: &mut O, err: &mut E) -> u8
+fn explain<O: Write, E: Write>(error: &Error, out: &mut Counted<O>, err: &mut Counted<E>) -> u8
     ensures status { result ≤ 2 }
     ensures mistake { result ≡ 2 → out.new ≡ out.old }
     ensures help { result ≡ 0 → err.new ≡ err.old }
 {
+    if error.kind() == ErrorKind::OutOfMemory {
+        return finish(Err(Fault::Memory), err).status;
+    }
     if error.use_stderr() {
         let _ = write!(err, "{error}");
         return 2;
@@ -139,9 +158,9 @@ pub fn run<R: AllocGlobal, S: AsStr, F: Files, I: BufRead, O: Write, E: Write>(
     rt: &R,
     words: &[S],
     files: &F,
-    reader: &mut I,
-    out: &mut O,
-    err: &mut E,
+    reader: &mut Counted<I>,
+    out: &mut Counted<O>,
+    err: &mut Counted<E>,
 ) -> u8
     ensures status { result ≤ 2 }
     ensures mistake { result ≡ 2 → out.new ≡ out.old }

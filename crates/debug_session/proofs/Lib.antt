@@ -1,6 +1,7 @@
 pub mod AcceptLemmas
 pub mod AskLemmas
 pub mod ChoiceLemmas
+pub mod CountLemmas
 pub mod CutLemmas
 pub mod DecimalLemmas
 pub mod KnownLemmas

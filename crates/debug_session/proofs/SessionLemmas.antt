@@ -180,13 +180,13 @@ no-bytes = All-nil IsNoEnd
 
 -- no line is left to count
 pub session-endless : (s : System) (o m : Object) (read left wrote held : Option (List ℕ)) (number : ℕ)
-    → Progress s o read left wrote held m number → Ends s o read left wrote held (Err Fault.ReadFailed)
+    → Progress s o read left wrote held m number → Ends s o read left wrote held (Err Fault.Memory)
 session-endless s o m read left wrote held number p = (
   flat_map with_end p.lines,
   p.output,
   p.taken,
   p.given,
-  (p.lines, [], record { joined = sym (append-nil (flat_map with_end p.lines)); each = p.each; unended = no-bytes }, (m, p.answered)),
+  (p.lines, [], (m, p.answered), inl (record { joined = sym (append-nil (flat_map with_end p.lines)); each = p.each; unended = no-bytes })),
 )
 
 -- the end that the result is equal to

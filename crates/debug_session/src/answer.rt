@@ -2,12 +2,13 @@ ghost use Rattle.std.specs.Prelude.{◌≡◌, List, ℕ, MatchResult, IfOk, OnE
 ghost use Rattle.std.specs.Io.KnownBytes.{Appends};
 ghost use Rattle.calculus.specs.declared.command.Command.{Command};
 ghost use Rattle.locked_execution.specs.Held.{object};
+ghost use Rattle.debug_session.specs.Counting.{device, failures, after_reading, after_writing};
 ghost use Rattle.debug_session.specs.Pieces.{LineStops};
 ghost use Rattle.debug_session.specs.Transcript.{SaidAnswered, LineAnswered, Ends};
 
 use crate::input::read_line;
 use crate::output::write_out;
-use crate::{Fault, Line, read_command, write_reply};
+use crate::{Counted, Fault, Line, read_command, write_reply};
 use locked_execution::Desk;
 use std::alloc::{AllocError, Global};
 use std::io::{BufRead, Write};
@@ -17,11 +18,13 @@ use std::io::{BufRead, Write};
 pub(crate) fn answer_lines<R: BufRead, W: Write>(
     alloc: Global,
     desk: &mut Desk,
-    reader: &mut R,
-    writer: &mut W,
+    reader: &mut Counted<R>,
+    writer: &mut Counted<W>,
 ) -> Result<(), Fault>
-    ensures { Ends desk.old.checked (object desk.old) (R.remaining reader.old) (R.remaining reader.new)
-        (W.contents writer.old) (W.contents writer.new) result }
+    ensures ends { Ends desk.old.checked (object desk.old) (R.remaining (device reader.old)) (R.remaining (device reader.new))
+        (W.contents (device writer.old)) (W.contents (device writer.new)) result }
+    ensures read_failures { failures reader.new ≡ after_reading result (failures reader.old) }
+    ensures write_failures { failures writer.new ≡ after_writing result (failures writer.old) }
 {
     let mut line = Vec::new(alloc);
     for number in 1..u64::MAX {
@@ -31,23 +34,24 @@ pub(crate) fn answer_lines<R: BufRead, W: Write>(
             return Ok(());
         }
     }
-    // No script has so many lines.
-    Err(Fault::ReadFailed)
+    // No script has so many lines: there is no room for their number.
+    Err(Fault::Memory)
 }
 
 /// Answers one line, without its end, and flushes the answer.
 fn answer_line<W: Write>(
     alloc: Global,
     desk: &mut Desk,
-    writer: &mut W,
+    writer: &mut Counted<W>,
     line: &[u8],
     number: u64,
 ) -> Result<(), Fault>
     ensures checked { desk.new.checked ≡ desk.old.checked }
-    ensures answered { (given : List ℕ) × Appends (W.contents writer.old) (W.contents writer.new) given
+    ensures answered { (given : List ℕ) × Appends (W.contents (device writer.old)) (W.contents (device writer.new)) given
         × MatchResult result
         (λ _. LineAnswered desk.old.checked (object desk.old) line.now given (object desk.new))
         (λ fault. LineStops desk.old.checked (object desk.old) line.now number given fault) }
+    ensures failures { failures writer.new ≡ after_writing result (failures writer.old) }
 {
     let said = read_command(alloc, desk.machine().checked(), line, number)?;
     let answer = answer_to(alloc, desk, &said)?;

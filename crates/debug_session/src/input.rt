@@ -1,21 +1,27 @@
-ghost use Rattle.std.specs.Prelude.{◌≡◌, ◌≢◌, ◌⊎◌, ◌++◌, ◌∷◌, [], false, MatchResult, MatchBool};
+ghost use Rattle.std.specs.Prelude.{◌≡◌, ◌≢◌, ◌⊎◌, ◌++◌, ◌∷◌, [], true, false, MatchResult, MatchBool};
 ghost use Rattle.std.specs.IoError.{error_kind};
 ghost use Rattle.std.specs.Io.BufRead.{ends_with_byte};
+ghost use Rattle.debug_session.specs.Counting.{device, failures, after_reading};
 ghost use Rattle.debug_session.specs.Pieces.{TakesLine, ReadingStops};
 ghost use Rattle.debug_session.specs.declared.fault.Fault.TheVariants.{Memory, ReadFailed};
 
 use crate::Fault;
+use crate::counted::{Counted, ends_line};
 use std::io::{BufRead, Error, ErrorKind};
 
 /// Takes the next line into `line`, in place of what was there, without byte 10 at its end, and tells whether it was
 /// there. A line that is there whole counts even where the reader then failed.
-pub(crate) fn read_line<R: BufRead>(reader: &mut R, line: &mut Vec<u8>) -> Result<bool, Fault>
-    ensures { MatchResult result
-        (λ complete. TakesLine (R.remaining reader.old) (R.remaining reader.new) line.new.items complete)
-        (λ fault. ReadingStops (R.remaining reader.old) (R.remaining reader.new) line.new.items fault) }
+pub(crate) fn read_line<R: BufRead>(
+    reader: &mut Counted<R>,
+    line: &mut Vec<u8>,
+) -> Result<bool, Fault>
+    ensures line { MatchResult result
+        (λ complete. TakesLine (R.remaining (device reader.old)) (R.remaining (device reader.new)) line.new.items complete)
+        (λ fault. ReadingStops (R.remaining (device reader.old)) (R.remaining (device reader.new)) line.new.items fault) }
+    ensures failures { failures reader.new ≡ after_reading result (failures reader.old) }
 {
     line.clear();
-    let read = reader.read_until(b'\n', line);
+    let read = reader.read_through(line);
     if strip_end(line) {
         return Ok(true);
     }
@@ -27,7 +33,7 @@ pub(crate) fn read_line<R: BufRead>(reader: &mut R, line: &mut Vec<u8>) -> Resul
 
 /// Takes byte 10 off the end, and tells whether it was there.
 fn strip_end(line: &mut Vec<u8>) -> bool
-    ensures { MatchBool result (line.old.items ≡ line.new.items ++ 10 ∷ [])
+    ensures { MatchBool result ((line.old.items ≡ line.new.items ++ 10 ∷ []) × (ends_with_byte 10 line.old.items ≡ true))
         ((line.new.items ≡ line.old.items) × (ends_with_byte 10 line.old.items ≡ false)) }
 {
     if !ends_line(line.as_slice()) {
@@ -35,13 +41,6 @@ fn strip_end(line: &mut Vec<u8>) -> bool
     }
     let _end = line.pop();
     true
-}
-
-/// Whether the last byte is 10.
-fn ends_line(line: &[u8]) -> bool
-    ensures { result ≡ ends_with_byte 10 line.now }
-{
-    !line.is_empty() && line[line.len() - 1] == b'\n'
 }
 
 /// What a failure of the reader is called.

@@ -2,6 +2,7 @@
 #![tactic(auto)]
 
 mod answer;
+mod counted;
 mod event;
 mod fault;
 mod fields;
@@ -16,6 +17,7 @@ mod text;
 mod whole;
 mod word;
 
+pub use counted::Counted;
 pub use fault::Fault;
 pub use laws::line_laws;
 pub use line::Line;

@@ -1,37 +1,37 @@
-ghost use Rattle.std.specs.Prelude.{◌≡◌, ◌≢◌, ◌<◌, ◌≤◌, List, ℕ, length, take, MatchResult, IfErr};
+ghost use Rattle.std.specs.Prelude.{◌≡◌, ◌≢◌, ◌<◌, ◌≤◌, ◌+◌, ◌-◌, List, ℕ, [], length, take, MatchResult, IfOk};
 ghost use Rattle.std.specs.IoError.{error_kind};
 ghost use Rattle.std.specs.Io.KnownBytes.{Appends, Keeps};
 ghost use Rattle.debug_session.specs.declared.fault.Fault.TheVariants.{WriteFailed};
+ghost use Rattle.debug_session.specs.Counting.{device, failures, patience, after_writing};
 ghost use Rattle.debug_session.specs.Pieces.{WritingStops};
 
 use crate::Fault;
+use crate::counted::Counted;
 use std::io::{Error, ErrorKind, Write};
 
 /// Writes all the bytes and flushes. Where the writer fails, or takes no byte, it has taken a beginning of them.
-pub fn write_out<W: Write>(writer: &mut W, bytes: &[u8]) -> Result<(), Fault>
-    ensures { (given : List ℕ) × Appends (W.contents writer.old) (W.contents writer.new) given
+pub fn write_out<W: Write>(writer: &mut Counted<W>, bytes: &[u8]) -> Result<(), Fault>
+    ensures bytes { (given : List ℕ) × Appends (W.contents (device writer.old)) (W.contents (device writer.new)) given
         × MatchResult result (λ _. given ≡ bytes.now) (λ fault. WritingStops bytes.now given fault) }
+    ensures failures { failures writer.new ≡ after_writing result (failures writer.old) }
 {
     let mut rest = bytes;
-    for _ in 0..u64::MAX {
-        if rest.is_empty() {
-            break;
-        }
+    while !rest.is_empty() {
         let count = write_some(writer, rest)?;
         let (_, left) = rest.split_at(count);
         rest = left;
     }
-    if !rest.is_empty() {
-        return Err(Fault::WriteFailed);
-    }
     flush(writer)
 }
 
-/// How many of the bytes the writer took: none where it was interrupted.
-fn write_some<W: Write>(writer: &mut W, bytes: &[u8]) -> Result<usize, Fault>
-    ensures { MatchResult result
-        (λ count. (count ≤ length bytes.now) × Appends (W.contents writer.old) (W.contents writer.new) (take count bytes.now))
-        (λ fault. (fault ≡ WriteFailed) × Keeps (W.contents writer.old) (W.contents writer.new)) }
+/// How many of the bytes, of which there are some, the writer took: none where it was interrupted.
+fn write_some<W: Write>(writer: &mut Counted<W>, bytes: &[u8]) -> Result<usize, Fault>
+    requires { bytes.now ≢ [] }
+    ensures bytes { MatchResult result
+        (λ count. (count ≤ length bytes.now) × Appends (W.contents (device writer.old)) (W.contents (device writer.new)) (take count bytes.now))
+        (λ fault. (fault ≡ WriteFailed) × Keeps (W.contents (device writer.old)) (W.contents (device writer.new))) }
+    ensures failures { failures writer.new ≡ after_writing result (failures writer.old) }
+    ensures less { IfOk result (λ count. patience writer.new + (length bytes.now - count) < patience writer.old + length bytes.now) }
 {
     match writer.write(bytes) {
         Ok(count) => taken(count),
@@ -64,9 +64,10 @@ fn failed(error: &Error) -> Result<usize, Fault>
 }
 
 /// Flushes the writer.
-fn flush<W: Write>(writer: &mut W) -> Result<(), Fault>
-    ensures bytes { Keeps (W.contents writer.old) (W.contents writer.new) }
-    ensures fault { IfErr result (λ fault. fault ≡ WriteFailed) }
+fn flush<W: Write>(writer: &mut Counted<W>) -> Result<(), Fault>
+    ensures bytes { MatchResult result (λ _. Keeps (W.contents (device writer.old)) (W.contents (device writer.new)))
+        (λ fault. (fault ≡ WriteFailed) × Keeps (W.contents (device writer.old)) (W.contents (device writer.new))) }
+    ensures failures { failures writer.new ≡ after_writing result (failures writer.old) }
 {
     match writer.flush() {
         Ok(()) => Ok(()),

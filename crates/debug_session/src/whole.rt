@@ -1,9 +1,10 @@
 ghost use Rattle.std.specs.Prelude.{◌≡◌, IfOk, IfErr};
 ghost use Rattle.debug_session.specs.Accepting.{Gives, IsRefused};
+ghost use Rattle.debug_session.specs.Counting.{device, failures, after_reading, after_writing};
 ghost use Rattle.debug_session.specs.Transcript.{Debugged};
 
-use crate::Fault;
 use crate::answer::answer_lines;
+use crate::{Counted, Fault};
 use elaborate::{Stimulus, elaborate};
 use lexer::lex;
 use locked_execution::{Desk, Machine};
@@ -31,16 +32,19 @@ pub fn accept(alloc: Global, source: &[u8], stimulus: &[u8]) -> Result<Checked, 
 /// Answers the lines of `reader` on `writer`, each as soon as it was read, over the system of source and stimulus.
 ///
 /// Source and stimulus are accepted before anything is read. The answers are out and flushed line by line; at a
-/// fault the answers of the lines before are out, and where writing failed a beginning of the answers.
+/// fault the answers of the lines before are out, and where writing failed a beginning of the answers. `ReadFailed` and
+/// `WriteFailed` come exactly where reader and writer count a failure.
 pub fn debug<R: BufRead, W: Write>(
     alloc: Global,
-    reader: &mut R,
-    writer: &mut W,
+    reader: &mut Counted<R>,
+    writer: &mut Counted<W>,
     source: &[u8],
     stimulus: &[u8],
 ) -> Result<(), Fault>
-    ensures { Debugged source.now stimulus.now ((reader.new ≡ reader.old) × (writer.new ≡ writer.old)) (R.remaining reader.old) (R.remaining reader.new)
-        (W.contents writer.old) (W.contents writer.new) result }
+    ensures debugged { Debugged source.now stimulus.now ((reader.new ≡ reader.old) × (writer.new ≡ writer.old)) (R.remaining (device reader.old)) (R.remaining (device reader.new))
+        (W.contents (device writer.old)) (W.contents (device writer.new)) result }
+    ensures read_failures { failures reader.new ≡ after_reading result (failures reader.old) }
+    ensures write_failures { failures writer.new ≡ after_writing result (failures writer.old) }
 {
     let checked = accept(alloc, source, stimulus)?;
     let mut desk = Desk::new(Machine::new(alloc, checked)?);

@@ -43,13 +43,29 @@ pub(crate) fn system_of(
 {
     let named_ports = NamedPorts::new(alloc, root_ports(procedures))?;
     let named_entries = NamedEntries::new(alloc, entries)?;
-    if let Some(line) = misfit(&named_ports, &named_entries) {
+    system_by_names(alloc, procedures, &named_ports, &named_entries)
+}
+
+/// The same, where ports and entries are found by their names. (It owns nothing that an early end would drop, which keeps
+/// its proof cheap.)
+fn system_by_names(
+    alloc: Global,
+    procedures: &[Procedure],
+    ports: &NamedPorts<'_>,
+    entries: &NamedEntries<'_>,
+) -> Result<System, Fault>
+    requires { ports.now ≡ root.root_ports procedures.now }
+    ensures system { IfOk result (λ system. system ≡ model.system_of procedures.now entries.now) }
+    ensures accepted { OnOk result (model.IsAccepted procedures.now entries.now) }
+    ensures fault { IfErr result (λ fault. (fault ≡ Memory) ⊎ model.IsRefused procedures.now entries.now fault) }
+{
+    if let Some(line) = misfit(ports, entries) {
         return Err(Fault::BadStimulus(line));
     }
-    if !is_within_limits(alloc, procedures, entries)? {
+    if !is_within_limits(alloc, procedures, entries.as_slice())? {
         return Err(Fault::TooManyNodes);
     }
-    let system = made_system(alloc, procedures, &named_entries)?;
+    let system = made_system(alloc, procedures, entries)?;
     Ok(system)
 }
 

@@ -1,8 +1,9 @@
 //! Descriptions that are accepted, and one for sessions: a value in and out again.
 
-use debug_session::accept;
+use debug_session::{Counted, Fault, accept, debug};
 use sharing_check::Checked;
 use std::alloc::Global;
+use std::io::{BufRead, Write};
 use std::test::Fail;
 
 pub const ONE: &[u8] = b"type byte is 8 bits procedure one (input i : byte; output o : byte) is \
@@ -13,4 +14,19 @@ pub const FIVE: &[u8] = b"i = 5\n";
 /// The system of the source, with a stimulus that says nothing.
 pub fn checked(alloc: Global, source: &[u8]) -> Result<Checked, Fail> {
     Ok(accept(alloc, source, b"")?)
+}
+
+/// A session over the description, with devices that count their failures.
+pub fn over<R: BufRead, W: Write>(
+    alloc: Global,
+    reader: &mut R,
+    writer: &mut W,
+) -> Result<(), Fault> {
+    debug(
+        alloc,
+        &mut Counted::new(reader),
+        &mut Counted::new(writer),
+        ONE,
+        FIVE,
+    )
 }

@@ -1,7 +1,7 @@
 //! How a session uses its reader and its writer: when it asks, when it flushes, and what their failures become.
 
-use crate::one::{FIVE, ONE};
-use debug_session::{Fault, debug};
+use crate::one::over;
+use debug_session::Fault;
 use std::cell::Cell;
 use std::io;
 use std::io::{BufRead, BufWriter, ErrorKind, Read, Write};
@@ -98,7 +98,7 @@ fn each_answer_is_flushed_before_the_next_line_is_asked_for(rt: HostRuntime) -> 
         log: &log,
     };
     let mut writer = Counting { log: &log };
-    debug(rt.alloc(), &mut reader, &mut writer, ONE, FIVE)?;
+    over(rt.alloc(), &mut reader, &mut writer)?;
     assert!(rt; !log.is_early.get());
     assert_eq!(rt; log.flushed.get(), 3 * ANSWER);
     Ok(())
@@ -108,7 +108,7 @@ fn each_answer_is_flushed_before_the_next_line_is_asked_for(rt: HostRuntime) -> 
 fn a_writer_with_a_buffer_is_flushed(rt: HostRuntime) -> Result<(), Fail> {
     let mut reader: &[u8] = b"live\nvalue x";
     let mut out = BufWriter::new(rt.alloc(), Vec::with_capacity(rt.alloc(), 64)?)?;
-    debug(rt.alloc(), &mut reader, &mut out, ONE, FIVE)?;
+    over(rt.alloc(), &mut reader, &mut out)?;
     assert_eq!(rt; out.get_ref().as_slice(), b"live 0\nvalue x 0\n".as_slice());
     Ok(())
 }
@@ -147,7 +147,7 @@ fn a_failed_read_is_what_its_kind_says(rt: HostRuntime) -> Result<(), Fail> {
     for (kind, expected) in cases {
         let mut reader = Failing { first: Some(kind) };
         let mut out: Vec<u8> = Vec::new(rt.alloc());
-        let ended = debug(rt.alloc(), &mut reader, &mut out, ONE, FIVE);
+        let ended = over(rt.alloc(), &mut reader, &mut out);
         assert!(rt; ended == expected, "{kind:?}");
     }
     Ok(())
@@ -200,9 +200,36 @@ fn a_write_is_made_again_after_an_interruption_alone(rt: HostRuntime) -> Result<
             first: Some(first),
             taken,
         };
-        let ended = debug(rt.alloc(), &mut reader, &mut out, ONE, FIVE);
+        let ended = over(rt.alloc(), &mut reader, &mut out);
         assert!(rt; ended == expected, "{first:?}");
         assert!(rt; out.taken.as_slice() == bytes, "{first:?}");
+    }
+    Ok(())
+}
+
+/// A writer whose flush fails.
+#[derive(Drop)]
+struct Unflushed {
+    kind: ErrorKind,
+}
+
+impl Write for Unflushed {
+    fn write(&mut self, buf: &[u8]) -> io::Result<usize> {
+        Ok(buf.len())
+    }
+
+    fn flush(&mut self) -> io::Result<()> {
+        Err(self.kind.into())
+    }
+}
+
+#[test]
+fn a_failed_flush_ends_the_session(rt: HostRuntime) -> Result<(), Fail> {
+    for kind in [ErrorKind::Other, ErrorKind::Interrupted] {
+        let mut reader: &[u8] = b"live\nlive\n";
+        let mut out = Unflushed { kind };
+        let ended = over(rt.alloc(), &mut reader, &mut out);
+        assert!(rt; ended == Err(Fault::WriteFailed), "{kind:?}");
     }
     Ok(())
 }

@@ -1,8 +1,8 @@
 //! Sessions whose reader or writer fails.
 
-use crate::one::{FIVE, ONE};
+use crate::one::over;
 use calculus::Refusal;
-use debug_session::{Fault, debug};
+use debug_session::Fault;
 use std::io;
 use std::io::{BufRead, ErrorKind, Read, Write};
 use std::test::Fail;
@@ -60,7 +60,7 @@ fn a_reader_fails_behind_its_complete_lines(rt: HostRuntime) -> Result<(), Fail>
     for (script, answers) in BROKEN {
         let mut reader = script.chain(Broken);
         let mut out: Vec<u8> = Vec::with_capacity(rt.alloc(), 1024)?;
-        let ended = debug(rt.alloc(), &mut reader, &mut out, ONE, FIVE);
+        let ended = over(rt.alloc(), &mut reader, &mut out);
         ends(ended, Fault::ReadFailed)?;
         has_memory(out.as_slice())?;
         assert_eq!(rt; out.as_slice(), answers);
@@ -100,7 +100,7 @@ fn a_writer_fails_with_a_beginning_out(rt: HostRuntime) -> Result<(), Fail> {
         let mut reader: &[u8] = b"live\nlive\nlive\n";
         let taken = Vec::with_capacity(rt.alloc(), 20)?;
         let mut out = Narrow { taken, room };
-        let ended = debug(rt.alloc(), &mut reader, &mut out, ONE, FIVE);
+        let ended = over(rt.alloc(), &mut reader, &mut out);
         ends(ended, Fault::WriteFailed)?;
         assert!(rt;
             b"live 0\nlive 0\nlive 0\n".starts_with(out.taken.as_slice()),

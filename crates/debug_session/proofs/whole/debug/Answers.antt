@@ -2,12 +2,12 @@ use Rattle.std.proofs.Common.{inr, ◌∙◌}
 use Rattle.debug_session.proofs.SessionLemmas.{begun}
 use Rattle.debug_session.proofs.whole.debug.Goals as goal
 
-pub returns : goal.returns
-returns g c =
+pub returns-clause-debugged : goal.returns-clause-debugged
+returns-clause-debugged g c =
     inr (
       c.in_ok-checked.checked,
       c.in_ok-checked.ensures.system,
-      begun c.new-desk.result c.in_ok-checked.checked (g.R.Read.remaining c.args.reader.now) (g.R.Read.remaining c.answer_lines.new.reader)
-          (g.W.Write.contents c.args.writer.now) (g.W.Write.contents c.answer_lines.new.writer) c.answer_lines.result
-          (c.new-desk.ensures ∙ c.in_ok-new.ensures) c.answer_lines.ensures,
+      begun c.new-desk.result c.in_ok-checked.checked (g.R.Read.remaining c.args.reader.now.device) (g.R.Read.remaining c.answer_lines.new.reader.device)
+          (g.W.Write.contents c.args.writer.now.device) (g.W.Write.contents c.answer_lines.new.writer.device) c.answer_lines.result
+          (c.new-desk.ensures ∙ c.in_ok-new.ensures) c.answer_lines.ensures.ends,
     )

@@ -1,0 +1,68 @@
+-- What a fault says of the failures of reader and writer.
+use Rattle.std.proofs.Common.{◌≡◌, ◌≢◌, ◌⊎◌, inl, inr, ℕ, List, Result, Err, refl, sym, ap, ◌∙◌}
+use Rattle.system.specs.declared.system.System.{System}
+use Rattle.calculus.specs.Object.{Object}
+use Rattle.debug_session.specs.Accepting.{IsRefused}
+use Rattle.debug_session.specs.Counting.{fault_reads, fault_writes, after_reading, after_writing}
+use Rattle.debug_session.specs.Pieces.{LineStops}
+use Rattle.debug_session.specs.declared.fault.Fault.{Fault}
+use Rattle.debug_session.proofs.AskLemmas.{Unsaid}
+
+-- a fault of reading is none of writing
+pub unread-writes : (fault : Fault) (n : ℕ) → (fault ≡ Fault.Memory) ⊎ (fault ≡ Fault.ReadFailed) → fault_writes fault n ≡ n
+unread-writes fault n h =
+    elim h [ inl e ↦ ap (λ (f : Fault). fault_writes f n) e | inr e ↦ ap (λ (f : Fault). fault_writes f n) e ]
+
+-- a line that says nothing is no fault of writing
+pub unsaid-writes : (s : System) (line : List ℕ) (number : ℕ) (fault : Fault) (n : ℕ) → Unsaid s line number fault → fault_writes fault n ≡ n
+unsaid-writes s line number fault n h =
+    elim h [ inl e ↦ ap (λ (f : Fault). fault_writes f n) e.0 | inr e ↦ ap (λ (f : Fault). fault_writes f n) e.0 ]
+
+-- a line that is not answered is no fault of reading
+pub stops-reads : (s : System) (o : Object) (line : List ℕ) (number : ℕ) (given : List ℕ) (fault : Fault) (n : ℕ)
+    → LineStops s o line number given fault → fault_reads fault n ≡ n
+stops-reads s o line number given Fault.Memory n h = refl
+stops-reads s o line number given (Fault.Lexer f) n h = refl
+stops-reads s o line number given (Fault.Parser f) n h = refl
+stops-reads s o line number given (Fault.Types f) n h = refl
+stops-reads s o line number given (Fault.Elaborate f) n h = refl
+stops-reads s o line number given (Fault.Sharing f) n h = refl
+stops-reads s o line number given Fault.ReadFailed n h = absurd h
+stops-reads s o line number given Fault.WriteFailed n h = refl
+stops-reads s o line number given (Fault.BadCommand k) n h = refl
+
+-- a refusal of source and stimulus is no fault of reading
+pub refused-reads : (source stimulus : List ℕ) (fault : Fault) (n : ℕ) → IsRefused source stimulus fault → fault_reads fault n ≡ n
+refused-reads source stimulus Fault.Memory n h = refl
+refused-reads source stimulus (Fault.Lexer f) n h = refl
+refused-reads source stimulus (Fault.Parser f) n h = refl
+refused-reads source stimulus (Fault.Types f) n h = refl
+refused-reads source stimulus (Fault.Elaborate f) n h = refl
+refused-reads source stimulus (Fault.Sharing f) n h = refl
+refused-reads source stimulus Fault.ReadFailed n h = absurd h
+refused-reads source stimulus Fault.WriteFailed n h = refl
+refused-reads source stimulus (Fault.BadCommand k) n h = refl
+
+-- nor one of writing
+pub refused-writes : (source stimulus : List ℕ) (fault : Fault) (n : ℕ) → IsRefused source stimulus fault → fault_writes fault n ≡ n
+refused-writes source stimulus Fault.Memory n h = refl
+refused-writes source stimulus (Fault.Lexer f) n h = refl
+refused-writes source stimulus (Fault.Parser f) n h = refl
+refused-writes source stimulus (Fault.Types f) n h = refl
+refused-writes source stimulus (Fault.Elaborate f) n h = refl
+refused-writes source stimulus (Fault.Sharing f) n h = refl
+refused-writes source stimulus Fault.ReadFailed n h = refl
+refused-writes source stimulus Fault.WriteFailed n h = absurd h
+refused-writes source stimulus (Fault.BadCommand k) n h = refl
+
+-- what a fault says of the reader, told by a result that is this fault
+pub reads-on : (m n k : ℕ) (fault : Fault) (r : Result (Unit {0}) Fault) → m ≡ fault_reads fault n → n ≡ k → r ≡ Err fault
+    → m ≡ after_reading r k
+reads-on m n k fault r a b e =
+    a ∙ (ap (λ (x : ℕ). fault_reads fault x) b ∙ ap (λ (x : Result (Unit {0}) Fault). after_reading x k) (sym e))
+
+-- what it says of the writer
+pub writes-on : (m n k : ℕ) (fault : Fault) (r : Result (Unit {0}) Fault) → m ≡ fault_writes fault n → n ≡ k → r ≡ Err fault
+    → m ≡ after_writing r k
+writes-on m n k fault r a b e =
+    a ∙ (ap (λ (x : ℕ). fault_writes fault x) b ∙ ap (λ (x : Result (Unit {0}) Fault). after_writing x k) (sym e))
