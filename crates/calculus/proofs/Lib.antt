@@ -39,6 +39,7 @@ pub mod Options
 pub mod OrderingLaw
 pub mod Orders
 pub mod Pair
+pub mod Passing
 pub mod Ports
 pub mod ReadyLists
 pub mod Related

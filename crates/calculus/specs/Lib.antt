@@ -20,6 +20,7 @@ pub mod Moves
 pub mod Object
 pub mod ObjectLaws
 pub mod Opening
+pub mod Passed
 pub mod Plain
 pub mod Ready
 pub mod Refusals

@@ -1,8 +1,9 @@
-ghost use Rattle.std.specs.Prelude.{◌≡◌, map, IfOk};
+ghost use Rattle.std.specs.Prelude.{◌≡◌, map, IfOk, IsFalse};
 ghost use Rattle.system.specs.Residual as model;
 ghost use Rattle.system.specs.Translation.{arms_of};
 ghost use Rattle.system.specs.Decisions.{decision_of};
 ghost use Rattle.calculus.specs.Left.{residual_of_left, is_done};
+ghost use Rattle.calculus.specs.Passed.{before, behind, goes_on};
 
 use crate::shared::Shared;
 use std::alloc::{AllocError, Global};
@@ -107,8 +108,19 @@ impl Left {
     }
 }
 
-/// The tree in which the value, cut or widened to the channel's width, stands for each name of the channel.
+/// A child that was passed on the way along a sequence or along branches.
+#[derive(Drop)]
+pub(crate) enum Passed {
+    /// a child in order
+    InOrder(u64, Shared<Left>),
+    /// a child in a branch
+    InBranch(u64, Shared<Left>),
+}
+
+/// The tree in which the value, cut or widened to the channel's width, stands for each name of the channel. It goes
+/// along a sequence or branches by a loop, so that many take no stack.
 #[cycle(received)]
+#[tactic(auto, using(crate::proofs::Passing::passes_inside, crate::proofs::Passing::passes_beside))]
 pub(crate) fn with_received(
     alloc: Global,
     left: &Left,
@@ -117,17 +129,41 @@ pub(crate) fn with_received(
 ) -> Result<Shared<Left>, AllocError>
     ensures { IfOk result (λ made. residual_of_left made ≡ model.put_residual channel value (residual_of_left left.now)) }
 {
+    let mut passed = Items::new(alloc);
+    let mut left = left;
+    'passing: loop {
+        match left {
+            Left::Inside(number, child, next) => {
+                let child = with_received(alloc, child.get(), channel, value)?;
+                passed.push(Passed::InOrder(*number, child))?;
+                left = next.get();
+            }
+            Left::Beside(number, child, rest) => {
+                let child = with_received(alloc, child.get(), channel, value)?;
+                passed.push(Passed::InBranch(*number, child))?;
+                left = rest.get();
+            }
+            _ => break 'passing,
+        }
+    }
+    let last = last_with_received(alloc, left, channel, value)?;
+    behind(alloc, passed, last)
+}
+
+/// The same of what has nothing behind it.
+#[cycle(received)]
+fn last_with_received(
+    alloc: Global,
+    left: &Left,
+    channel: u32,
+    value: Value,
+) -> Result<Shared<Left>, AllocError>
+    requires { IsFalse (goes_on (residual_of_left left.now)) }
+    ensures { IfOk result (λ made. residual_of_left made ≡ model.put_residual channel value (residual_of_left left.now)) }
+{
     match left {
-        Left::Inside(number, child, next) => {
-            let child = with_received(alloc, child.get(), channel, value)?;
-            let next = with_received(alloc, next.get(), channel, value)?;
-            Shared::new(alloc, Left::Inside(*number, child, next))
-        }
-        Left::Beside(number, child, rest) => {
-            let child = with_received(alloc, child.get(), channel, value)?;
-            let rest = with_received(alloc, rest.get(), channel, value)?;
-            Shared::new(alloc, Left::Beside(*number, child, rest))
-        }
+        Left::Inside(_, _, _) => unreachable!(),
+        Left::Beside(_, _, _) => unreachable!(),
         Left::Assign(variable, width, written) => {
             let written = written.with_received(alloc, channel, value)?;
             Shared::new(alloc, Left::Assign(*variable, *width, written))
@@ -180,6 +216,33 @@ fn all_with_received(
         copies.push(with_received(alloc, arm.get(), channel, value)?)?;
     }
     Shared::new(alloc, copies)
+}
+
+/// What is behind those that were passed, and they before it.
+#[tactic(auto, using(crate::proofs::Passing::behind_last))]
+fn behind(
+    alloc: Global,
+    passed: Items<Passed>,
+    last: Shared<Left>,
+) -> Result<Shared<Left>, AllocError>
+    ensures { IfOk result (λ made. residual_of_left made ≡ behind passed (residual_of_left last)) }
+{
+    let mut left = last;
+    let mut passed = passed;
+    while let Some(child) = passed.pop() {
+        left = before(alloc, child, left)?;
+    }
+    Ok(left)
+}
+
+/// The child that was passed, and the rest behind it.
+fn before(alloc: Global, child: Passed, rest: Shared<Left>) -> Result<Shared<Left>, AllocError>
+    ensures { IfOk result (λ made. residual_of_left made ≡ before child (residual_of_left rest)) }
+{
+    match child {
+        Passed::InOrder(number, child) => Shared::new(alloc, Left::Inside(number, child, rest)),
+        Passed::InBranch(number, child) => Shared::new(alloc, Left::Beside(number, child, rest)),
+    }
 }
 
 /// The child at a place in order and then what comes next; a finished child is erased.

@@ -1,6 +1,8 @@
-use Rattle.std.proofs.Common.{◌≡◌, ◌++◌, drop, map}
+use Rattle.std.proofs.Common.{◌≡◌, ◌≤◌, ◌++◌, drop, map}
 use Rattle.system.specs.Residual.{put_residual}
 use Rattle.calculus.specs.Left.{residual_of_left}
+use Rattle.calculus.specs.Passed.{behind}
+use Rattle.calculus.proofs.left.Left.TheLaws.{the_size}
 use Rattle.calculus.proofs.left.+received.Given as goal
 
 -- the copies are the arms that are passed, with the value put
@@ -8,3 +10,9 @@ abbrev pub invariant-all_with_received-loop-arm : goal.invariant-all_with_receiv
 invariant-all_with_received-loop-arm l =
     map residual_of_left l.copies ++ map (put_residual l.channel l.value) (map residual_of_left (drop l.arm-index l.arms))
     ≡ map (put_residual l.channel l.value) (map residual_of_left l.arms)
+
+-- what is left is no larger than the whole, and with what was passed before it, it is the whole with the value put
+abbrev pub invariant-with_received-passing : goal.invariant-with_received-passing
+invariant-with_received-passing l =
+    (the_size l.left ≤ the_size l.initial.left)
+    × (behind l.passed (put_residual l.channel l.value (residual_of_left l.left)) ≡ put_residual l.channel l.value (residual_of_left l.initial.left))

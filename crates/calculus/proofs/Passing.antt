@@ -1,0 +1,103 @@
+-- What was passed on the way, with one more.
+use Rattle.std.proofs.Common.{◌≡◌, ◌≤◌, ℕ, List, [], ◌∷◌, ◌++◌, false, true≢false, arith, refl, sym, ap, ◌∙◌}
+use Rattle.value.specs.Word.{Word}
+use Rattle.system.specs.Residual.{Residual, inside, beside, put_residual}
+use Rattle.calculus.specs.Left.{left_layer, residual_of_left}
+use Rattle.calculus.specs.declared.left.Left.{Left}
+use Rattle.calculus.specs.declared.left.Left.TheVariants.{Inside, Beside, rolls-Inside, rolls-Beside}
+use Rattle.calculus.specs.declared.left.Left.TheViews.{out-Left, roll-Left, roll-out-Left, sized-Inside, sized-Beside}
+use Rattle.calculus.specs.declared.left.Left.TheOpen.{Left-F}
+use Rattle.calculus.specs.declared.left.Left.TheFolds.{fold-roll-Left}
+use Rattle.calculus.specs.declared.left.Passed.{Passed}
+use Rattle.calculus.specs.declared.left.Passed.TheVariants.{InOrder, InBranch}
+use Rattle.calculus.specs.Passed.{before, behind, goes_on}
+use Rattle.calculus.proofs.left.Left.TheLaws.{the_size}
+use Rattle.calculus.proofs.TreeAnswers.{left_inside, left_beside}
+
+-- the last that was passed stands right before the rest
+pub behind_last : (ps : List Passed) (p : Passed) (r : Residual) → behind (ps ++ p ∷ []) r ≡ behind ps (before p r)
+behind_last [] p r = refl
+behind_last (q ∷ ps) p r = ap (before q) (behind_last ps p r)
+
+-- one step along a sequence: the child is passed with the value put
+pub passes_inside : (c : ℕ) (v : Word) (whole : Residual) (old new : List Passed) (left child next got made other : Left) (n : ℕ)
+    → left ≡ Inside n child next → got ≡ next → other ≡ child → residual_of_left made ≡ put_residual c v (residual_of_left other) → new ≡ old ++ InOrder n made ∷ []
+    → behind old (put_residual c v (residual_of_left left)) ≡ whole → behind new (put_residual c v (residual_of_left got)) ≡ whole
+passes_inside c v whole old new left child next got made other n es eg eo em en w =
+    let f : Left → Residual = residual_of_left in
+    let put : Residual → Residual = put_residual c v in
+    ap (λ z. behind new (put (f z))) eg
+    ∙ ap (λ ps. behind ps (put (f next))) en
+    ∙ behind_last old (InOrder n made) (put (f next))
+    ∙ ap (λ r. behind old (inside n r (put (f next)))) (em ∙ ap (λ z. put (f z)) eo)
+    ∙ sym (ap (λ r. behind old (put r)) (left_inside n child next))
+    ∙ sym (ap (λ z. behind old (put (f z))) es)
+    ∙ w
+
+-- one step along branches
+pub passes_beside : (c : ℕ) (v : Word) (whole : Residual) (old new : List Passed) (left child rest got made other : Left) (n : ℕ)
+    → left ≡ Beside n child rest → got ≡ rest → other ≡ child → residual_of_left made ≡ put_residual c v (residual_of_left other) → new ≡ old ++ InBranch n made ∷ []
+    → behind old (put_residual c v (residual_of_left left)) ≡ whole → behind new (put_residual c v (residual_of_left got)) ≡ whole
+passes_beside c v whole old new left child rest got made other n es eg eo em en w =
+    let f : Left → Residual = residual_of_left in
+    let put : Residual → Residual = put_residual c v in
+    ap (λ z. behind new (put (f z))) eg
+    ∙ ap (λ ps. behind ps (put (f rest))) en
+    ∙ behind_last old (InBranch n made) (put (f rest))
+    ∙ ap (λ r. behind old (beside n r (put (f rest)))) (em ∙ ap (λ z. put (f z)) eo)
+    ∙ sym (ap (λ r. behind old (put r)) (left_beside n child rest))
+    ∙ sym (ap (λ z. behind old (put (f z))) es)
+    ∙ w
+
+-- what comes next is no larger than the whole
+pub next_fits : (k : ℕ) (left child next got : Left) (n : ℕ) → left ≡ Inside n child next → got ≡ next → the_size left ≤ k → the_size got ≤ k
+next_fits k left child next got n es eg h =
+    let whole : the_size left ≡ the_size (Inside n child next) = ap the_size es in
+    let part : the_size got ≡ the_size next = ap the_size eg in
+    let size = sized-Inside n child next in
+    omega arith
+
+-- nor are the other branches
+pub rest_fits : (k : ℕ) (left child rest got : Left) (n : ℕ) → left ≡ Beside n child rest → got ≡ rest → the_size left ≤ k → the_size got ≤ k
+rest_fits k left child rest got n es eg h =
+    let whole : the_size left ≡ the_size (Beside n child rest) = ap the_size es in
+    let part : the_size got ≡ the_size rest = ap the_size eg in
+    let size = sized-Beside n child rest in
+    omega arith
+
+-- a sequence goes on behind its child
+pub inside_goes_on : (left child next : Left) (n : ℕ) → left ≡ Inside n child next → goes_on (residual_of_left left) ≡ false → ⊥
+inside_goes_on left child next n e h =
+    true≢false (sym (ap (λ z. goes_on (residual_of_left z)) e ∙ ap goes_on (left_inside n child next)) ∙ h)
+
+-- so do branches
+pub beside_goes_on : (left child rest : Left) (n : ℕ) → left ≡ Beside n child rest → goes_on (residual_of_left left) ≡ false → ⊥
+beside_goes_on left child rest n e h =
+    true≢false (sym (ap (λ z. goes_on (residual_of_left z)) e ∙ ap goes_on (left_beside n child rest)) ∙ h)
+
+-- one layer that is neither
+layer_ends : (layer : Left-F Left) (left : Left) → left ≡ roll-Left layer
+    → ((n : ℕ) (child next : Left) → left ≡ Inside n child next → ⊥) → ((n : ℕ) (child rest : Left) → left ≡ Beside n child rest → ⊥)
+    → goes_on (residual_of_left (roll-Left layer)) ≡ false
+layer_ends Left-F.Done left e p q = ap goes_on (fold-roll-Left Residual left_layer Left-F.Done)
+layer_ends Left-F.Halted left e p q = ap goes_on (fold-roll-Left Residual left_layer Left-F.Halted)
+layer_ends (Left-F.Inside n child next) left e p q = absurd (p n child next (e ∙ rolls-Inside n child next))
+layer_ends (Left-F.Beside n child rest) left e p q = absurd (q n child rest (e ∙ rolls-Beside n child rest))
+layer_ends (Left-F.Assign x w a) left e p q = ap goes_on (fold-roll-Left Residual left_layer (Left-F.Assign x w a))
+layer_ends (Left-F.Send x w a) left e p q = ap goes_on (fold-roll-Left Residual left_layer (Left-F.Send x w a))
+layer_ends (Left-F.Receive x y) left e p q = ap goes_on (fold-roll-Left Residual left_layer (Left-F.Receive x y))
+layer_ends (Left-F.Sync x) left e p q = ap goes_on (fold-roll-Left Residual left_layer (Left-F.Sync x))
+layer_ends (Left-F.Held x) left e p q = ap goes_on (fold-roll-Left Residual left_layer (Left-F.Held x))
+layer_ends (Left-F.Loop k body) left e p q = ap goes_on (fold-roll-Left Residual left_layer (Left-F.Loop k body))
+layer_ends (Left-F.While k a body) left e p q = ap goes_on (fold-roll-Left Residual left_layer (Left-F.While k a body))
+layer_ends (Left-F.Test d arms) left e p q = ap goes_on (fold-roll-Left Residual left_layer (Left-F.Test d arms))
+layer_ends (Left-F.Choose xs arms) left e p q = ap goes_on (fold-roll-Left Residual left_layer (Left-F.Choose xs arms))
+layer_ends (Left-F.Closing x) left e p q = ap goes_on (fold-roll-Left Residual left_layer (Left-F.Closing x))
+layer_ends (Left-F.Drain x k) left e p q = ap goes_on (fold-roll-Left Residual left_layer (Left-F.Drain x k))
+
+-- what is neither has nothing behind it
+pub ends : (left : Left) → ((n : ℕ) (child next : Left) → left ≡ Inside n child next → ⊥) → ((n : ℕ) (child rest : Left) → left ≡ Beside n child rest → ⊥)
+    → goes_on (residual_of_left left) ≡ false
+ends left p q =
+    let e : left ≡ roll-Left (out-Left left) = sym (roll-out-Left left) in
+    ap (λ z. goes_on (residual_of_left z)) e ∙ layer_ends (out-Left left) left e p q
