@@ -23,6 +23,15 @@ use address::Address;
 use std::alloc::{AllocError, Global};
 use value::Value;
 
+impl Plain {
+    /// The state after the event. `None` where the event is not possible.
+    pub fn after(&self, alloc: Global, event: &Event) -> Result<Option<Plain>, AllocError>
+        ensures { IfOk result (λ r. option_map state_of r ≡ step_of (state_of self.now) event.now) }
+    {
+        step(alloc, self, event)
+    }
+}
+
 /// The state after the event. `None` where the event is not possible.
 pub(crate) fn step(alloc: Global, state: &Plain, event: &Event) -> Result<Option<Plain>, AllocError>
     ensures { IfOk result (λ r. option_map state_of r ≡ step_of (state_of state.now) event.now) }

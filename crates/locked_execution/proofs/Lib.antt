@@ -3,6 +3,7 @@ pub mod Entries
 pub mod Found
 pub mod Gathering
 pub mod HeadlineLaws
+pub mod KeptStates
 pub mod Placed
 pub mod Sooner
 pub mod Stepped

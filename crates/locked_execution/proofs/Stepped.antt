@@ -2,7 +2,6 @@
 use Rattle.std.proofs.Common.{◌≡◌, inl, inr, ℕ, suc, ◌<◌, ◌≤◌, List, length, take, drop, get_or, Option, Some, None, Result, Ok, Err, refl, sym, ◌∙◌, ap, subst, slice_get}
 use Rattle.std.specs.Prelude.{IfOk, OnOk, OnErr, MatchOption, MatchResult}
 use Rattle.std.proofs.lemmas.Result.{IfOk-weaker}
-use Rattle.value.specs.Word.{Word}
 use Rattle.calculus.specs.Steps.{State}
 use Rattle.calculus.specs.StepOf.{run_of}
 use Rattle.std.specs.Option.{option_map}
@@ -20,7 +19,7 @@ use Rattle.calculus.specs.declared.plain.Plain.{Plain}
 use Rattle.calculus.specs.declared.command.Command.{Command}
 use Rattle.calculus.specs.declared.command.Reply.{Reply}
 use Rattle.calculus.specs.declared.command.Refusal.{Refusal}
-use Rattle.calculus.specs.declared.command.Refusal.TheVariants.{NotReady, HistoryFull, NeverWritten, Spent, Memory}
+use Rattle.calculus.specs.declared.command.Refusal.TheVariants.{NotReady, HistoryFull, Spent, Memory}
 use Rattle.calculus.proofs.Options.{none-some}
 use Rattle.calculus.proofs.StepOf.{run-found, run-only}
 use Rattle.calculus.proofs.Orders.{run-formed}
@@ -80,14 +79,6 @@ pub step-done : {E : Type 0} (o o' : Object) (c : Choice) (e : Event) (T : State
 step-done o o' c e T (Ok reply) reaches chosen room left is after =
     subst (λ (x : Reply). Does o (Command.Step c) x o') (sym is) (refl, room, left, (T, reaches, chosen), after)
 step-done o o' c e T (Err x) reaches chosen room left is after = tt
-
--- the value that is told, from the store
-pub tells-value : (o : Object) (x : ℕ) (T : State) (v : Option Word) (reply : Reply) → Reaches o T → v ≡ slice_get T.store x →
-    MatchOption v (reply ≡ Reply.Refused NeverWritten) (λ held. reply ≡ Reply.Value held) → Does o (Command.Value x) reply o
-tells-value o x T None reply reaches is told =
-    subst (λ (y : Reply). Does o (Command.Value x) y o) (sym told) ((T, reaches, sym is), refl)
-tells-value o x T (Some held) reply reaches is told =
-    subst (λ (y : Reply). Does o (Command.Value x) y o) (sym told) ((T, reaches, sym is), refl)
 
 -- what is answered where a call may want memory
 pub answers-of : {E : Type 0} (o o' : Object) (asked c : Command) (r : Result Reply E) (reply : Reply) → asked ≡ c → IfOk r (λ told. Does o c told o') →

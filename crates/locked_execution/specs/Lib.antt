@@ -6,4 +6,5 @@ pub mod Headline
 pub mod Held
 pub mod Histories
 pub mod Insertion
+pub mod KeptState
 pub mod Sorting

@@ -1,15 +1,17 @@
 // Questions, which change nothing.
-ghost use Rattle.std.specs.Prelude.{◌≡◌, IfOk, MatchOption};
+ghost use Rattle.std.specs.Prelude.{◌≡◌, IfOk};
+ghost use Rattle.calculus.specs.Object.{Object, Reaches};
+ghost use Rattle.calculus.specs.Plain.{state_of};
 ghost use Rattle.calculus.specs.Does.{Does};
 ghost use Rattle.calculus.specs.Sound.{Sound};
 ghost use Rattle.locked_execution.specs.Histories.{execution};
+ghost use Rattle.locked_execution.specs.KeptState.{KeepsState};
 
 use crate::history::History;
-use calculus::{Command, Event, Refusal, Reply};
+use calculus::{Command, Event, Plain, Refusal, Reply};
 use sharing_check::Checked;
 use std::alloc::{AllocError, Global};
 use syntax::Items;
-use value::Value;
 
 impl History {
     /// The live events.
@@ -27,16 +29,34 @@ impl History {
         system: &Checked,
         variable: u32,
     ) -> Result<Reply, AllocError>
+        requires sound { Sound (execution system.now self.now) }
+        requires kept { KeepsState system.now self.now }
+        ensures { IfOk result (λ reply. Does (execution system.now self.now) (Command.Value variable) reply (execution system.now self.now)) }
+    {
+        match &self.state {
+            Some(state) => Ok(value_told(state, variable)),
+            None => self.tell_replayed(alloc, system, variable),
+        }
+    }
+
+    /// The value of the variable now, in the state that a replay finds.
+    fn tell_replayed(
+        &self,
+        alloc: Global,
+        system: &Checked,
+        variable: u32,
+    ) -> Result<Reply, AllocError>
         requires { Sound (execution system.now self.now) }
         ensures { IfOk result (λ reply. Does (execution system.now self.now) (Command.Value variable) reply (execution system.now self.now)) }
     {
-        let state = self.state(alloc, system)?;
-        Ok(value_told(state.value(variable)))
+        let state = self.replayed(alloc, system)?;
+        Ok(value_told(&state, variable))
     }
 
     /// The events that may be taken now.
     pub(crate) fn tell_ready(&self, alloc: Global, system: &Checked) -> Result<Reply, AllocError>
-        requires { Sound (execution system.now self.now) }
+        requires sound { Sound (execution system.now self.now) }
+        requires kept { KeepsState system.now self.now }
         ensures { IfOk result (λ reply. Does (execution system.now self.now) Command.Ready reply (execution system.now self.now)) }
     {
         let events = self.ready(alloc, system)?;
@@ -44,11 +64,11 @@ impl History {
     }
 }
 
-/// The value of a variable, or that there is no such variable.
-fn value_told(value: Option<Value>) -> Reply
-    ensures { MatchOption value (result ≡ Reply.Refused Refusal.NeverWritten) (λ held. result ≡ Reply.Value held) }
+/// The value of the variable in this state, or that there is no such variable.
+fn value_told(state: &Plain, variable: u32) -> Reply
+    ensures { (o : Object) → Reaches o (state_of state.now) → Does o (Command.Value variable) result o }
 {
-    match value {
+    match state.value(variable) {
         Some(held) => Reply::Value(held),
         None => Reply::Refused(Refusal::NeverWritten),
     }

@@ -11,7 +11,7 @@ use std::alloc::{AllocError, Global};
 use std::marker::Model;
 
 /// One execution of a system: its live events with their tickets, and the ticket of the next step. The state is what
-/// the live events lead to, and is replayed where it is asked for.
+/// the live events lead to: a step keeps it, and where none is kept it is replayed.
 #[derive(Drop)]
 pub struct Machine {
     alloc: Global,
@@ -31,10 +31,11 @@ impl Model for Machine {
     ghost use Rattle.calculus.specs.Sound.{Sound};
     ghost use Rattle.locked_execution.specs.Held.{object};
     ghost use Rattle.locked_execution.specs.Histories.{held, execution};
+    ghost use Rattle.locked_execution.specs.KeptState.{KeepsState};
 
     ghost view = { λ machine. held machine.system machine.history };
 
-    ghost invariant = { λ machine. Sound (execution machine.system machine.history) };
+    ghost invariant = { λ machine. Sound (execution machine.system machine.history) × KeepsState machine.system machine.history };
 }
 
 impl Machine {
@@ -45,6 +46,7 @@ impl Machine {
         let history = History {
             live: Vec::new(alloc),
             next: 1,
+            state: None,
         };
         Ok(Machine {
             alloc,

@@ -3,6 +3,7 @@ ghost use Rattle.std.specs.Prelude.{◌≡◌, MatchResult};
 ghost use Rattle.calculus.specs.Sound.{Sound};
 ghost use Rattle.calculus.specs.Does.{Answers};
 ghost use Rattle.locked_execution.specs.Histories.{execution};
+ghost use Rattle.locked_execution.specs.KeptState.{KeepsState};
 
 use crate::history::History;
 use calculus::{Command, Refusal, Reply};
@@ -12,8 +13,10 @@ use std::alloc::{AllocError, Global};
 impl History {
     /// Answers the command.
     pub(crate) fn perform(&mut self, alloc: Global, system: &Checked, command: &Command) -> Reply
-        requires { Sound (execution system.now self.old) }
-        ensures { Answers (execution system.now self.old) command.now result (execution system.now self.new) }
+        requires sound { Sound (execution system.now self.old) }
+        requires kept { KeepsState system.now self.old }
+        ensures answers { Answers (execution system.now self.old) command.now result (execution system.now self.new) }
+        ensures kept { KeepsState system.now self.new }
     {
         match command {
             Command::Step(choice) => or_no_memory(self.step(alloc, system, choice)),

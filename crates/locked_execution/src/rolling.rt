@@ -6,6 +6,7 @@ ghost use Rattle.calculus.specs.Live.{LiveAt, LastWriter, FollowersList};
 ghost use Rattle.calculus.specs.Sound.{Sound};
 ghost use Rattle.calculus.specs.Does.{Does, TakesOut};
 ghost use Rattle.locked_execution.specs.Histories.{execution};
+ghost use Rattle.locked_execution.specs.KeptState.{KeepsState};
 
 use crate::following::{followers, is_among, last_writer};
 use crate::history::History;
@@ -20,6 +21,7 @@ impl History {
         ensures done { (system : Checked) → Sound (execution system self.old) → IfOk result (λ reply. Does (execution system self.old) (Command.Roll ticket) reply (execution system self.new)) }
         ensures wanted { OnErr result ((e : Event) × LiveAt self.old.live.items ticket e) }
         ensures unchanged { (system : Checked) → OnErr result (execution system self.new ≡ execution system self.old) }
+        ensures kept { (system : Checked) → KeepsState system self.old → KeepsState system self.new }
     {
         match place_of(self.live.as_slice(), ticket) {
             Some(_) => self.roll_live(alloc, ticket),
@@ -32,17 +34,20 @@ impl History {
         requires { (e : Event) × LiveAt self.old.live.items ticket e }
         ensures done { (system : Checked) → Sound (execution system self.old) → IfOk result (λ reply. Does (execution system self.old) (Command.Roll ticket) reply (execution system self.new)) }
         ensures unchanged { (system : Checked) → OnErr result (execution system self.new ≡ execution system self.old) }
+        ensures kept { (system : Checked) → KeepsState system self.old → KeepsState system self.new }
     {
         let tickets = followers(alloc, self.live.as_slice(), ticket)?;
         Ok(Reply::Rolled(self.take_out(tickets.as_slice())))
     }
 
-    /// Takes the events of these tickets out, and tells how many they are.
+    /// Takes the events of these tickets out, and tells how many they are. Then no state is kept.
     fn take_out(&mut self, tickets: &[u64]) -> u64
-        ensures { (system : Checked) (t : ℕ) → FollowersList self.old.live.items t tickets.now → TakesOut (execution system self.old) t result (execution system self.new) }
+        ensures taken { (system : Checked) (t : ℕ) → FollowersList self.old.live.items t tickets.now → TakesOut (execution system self.old) t result (execution system self.new) }
+        ensures kept { (system : Checked) → KeepsState system self.new }
     {
         let before = self.live.len();
         keep_others(&mut self.live, tickets);
+        self.state = None;
         (before - self.live.len()) as u64
     }
 
@@ -51,6 +56,7 @@ impl History {
         ensures done { (system : Checked) → Sound (execution system self.old) → IfOk result (λ reply. Does (execution system self.old) (Command.RollValue variable) reply (execution system self.new)) }
         ensures wanted { (system : Checked) → Sound (execution system self.old) → OnErr result ((t : ℕ) × LastWriter self.old.live.items variable t) }
         ensures unchanged { (system : Checked) → OnErr result (execution system self.new ≡ execution system self.old) }
+        ensures kept { (system : Checked) → KeepsState system self.old → KeepsState system self.new }
     {
         match last_writer(self.live.as_slice(), variable) {
             Some(ticket) => self.roll(alloc, ticket),

@@ -1,5 +1,6 @@
 // Taking one event.
 ghost use Rattle.std.specs.Prelude.{◌≡◌, ◌≤◌, ◌<◌, length, Some, IfOk, IfErr, OnOk, OnErr};
+ghost use Rattle.std.specs.Option.{IfSome};
 ghost use Rattle.sharing_check.specs.declared.checked.Checked.{Checked};
 ghost use Rattle.calculus.specs.Steps.{State};
 ghost use Rattle.calculus.specs.Object.{Reaches, most_live, last_ticket, with_event};
@@ -9,6 +10,7 @@ ghost use Rattle.calculus.specs.Does.{Does};
 ghost use Rattle.calculus.specs.Sound.{Sound};
 ghost use Rattle.locked_execution.specs.Choosing.{NotTaken};
 ghost use Rattle.locked_execution.specs.Histories.{execution};
+ghost use Rattle.locked_execution.specs.KeptState.{KeepsState};
 
 use crate::history::History;
 use crate::ready::{chosen, ready_events};
@@ -27,9 +29,43 @@ impl History {
         system: &Checked,
         choice: &Choice,
     ) -> Result<Reply, AllocError>
-        requires { Sound (execution system.now self.old) }
+        requires sound { Sound (execution system.now self.old) }
+        requires kept { KeepsState system.now self.old }
         ensures done { IfOk result (λ reply. Does (execution system.now self.old) (Command.Step choice.now) reply (execution system.now self.new)) }
         ensures unchanged { OnErr result (execution system.now self.new ≡ execution system.now self.old) }
+        ensures kept { KeepsState system.now self.new }
+    {
+        self.keep_state(alloc, system)?;
+        self.step_from_state(alloc, system, choice)
+    }
+
+    /// Keeps the state to which the live events lead.
+    fn keep_state(&mut self, alloc: Global, system: &Checked) -> Result<(), AllocError>
+        requires sound { Sound (execution system.now self.old) }
+        requires kept { KeepsState system.now self.old }
+        ensures same { execution system.now self.new ≡ execution system.now self.old }
+        ensures kept { KeepsState system.now self.new }
+    {
+        if self.state.is_some() {
+            return Ok(());
+        }
+        let state = self.replayed(alloc, system)?;
+        self.state = Some(state);
+        Ok(())
+    }
+
+    /// Takes the event that the choice means. The state after it is kept where that before it is.
+    fn step_from_state(
+        &mut self,
+        alloc: Global,
+        system: &Checked,
+        choice: &Choice,
+    ) -> Result<Reply, AllocError>
+        requires sound { Sound (execution system.now self.old) }
+        requires kept { KeepsState system.now self.old }
+        ensures done { IfOk result (λ reply. Does (execution system.now self.old) (Command.Step choice.now) reply (execution system.now self.new)) }
+        ensures unchanged { OnErr result (execution system.now self.new ≡ execution system.now self.old) }
+        ensures kept { KeepsState system.now self.new }
     {
         let events = self.ready(alloc, system)?;
         match self.admitted(chosen(events, choice)) {
@@ -55,12 +91,37 @@ impl History {
         Ok(event)
     }
 
-    /// Adds the event under the next ticket.
+    /// Adds the event under the next ticket, and keeps the state after it where that before it is kept.
     fn add(&mut self, alloc: Global, event: Event) -> Result<Reply, AllocError>
         requires { self.old.next ≤ last_ticket }
         ensures done { IfOk result (λ reply. reply ≡ Reply.Stepped self.old.next event) }
         ensures added { (system : Checked) → OnOk result (execution system self.new ≡ with_event (execution system self.old) event) }
         ensures unchanged { (system : Checked) → OnErr result (execution system self.new ≡ execution system self.old) }
+        ensures kept { (system : Checked) → KeepsState system self.old → KeepsState system self.new }
+    {
+        let state = self.state_after(alloc, &event)?;
+        let reply = self.enter(alloc, event)?;
+        self.state = state;
+        Ok(reply)
+    }
+
+    /// The state to which the live events and then this one lead, where that of the live events is kept.
+    fn state_after(&self, alloc: Global, event: &Event) -> Result<Option<Plain>, AllocError>
+        ensures { (system : Checked) → KeepsState system self.now → IfOk result (λ after. IfSome after (λ p. Reaches (with_event (execution system self.now) event.now) (state_of p))) }
+    {
+        match &self.state {
+            Some(state) => state.after(alloc, event),
+            None => Ok(None),
+        }
+    }
+
+    /// Enters the event under the next ticket. What is kept as the state stays as it was.
+    fn enter(&mut self, alloc: Global, event: Event) -> Result<Reply, AllocError>
+        requires { self.old.next ≤ last_ticket }
+        ensures done { IfOk result (λ reply. reply ≡ Reply.Stepped self.old.next event) }
+        ensures added { (system : Checked) → OnOk result (execution system self.new ≡ with_event (execution system self.old) event) }
+        ensures unchanged { (system : Checked) → OnErr result (execution system self.new ≡ execution system self.old) }
+        ensures state { self.new.state ≡ self.old.state }
     {
         let ticket = self.next;
         let answered = event.copy(alloc)?;
@@ -71,15 +132,27 @@ impl History {
 
     /// The events that are allowed now, in order.
     pub(crate) fn ready(&self, alloc: Global, system: &Checked) -> Result<Items<Event>, AllocError>
+        requires sound { Sound (execution system.now self.now) }
+        requires kept { KeepsState system.now self.now }
+        ensures { IfOk result (λ events. (T : State) × Reaches (execution system.now self.now) T × ReadyList T events) }
+    {
+        match &self.state {
+            Some(state) => ready_events(alloc, state),
+            None => self.ready_replayed(alloc, system),
+        }
+    }
+
+    /// The events that are allowed now, in order, in the state that a replay finds.
+    fn ready_replayed(&self, alloc: Global, system: &Checked) -> Result<Items<Event>, AllocError>
         requires { Sound (execution system.now self.now) }
         ensures { IfOk result (λ events. (T : State) × Reaches (execution system.now self.now) T × ReadyList T events) }
     {
-        let state = self.state(alloc, system)?;
+        let state = self.replayed(alloc, system)?;
         ready_events(alloc, &state)
     }
 
-    /// The state to which the live events lead.
-    pub(crate) fn state(&self, alloc: Global, system: &Checked) -> Result<Plain, AllocError>
+    /// The state to which the live events lead, by a replay.
+    pub(crate) fn replayed(&self, alloc: Global, system: &Checked) -> Result<Plain, AllocError>
         requires { Sound (execution system.now self.now) }
         ensures { IfOk result (λ state. Reaches (execution system.now self.now) (state_of state)) }
     {

@@ -4,6 +4,7 @@ ghost use Rattle.calculus.specs.Sound.{Sound};
 ghost use Rattle.calculus.specs.Does.{Undoes};
 ghost use Rattle.locked_execution.specs.Dependents.{StandsAt};
 ghost use Rattle.locked_execution.specs.Histories.{execution};
+ghost use Rattle.locked_execution.specs.KeptState.{KeepsState};
 
 use crate::history::History;
 use crate::scan::{dependent_of, place_of};
@@ -12,7 +13,8 @@ use calculus::{Refusal, Reply};
 impl History {
     /// Takes the event of this ticket out where no other live event depends on it.
     pub(crate) fn undo(&mut self, ticket: u64) -> Reply
-        ensures { (system : Checked) → Sound (execution system self.old) → Undoes (execution system self.old) ticket result (execution system self.new) }
+        ensures answers { (system : Checked) → Sound (execution system self.old) → Undoes (execution system self.old) ticket result (execution system self.new) }
+        ensures kept { (system : Checked) → KeepsState system self.old → KeepsState system self.new }
     {
         match place_of(self.live.as_slice(), ticket) {
             Some(place) => self.undo_at(ticket, place),
@@ -20,15 +22,18 @@ impl History {
         }
     }
 
-    /// Takes the event of this ticket, which stands at this place, out where no other live event depends on it.
+    /// Takes the event of this ticket, which stands at this place, out where no other live event depends on it. Then no
+    /// state is kept: to find it takes memory, and an undo may take none.
     fn undo_at(&mut self, ticket: u64, place: usize) -> Reply
         requires { StandsAt self.old.live.items ticket place }
-        ensures { (system : Checked) → Sound (execution system self.old) → Undoes (execution system self.old) ticket result (execution system self.new) }
+        ensures answers { (system : Checked) → Sound (execution system self.old) → Undoes (execution system self.old) ticket result (execution system self.new) }
+        ensures kept { (system : Checked) → KeepsState system self.old → KeepsState system self.new }
     {
         match dependent_of(self.live.as_slice(), place) {
             Some(dependent) => Reply::Refused(Refusal::NeededBy(dependent)),
             None => {
                 let (ticket, event) = self.live.remove(place);
+                self.state = None;
                 Reply::Undone(ticket, event)
             }
         }

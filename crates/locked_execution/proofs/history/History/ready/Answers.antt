@@ -1,11 +1,15 @@
 use Rattle.locked_execution.specs.Histories.{execution}
 use Rattle.calculus.specs.Plain.{state_of}
+use Rattle.locked_execution.proofs.KeptStates.{kept-reaches}
 use Rattle.locked_execution.proofs.Stepped.{state-formed, ready-of}
 use Rattle.locked_execution.proofs.history.History.ready.Goals as goal
 
 pub ready_events-requires : goal.ready_events-requires
 ready_events-requires c =
-    state-formed (execution c.args.system.now c.args.self.now) (state_of c.in_ok-state.state) c.requires c.in_ok-state.ensures
+    state-formed (execution c.args.system.now c.args.self.now) (state_of c.in-Some.state) c.requires.sound
+    (kept-reaches c.args.system.now c.args.self.now c.in-Some.state c.requires.kept c.in-Some.is)
 
-pub returns : goal.returns
-returns c = ready-of (execution c.args.system.now c.args.self.now) c.in_ok-state.state c.ready_events.result c.in_ok-state.ensures c.ready_events.ensures
+pub returns-in-Some : goal.returns-in-Some
+returns-in-Some c =
+    ready-of (execution c.args.system.now c.args.self.now) c.in-Some.state c.ready_events.result
+    (kept-reaches c.args.system.now c.args.self.now c.in-Some.state c.requires.kept c.in-Some.is) c.ready_events.ensures

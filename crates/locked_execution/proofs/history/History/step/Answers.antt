@@ -1,19 +1,25 @@
-use Rattle.std.proofs.Common.{refl}
+use Rattle.std.proofs.Common.{◌≡◌, sym, subst}
+use Rattle.std.specs.Prelude.{IfOk, OnErr}
+use Rattle.calculus.specs.Object.{Object}
+use Rattle.calculus.specs.Does.{Does}
+use Rattle.calculus.specs.Sound.{Sound}
+use Rattle.calculus.specs.declared.command.Command.{Command}
 use Rattle.locked_execution.specs.Histories.{execution}
-use Rattle.locked_execution.proofs.Stepped.{chosen-of, not-taken, step-done}
 use Rattle.locked_execution.proofs.history.History.step.Goals as goal
 
-pub returns-in-Ok-clause-done : goal.returns-in-Ok-clause-done
-returns-in-Ok-clause-done c =
-    let state = c.in_ok-events.ensures in
-    step-done (execution c.args.system.now c.args.self.now) (execution c.args.system.now c.add.new.self) c.args.choice.now c.in-Ok.event state.0 c.add.result state.1
-    (chosen-of state.0 c.args.choice.now c.chosen.result c.in-Ok.event (c.chosen.ensures state.0 state.2) c.in-Ok.ensures.taken.0)
-    c.in-Ok.ensures.taken.1 c.in-Ok.ensures.taken.2 c.add.ensures.done (c.add.ensures.added c.args.system.now)
+pub step_from_state-requires : goal.step_from_state-requires
+step_from_state-requires c = record {
+  sound = subst Sound (sym c.keep_state.ensures.same) c.requires.sound;
+  kept = c.keep_state.ensures.kept;
+}
 
-pub returns-in-Err-clause-done : goal.returns-in-Err-clause-done
-returns-in-Err-clause-done c =
-    let state = c.in_ok-events.ensures in (
-      not-taken (execution c.args.system.now c.args.self.now) c.args.choice.now c.chosen.result c.in-Err.why state.0 state.1
-          (c.chosen.ensures state.0 state.2) c.in-Err.ensures.refused,
-      refl,
-    )
+pub returns-clause-done : goal.returns-clause-done
+returns-clause-done c =
+    subst
+    (λ (o : Object). IfOk c.step_from_state.result (λ reply. Does o (Command.Step c.args.choice.now) reply (execution c.args.system.now c.step_from_state.new.self)))
+    c.keep_state.ensures.same c.step_from_state.ensures.done
+
+pub returns-clause-unchanged : goal.returns-clause-unchanged
+returns-clause-unchanged c =
+    subst (λ (o : Object). OnErr c.step_from_state.result (execution c.args.system.now c.step_from_state.new.self ≡ o))
+    c.keep_state.ensures.same c.step_from_state.ensures.unchanged

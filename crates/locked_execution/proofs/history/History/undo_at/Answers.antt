@@ -3,11 +3,11 @@ use Rattle.locked_execution.specs.Histories.{execution}
 use Rattle.locked_execution.proofs.Undone.{undo-named, undo-taken}
 use Rattle.locked_execution.proofs.history.History.undo_at.Goals as goal
 
-pub returns-in-Some : goal.returns-in-Some
-returns-in-Some c = λ system s.
+pub returns-in-Some-clause-answers : goal.returns-in-Some-clause-answers
+returns-in-Some-clause-answers c = λ system s.
     undo-named (execution system c.args.self.now) _ c.args.ticket c.args.place _ c.as_slice.ensures.value s c.requires c.in-Some.ensures
 
-pub returns-in-None : goal.returns-in-None
-returns-in-None c = λ system s.
+pub returns-in-None-clause-answers : goal.returns-in-None-clause-answers
+returns-in-None-clause-answers c = λ system s.
     undo-taken (execution system c.args.self.now) _ _ c.remove-ticket.new.self.items c.args.ticket c.args.place c.remove-ticket.result
     c.as_slice.ensures.value s c.requires c.in-None.ensures c.remove-ticket.ensures.value c.remove-ticket.ensures.items refl

@@ -1,6 +1,6 @@
 use Rattle.locked_execution.specs.Histories.{execution}
 use Rattle.locked_execution.proofs.Stepped.{replay-none, replay-some}
-use Rattle.locked_execution.proofs.history.History.state.Goals as goal
+use Rattle.locked_execution.proofs.history.History.replayed.Goals as goal
 
 pub unreachable-requires : goal.unreachable-requires
 unreachable-requires c =
