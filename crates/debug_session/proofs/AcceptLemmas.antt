@@ -2,28 +2,28 @@
 use Rattle.std.proofs.Common.{◌≡◌, ◌≢◌, ◌⊎◌, inl, inr, ℕ, List, Result, Ok, Err, refl, sym, subst}
 use Rattle.std.specs.Result.{IfErr, IsErrAnd}
 use Rattle.elaborate.specs.Elaboration as elaboration
-use Rattle.elaborate.specs.StimulusText.{lines, AreEntries, FirstOther}
-use Rattle.elaborate.specs.declared.fault.Fault as elaborate
-use Rattle.elaborate.specs.declared.fault.Fault.TheVariants as no_system
-use Rattle.elaborate.specs.declared.stimulus.Entry.{Entry}
+use Rattle.stimulus.specs.StimulusText.{lines, AreEntries, FirstOther}
+use Rattle.refusals.specs.declared.elaborate.Fault as elaborate
+use Rattle.refusals.specs.declared.elaborate.Fault.TheVariants as no_system
+use Rattle.stimulus.specs.declared.stimulus.Entry.{Entry}
 use Rattle.system.specs.declared.system.System.{System}
 use Rattle.lexer.specs.Refusal as lexer
 use Rattle.lexer.specs.Tokens.{AreTokens}
-use Rattle.lexer.specs.declared.fault.Fault as lexer_fault
-use Rattle.lexer.specs.declared.fault.Fault.TheVariants as no_tokens
+use Rattle.refusals.specs.declared.lexer.Fault as lexer_fault
+use Rattle.refusals.specs.declared.lexer.Fault.TheVariants as no_tokens
 use Rattle.lexer.specs.declared.token.Token.{Token}
 use Rattle.parser.specs.Accepted as parser
-use Rattle.parser.specs.declared.fault.Fault as parser_fault
-use Rattle.parser.specs.declared.fault.Fault.TheVariants as no_description
+use Rattle.refusals.specs.declared.parser.Fault as parser_fault
+use Rattle.refusals.specs.declared.parser.Fault.TheVariants as no_description
 use Rattle.sharing_check.specs.Refusal as sharing
-use Rattle.sharing_check.specs.declared.fault.Fault as sharing_check
-use Rattle.sharing_check.specs.declared.fault.Fault.TheVariants as not_shared
+use Rattle.refusals.specs.declared.sharing_check.Fault as sharing_check
+use Rattle.refusals.specs.declared.sharing_check.Fault.TheVariants as not_shared
 use Rattle.syntax.specs.declared.declaration.Description.{Description}
 use Rattle.types.specs.DeclarationFaults.{found_description}
 use Rattle.types.specs.Findings as types
-use Rattle.types.specs.declared.fault.Fault as types_fault
-use Rattle.types.specs.declared.fault.Fault.TheVariants as not_typed
-use Rattle.types.specs.declared.typed.Procedure.{Procedure}
+use Rattle.refusals.specs.declared.types.Fault as types_fault
+use Rattle.refusals.specs.declared.types.Fault.TheVariants as not_typed
+use Rattle.typed.specs.declared.tree.Procedure.{Procedure}
 use Rattle.debug_session.specs.Accepting.{Describes, IsTyped, MakesNone, IsRefused}
 use Rattle.debug_session.specs.Wrapping.{of_lexer, of_parser, of_types, of_elaborate, of_sharing}
 use Rattle.debug_session.specs.declared.fault.Fault.{Fault}

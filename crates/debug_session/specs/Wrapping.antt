@@ -1,14 +1,14 @@
 -- What the fault of a pass becomes: want of memory is one fault, whichever pass met it.
-use Rattle.lexer.specs.declared.fault.Fault as lexer
-use Rattle.lexer.specs.declared.fault.Fault.TheVariants as no_tokens
-use Rattle.parser.specs.declared.fault.Fault as parser
-use Rattle.parser.specs.declared.fault.Fault.TheVariants as no_description
-use Rattle.types.specs.declared.fault.Fault as types
-use Rattle.types.specs.declared.fault.Fault.TheVariants as not_typed
-use Rattle.elaborate.specs.declared.fault.Fault as elaborate
-use Rattle.elaborate.specs.declared.fault.Fault.TheVariants as no_system
-use Rattle.sharing_check.specs.declared.fault.Fault as sharing
-use Rattle.sharing_check.specs.declared.fault.Fault.TheVariants as not_shared
+use Rattle.refusals.specs.declared.lexer.Fault as lexer
+use Rattle.refusals.specs.declared.lexer.Fault.TheVariants as no_tokens
+use Rattle.refusals.specs.declared.parser.Fault as parser
+use Rattle.refusals.specs.declared.parser.Fault.TheVariants as no_description
+use Rattle.refusals.specs.declared.types.Fault as types
+use Rattle.refusals.specs.declared.types.Fault.TheVariants as not_typed
+use Rattle.refusals.specs.declared.elaborate.Fault as elaborate
+use Rattle.refusals.specs.declared.elaborate.Fault.TheVariants as no_system
+use Rattle.refusals.specs.declared.sharing_check.Fault as sharing
+use Rattle.refusals.specs.declared.sharing_check.Fault.TheVariants as not_shared
 use Rattle.debug_session.specs.declared.fault.Fault.{Fault}
 
 -- a fault of the lexer

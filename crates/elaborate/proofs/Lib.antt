@@ -1,9 +1,4 @@
 pub mod Weights
-pub mod Cuts
-pub mod Numbers
-pub mod Readings
-pub mod Entries
-pub mod Lines
 pub mod Sizes
 pub mod Calls
 pub mod PlaceLemmas

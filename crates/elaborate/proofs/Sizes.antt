@@ -4,19 +4,19 @@ use Rattle.std.proofs.lemmas.List.{at_drop_more}
 use Rattle.elaborate.specs.Size.{Cut, whole, limited, nothing, plain_nodes, beside, around, expression_layer, expression_size, all_beside, last_size, action_size, arm_size, command_size, guarded_size, labelled_size, size_of, procedure_size, sizes_onto, system_size, IsSmall}
 use Rattle.elaborate.specs.Parts.{size_of_guarded, size_of_labelled, size_of_arm}
 use Rattle.elaborate.specs.declared.count.Size.{Size}
-use Rattle.types.specs.declared.typed.Procedure.{Procedure}
-use Rattle.types.specs.declared.typed.Expression.{Expression}
-use Rattle.types.specs.declared.typed.Expression.TheOpen.{Expression-F}
-use Rattle.types.specs.declared.typed.Expression.TheFolds.{map-Expression, fold-roll-Expression, ind-Expression}
-use Rattle.types.specs.declared.typed.Expression.TheViews.{roll-Expression}
-use Rattle.types.specs.declared.typed.Action.{Action}
-use Rattle.types.specs.declared.typed.Arm.{Arm}
-use Rattle.types.specs.declared.typed.Command.{Command}
-use Rattle.types.specs.declared.typed.Guarded.{Guarded}
-use Rattle.types.specs.declared.typed.Labelled.{Labelled}
-use Rattle.types.specs.declared.typed.Action.TheOpen.{Action-F}
-use Rattle.types.specs.declared.typed.Action.TheFolds.{map-Action, fold-Action, fold-roll-Action, fold-roll-Arm, fold-roll-Command, fold-roll-Guarded, fold-roll-Labelled, ind-Command}
-use Rattle.types.specs.declared.typed.Action.TheViews.{roll-Action, roll-Arm, roll-Command, roll-Guarded, roll-Labelled}
+use Rattle.typed.specs.declared.tree.Procedure.{Procedure}
+use Rattle.typed.specs.declared.tree.Expression.{Expression}
+use Rattle.typed.specs.declared.tree.Expression.TheOpen.{Expression-F}
+use Rattle.typed.specs.declared.tree.Expression.TheFolds.{map-Expression, fold-roll-Expression, ind-Expression}
+use Rattle.typed.specs.declared.tree.Expression.TheViews.{roll-Expression}
+use Rattle.typed.specs.declared.tree.Action.{Action}
+use Rattle.typed.specs.declared.tree.Arm.{Arm}
+use Rattle.typed.specs.declared.tree.Command.{Command}
+use Rattle.typed.specs.declared.tree.Guarded.{Guarded}
+use Rattle.typed.specs.declared.tree.Labelled.{Labelled}
+use Rattle.typed.specs.declared.tree.Action.TheOpen.{Action-F}
+use Rattle.typed.specs.declared.tree.Action.TheFolds.{map-Action, fold-Action, fold-roll-Action, fold-roll-Arm, fold-roll-Command, fold-roll-Guarded, fold-roll-Labelled, ind-Command}
+use Rattle.typed.specs.declared.tree.Action.TheViews.{roll-Action, roll-Arm, roll-Command, roll-Guarded, roll-Labelled}
 
 -- one procedure more
 pub sizes_more : (ps : List Procedure) (i : ℕ) (p : Procedure) (sizes : List Size) (s : Size) → i < length ps → p ≡ get_or ps i p

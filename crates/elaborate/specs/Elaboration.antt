@@ -8,11 +8,11 @@ use Rattle.elaborate.specs.Root.{root_ports}
 use Rattle.elaborate.specs.Size.{whole, system_size, IsSmall}
 use Rattle.elaborate.specs.declared.count.Size.{Size}
 use Rattle.system.specs.declared.command.Command as tree_command
-use Rattle.elaborate.specs.declared.fault.Fault.{Fault}
-use Rattle.elaborate.specs.declared.fault.Fault.TheVariants.{Memory, TooManyNodes, BadStimulus}
-use Rattle.elaborate.specs.declared.stimulus.Entry.{Entry}
+use Rattle.refusals.specs.declared.elaborate.Fault.{Fault}
+use Rattle.refusals.specs.declared.elaborate.Fault.TheVariants.{Memory, TooManyNodes, BadStimulus}
+use Rattle.stimulus.specs.declared.stimulus.Entry.{Entry}
 use Rattle.system.specs.declared.system.System.{System}
-use Rattle.types.specs.declared.typed.Procedure.{Procedure}
+use Rattle.typed.specs.declared.tree.Procedure.{Procedure}
 
 -- the channels of the root's ports, made first
 abbrev pub root_channels : List Procedure → Numbered

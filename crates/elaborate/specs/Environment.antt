@@ -3,14 +3,14 @@ use Rattle.std.specs.Prelude.{ℕ, suc, ◌+◌, min, List, [], ◌∷◌, Optio
 use Rattle.value.specs.Word.{Word, resized}
 use Rattle.system.specs.Expression.{word}
 use Rattle.elaborate.specs.Fit.{entry_named}
-use Rattle.elaborate.specs.declared.stimulus.Given.{Given}
-use Rattle.elaborate.specs.declared.stimulus.Given.TheVariants.{Values, Syncs}
-use Rattle.elaborate.specs.declared.stimulus.Entry.{Entry}
+use Rattle.stimulus.specs.declared.stimulus.Given.{Given}
+use Rattle.stimulus.specs.declared.stimulus.Given.TheVariants.{Values, Syncs}
+use Rattle.stimulus.specs.declared.stimulus.Entry.{Entry}
 use Rattle.system.specs.declared.system.Branch.{Branch}
 use Rattle.system.specs.declared.system.Branch.TheVariants as branch
-use Rattle.types.specs.declared.typed.Port.{Port}
-use Rattle.types.specs.declared.typed.PortKind.{PortKind}
-use Rattle.types.specs.declared.typed.PortKind.TheVariants as kind
+use Rattle.typed.specs.declared.tree.Port.{Port}
+use Rattle.typed.specs.declared.tree.PortKind.{PortKind}
+use Rattle.typed.specs.declared.tree.PortKind.TheVariants as kind
 
 -- a number of 32 bits: the place in a list, and the largest for all places behind, which no accepted system has
 abbrev pub number_of : ℕ → ℕ

@@ -1,13 +1,13 @@
 -- Which lines of a stimulus fit the ports of the root.
 use Rattle.std.specs.Prelude.{ℕ, ◌+◌, ◌^◌, nat_lt, nat_eq, Bool, true, false, ◌&&◌, not, is_some, if◌then◌else◌, List, [], ◌∷◌, ◌++◌, Option, Some, None, length}
 use Rattle.std.specs.Cmp.Lexicographic.{pointwise}
-use Rattle.elaborate.specs.StimulusText.{Text}
-use Rattle.elaborate.specs.declared.stimulus.Given.{Given}
-use Rattle.elaborate.specs.declared.stimulus.Given.TheVariants.{Values, Syncs}
-use Rattle.elaborate.specs.declared.stimulus.Entry.{Entry}
-use Rattle.types.specs.declared.typed.Port.{Port}
-use Rattle.types.specs.declared.typed.PortKind.{PortKind}
-use Rattle.types.specs.declared.typed.PortKind.TheVariants as kind
+use Rattle.stimulus.specs.StimulusText.{Text}
+use Rattle.stimulus.specs.declared.stimulus.Given.{Given}
+use Rattle.stimulus.specs.declared.stimulus.Given.TheVariants.{Values, Syncs}
+use Rattle.stimulus.specs.declared.stimulus.Entry.{Entry}
+use Rattle.typed.specs.declared.tree.Port.{Port}
+use Rattle.typed.specs.declared.tree.PortKind.{PortKind}
+use Rattle.typed.specs.declared.tree.PortKind.TheVariants as kind
 
 -- the kind of the port of this name
 abbrev pub kind_named : List Port → Text → Option PortKind

@@ -2,12 +2,12 @@
 use Rattle.elaborate.specs.Scopes.{channel_use, variable_use, expression_in}
 use Rattle.elaborate.specs.declared.scope.Scope.{Scope}
 use Rattle.system.specs.declared.command.Action as tree
-use Rattle.types.specs.declared.typed.Action.{Action, out-Action}
-use Rattle.types.specs.declared.typed.Command.{Command}
-use Rattle.types.specs.declared.typed.Arm.{Arm}
-use Rattle.types.specs.declared.typed.Guarded.{Guarded}
-use Rattle.types.specs.declared.typed.Labelled.{Labelled}
-use Rattle.types.specs.declared.typed.Action.TheOpen.{Action-F}
+use Rattle.typed.specs.declared.tree.Action.{Action, out-Action}
+use Rattle.typed.specs.declared.tree.Command.{Command}
+use Rattle.typed.specs.declared.tree.Arm.{Arm}
+use Rattle.typed.specs.declared.tree.Guarded.{Guarded}
+use Rattle.typed.specs.declared.tree.Labelled.{Labelled}
+use Rattle.typed.specs.declared.tree.Action.TheOpen.{Action-F}
 
 -- with numbers for the names; any other command is taken for `continue`
 abbrev pub leaf_layer : Scope → Action-F Action Arm Command Guarded Labelled → tree.Action

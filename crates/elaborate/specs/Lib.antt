@@ -1,8 +1,4 @@
-pub mod StimulusText
 pub mod Fit
-pub mod Words
-pub mod StimulusReading
-pub mod Refusal
 pub mod Size
 pub mod Parts
 pub mod Environment

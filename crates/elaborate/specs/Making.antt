@@ -1,9 +1,9 @@
 -- The variables and channels of a system as they are made.
 use Rattle.std.specs.Prelude.{ℕ, ◌+◌, List, [], ◌∷◌, ◌++◌, false, length}
-use Rattle.types.specs.declared.typed.Local.{Local}
-use Rattle.types.specs.declared.typed.LocalKind.{LocalKind}
-use Rattle.types.specs.declared.typed.LocalKind.TheVariants as local
-use Rattle.types.specs.declared.typed.Port.{Port}
+use Rattle.typed.specs.declared.tree.Local.{Local}
+use Rattle.typed.specs.declared.tree.LocalKind.{LocalKind}
+use Rattle.typed.specs.declared.tree.LocalKind.TheVariants as local
+use Rattle.typed.specs.declared.tree.Port.{Port}
 use Rattle.elaborate.specs.Environment.{number_of}
 use Rattle.elaborate.specs.PortKinds.{kind_of_port}
 use Rattle.elaborate.specs.declared.made.Made.{Made}

@@ -1,6 +1,6 @@
 -- What passes over a port.
-use Rattle.types.specs.declared.typed.PortKind.{PortKind}
-use Rattle.types.specs.declared.typed.PortKind.TheVariants as port
+use Rattle.typed.specs.declared.tree.PortKind.{PortKind}
+use Rattle.typed.specs.declared.tree.PortKind.TheVariants as port
 use Rattle.system.specs.declared.system.ChannelKind.{ChannelKind}
 use Rattle.system.specs.declared.system.ChannelKind.TheVariants as kind
 

@@ -1,7 +1,7 @@
 -- The root of a description: its last procedure.
 use Rattle.std.specs.Prelude.{ℕ, ◌-◌, List, [], Option, Some, None, length, slice_get}
-use Rattle.types.specs.declared.typed.Port.{Port}
-use Rattle.types.specs.declared.typed.Procedure.{Procedure}
+use Rattle.typed.specs.declared.tree.Port.{Port}
+use Rattle.typed.specs.declared.tree.Procedure.{Procedure}
 
 -- the ports of a procedure, none where there is none
 abbrev pub ports_of : Option Procedure → List Port

@@ -3,13 +3,13 @@ use Rattle.std.specs.Prelude.{ℕ, List, map}
 use Rattle.elaborate.specs.Numbers.{number_at}
 use Rattle.elaborate.specs.Operators.{operator_of}
 use Rattle.system.specs.Prefix.{prefix_of_call}
-use Rattle.types.specs.declared.typed.Place.{Place}
-use Rattle.types.specs.declared.typed.Place.TheVariants as place
-use Rattle.types.specs.declared.typed.ChannelUse.{ChannelUse}
-use Rattle.types.specs.declared.typed.VariableUse.{VariableUse}
-use Rattle.types.specs.declared.typed.Expression.{Expression}
-use Rattle.types.specs.declared.typed.Expression.TheOpen.{Expression-F}
-use Rattle.types.specs.declared.typed.Expression.TheFolds.{fold-Expression}
+use Rattle.typed.specs.declared.tree.Place.{Place}
+use Rattle.typed.specs.declared.tree.Place.TheVariants as place
+use Rattle.typed.specs.declared.tree.ChannelUse.{ChannelUse}
+use Rattle.typed.specs.declared.tree.VariableUse.{VariableUse}
+use Rattle.typed.specs.declared.tree.Expression.{Expression}
+use Rattle.typed.specs.declared.tree.Expression.TheOpen.{Expression-F}
+use Rattle.typed.specs.declared.tree.Expression.TheFolds.{fold-Expression}
 use Rattle.elaborate.specs.declared.scope.Scope.{Scope}
 use Rattle.elaborate.specs.declared.scope.Entrance.{Entrance}
 use Rattle.system.specs.declared.expression.Use.{Use}

@@ -2,13 +2,13 @@
 -- the definition cuts nothing, and what counts cuts above the limits.
 use Rattle.std.specs.Prelude.{ℕ, ◌+◌, ◌-◌, ◌≤◌, max, min, List, [], ◌∷◌, ◌++◌, Option, Some, None, length, slice_index_or}
 use Rattle.elaborate.specs.declared.count.Size.{Size}
-use Rattle.types.specs.declared.typed.Expression.{Expression}
-use Rattle.types.specs.declared.typed.Expression.TheOpen.{Expression-F}
-use Rattle.types.specs.declared.typed.Expression.TheFolds.{fold-Expression}
-use Rattle.types.specs.declared.typed.Command.{Command}
-use Rattle.types.specs.declared.typed.Procedure.{Procedure}
-use Rattle.types.specs.declared.typed.Action.TheOpen.{Action-F, Arm-F, Command-F, Guarded-F, Labelled-F}
-use Rattle.types.specs.declared.typed.Action.TheFolds.{fold-Command}
+use Rattle.typed.specs.declared.tree.Expression.{Expression}
+use Rattle.typed.specs.declared.tree.Expression.TheOpen.{Expression-F}
+use Rattle.typed.specs.declared.tree.Expression.TheFolds.{fold-Expression}
+use Rattle.typed.specs.declared.tree.Command.{Command}
+use Rattle.typed.specs.declared.tree.Procedure.{Procedure}
+use Rattle.typed.specs.declared.tree.Action.TheOpen.{Action-F, Arm-F, Command-F, Guarded-F, Labelled-F}
+use Rattle.typed.specs.declared.tree.Action.TheFolds.{fold-Command}
 
 -- what is done with each size
 abbrev pub Cut : Type 0

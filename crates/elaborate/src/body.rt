@@ -12,13 +12,13 @@ use crate::scope::{Entrance, Scope};
 use std::alloc::{AllocError, Global};
 use syntax::Items;
 use system::{Action, Arm, Command, Guarded, Labelled};
-use types::Procedure;
+use typed::Procedure;
 
 /// The command with numbers for its names and bodies for its calls. `earlier` has the procedures that it may call.
 #[cycle(body)]
 fn command_of(
     alloc: Global,
-    command: &types::Command,
+    command: &typed::Command,
     scope: &Scope,
     earlier: &[Procedure],
     made: &mut Made,
@@ -28,48 +28,48 @@ fn command_of(
 {
     let line = command.line;
     match command.action.get() {
-        types::Action::Call(procedure, arguments) => {
+        typed::Action::Call(procedure, arguments) => {
             let call = made.calls.saturating_add(1);
             let entrance = scope.entrance(alloc, arguments.as_slice(), call)?;
             let body = called_body(alloc, *procedure as usize, entrance, earlier, made)?;
             made.calls = call;
             Ok(body)
         }
-        types::Action::Loop(body) => {
+        typed::Action::Loop(body) => {
             let body = command_of(alloc, body, scope, earlier, made)?;
             loop_command(alloc, line, body)
         }
-        types::Action::While(guard, body) => {
+        typed::Action::While(guard, body) => {
             let body = command_of(alloc, body, scope, earlier, made)?;
             scope.while_command(alloc, line, guard, body)
         }
-        types::Action::If(arms, last) => {
+        typed::Action::If(arms, last) => {
             let arms = guarded_of(alloc, arms.as_slice(), scope, earlier, made)?;
             let last = last_of(alloc, last, scope, earlier, made)?;
             if_command(alloc, line, arms, last)
         }
-        types::Action::Case(subject, arms, last) => {
+        typed::Action::Case(subject, arms, last) => {
             let arms = labelled_of(alloc, arms.as_slice(), scope, earlier, made)?;
             let last = last_of(alloc, last, scope, earlier, made)?;
             scope.case_command(alloc, line, subject, arms, last)
         }
-        types::Action::Input(channel, body) => {
+        typed::Action::Input(channel, body) => {
             let body = command_of(alloc, body, scope, earlier, made)?;
             scope.input_command(alloc, line, *channel, body)
         }
-        types::Action::Select(arms) => {
+        typed::Action::Select(arms) => {
             let arms = arms_of(alloc, arms.as_slice(), scope, earlier, made)?;
             select_command(alloc, line, arms)
         }
-        types::Action::Arbitrate(arms) => {
+        typed::Action::Arbitrate(arms) => {
             let arms = arms_of(alloc, arms.as_slice(), scope, earlier, made)?;
             arbitrate_command(alloc, line, arms)
         }
-        types::Action::Sequence(children) => {
+        typed::Action::Sequence(children) => {
             let children = commands_of(alloc, children.as_slice(), scope, earlier, made)?;
             sequence_command(alloc, line, children)
         }
-        types::Action::Parallel(children) => {
+        typed::Action::Parallel(children) => {
             let children = commands_of(alloc, children.as_slice(), scope, earlier, made)?;
             parallel_command(alloc, line, children)
         }
@@ -81,7 +81,7 @@ fn command_of(
 #[cycle(body)]
 fn commands_of(
     alloc: Global,
-    commands: &[types::Command],
+    commands: &[typed::Command],
     scope: &Scope,
     earlier: &[Procedure],
     made: &mut Made,
@@ -100,7 +100,7 @@ fn commands_of(
 #[cycle(body)]
 fn guarded_of(
     alloc: Global,
-    arms: &[types::Guarded],
+    arms: &[typed::Guarded],
     scope: &Scope,
     earlier: &[Procedure],
     made: &mut Made,
@@ -121,7 +121,7 @@ fn guarded_of(
 #[cycle(body)]
 fn labelled_of(
     alloc: Global,
-    arms: &[types::Labelled],
+    arms: &[typed::Labelled],
     scope: &Scope,
     earlier: &[Procedure],
     made: &mut Made,
@@ -142,7 +142,7 @@ fn labelled_of(
 #[cycle(body)]
 fn arms_of(
     alloc: Global,
-    arms: &[types::Arm],
+    arms: &[typed::Arm],
     scope: &Scope,
     earlier: &[Procedure],
     made: &mut Made,
@@ -163,7 +163,7 @@ fn arms_of(
 #[cycle(body)]
 fn last_of(
     alloc: Global,
-    last: &Option<types::Command>,
+    last: &Option<typed::Command>,
     scope: &Scope,
     earlier: &[Procedure],
     made: &mut Made,
@@ -197,7 +197,7 @@ pub fn called_body(
         earlier = &earlier[..called];
         let scope = made.scope(alloc, entrance, procedure.locals.as_slice())?;
         match procedure.body.action.get() {
-            types::Action::Call(next, arguments) => {
+            typed::Action::Call(next, arguments) => {
                 called = *next as usize;
                 entrance = scope.into_entrance(alloc, arguments.as_slice())?;
             }

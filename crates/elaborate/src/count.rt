@@ -5,7 +5,7 @@ ghost use Rattle.elaborate.specs.Size as model;
 ghost use Rattle.elaborate.specs.Parts.{size_of_guarded, size_of_labelled, size_of_arm};
 
 use std::alloc::{AllocError, Global};
-use types::{Action, Arm, Command, Expression, Guarded, Labelled, Procedure};
+use typed::{Action, Arm, Command, Expression, Guarded, Labelled, Procedure};
 
 /// How large a part of a system is, its calls replaced. Each number is at most one more than its limit.
 #[derive(Clone, Copy, Debug)]

@@ -6,11 +6,11 @@ ghost use Rattle.elaborate.specs.Fit as fit;
 
 use crate::lookups::NamedEntries;
 use crate::made::number_of;
-use crate::stimulus::{Entry, Given};
+use stimulus::{Entry, Given};
 use std::alloc::{AllocError, Global};
 use syntax::Items;
 use system::Branch;
-use types::{Port, PortKind};
+use typed::{Port, PortKind};
 use value::{Value, Width};
 
 /// The branch of the environment for each port.

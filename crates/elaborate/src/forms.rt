@@ -5,7 +5,7 @@ use crate::scope::Scope;
 use std::alloc::{AllocError, Global};
 use syntax::Items;
 use system::{Action, Arm, Command, Guarded, Labelled};
-use types::ChannelUse;
+use typed::ChannelUse;
 
 #[inline(never)]
 pub fn loop_command(alloc: Global, line: u64, body: Command) -> Result<Command, AllocError>
@@ -71,7 +71,7 @@ impl Scope {
         &self,
         alloc: Global,
         line: u64,
-        guard: &types::Expression,
+        guard: &typed::Expression,
         body: Command,
     ) -> Result<Command, AllocError>
         ensures { IfOk result (λ made. made ≡ record { line = line; action = Action.While (scopes.expression_in self.now guard.now) body }) }
@@ -85,7 +85,7 @@ impl Scope {
         &self,
         alloc: Global,
         line: u64,
-        subject: &types::Expression,
+        subject: &typed::Expression,
         arms: Items<Labelled>,
         last: Option<Command>,
     ) -> Result<Command, AllocError>
@@ -114,25 +114,25 @@ impl Scope {
         &self,
         alloc: Global,
         line: u64,
-        action: &types::Action,
+        action: &typed::Action,
     ) -> Result<Command, AllocError>
         ensures { IfOk result (λ made. made ≡ record { line = line; action = leaf_in self.now action.now }) }
     {
         let action = match action {
-            types::Action::Halt => Action::Halt,
-            types::Action::Assign(variable, width, value) => {
+            typed::Action::Halt => Action::Halt,
+            typed::Action::Assign(variable, width, value) => {
                 let value = self.expression(alloc, value)?;
                 Action::Assign(self.variable_use(*variable), *width, value)
             }
-            types::Action::Send(channel, width, value) => {
+            typed::Action::Send(channel, width, value) => {
                 let value = self.expression(alloc, value)?;
                 Action::Send(self.channel_use(*channel), *width, value)
             }
-            types::Action::Receive(channel, variable) => Action::Receive(
+            typed::Action::Receive(channel, variable) => Action::Receive(
                 self.channel_use(*channel),
                 self.variable_use(*variable),
             ),
-            types::Action::Sync(channel) => Action::Sync(self.channel_use(*channel)),
+            typed::Action::Sync(channel) => Action::Sync(self.channel_use(*channel)),
             _ => Action::Continue,
         };
         Command::new(alloc, line, action)

@@ -6,19 +6,15 @@
 
 mod body;
 mod count;
-mod entry;
 mod environment;
-mod fault;
 mod forms;
-mod line;
 mod lookups;
 mod made;
 mod names;
 mod pass;
 mod ports;
 mod scope;
-mod stimulus;
 
-pub use fault::Fault;
+pub use refusals::elaborate::Fault;
 pub use pass::elaborate;
 pub use stimulus::{Entry, Given, Stimulus};

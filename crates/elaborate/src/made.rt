@@ -7,7 +7,7 @@ use crate::scope::{Entrance, Scope};
 use std::alloc::{AllocError, Global};
 use syntax::Items;
 use system::{Channel, ChannelKind, Prefix, QualifiedName, Variable};
-use types::{Local, LocalKind, Port, PortKind};
+use typed::{Local, LocalKind, Port, PortKind};
 
 /// What is made so far.
 #[derive(Drop)]

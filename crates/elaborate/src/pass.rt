@@ -2,7 +2,7 @@ ghost use Rattle.std.specs.Prelude.{◌≡◌, ◌⊎◌, ◌↔◌, IsTrue, IfO
 ghost use Rattle.elaborate.specs.Root as root;
 ghost use Rattle.elaborate.specs.Elaboration as model;
 ghost use Rattle.elaborate.specs.Size.{IsSmall};
-ghost use Rattle.elaborate.specs.declared.fault.Fault.TheVariants.{Memory};
+ghost use Rattle.refusals.specs.declared.elaborate.Fault.TheVariants.{Memory};
 
 use crate::body::called_body;
 use crate::count::is_small;
@@ -11,11 +11,11 @@ use crate::lookups::{NamedEntries, NamedPorts};
 use crate::made::Made;
 use crate::ports::{misfit, value_count};
 use crate::scope::Entrance;
-use crate::stimulus::Entry;
+use stimulus::Entry;
 use crate::{Fault, Stimulus};
 use std::alloc::{AllocError, Global};
 use system::{Prefix, System, VariableTable};
-use types::{Port, Procedure, Typed};
+use typed::{Port, Procedure, Typed};
 
 /// The one system that the description and the stimulus give: its last procedure is the root, whose body is the main
 /// part, and the environment has a branch for each port of it.

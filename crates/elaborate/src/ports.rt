@@ -3,8 +3,8 @@ ghost use Rattle.std.specs.Prelude.{◌≡◌, ◌^◌, ◌-◌, [], min, nat_lt
 ghost use Rattle.elaborate.specs.Fit as fit;
 
 use crate::lookups::{NamedEntries, NamedPorts};
-use crate::stimulus::{Entry, Given};
-use types::PortKind;
+use stimulus::{Entry, Given};
+use typed::PortKind;
 use value::{Value, Width};
 
 /// The line of the first entry that does not fit the ports, if there is one.

@@ -6,7 +6,7 @@ ghost use Rattle.elaborate.specs.Numbers.{number_at};
 use std::alloc::{AllocError, Global};
 use syntax::{Boxed, Items};
 use system::{Expression, Operator, Prefix, Use};
-use types::{ChannelUse, Place, VariableUse};
+use typed::{ChannelUse, Place, VariableUse};
 use value::Comparison;
 
 /// What the names of a procedure stand for where it is called.
@@ -121,27 +121,27 @@ impl Scope {
     pub fn expression(
         &self,
         alloc: Global,
-        expression: &types::Expression,
+        expression: &typed::Expression,
     ) -> Result<Expression, AllocError>
         ensures { IfOk result (λ made. made ≡ scopes.expression_in self.now expression.now) }
     {
         Ok(match expression {
-            types::Expression::Constant(value) => Expression::Constant(*value),
-            types::Expression::Variable(named, width) => {
+            typed::Expression::Constant(value) => Expression::Constant(*value),
+            typed::Expression::Variable(named, width) => {
                 Expression::Variable(self.variable_use(*named), *width)
             }
-            types::Expression::Received(place, width) => {
+            typed::Expression::Received(place, width) => {
                 Expression::Received(self.channel(*place), *width)
             }
-            types::Expression::Binary(operator, left, right) => {
+            typed::Expression::Binary(operator, left, right) => {
                 let left = Boxed::new(alloc, self.expression(alloc, left.get())?)?;
                 let right = Boxed::new(alloc, self.expression(alloc, right.get())?)?;
                 Expression::Binary(operator_of(*operator), left, right)
             }
-            types::Expression::Not(operand) => {
+            typed::Expression::Not(operand) => {
                 Expression::Not(Boxed::new(alloc, self.expression(alloc, operand.get())?)?)
             }
-            types::Expression::Cast(operand, width) => {
+            typed::Expression::Cast(operand, width) => {
                 let operand = self.expression(alloc, operand.get())?;
                 Expression::Cast(Boxed::new(alloc, operand)?, *width)
             }

@@ -8,14 +8,14 @@ use Rattle.std.proofs.lemmas.Bool.{cases_lt}
 use Rattle.std.specs.Prelude.{IsTrue}
 use Rattle.lexer.specs.Comment.{is_opening, is_nested_comment, IsOpenComment}
 use Rattle.lexer.specs.declared.class.Class.TheVariants.{NestedComment, OpenComment, Number}
-use Rattle.lexer.specs.declared.fault.Fault.TheVariants as fault
+use Rattle.refusals.specs.declared.lexer.Fault.TheVariants as fault
 use Rattle.lexer.proofs.MarkLemmas.{mark_extends}
 use Rattle.lexer.specs.Bytes.{Text}
 use Rattle.lexer.specs.Cut.{IsCut, IsFront, Piece, joined}
 use Rattle.lexer.specs.Refusal.{IsDueAt, IsPieceFault, IsRefused}
 use Rattle.lexer.specs.Tokens.{AreReadable, AreTokens, IsReadable, IsReadTo, behind, first_place, token_at, token_of, tokens_from}
 use Rattle.lexer.specs.declared.class.Class.{Class}
-use Rattle.lexer.specs.declared.fault.Fault.{Fault}
+use Rattle.refusals.specs.declared.lexer.Fault.{Fault}
 use Rattle.lexer.specs.declared.place.Place.{Place}
 use Rattle.lexer.specs.declared.token.Kind.TheVariants.{EndOfSource}
 use Rattle.lexer.specs.declared.token.Token.{Token}

@@ -11,8 +11,8 @@ use Rattle.lexer.specs.Spelling.{Spells, NothingSpelled, class_at}
 use Rattle.lexer.specs.Tokens.{AreReadable, AreTokens, IsReadable, IsReadTo, first_place, tokens_from, value_of}
 use Rattle.lexer.specs.declared.class.Class.{Class}
 use Rattle.lexer.specs.declared.class.Class.TheVariants.{Blank, LineComment, NestedComment, OpenComment, Word, Number, Symbol}
-use Rattle.lexer.specs.declared.fault.Fault.{Fault}
-use Rattle.lexer.specs.declared.fault.Fault.TheVariants as fault
+use Rattle.refusals.specs.declared.lexer.Fault.{Fault}
+use Rattle.refusals.specs.declared.lexer.Fault.TheVariants as fault
 use Rattle.lexer.specs.declared.token.Token.{Token}
 use Rattle.lexer.proofs.FrontLemmas.{class_of, open_front}
 use Rattle.lexer.proofs.PieceLemmas.{class_opening}

@@ -1,27 +1,13 @@
 -- Where a source is refused, and why.
-use Rattle.std.specs.Prelude.{◌≡◌, ◌≢◌, ℕ, ◌^◌, ◌≤◌, List, [], ◌++◌, length, Option, Some, None}
+use Rattle.std.specs.Prelude.{◌≡◌, ◌≢◌, ℕ, ◌^◌, ◌≤◌, List, [], ◌++◌, length}
 use Rattle.lexer.specs.Bytes.{Text}
 use Rattle.lexer.specs.Cut.{Piece, joined, IsLongest}
 use Rattle.lexer.specs.Spelling.{Spells, NothingSpelled}
 use Rattle.lexer.specs.Tokens.{IsReadTo, value_of}
 use Rattle.lexer.specs.declared.class.Class.{Class}
 use Rattle.lexer.specs.declared.class.Class.TheVariants as class
-use Rattle.lexer.specs.declared.fault.Fault.{Fault}
-use Rattle.lexer.specs.declared.fault.Fault.TheVariants.{Memory, BadCharacter, OpenComment, NumberTooLarge}
-
--- the number of a refusal
-abbrev pub refusal_number : Fault → ℕ
-refusal_number Memory = 1
-refusal_number (BadCharacter offset) = 2
-refusal_number (OpenComment offset) = 3
-refusal_number (NumberTooLarge offset) = 4
-
--- the place of a refusal
-abbrev pub refusal_offset : Fault → Option ℕ
-refusal_offset Memory = None
-refusal_offset (BadCharacter offset) = Some offset
-refusal_offset (OpenComment offset) = Some offset
-refusal_offset (NumberTooLarge offset) = Some offset
+use Rattle.refusals.specs.declared.lexer.Fault.{Fault}
+use Rattle.refusals.specs.declared.lexer.Fault.TheVariants.{Memory, BadCharacter, OpenComment, NumberTooLarge}
 
 -- the number is the longest piece at the front, and 2^64 or more
 pub record BeginsTooLarge (rest : Text) : Type 0 where

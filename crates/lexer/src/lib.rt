@@ -4,12 +4,11 @@
 ghost use Rattle.std.specs.Prelude.{◌≡◌, List, ◌⊎◌, IfOk, IfErr, MatchResult};
 ghost use Rattle.lexer.specs.Refusal.{IsRefused};
 ghost use Rattle.lexer.specs.Tokens.{AreTokens};
-ghost use Rattle.lexer.specs.declared.fault.Fault.{Fault};
-ghost use Rattle.lexer.specs.declared.fault.Fault.TheVariants.{Memory};
+ghost use Rattle.refusals.specs.declared.lexer.Fault.{Fault};
+ghost use Rattle.refusals.specs.declared.lexer.Fault.TheVariants.{Memory};
 ghost use Rattle.lexer.specs.declared.token.Token.{Token};
 
 mod class;
-mod fault;
 mod name;
 mod number;
 mod piece;
@@ -17,7 +16,7 @@ mod place;
 mod table;
 mod token;
 
-pub use fault::Fault;
+pub use refusals::lexer::Fault;
 pub use name::is_name;
 use piece::longest_piece;
 use place::Place;

@@ -2,7 +2,7 @@ ghost use Rattle.std.specs.Prelude.{◌≡◌, ◌≤◌, ◌<◌, ◌+◌, ◌^
 ghost use Rattle.std.specs.Option.{option_to_list};
 ghost use Rattle.lexer.specs.Refusal.{IsPieceFault};
 ghost use Rattle.lexer.specs.Tokens.{IsReadable, token_at, token_of};
-ghost use Rattle.lexer.specs.declared.fault.Fault.TheVariants.{Memory};
+ghost use Rattle.refusals.specs.declared.lexer.Fault.TheVariants.{Memory};
 
 use crate::Fault;
 use crate::class::Class;

@@ -6,8 +6,8 @@ use Rattle.syntax.specs.declared.declaration.Description.{Description}
 use Rattle.parser.specs.Accepted.{Parses, IsRefused}
 use Rattle.parser.specs.Answer.{IsAnswer}
 use Rattle.parser.specs.Offsets.{offset_at}
-use Rattle.parser.specs.declared.fault.Fault.{Fault}
-use Rattle.parser.specs.declared.fault.Fault.TheVariants.{Memory, Unexpected, TooDeep}
+use Rattle.refusals.specs.declared.parser.Fault.{Fault}
+use Rattle.refusals.specs.declared.parser.Fault.TheVariants.{Memory, Unexpected, TooDeep}
 use Rattle.parser.specs.Readers.{Outcome, read, unexpected, too_deep}
 use Rattle.parser.proofs.Parsed.{outcome, parsed, unexpected_first, too_deep_first, every_description, every_unexpected, every_too_deep}
 

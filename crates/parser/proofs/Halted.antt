@@ -1,8 +1,8 @@
 -- What a reading that stops is answered by.
 use Rattle.std.proofs.Common.{◌≡◌, ℕ, List, Err}
 use Rattle.lexer.specs.declared.token.Token.{Token}
-use Rattle.parser.specs.declared.fault.Halt.{Halt}
-use Rattle.parser.specs.declared.fault.Halt.TheVariants.{Memory, Unexpected, TooDeep}
+use Rattle.parser.specs.declared.halt.Halt.{Halt}
+use Rattle.parser.specs.declared.halt.Halt.TheVariants.{Memory, Unexpected, TooDeep}
 use Rattle.parser.specs.Answer.{IsAnswer, fault_at}
 use Rattle.parser.specs.Offsets.{offset_at}
 use Rattle.parser.specs.Readers.{Outcome}

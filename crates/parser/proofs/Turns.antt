@@ -3,8 +3,8 @@ use Rattle.std.proofs.Common.{◌≡◌, ℕ, zero, suc, ◌+◌, ◌-◌, ◌<�
 use Rattle.lexer.specs.declared.token.Kind.{Kind}
 use Rattle.lexer.specs.declared.token.Token.{Token}
 use Rattle.syntax.specs.declared.expression.Expression.{Expression}
-use Rattle.parser.specs.declared.fault.Halt.{Halt}
-use Rattle.parser.specs.declared.fault.Halt.TheVariants.{Memory, Unexpected, TooDeep}
+use Rattle.parser.specs.declared.halt.Halt.{Halt}
+use Rattle.parser.specs.declared.halt.Halt.TheVariants.{Memory, Unexpected, TooDeep}
 use Rattle.parser.specs.Input.{Input, next, is_one_of}
 use Rattle.parser.specs.Readers.{Outcome, Reader, read, unexpected, too_deep, and_then, bind, pure, branch, repeat, repeat_from}
 use Rattle.parser.specs.Reads.{Halts}

@@ -5,8 +5,8 @@ use Rattle.syntax.specs.declared.declaration.Description.{Description}
 use Rattle.parser.specs.Sentences.{Spells, StopsForGood, StopsForLevels}
 use Rattle.parser.specs.Offsets.{offset_at}
 use Rattle.parser.specs.Grammar.{description}
-use Rattle.parser.specs.declared.fault.Fault.{Fault}
-use Rattle.parser.specs.declared.fault.Fault.TheVariants.{Memory, Unexpected, TooDeep}
+use Rattle.refusals.specs.declared.parser.Fault.{Fault}
+use Rattle.refusals.specs.declared.parser.Fault.TheVariants.{Memory, Unexpected, TooDeep}
 
 -- how many levels may be open around one another
 abbrev pub most_levels : ℕ

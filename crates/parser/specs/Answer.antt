@@ -1,10 +1,10 @@
 -- What `parse` answers, by how the description is read.
 use Rattle.std.specs.Prelude.{◌≡◌, ℕ, List, Result, Ok, Err}
 use Rattle.lexer.specs.declared.token.Token.{Token}
-use Rattle.parser.specs.declared.fault.Fault.{Fault}
-use Rattle.parser.specs.declared.fault.Fault.TheVariants.{Memory, Unexpected, TooDeep}
-use Rattle.parser.specs.declared.fault.Halt.{Halt}
-use Rattle.parser.specs.declared.fault.Halt.TheVariants as halt
+use Rattle.refusals.specs.declared.parser.Fault.{Fault}
+use Rattle.refusals.specs.declared.parser.Fault.TheVariants.{Memory, Unexpected, TooDeep}
+use Rattle.parser.specs.declared.halt.Halt.{Halt}
+use Rattle.parser.specs.declared.halt.Halt.TheVariants as halt
 use Rattle.parser.specs.Input.{Input}
 use Rattle.parser.specs.Offsets.{offset_at}
 use Rattle.parser.specs.Readers.{Outcome, read, unexpected, too_deep}

@@ -7,7 +7,6 @@ pub mod Offsets
 pub mod Readers
 pub mod Reading
 pub mod Reads
-pub mod Refusal
 pub mod Rules
 pub mod Sentences
 pub mod Trees

@@ -4,7 +4,7 @@ use denote.Ref.{MutBor}
 use Rattle.syntax.specs.declared.expression.Expression.{Expression}
 use Rattle.syntax.specs.declared.command.Command.{Command}
 use Rattle.parser.specs.declared.cursor.Cursor.{Cursor}
-use Rattle.parser.specs.declared.fault.Halt.{Halt}
+use Rattle.parser.specs.declared.halt.Halt.{Halt}
 use Rattle.parser.specs.Readers.{Reader, nothing}
 use Rattle.parser.specs.Reading.{factor, expression_of, simple, command_of}
 use Rattle.parser.specs.Reads.{place, Reads}

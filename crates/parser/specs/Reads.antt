@@ -3,8 +3,8 @@ use Rattle.std.specs.Prelude.{◌≡◌, ℕ, List, Result, Ok, Err}
 use denote.Ref.{Bor, MutBor}
 use Rattle.lexer.specs.declared.token.Token.{Token}
 use Rattle.parser.specs.declared.cursor.Cursor.{Cursor}
-use Rattle.parser.specs.declared.fault.Halt.{Halt}
-use Rattle.parser.specs.declared.fault.Halt.TheVariants.{Memory, Unexpected, TooDeep}
+use Rattle.parser.specs.declared.halt.Halt.{Halt}
+use Rattle.parser.specs.declared.halt.Halt.TheVariants.{Memory, Unexpected, TooDeep}
 use Rattle.parser.specs.Input.{Input, input}
 use Rattle.parser.specs.Readers.{Outcome, read, unexpected, too_deep}
 

@@ -10,7 +10,7 @@ ghost use Rattle.parser.specs.Trees as trees;
 
 use crate::cursor::Cursor;
 use crate::expression::expression;
-use crate::fault::Halt;
+use crate::halt::Halt;
 use crate::list::{add, one};
 use crate::name::{labels, names};
 use lexer::Kind;

@@ -5,7 +5,7 @@ ghost use Rattle.parser.specs.Readers.{take, take_open};
 ghost use Rattle.parser.specs.Reading as reading;
 ghost use Rattle.parser.specs.Reads.{place, Reads, Lends};
 
-use crate::fault::Halt;
+use crate::halt::Halt;
 use lexer::{Kind, Token};
 use std::alloc::Global;
 use syntax::Identifier;

@@ -7,7 +7,7 @@ ghost use Rattle.parser.specs.Reads.{place, Builds, Reads};
 
 use crate::command::command;
 use crate::cursor::{Cursor, LEVELS};
-use crate::fault::Halt;
+use crate::halt::Halt;
 use crate::list::{Item, add, one, separated};
 use crate::name::{names, type_behind, width};
 use lexer::Kind;

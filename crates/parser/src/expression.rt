@@ -10,7 +10,7 @@ ghost use Rattle.parser.specs.Reads.{place, Reads};
 ghost use Rattle.parser.specs.Trees as trees;
 
 use crate::cursor::Cursor;
-use crate::fault::Halt;
+use crate::halt::Halt;
 use crate::name::type_name;
 use lexer::{Kind, Token};
 use syntax::{Expression, Operator, Shape, Span};

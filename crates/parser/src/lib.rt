@@ -8,21 +8,21 @@ ghost use Rattle.parser.specs.Input.{input};
 ghost use Rattle.parser.specs.Offsets as offsets;
 ghost use Rattle.parser.specs.Readers as readers;
 ghost use Rattle.parser.specs.Reading as reading;
-ghost use Rattle.parser.specs.declared.fault.Fault.{Fault};
-ghost use Rattle.parser.specs.declared.fault.Fault.TheVariants.{Memory};
+ghost use Rattle.refusals.specs.declared.parser.Fault.{Fault};
+ghost use Rattle.refusals.specs.declared.parser.Fault.TheVariants.{Memory};
 ghost use Rattle.syntax.specs.declared.declaration.Description.{Description};
 
 mod command;
 mod cursor;
 mod declaration;
 mod expression;
-mod fault;
+mod halt;
 mod list;
 mod name;
 
 use cursor::{Cursor, LEVELS};
 use declaration::whole;
-pub use fault::Fault;
+pub use refusals::parser::Fault;
 use lexer::Token;
 use std::alloc::Global;
 use syntax::Description;

@@ -5,10 +5,10 @@ ghost use Rattle.parser.specs.Input.{Input};
 ghost use Rattle.parser.specs.Readers.{Reader, read};
 ghost use Rattle.parser.specs.Reading as reading;
 ghost use Rattle.parser.specs.Reads.{place, Builds, Reads};
-ghost use Rattle.parser.specs.declared.fault.Halt.TheVariants.{Memory};
+ghost use Rattle.parser.specs.declared.halt.Halt.TheVariants.{Memory};
 
 use crate::cursor::Cursor;
-use crate::fault::Halt;
+use crate::halt::Halt;
 use lexer::Kind;
 use std::alloc::Global;
 use syntax::Items;

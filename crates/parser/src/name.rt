@@ -2,7 +2,7 @@ ghost use Rattle.parser.specs.Reading as reading;
 ghost use Rattle.parser.specs.Reads.{place, Reads};
 
 use crate::cursor::Cursor;
-use crate::fault::Halt;
+use crate::halt::Halt;
 use crate::list::{Item, separated};
 use lexer::Kind;
 use syntax::{Identifier, Items, Label, LabelValue, TypeName, Width};

@@ -1,22 +1,10 @@
--- What stands for a refusal in messages, and which system gets which.
-use Rattle.std.specs.Prelude.{ℕ, Option, Some, None}
+-- Which system is accepted, and which refusal each other one gets.
+use Rattle.std.specs.Prelude.{ℕ}
 use Rattle.system.specs.declared.system.System.{System}
 use Rattle.sharing_check.specs.Rule.{SharesWell}
 use Rattle.sharing_check.specs.Refused.{ClashesAt, PassesAt, Least}
-use Rattle.sharing_check.specs.declared.fault.Fault.{Fault}
-use Rattle.sharing_check.specs.declared.fault.Fault.TheVariants.{Memory, Shared, Width}
-
--- the number of a refusal
-abbrev pub refusal_number : Fault → ℕ
-refusal_number Memory = 1
-refusal_number (Shared offset) = 15
-refusal_number (Width offset) = 16
-
--- where the source is refused
-abbrev pub refusal_offset : Fault → Option ℕ
-refusal_offset Memory = None
-refusal_offset (Shared offset) = Some offset
-refusal_offset (Width offset) = Some offset
+use Rattle.refusals.specs.declared.sharing_check.Fault.{Fault}
+use Rattle.refusals.specs.declared.sharing_check.Fault.TheVariants.{Memory, Shared, Width}
 
 -- no two uses of a variable clash
 abbrev pub NoClash : System → Type 0

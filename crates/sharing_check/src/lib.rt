@@ -3,7 +3,6 @@
 
 mod checked;
 mod clashes;
-mod fault;
 mod found;
 mod laws;
 mod naming;
@@ -13,5 +12,5 @@ mod touches;
 mod widths;
 
 pub use checked::{Checked, check_sharing};
-pub use fault::Fault;
+pub use refusals::sharing_check::Fault;
 pub use laws::clash_free_keeps_the_rule;

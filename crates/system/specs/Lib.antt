@@ -1,4 +1,4 @@
-pub mod Lists
+pub use Rattle.syntax.specs.Lists
 pub mod Expression
 pub mod Variables
 pub mod Residual

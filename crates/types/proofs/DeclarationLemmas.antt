@@ -7,12 +7,12 @@ use Rattle.types.specs.Names.{VisibleNames, look_up, declared, is_fresh, port_me
 use Rattle.types.specs.Declarations.{Declared, with_one, with_ports, with_locals, all_ports, all_locals, one_port, one_local, port_kind, local_kind, behind, port_types, local_types, judged_procedure, declarations_right, after_procedure, with_procedures, with_types, SoFar, types_of, judged_description}
 use Rattle.types.specs.declared.scope.Meaning.{Meaning}
 use Rattle.types.specs.declared.scope.Meaning.TheVariants as meaning
-use Rattle.types.specs.declared.typed.Command.{Command}
-use Rattle.types.specs.declared.typed.Procedure.{Procedure}
-use Rattle.types.specs.declared.typed.Local.{Local}
-use Rattle.types.specs.declared.typed.LocalKind.{LocalKind}
-use Rattle.types.specs.declared.typed.Port.{Port}
-use Rattle.types.specs.declared.typed.PortKind.{PortKind}
+use Rattle.typed.specs.declared.tree.Command.{Command}
+use Rattle.typed.specs.declared.tree.Procedure.{Procedure}
+use Rattle.typed.specs.declared.tree.Local.{Local}
+use Rattle.typed.specs.declared.tree.LocalKind.{LocalKind}
+use Rattle.typed.specs.declared.tree.Port.{Port}
+use Rattle.typed.specs.declared.tree.PortKind.{PortKind}
 use Rattle.syntax.specs.declared.declaration.Local as tree_local
 use Rattle.syntax.specs.declared.declaration.Description.{Description}
 use Rattle.syntax.specs.declared.declaration.Port as tree_port

@@ -5,7 +5,7 @@ use Rattle.types.specs.Findings.{Faults, Findings, found, together, IsOneOf, Non
 use Rattle.types.specs.Refusal.{lesser}
 use Rattle.types.specs.Verdict as v
 use Rattle.types.specs.Verdict.{Verdict}
-use Rattle.types.specs.declared.fault.Fault.{Fault}
+use Rattle.refusals.specs.declared.types.Fault.{Fault}
 use Rattle.types.proofs.Order.{lesser-lesser, lesser-same, lesser-again, lesser-one}
 
 -- the one of these faults that is answered

@@ -17,12 +17,12 @@ use Rattle.types.specs.Verdict as v
 use Rattle.types.specs.Verdict.{Verdict}
 use Rattle.types.specs.declared.arms.LabelUse.{LabelUse}
 use Rattle.types.specs.declared.expression.Valued.{Valued}
-use Rattle.types.specs.declared.typed.Arm as typed_arm
-use Rattle.types.specs.declared.typed.ChannelUse.{ChannelUse}
-use Rattle.types.specs.declared.typed.Command as typed_command
-use Rattle.types.specs.declared.typed.Guarded as typed_guarded
-use Rattle.types.specs.declared.typed.Labelled as typed_labelled
-use Rattle.types.specs.declared.typed.Place.{Place}
+use Rattle.typed.specs.declared.tree.Arm as typed_arm
+use Rattle.typed.specs.declared.tree.ChannelUse.{ChannelUse}
+use Rattle.typed.specs.declared.tree.Command as typed_command
+use Rattle.typed.specs.declared.tree.Guarded as typed_guarded
+use Rattle.typed.specs.declared.tree.Labelled as typed_labelled
+use Rattle.typed.specs.declared.tree.Place.{Place}
 use Rattle.syntax.specs.declared.command.Action.{Action}
 use Rattle.syntax.specs.declared.command.Arm.{Arm}
 use Rattle.syntax.specs.declared.command.CaseArm.{CaseArm}

@@ -7,16 +7,16 @@ use Rattle.types.specs.Declarations.{SoFar, with_name, with_elements, with_defin
 use Rattle.types.specs.Expressions.{declared_width}
 use Rattle.types.specs.Findings as j
 use Rattle.types.specs.Findings.{Findings, found, IsRefused}
-use Rattle.types.specs.declared.fault.Fault.TheVariants.{Memory}
+use Rattle.refusals.specs.declared.types.Fault.TheVariants.{Memory}
 use Rattle.types.specs.Names.{VisibleNames, is_fresh, port_meaning, local_meaning}
 use Rattle.types.specs.Verdict as v
 use Rattle.types.specs.Verdict.{Verdict}
 use Rattle.types.specs.declared.scope.Meaning.TheVariants as meaning
-use Rattle.types.specs.declared.typed.Local.{Local}
-use Rattle.types.specs.declared.typed.LocalKind.{LocalKind}
-use Rattle.types.specs.declared.typed.Port.{Port}
-use Rattle.types.specs.declared.typed.PortKind.{PortKind}
-use Rattle.types.specs.declared.typed.Procedure.{Procedure}
+use Rattle.typed.specs.declared.tree.Local.{Local}
+use Rattle.typed.specs.declared.tree.LocalKind.{LocalKind}
+use Rattle.typed.specs.declared.tree.Port.{Port}
+use Rattle.typed.specs.declared.tree.PortKind.{PortKind}
+use Rattle.typed.specs.declared.tree.Procedure.{Procedure}
 use Rattle.syntax.specs.declared.declaration.Description.{Description}
 use Rattle.syntax.specs.declared.declaration.Local as tree_local
 use Rattle.syntax.specs.declared.declaration.Port as tree_port

@@ -1,9 +1,11 @@
 -- The order in which faults are answered.
 use Rattle.std.proofs.Common.{◌≡◌, ℕ, Bool, true, false, Option, Some, None, if◌then◌else◌, ◌⊎◌, inl, inr, refl, sym, ◌∙◌, arith}
 use Rattle.std.proofs.lemmas.Bool.Decides.{nat_tests}
-use Rattle.types.specs.Refusal.{is_earlier, goes_before, lesser, refusal_offset, refusal_number}
-use Rattle.types.specs.declared.fault.Fault.{Fault}
-use Rattle.types.specs.declared.fault.Fault.TheVariants.{Memory, UnknownName, NameTwice, WrongKind, TooWide, GuardNotOneBit, BadArm, PortMismatch, EnclosedTwice}
+use Rattle.refusals.specs.Numbers.{types_number}
+use Rattle.refusals.specs.Places.{types_offset}
+use Rattle.types.specs.Refusal.{is_earlier, goes_before, lesser}
+use Rattle.refusals.specs.declared.types.Fault.{Fault}
+use Rattle.refusals.specs.declared.types.Fault.TheVariants.{Memory, UnknownName, NameTwice, WrongKind, TooWide, GuardNotOneBit, BadArm, PortMismatch, EnclosedTwice}
 
 earlier_twice : (a : Option ℕ) (m : ℕ) (b : Option ℕ) (n : ℕ) (c : Option ℕ) (k : ℕ)
     → is_earlier a m b n ≡ true → is_earlier b n c k ≡ true → is_earlier a m c k ≡ true
@@ -22,11 +24,11 @@ later_twice (Some a) m (Some b) n (Some c) k h g = grind (arith, nat_tests)
 -- what goes before what goes before the fault goes before it
 pub before_twice : (f g h : Fault) → goes_before f g ≡ true → goes_before g h ≡ true → goes_before f h ≡ true
 unfolding goes_before
-before_twice f g h = earlier_twice (refusal_offset f) (refusal_number f) (refusal_offset g) (refusal_number g) (refusal_offset h) (refusal_number h)
+before_twice f g h = earlier_twice (types_offset f) (types_number f) (types_offset g) (types_number g) (types_offset h) (types_number h)
 
 pub not_before_twice : (f g h : Fault) → goes_before f g ≡ false → goes_before g h ≡ false → goes_before f h ≡ false
 unfolding goes_before
-not_before_twice f g h = later_twice (refusal_offset f) (refusal_number f) (refusal_offset g) (refusal_number g) (refusal_offset h) (refusal_number h)
+not_before_twice f g h = later_twice (types_offset f) (types_number f) (types_offset g) (types_number g) (types_offset h) (types_number h)
 
 -- of three faults it does not matter which two are compared first
 pub lesser-lesser : (f g h : Fault) → lesser (lesser f g) h ≡ lesser f (lesser g h)
@@ -53,7 +55,7 @@ both_none (Some a) m (Some b) n h g = absurd (not_both a m b n h g)
     not_both a m b n h g = grind (arith, nat_tests)
 
 -- only want of memory has no place
-memory_alone : (f : Fault) → refusal_offset f ≡ None → f ≡ Memory
+memory_alone : (f : Fault) → types_offset f ≡ None → f ≡ Memory
 memory_alone Memory e = refl
 memory_alone (UnknownName o) e = cc
 memory_alone (NameTwice o) e = cc
@@ -67,7 +69,7 @@ memory_alone (EnclosedTwice o) e = cc
 before_each_other : (f g : Fault) → goes_before f g ≡ true → goes_before g f ≡ true → f ≡ g
 unfolding goes_before
 before_each_other f g h k =
-    let e = both_none (refusal_offset f) (refusal_number f) (refusal_offset g) (refusal_number g) h k in
+    let e = both_none (types_offset f) (types_number f) (types_offset g) (types_number g) h k in
     memory_alone f e.0 ∙ sym (memory_alone g e.1)
 
 pub lesser-same : (f : Fault) → lesser f f ≡ f

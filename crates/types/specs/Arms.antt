@@ -8,15 +8,15 @@ use Rattle.types.specs.Uses.{label_use}
 use Rattle.types.specs.Verdict.{Verdict, becomes, if_right, both, and, all}
 use Rattle.types.specs.declared.arms.LabelUse.{LabelUse}
 use Rattle.types.specs.declared.expression.Valued.{Valued}
-use Rattle.types.specs.declared.fault.Fault.TheVariants.{GuardNotOneBit, BadArm}
-use Rattle.types.specs.declared.typed.Action.TheVariants as action
-use Rattle.types.specs.declared.typed.Arm.{Arm, roll-Arm, out-Arm}
-use Rattle.types.specs.declared.typed.ChannelUse.{ChannelUse}
-use Rattle.types.specs.declared.typed.Command.{Command, roll-Command}
-use Rattle.types.specs.declared.typed.Action.{Action}
-use Rattle.types.specs.declared.typed.Guarded.{Guarded, roll-Guarded}
-use Rattle.types.specs.declared.typed.Labelled.{Labelled, roll-Labelled}
-use Rattle.types.specs.declared.typed.Place.{Place}
+use Rattle.refusals.specs.declared.types.Fault.TheVariants.{GuardNotOneBit, BadArm}
+use Rattle.typed.specs.declared.tree.Action.TheVariants as action
+use Rattle.typed.specs.declared.tree.Arm.{Arm, roll-Arm, out-Arm}
+use Rattle.typed.specs.declared.tree.ChannelUse.{ChannelUse}
+use Rattle.typed.specs.declared.tree.Command.{Command, roll-Command}
+use Rattle.typed.specs.declared.tree.Action.{Action}
+use Rattle.typed.specs.declared.tree.Guarded.{Guarded, roll-Guarded}
+use Rattle.typed.specs.declared.tree.Labelled.{Labelled, roll-Labelled}
+use Rattle.typed.specs.declared.tree.Place.{Place}
 use Rattle.syntax.specs.declared.command.Label.{Label}
 use Rattle.syntax.specs.declared.command.LabelValue.{LabelValue}
 use Rattle.syntax.specs.declared.command.LabelValue.TheVariants as label

@@ -4,15 +4,15 @@ use Rattle.types.specs.Arms.{made, with_channel}
 use Rattle.types.specs.Names.{VisibleNames, look_up, find, is_among}
 use Rattle.types.specs.Uses.{procedure_use, argument_use}
 use Rattle.types.specs.Verdict.{Verdict, if_right, both, all}
-use Rattle.types.specs.declared.fault.Fault.TheVariants.{PortMismatch}
+use Rattle.refusals.specs.declared.types.Fault.TheVariants.{PortMismatch}
 use Rattle.types.specs.declared.scope.Meaning.{Meaning}
 use Rattle.types.specs.declared.scope.Meaning.TheVariants as meaning
-use Rattle.types.specs.declared.typed.Action.TheVariants as action
-use Rattle.types.specs.declared.typed.ChannelUse.{ChannelUse}
-use Rattle.types.specs.declared.typed.Command.{Command}
-use Rattle.types.specs.declared.typed.Place.{Place}
-use Rattle.types.specs.declared.typed.PortKind.{PortKind}
-use Rattle.types.specs.declared.typed.PortKind.TheVariants as port
+use Rattle.typed.specs.declared.tree.Action.TheVariants as action
+use Rattle.typed.specs.declared.tree.ChannelUse.{ChannelUse}
+use Rattle.typed.specs.declared.tree.Command.{Command}
+use Rattle.typed.specs.declared.tree.Place.{Place}
+use Rattle.typed.specs.declared.tree.PortKind.{PortKind}
+use Rattle.typed.specs.declared.tree.PortKind.TheVariants as port
 use Rattle.syntax.specs.declared.name.Identifier.{Identifier}
 
 -- an input port takes an input port or a channel of its width

@@ -11,16 +11,16 @@ use Rattle.types.specs.Verdict.{Verdict}
 use Rattle.types.specs.Verdict as verdict
 use Rattle.types.specs.declared.arms.LabelUse.{LabelUse}
 use Rattle.types.specs.declared.expression.Valued.{Valued}
-use Rattle.types.specs.declared.fault.Fault.TheVariants.{TooWide, GuardNotOneBit, PortMismatch}
-use Rattle.types.specs.declared.typed.Action.TheVariants as typed
-use Rattle.types.specs.declared.typed.Arm.{Arm}
-use Rattle.types.specs.declared.typed.ChannelUse.{ChannelUse}
-use Rattle.types.specs.declared.typed.Command.{Command}
-use Rattle.types.specs.declared.typed.Guarded.{Guarded}
-use Rattle.types.specs.declared.typed.Labelled.{Labelled}
-use Rattle.types.specs.declared.typed.Place.{Place}
-use Rattle.types.specs.declared.typed.PortKind.{PortKind}
-use Rattle.types.specs.declared.typed.VariableUse.{VariableUse}
+use Rattle.refusals.specs.declared.types.Fault.TheVariants.{TooWide, GuardNotOneBit, PortMismatch}
+use Rattle.typed.specs.declared.tree.Action.TheVariants as typed
+use Rattle.typed.specs.declared.tree.Arm.{Arm}
+use Rattle.typed.specs.declared.tree.ChannelUse.{ChannelUse}
+use Rattle.typed.specs.declared.tree.Command.{Command}
+use Rattle.typed.specs.declared.tree.Guarded.{Guarded}
+use Rattle.typed.specs.declared.tree.Labelled.{Labelled}
+use Rattle.typed.specs.declared.tree.Place.{Place}
+use Rattle.typed.specs.declared.tree.PortKind.{PortKind}
+use Rattle.typed.specs.declared.tree.VariableUse.{VariableUse}
 use Rattle.syntax.specs.declared.command.Action.TheFolds.{fold-Command}
 use Rattle.syntax.specs.declared.command.Action.TheOpen.{Action-F, Arm-F, CaseArm-F, Command-F, Guarded-F}
 use Rattle.syntax.specs.declared.command.Command as syntax

@@ -8,17 +8,17 @@ use Rattle.types.specs.Uses.{target_use, sending_use, receiving_use, sync_use, a
 use Rattle.types.specs.Verdict.{Verdict, becomes, if_right, both, all, and_all}
 use Rattle.types.specs.declared.arms.LabelUse.{LabelUse}
 use Rattle.types.specs.declared.expression.Valued.{Valued}
-use Rattle.types.specs.declared.fault.Fault.TheVariants.{TooWide, GuardNotOneBit}
+use Rattle.refusals.specs.declared.types.Fault.TheVariants.{TooWide, GuardNotOneBit}
 use Rattle.types.specs.declared.scope.Scope.{Scope}
-use Rattle.types.specs.declared.typed.Action.TheVariants as typed
-use Rattle.types.specs.declared.typed.Arm.{Arm}
-use Rattle.types.specs.declared.typed.ChannelUse.{ChannelUse}
-use Rattle.types.specs.declared.typed.Command.{Command}
-use Rattle.types.specs.declared.typed.Guarded.{Guarded}
-use Rattle.types.specs.declared.typed.Labelled.{Labelled}
-use Rattle.types.specs.declared.typed.Place.{Place}
-use Rattle.types.specs.declared.typed.PortKind.{PortKind}
-use Rattle.types.specs.declared.typed.VariableUse.{VariableUse}
+use Rattle.typed.specs.declared.tree.Action.TheVariants as typed
+use Rattle.typed.specs.declared.tree.Arm.{Arm}
+use Rattle.typed.specs.declared.tree.ChannelUse.{ChannelUse}
+use Rattle.typed.specs.declared.tree.Command.{Command}
+use Rattle.typed.specs.declared.tree.Guarded.{Guarded}
+use Rattle.typed.specs.declared.tree.Labelled.{Labelled}
+use Rattle.typed.specs.declared.tree.Place.{Place}
+use Rattle.typed.specs.declared.tree.PortKind.{PortKind}
+use Rattle.typed.specs.declared.tree.VariableUse.{VariableUse}
 use Rattle.syntax.specs.declared.command.Action.TheFolds.{fold-Arm, fold-CaseArm, fold-Command, fold-Guarded}
 use Rattle.syntax.specs.declared.command.Action.TheOpen.{Action-F, Arm-F, CaseArm-F, Command-F, Guarded-F}
 use Rattle.syntax.specs.declared.command.Arm as opened_arm

@@ -7,11 +7,11 @@ use Rattle.types.specs.Expressions.{declared_width}
 use Rattle.types.specs.Findings.{Findings, found, becomes, both, and, with_next}
 use Rattle.types.specs.Names.{VisibleNames, is_fresh, port_meaning, local_meaning}
 use Rattle.types.specs.declared.scope.Meaning.TheVariants as meaning
-use Rattle.types.specs.declared.typed.Local.{Local}
-use Rattle.types.specs.declared.typed.LocalKind.{LocalKind}
-use Rattle.types.specs.declared.typed.Port.{Port}
-use Rattle.types.specs.declared.typed.PortKind.{PortKind}
-use Rattle.types.specs.declared.typed.Procedure.{Procedure}
+use Rattle.typed.specs.declared.tree.Local.{Local}
+use Rattle.typed.specs.declared.tree.LocalKind.{LocalKind}
+use Rattle.typed.specs.declared.tree.Port.{Port}
+use Rattle.typed.specs.declared.tree.PortKind.{PortKind}
+use Rattle.typed.specs.declared.tree.Procedure.{Procedure}
 use Rattle.syntax.specs.declared.declaration.Description.{Description}
 use Rattle.syntax.specs.declared.declaration.Local as tree_local
 use Rattle.syntax.specs.declared.declaration.Port as tree_port

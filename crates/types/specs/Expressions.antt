@@ -5,9 +5,9 @@ use Rattle.types.specs.Names.{VisibleNames, find}
 use Rattle.types.specs.Uses.{type_use, value_use}
 use Rattle.types.specs.Verdict.{Verdict, becomes, if_right, both}
 use Rattle.types.specs.declared.expression.Valued.{Valued}
-use Rattle.types.specs.declared.fault.Fault.TheVariants.{TooWide}
-use Rattle.types.specs.declared.typed.Expression.TheVariants as typed
-use Rattle.types.specs.declared.typed.Place.{Place}
+use Rattle.refusals.specs.declared.types.Fault.TheVariants.{TooWide}
+use Rattle.typed.specs.declared.tree.Expression.TheVariants as typed
+use Rattle.typed.specs.declared.tree.Place.{Place}
 use Rattle.types.specs.declared.uses.Named.{Named}
 use Rattle.types.specs.declared.uses.Named.TheVariants as named
 use Rattle.syntax.specs.declared.expression.Expression.{Expression}

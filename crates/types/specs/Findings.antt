@@ -3,7 +3,7 @@
 use Rattle.std.specs.Prelude.{◌≡◌, ◌⊎◌, List, [], ◌∷◌, ◌++◌, Result, Ok, Err}
 use Rattle.types.specs.Refusal.{lesser}
 use Rattle.types.specs.Verdict.{Verdict}
-use Rattle.types.specs.declared.fault.Fault.{Fault}
+use Rattle.refusals.specs.declared.types.Fault.{Fault}
 
 -- faults, at least one
 pub record Faults : Type 0 where

@@ -3,19 +3,19 @@ use Rattle.std.specs.Prelude.{ℕ, List, [], ◌∷◌, ◌++◌, Option, Some, 
 use Rattle.std.specs.Cmp.Lexicographic.{pointwise}
 use Rattle.std.specs.List.{list_any}
 use Rattle.types.specs.Verdict.{Verdict}
-use Rattle.types.specs.declared.fault.Fault.TheVariants.{NameTwice}
+use Rattle.refusals.specs.declared.types.Fault.TheVariants.{NameTwice}
 use Rattle.types.specs.declared.scope.Meaning.{Meaning}
 use Rattle.types.specs.declared.scope.Meaning.TheVariants as meaning
 use Rattle.types.specs.declared.scope.Found.{Found}
 use Rattle.types.specs.declared.scope.Found.TheVariants.{Nothing, Opened, Visible}
 use Rattle.types.specs.declared.scope.Channel.{Channel}
 use Rattle.types.specs.declared.scope.Names.{Names}
-use Rattle.types.specs.declared.typed.LocalKind.{LocalKind}
-use Rattle.types.specs.declared.typed.LocalKind.TheVariants as local
-use Rattle.types.specs.declared.typed.Place.{Place}
-use Rattle.types.specs.declared.typed.PortKind.{PortKind}
-use Rattle.types.specs.declared.typed.PortKind.TheVariants as port
-use Rattle.types.specs.declared.typed.Place.TheVariants as place
+use Rattle.typed.specs.declared.tree.LocalKind.{LocalKind}
+use Rattle.typed.specs.declared.tree.LocalKind.TheVariants as local
+use Rattle.typed.specs.declared.tree.Place.{Place}
+use Rattle.typed.specs.declared.tree.PortKind.{PortKind}
+use Rattle.typed.specs.declared.tree.PortKind.TheVariants as port
+use Rattle.typed.specs.declared.tree.Place.TheVariants as place
 
 -- the visible names in order of declaration, each with what it means
 abbrev pub VisibleNames : Type 0

@@ -2,15 +2,15 @@
 use Rattle.std.specs.Prelude.{ℕ, Option, Some, None, Ok, Err}
 use Rattle.value.specs.Word.{Word}
 use Rattle.types.specs.Verdict.{Verdict, if_right}
-use Rattle.types.specs.declared.fault.Fault.TheVariants.{UnknownName, WrongKind, EnclosedTwice}
+use Rattle.refusals.specs.declared.types.Fault.TheVariants.{UnknownName, WrongKind, EnclosedTwice}
 use Rattle.types.specs.declared.scope.Meaning.{Meaning}
 use Rattle.types.specs.declared.scope.Meaning.TheVariants.{TypeName, Element, Procedure, Input, Output, SyncPort, Variable, Channel, Sync}
 use Rattle.types.specs.declared.scope.Found.{Found}
 use Rattle.types.specs.declared.scope.Found.TheVariants.{Nothing, Opened, Visible}
-use Rattle.types.specs.declared.typed.Place.{Place}
-use Rattle.types.specs.declared.typed.Place.TheVariants.{Port, Local}
-use Rattle.types.specs.declared.typed.ChannelUse.{ChannelUse}
-use Rattle.types.specs.declared.typed.VariableUse.{VariableUse}
+use Rattle.typed.specs.declared.tree.Place.{Place}
+use Rattle.typed.specs.declared.tree.Place.TheVariants.{Port, Local}
+use Rattle.typed.specs.declared.tree.ChannelUse.{ChannelUse}
+use Rattle.typed.specs.declared.tree.VariableUse.{VariableUse}
 use Rattle.types.specs.declared.uses.Named.{Named}
 use Rattle.types.specs.declared.uses.Named.TheVariants as named
 

@@ -1,7 +1,7 @@
 -- What is found of a construct: it is right, with what it becomes, or the fault that is answered.
 use Rattle.std.specs.Prelude.{List, [], ◌∷◌, ◌++◌, Result, Ok, Err}
 use Rattle.types.specs.Refusal.{lesser}
-use Rattle.types.specs.declared.fault.Fault.{Fault}
+use Rattle.refusals.specs.declared.types.Fault.{Fault}
 
 abbrev pub Verdict : Type 0 → Type 0
 Verdict A = Result A Fault

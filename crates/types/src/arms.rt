@@ -7,7 +7,7 @@ ghost use Rattle.types.specs.Verdict as verdict;
 use crate::command::made;
 use crate::expression::{Valued, least_value};
 use crate::scope::{Names, Scope};
-use crate::typed::{Action, Arm, ChannelUse, Command, Guarded, Labelled, Place};
+use typed::{Action, Arm, ChannelUse, Command, Guarded, Labelled, Place};
 use crate::verdict::{and, both, with_next};
 use crate::{Fault, uses};
 use indexmap::IndexSet;

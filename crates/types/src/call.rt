@@ -4,7 +4,7 @@ ghost use Rattle.types.specs.Names.{entries, look_up};
 
 use crate::command::made;
 use crate::scope::{Meaning, Names, Scope};
-use crate::typed::{Action, ChannelUse, Command, Place, PortKind};
+use typed::{Action, ChannelUse, Command, Place, PortKind};
 use crate::verdict::{both, with_next};
 use crate::{Fault, uses};
 use indexmap::IndexSet;

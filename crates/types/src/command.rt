@@ -6,7 +6,7 @@ ghost use Rattle.types.specs.Commands.{visible_in, judged_command, judged_guarde
 ghost use Rattle.types.specs.Names.{entries, find};
 ghost use Rattle.types.specs.Uses as uses;
 ghost use Rattle.types.specs.Verdict as verdict;
-ghost use Rattle.types.specs.declared.typed.Action.TheVariants as typed;
+ghost use Rattle.typed.specs.declared.tree.Action.TheVariants as typed;
 
 use crate::arms::{
     Arms, arbitrated, arm_of, cased, chosen, conditional, guarded, labelled, new_labels, one_bit,
@@ -15,7 +15,7 @@ use crate::arms::{
 use crate::call::called;
 use crate::expression::{Valued, settled_expression};
 use crate::scope::Scope;
-use crate::typed::{Action, Arm, ChannelUse, Command, Guarded, Labelled, Place, VariableUse};
+use typed::{Action, Arm, ChannelUse, Command, Guarded, Labelled, Place, VariableUse};
 use crate::verdict::{and, both, with_next};
 use crate::{Fault, uses};
 use indexmap::IndexSet;

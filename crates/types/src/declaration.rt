@@ -10,7 +10,7 @@ use crate::Fault;
 use crate::command::settled_command;
 use crate::expression::{declared_width, type_width};
 use crate::scope::{Meaning, Names, Scope};
-use crate::typed::{Command, Local, LocalKind, Port, PortKind, Procedure};
+use typed::{Command, Local, LocalKind, Port, PortKind, Procedure};
 use crate::verdict::{and, both, with_next};
 use std::alloc::{AllocError, Global};
 use syntax::{Identifier, Items, Name, TypeDeclaration, TypeDefinition, TypeName};

@@ -1,13 +1,13 @@
 ghost use Rattle.std.specs.Prelude.{◌≡◌, ◌+◌, ◌≤◌, max, IfOk, Ok};
 ghost use Rattle.types.specs.Expressions as expressions;
 ghost use Rattle.types.specs.Names.{entries, find};
-ghost use Rattle.types.specs.declared.typed.Expression.TheVariants as typed;
+ghost use Rattle.typed.specs.declared.tree.Expression.TheVariants as typed;
 ghost use Rattle.types.specs.Uses as uses;
 ghost use Rattle.types.specs.Verdict as verdict;
 
 use crate::Fault;
 use crate::scope::Names;
-use crate::typed::{Expression, Place};
+use typed::{Expression, Place};
 use crate::uses::{self, Named};
 use crate::verdict::both;
 use std::alloc::{AllocError, Global};

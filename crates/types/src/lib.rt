@@ -6,21 +6,19 @@ ghost use Rattle.types.specs.DeclarationFaults.{found_description};
 ghost use Rattle.types.specs.Declarations.{judged_description};
 ghost use Rattle.types.specs.Findings.{IsRefused};
 ghost use Rattle.types.specs.Verdict.{becomes, both};
-ghost use Rattle.types.specs.declared.fault.Fault.TheVariants.{Memory};
+ghost use Rattle.refusals.specs.declared.types.Fault.TheVariants.{Memory};
 
 mod arms;
 mod call;
 mod command;
 mod declaration;
 mod expression;
-mod fault;
 mod scope;
-mod typed;
 mod uses;
 mod verdict;
 
 use declaration::{declare_types, settled_procedures};
-pub use fault::Fault;
+pub use refusals::types::Fault;
 use scope::Scope;
 use std::alloc::{AllocError, Global};
 use syntax::{Description, Items};

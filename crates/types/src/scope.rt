@@ -5,7 +5,7 @@ ghost use Rattle.types.specs.Names as names;
 ghost use Rattle.types.specs.Names.{entries};
 
 use crate::Fault;
-use crate::typed::{LocalKind, Place, PortKind};
+use typed::{LocalKind, Place, PortKind};
 use indexmap::IndexMap;
 use std::alloc::{AllocError, Global};
 use syntax::{Identifier, Items, Name};

@@ -4,7 +4,7 @@ ghost use Rattle.types.specs.Uses as uses;
 
 use crate::Fault;
 use crate::scope::{Channel, Found, Meaning};
-use crate::typed::{ChannelUse, Place, VariableUse};
+use typed::{ChannelUse, Place, VariableUse};
 use value::{Value, Width};
 
 /// What the name means, if it is visible and no channel that is open.

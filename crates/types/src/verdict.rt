@@ -1,6 +1,7 @@
 // What is found of a construct, as `Result<T, Fault>`: it is right, with what it becomes, or it has faults, of which
 // the one is kept that would be answered. Want of memory is no verdict: it ends the pass at once.
 ghost use Rattle.std.specs.Prelude.{◌≡◌, IfOk};
+ghost use Rattle.types.specs.Refusal as refusal;
 ghost use Rattle.types.specs.Verdict as verdict;
 
 use crate::Fault;
@@ -21,7 +22,7 @@ pub(crate) fn both<A: Drop, B: Drop>(
         },
         Err(fault) => match second {
             Ok(_) => Err(fault),
-            Err(other) => Err(fault.lesser(other)),
+            Err(other) => Err(lesser(fault, other)),
         },
     }
 }
@@ -50,5 +51,27 @@ pub(crate) fn with_next<T: Drop>(
             Ok(Ok(list))
         }
         Err(fault) => Ok(Err(fault)),
+    }
+}
+
+/// The one that is answered where a description has both: that of the lesser offset, at one offset that of the lesser
+/// number. Memory goes before all.
+#[tactic(auto, unfolding(crate::specs::Refusal::lesser))]
+fn lesser(one: Fault, other: Fault) -> Fault
+    ensures { result ≡ refusal.lesser one other }
+{
+    if goes_before(&other, &one) { other } else { one }
+}
+
+#[tactic(auto, unfolding(crate::specs::Refusal::goes_before))]
+fn goes_before(one: &Fault, other: &Fault) -> bool
+    ensures { result ≡ refusal.goes_before one.now other.now }
+{
+    match (one.offset(), other.offset()) {
+        (None, _) => true,
+        (_, None) => false,
+        (Some(here), Some(there)) => {
+            here < there || here == there && one.number() < other.number()
+        }
     }
 }

@@ -7,7 +7,7 @@ use Rattle.lexer.specs.Cut.{IsFront}
 use Rattle.lexer.specs.Refusal.{IsPieceFault, IsRefused}
 use Rattle.lexer.specs.Spelling.{NothingSpelled}
 use Rattle.lexer.specs.Tokens.{AreTokens, token_at}
-use Rattle.lexer.specs.declared.fault.Fault.TheVariants.{Memory, BadCharacter}
+use Rattle.refusals.specs.declared.lexer.Fault.TheVariants.{Memory, BadCharacter}
 use Rattle.lexer.specs.declared.place.Place.{Place}
 use Rattle.lexer.specs.declared.token.Kind.TheVariants.{EndOfSource}
 use Rattle.lexer.proofs.ReadingLemmas.{Reaches, reaches_next, reaches_end, reaches_fault, piece_fault_due}

@@ -1,0 +1,5 @@
+pub mod Cuts
+pub mod Numbers
+pub mod Readings
+pub mod Entries
+pub mod Lines

@@ -1,0 +1,3 @@
+pub mod StimulusReading
+pub mod StimulusText
+pub mod Words

@@ -1,0 +1,51 @@
+-- What reading the parts of a line of a stimulus finds.
+use Rattle.std.specs.Prelude.{◌≡◌, ℕ, ◌<◌, ◌^◌, List, [], ◌∷◌, ◌++◌, ◌⊎◌}
+use Rattle.std.specs.Fmt.{decimal}
+use Rattle.syntax.specs.Lists.{Every}
+use Rattle.stimulus.specs.Words.{StartsWith}
+use Rattle.stimulus.specs.StimulusText.{Text, numbers_text, given_text, IsWithin, Gives}
+use Rattle.stimulus.specs.declared.stimulus.Given.{Given}
+use Rattle.stimulus.specs.declared.stimulus.Entry.{Entry}
+
+-- `digits` are the decimal text of the number n, which is below 2^64
+abbrev pub Reads : Text → ℕ → Type 0
+Reads digits n = (n < 2 ^ 64) × (decimal n ≡ digits)
+
+-- `digits` are not the decimal text of a number below 2^64
+abbrev pub IsNoNumber : Text → Type 0
+IsNoNumber digits = (n : ℕ) → Reads digits n → ⊥
+
+-- the text is a space, the number n, and `after`, which does not go on with the number
+abbrev pub ReadsNext : Text → ℕ → Text → Type 0
+ReadsNext text n after = (n < 2 ^ 64) × (32 ∷ (decimal n ++ after) ≡ text) × StartsWith 32 after
+
+-- no space and number stand at the start of the text
+abbrev pub BeginsNoNumber : Text → Type 0
+BeginsNoNumber text = (n : ℕ) (after : Text) → ReadsNext text n after → ⊥
+
+-- the text is the numbers, each behind a space
+abbrev pub ReadsNumbers : Text → List ℕ → Type 0
+ReadsNumbers text ns = (numbers_text ns ≡ text) × Every (λ n. n < 2 ^ 64) ns
+
+-- the text is no numbers, each behind a space
+abbrev pub IsNoNumbers : Text → Type 0
+IsNoNumbers text = (ns : List ℕ) → ReadsNumbers text ns → ⊥
+
+-- the text is what is given
+abbrev pub ReadsGiven : Text → Given → Type 0
+ReadsGiven text given = IsWithin given × (given_text given ≡ text)
+
+-- the text gives nothing
+abbrev pub IsNoGiven : Text → Type 0
+IsNoGiven text = (given : Given) → ReadsGiven text given → ⊥
+
+-- the line gives no port anything
+abbrev pub IsNoEntry : Text → Type 0
+IsNoEntry line = (name : Text) (given : Given) → Gives line name given → ⊥
+
+-- line n is empty and adds nothing, or its entry is added
+abbrev pub IsAdded : ℕ → Text → List Entry → List Entry → Type 0
+IsAdded n line before after =
+    ((line ≡ []) × (after ≡ before))
+    ⊎ ((name : Text) × (given : Given) × Gives line name given
+    × (after ≡ before ++ record { line = n; name = name; given = given } ∷ []))

@@ -1,0 +1,9 @@
+//! The stimulus: what the environment does on the ports of the root, read from its text.
+#![tactic(auto)]
+
+mod entry;
+mod line;
+mod stimulus;
+
+pub use refusals::elaborate::Fault;
+pub use stimulus::{Entry, Given, Stimulus};

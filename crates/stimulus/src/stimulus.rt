@@ -1,0 +1,66 @@
+ghost use Rattle.std.specs.Prelude.{◌≡◌, ℕ, ◌⊎◌, drop, IfOk, IfErr};
+ghost use Rattle.refusals.specs.declared.elaborate.Fault.TheVariants.{Memory, BadStimulus};
+
+use crate::Fault;
+use crate::entry::length_before;
+use crate::line::add_line;
+use std::alloc::Global;
+use syntax::{Items, Name};
+
+/// What the environment does on the ports of the root: an entry for each line that is not empty, in order.
+#[derive(Drop)]
+pub struct Stimulus {
+    pub entries: Items<Entry>,
+}
+
+/// A line of a stimulus.
+#[derive(Drop)]
+pub struct Entry {
+    /// The line that it stands on, from 1.
+    pub line: u64,
+    /// The port.
+    pub name: Name,
+    pub given: Given,
+}
+
+/// What a line of a stimulus gives a port.
+#[derive(Drop)]
+pub enum Given {
+    /// The values to send, in order, for an input port.
+    Values(Items<u64>),
+    /// How many handshakes to make, up to 65,536, for a sync port.
+    Syncs(u32),
+}
+
+impl Stimulus {
+    ghost use Rattle.stimulus.specs.StimulusText.{lines, AreEntries, FirstOther};
+
+    /// The stimulus that `text` spells. A line ends with byte 10, which the last one may lack. It is empty, or it is a
+    /// name, ` =` and for each value a space and a number, or a name, ` * ` and a number up to 65,536. The first line of
+    /// another form is refused.
+    pub fn read(alloc: Global, text: &[u8]) -> Result<Stimulus, Fault>
+        ensures entries { IfOk result (λ stimulus. AreEntries 1 (lines text.now) stimulus.entries) }
+        ensures fault { IfErr result (λ fault. (fault ≡ Memory) ⊎ ((n : ℕ) × (fault ≡ BadStimulus n) × FirstOther 1 (lines text.now) n)) }
+    {
+        let mut entries = Items::new(alloc);
+        let mut line: u64 = 1;
+        let mut rest = text;
+        while !rest.is_empty() {
+            let (first, behind) = rest.split_at(length_before(b'\n', rest));
+            add_line(alloc, &mut entries, line, first)?;
+            line += 1;
+            rest = without_first(behind);
+        }
+        Ok(Stimulus { entries })
+    }
+}
+
+/// What stands behind the first byte, if there is one.
+fn without_first(text: &[u8]) -> &[u8]
+    ensures { result.now ≡ drop 1 text.entry.now }
+{
+    match text.split_first() {
+        Some((_, rest)) => rest,
+        None => text,
+    }
+}
