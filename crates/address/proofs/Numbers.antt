@@ -1,58 +1,39 @@
 -- Digits and the numbers that they are the text of.
-use Rattle.std.proofs.Common.{◌≡◌, ℕ, ◌+◌, ◌*◌, ◌-◌, ◌<◌, ◌≤◌, ◌^◌, List, [], ◌∷◌, ◌++◌, length, take, get_or, sym, refl, ap, ◌∙◌, subst, inl, inr, arith, Bool, true, false, eqb}
+use Rattle.std.proofs.Common.{◌≡◌, ℕ, ◌<◌, ◌≤◌, ◌^◌, List, [], ◌∷◌, ◌++◌, Option, Some, None, MatchOption, sym, refl, ap, ◌∙◌, subst, arith, Bool, true, false, eqb}
+use Rattle.std.specs.Option.{SomeIff}
 use Rattle.std.specs.Fmt.{decimal}
 use Rattle.std.specs.Char.{digit_value, is_ascii_digit}
 use Rattle.std.specs.Str.Parse.{AllDigits, digits_value}
-use Rattle.std.proofs.lemmas.Bool.{cases_lt}
 use Rattle.std.proofs.lemmas.Bool.Decides.{nat_tests}
-use Rattle.std.proofs.lemmas.Fmt.{decimal_nonempty, first_decimal, length-decimal-le, digits_value-decimal, digits_decimal, decimal-digits_value, decimal_injective}
-use Rattle.std.proofs.lemmas.Int.Digits.{digits_value_more}
-use Rattle.std.proofs.lemmas.Str.{digit_value_digit}
-use Rattle.std.proofs.lemmas.Str.Parse.{IsNumeralModel, numerals_by_value, tells_digits, digit_at, digits_value-take-le}
+use Rattle.std.proofs.lemmas.Fmt.{digits_decimal, decimal_injective}
+use Rattle.std.proofs.lemmas.Str.Parse.{IsNumeralModel, numerals_by_value, tells_digits}
+use Rattle.decimal.specs.Reading as wide
 use Rattle.address.specs.Reading.{StartsNoDigit, ReadsNumber, IsNoNumber}
 
 -- std's words for digits and their value
 own : IsNumeralModel (AllDigits 10) (digits_value 10)
 own = numerals_by_value (AllDigits 10) tells_digits
 
--- no number has the empty text
-pub no-number-empty : (ds : List ℕ) → length ds ≡ 0 → IsNoNumber ds
-no-number-empty ds e n h = omega (arith, decimal_nonempty n (omega (arith, h.0)), ap length h.1, e)
+-- what is not the text of a number of 64 bits is not that of one of 32 bits
+no-number-wide : (ds : List ℕ) → wide.IsNoNumber ds → IsNoNumber ds
+no-number-wide ds none n h = none n (omega (arith, h.0), h.1)
 
--- no number has a text of two digits and more that starts with zero
-pub no-number-zero : (ds : List ℕ) → get_or ds 0 0 ≡ 48 → 1 < length ds → IsNoNumber ds
-no-number-zero ds e long n h =
-    elim (cases_lt 0 n) [
-      | inl more ↦ omega (arith, first_decimal n more (omega (arith, h.0)), ap (λ d. get_or d 0 0) h.1, e)
-      | inr none ↦ omega (arith, length-decimal-le 1 n (omega arith) (omega (arith, none)) (omega (arith, h.0)), ap length h.1, long)
-    ]
+-- the text of a number with more than 32 bits is not that of one of 32 bits
+no-number-large : (ds : List ℕ) (m : ℕ) → wide.Reads ds m → (m < 2 ^ 32 → ⊥) → IsNoNumber ds
+no-number-large ds m reads large n h =
+    let same : n ≡ m = decimal_injective n m (omega (arith, h.0)) reads.0 (h.1 ∙ sym reads.1) in
+    large (subst (λ k. k < 2 ^ 32) same h.0)
 
--- no number of 32 bits has digits of which the first are worth more
-pub no-number-large : (ds : List ℕ) (k : ℕ) → 2 ^ 32 ≤ digits_value 10 (take k ds) → IsNoNumber ds
-no-number-large ds k big n h =
-    omega (
-      arith,
-      digits_value-decimal own n (omega (arith, h.0)),
-      ap (digits_value 10) h.1,
-      digits_value-take-le 10 ds k (omega arith),
-      big,
-      h.0,
-    )
+-- what is read where no number of 64 bits stands
+pub none-read : (r : Option ℕ) (ds : List ℕ) → r ≡ None → wide.IsNoNumber ds → MatchOption r (IsNoNumber ds) (λ n. ReadsNumber ds n)
+none-read None ds e none = no-number-wide ds none
+none-read (Some n) ds e none = cc
 
--- digits with no leading zero are the text of their value
-pub number-of-digits : (ds : List ℕ) (n : ℕ) → AllDigits 10 ds → 0 < length ds → (get_or ds 0 0 ≡ 48 → length ds ≡ 1)
-    → n ≡ digits_value 10 ds → n < 2 ^ 32 → ReadsNumber ds n
-number-of-digits ds n all some lead e small = (
-  small,
-  subst (λ m. decimal m ≡ ds) (sym e)
-      (decimal-digits_value own ds all some lead (omega (arith, e, small))),
-)
-
--- one more digit
-pub digit-more : (ds : List ℕ) (i n : ℕ) → AllDigits 10 ds → i < length ds → n ≡ digits_value 10 (take i ds)
-    → n * 10 + (get_or ds i 0 - 48) ≡ digits_value 10 (take (i + 1) ds)
-digit-more ds i n all within e =
-    omega (arith, digits_value_more 10 ds i within, digit_value_digit (get_or ds i 0) (digit_at ds i all within), e)
+-- the number that is read, where it has 32 bits
+pub number-read : (r : Option ℕ) (ds : List ℕ) (m : ℕ) → wide.Reads ds m → SomeIff r (m < 2 ^ 32) m
+    → MatchOption r (IsNoNumber ds) (λ n. ReadsNumber ds n)
+number-read None ds m reads h = no-number-large ds m reads h
+number-read (Some n) ds m reads h = (subst (λ k. k < 2 ^ 32) (sym h.1) h.0, ap decimal h.1 ∙ reads.1)
 
 -- a byte that passes the test is a digit
 pub digit-passes : (c : ℕ) → is_ascii_digit c ≡ true → digit_value c < 10

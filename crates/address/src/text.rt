@@ -1,8 +1,8 @@
 // The text of an address, and what reads it.
-ghost use Rattle.std.specs.Prelude.{Some, IfOk, MatchOption, length, ◌≡◌};
+ghost use Rattle.std.specs.Prelude.{Some, IfOk, MatchOption, length, ◌≡◌, ◌<◌, ◌^◌};
+ghost use Rattle.std.specs.Option.{SomeIff};
 ghost use Rattle.address.specs.Text.{entry_text, text_of};
 ghost use Rattle.address.specs.Reading.{HasNoText, IsTextOf, IsDigitsEnd, ReadsEntry, ReadsNumber, BeginsNoEntry, IsNoNumber};
-ghost use Rattle.std.specs.Str.Parse.{AllDigits};
 
 use crate::{Address, Entry};
 use std::alloc::{AllocError, Global};
@@ -75,22 +75,14 @@ fn count_digits(text: &[u8]) -> usize
 
 // The number of 32 bits that `digits` are the decimal text of, if there is one.
 fn read_number(digits: &[u8]) -> Option<u32>
-    requires { AllDigits 10 digits.now }
     ensures { MatchOption result (IsNoNumber digits.now) (λ n. ReadsNumber digits.now n) }
 {
-    if digits.is_empty() {
-        return None;
-    }
-    if digits[0] == b'0' && digits.len() > 1 {
-        return None;
-    }
-    let mut number: u32 = 0;
-    for digit in digits {
-        let wider = number as u64 * 10 + (*digit - b'0') as u64;
-        if wider > u32::MAX as u64 {
-            return None;
-        }
-        number = wider as u32;
-    }
-    Some(number)
+    narrow(decimal::read_number(digits)?)
+}
+
+// The number, if it has 32 bits.
+fn narrow(number: u64) -> Option<u32>
+    ensures { SomeIff result (number < 2 ^ 32) number }
+{
+    u32::try_from(number).ok()
 }

@@ -12,7 +12,7 @@ use Rattle.address.specs.declared.Entry.TheVariants.{Ordered, Branch}
 use Rattle.address.specs.Text.{text_of}
 use Rattle.address.specs.Reading.{NumbersFit}
 use Rattle.debug_session.specs.Fields.{IsNoSpace, BeginsField, IsFieldEnd}
-use Rattle.debug_session.proofs.DecimalLemmas.{decimal-digits}
+use Rattle.decimal.proofs.DigitLemmas.{decimal-digits}
 
 -- the first number, or 0
 first_of_numbers : List ℕ → ℕ

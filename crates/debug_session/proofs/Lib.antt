@@ -3,7 +3,6 @@ pub mod AskLemmas
 pub mod ChoiceLemmas
 pub mod CountLemmas
 pub mod CutLemmas
-pub mod DecimalLemmas
 pub mod KnownLemmas
 pub mod LineLemmas
 pub mod MeaningLemmas

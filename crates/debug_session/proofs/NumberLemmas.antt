@@ -7,7 +7,7 @@ use Rattle.system.specs.Named.{variable_from}
 use Rattle.system.specs.declared.system.System.{System}
 use Rattle.debug_session.specs.EventText.{field}
 use Rattle.debug_session.specs.Fields.{IsNoField}
-use Rattle.debug_session.specs.Numbers.{ReadsNumber, IsNoNumber}
+use Rattle.decimal.specs.Reading.{Reads, IsNoNumber}
 use Rattle.debug_session.specs.Lines.{IsNumber, IsNoTicket, IsVariable, IsNoVariable, IsArm, IsNoArm}
 use Rattle.debug_session.proofs.CutLemmas.{tails}
 
@@ -36,7 +36,7 @@ pub no-ticket-field : (rest : List ℕ) → IsNoField rest → IsNoTicket rest
 no-ticket-field rest none n h = none (decimal n) h.1
 
 -- what is read of a ticket
-pub ticket-read : (r : Option ℕ) (rest text : List ℕ) → rest ≡ field text → MatchOption r (IsNoNumber text) (λ n. ReadsNumber text n)
+pub ticket-read : (r : Option ℕ) (rest text : List ℕ) → rest ≡ field text → MatchOption r (IsNoNumber text) (λ n. Reads text n)
     → MatchOption r (IsNoTicket rest) (λ n. IsNumber n rest)
 ticket-read None rest text e h = λ n k. h n (k.0, field-same rest (decimal n) text k.1 e)
 ticket-read (Some n) rest text e h = (h.0, e ∙ ap field (sym h.1))
@@ -71,7 +71,7 @@ no-arm-number rest text e none arm h =
     ]
 
 -- the arm whose number is read, where it has 32 bits
-pub arm-read : (rest text : List ℕ) (n : ℕ) (r : Option ℕ) → rest ≡ field text → ReadsNumber text n → SomeIff r (n < 2 ^ 32) n
+pub arm-read : (rest text : List ℕ) (n : ℕ) (r : Option ℕ) → rest ≡ field text → Reads text n → SomeIff r (n < 2 ^ 32) n
     → MatchOption r (IsNoArm rest) (λ arm. IsArm arm rest)
 arm-read rest text n None e read h =
     λ arm k. elim k [

@@ -5,7 +5,6 @@ pub mod FaultNumbers
 pub mod Fields
 pub mod Lines
 pub mod Meaning
-pub mod Numbers
 pub mod Pieces
 pub mod ReplyText
 pub mod Script

@@ -5,8 +5,8 @@ ghost use Rattle.debug_session.specs.EventText.{field};
 ghost use Rattle.debug_session.specs.Fields.{CutAtSpace, IsFieldEnd, IsNoField};
 ghost use Rattle.debug_session.specs.Lines.{IsNumber, IsNoTicket, IsVariable, IsNoVariable, IsArm, IsNoArm, IsChoice, IsNoChoice, MayBeChoice};
 
-use crate::number::read_number;
 use calculus::Choice;
+use decimal::read_number;
 use std::alloc::{AllocError, Global};
 use system::System;
 

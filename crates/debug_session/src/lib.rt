@@ -9,7 +9,6 @@ mod fields;
 mod input;
 mod laws;
 mod line;
-mod number;
 mod output;
 mod read;
 mod reply;

@@ -6,8 +6,8 @@ ghost use Rattle.elaborate.specs.Fit as fit;
 
 use crate::lookups::NamedEntries;
 use crate::made::number_of;
-use stimulus::{Entry, Given};
 use std::alloc::{AllocError, Global};
+use stimulus::{Entry, Given};
 use syntax::Items;
 use system::Branch;
 use typed::{Port, PortKind};

@@ -15,6 +15,6 @@ mod pass;
 mod ports;
 mod scope;
 
-pub use refusals::elaborate::Fault;
 pub use pass::elaborate;
+pub use refusals::elaborate::Fault;
 pub use stimulus::{Entry, Given, Stimulus};

@@ -4,9 +4,9 @@ ghost use Rattle.std.specs.Option.{option_copied};
 ghost use Rattle.elaborate.specs.Fit as fit;
 
 use crate::names::Places;
-use stimulus::Entry;
 use std::alloc::{AllocError, Global};
 use std::marker::Model;
+use stimulus::Entry;
 use typed::{Port, PortKind};
 
 /// Ports by name, which contracts see as their list.

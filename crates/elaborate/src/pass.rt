@@ -11,9 +11,9 @@ use crate::lookups::{NamedEntries, NamedPorts};
 use crate::made::Made;
 use crate::ports::{misfit, value_count};
 use crate::scope::Entrance;
-use stimulus::Entry;
 use crate::{Fault, Stimulus};
 use std::alloc::{AllocError, Global};
+use stimulus::Entry;
 use system::{Prefix, System, VariableTable};
 use typed::{Port, Procedure, Typed};
 

@@ -16,10 +16,10 @@ mod place;
 mod table;
 mod token;
 
-pub use refusals::lexer::Fault;
 pub use name::is_name;
 use piece::longest_piece;
 use place::Place;
+pub use refusals::lexer::Fault;
 use std::alloc::Global;
 use syntax::Name;
 use token::push_token;

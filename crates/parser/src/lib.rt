@@ -22,8 +22,8 @@ mod name;
 
 use cursor::{Cursor, LEVELS};
 use declaration::whole;
-pub use refusals::parser::Fault;
 use lexer::Token;
+pub use refusals::parser::Fault;
 use std::alloc::Global;
 use syntax::Description;
 

@@ -12,5 +12,5 @@ mod touches;
 mod widths;
 
 pub use checked::{Checked, check_sharing};
-pub use refusals::sharing_check::Fault;
 pub use laws::clash_free_keeps_the_rule;
+pub use refusals::sharing_check::Fault;

@@ -1,14 +1,13 @@
 -- A line is a name and what is given in one way.
-use Rattle.std.proofs.Common.{◌≡◌, ◌≢◌, ℕ, ◌<◌, ◌≤◌, ◌^◌, List, [], ◌∷◌, ◌++◌, length, take, drop, refl, ap, sym, ◌∙◌, subst, Bool, true, false, true≢false, arith, ◌&&◌, inl, inr}
+use Rattle.std.proofs.Common.{◌≡◌, ◌≢◌, ℕ, ◌≤◌, [], ◌∷◌, ◌++◌, take, drop, refl, ap, sym, ◌∙◌, subst, Bool, true, false, true≢false, arith, ◌&&◌, inl, inr}
 use Rattle.std.proofs.lemmas.List.{take-append-drop}
 use Rattle.std.specs.List.{list_all}
 use Rattle.std.specs.Fmt.{decimal}
 use Rattle.lexer.specs.Bytes.{is_name_byte}
 use Rattle.lexer.specs.Names.{is_name, is_word}
-use Rattle.syntax.specs.Lists.{Every}
 use Rattle.stimulus.specs.Words.{Without, StartsWith, IsBefore}
-use Rattle.stimulus.specs.StimulusText.{Text, numbers_text, given_text, IsWithin, Gives, HasForm}
-use Rattle.stimulus.specs.StimulusReading.{Reads, IsNoNumber, ReadsNumbers, IsNoNumbers, ReadsGiven, IsNoGiven, IsNoEntry}
+use Rattle.stimulus.specs.StimulusText.{Text, numbers_text, given_text, Gives, HasForm}
+use Rattle.stimulus.specs.StimulusReading.{IsNoNumbers, ReadsGiven, IsNoGiven, IsNoEntry}
 use Rattle.stimulus.specs.declared.stimulus.Given.{Given}
 use Rattle.stimulus.specs.declared.stimulus.Given.TheVariants.{Values, Syncs}
 use Rattle.stimulus.proofs.Cuts.{heads, tails, cut_once}

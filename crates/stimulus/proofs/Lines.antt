@@ -1,5 +1,5 @@
 -- The lines of a text one after another.
-use Rattle.std.proofs.Common.{◌≡◌, ℕ, suc, ◌+◌, ◌<◌, ◌≤◌, ◌==◌, if◌then◌else◌, List, [], ◌∷◌, ◌++◌, length, take, drop, refl, ap, sym, ◌∙◌, subst, Bool, true, false, arith, inl, inr, append_assoc, eq-eqb, ne_eqb, length-drop, add-one}
+use Rattle.std.proofs.Common.{◌≡◌, ℕ, ◌+◌, ◌<◌, ◌≤◌, ◌==◌, List, [], ◌∷◌, ◌++◌, length, take, drop, refl, ap, sym, ◌∙◌, subst, true, false, arith, inl, inr, append_assoc, eq-eqb, ne_eqb, length-drop, add-one}
 use Rattle.std.proofs.lemmas.List.{take-append-drop, append-nil}
 use Rattle.stimulus.specs.Words.{Without, StartsWith, IsBefore}
 use Rattle.stimulus.specs.StimulusText.{Text, begun_with, lines, Gives, HasForm, AreEntries, FirstOther}

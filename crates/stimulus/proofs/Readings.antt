@@ -1,17 +1,19 @@
 -- Numbers behind spaces are read in one way.
-use Rattle.std.proofs.Common.{◌≡◌, ℕ, ◌<◌, ◌^◌, List, [], ◌∷◌, ◌++◌, length, take, drop, refl, ap, sym, ◌∙◌, subst, append_assoc}
+use Rattle.std.proofs.Common.{◌≡◌, ℕ, ◌<◌, ◌^◌, List, [], ◌∷◌, ◌++◌, take, drop, refl, ap, sym, ◌∙◌, append_assoc}
 use Rattle.std.proofs.lemmas.List.{take-append-drop, append-nil}
 use Rattle.std.specs.Fmt.{decimal}
 use Rattle.syntax.specs.Lists.{Every}
 use Rattle.stimulus.specs.Words.{Without, StartsWith, IsBefore}
 use Rattle.stimulus.specs.StimulusText.{Text, numbers_text}
-use Rattle.stimulus.specs.StimulusReading.{Reads, IsNoNumber, ReadsNext, BeginsNoNumber, ReadsNumbers, IsNoNumbers}
+use Rattle.decimal.specs.Reading.{Reads, IsNoNumber}
+use Rattle.stimulus.specs.StimulusReading.{ReadsNext, BeginsNoNumber, ReadsNumbers, IsNoNumbers}
 use Rattle.stimulus.proofs.Cuts.{heads, tails, cut_once}
-use Rattle.stimulus.proofs.Numbers.{number_digits, digits_without, one_number}
+use Rattle.decimal.proofs.DigitLemmas.{decimal-digits}
+use Rattle.stimulus.proofs.Numbers.{digits_without, one_number}
 
 -- the text of a number has no space
 number_without : (n : ℕ) → n < 2 ^ 64 → Without 32 (decimal n)
-number_without n small = digits_without (decimal n) (number_digits n small)
+number_without n small = digits_without (decimal n) (decimal-digits n small)
 
 -- no number stands in the empty text
 pub no_next-empty : BeginsNoNumber []

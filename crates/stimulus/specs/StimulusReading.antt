@@ -7,14 +7,6 @@ use Rattle.stimulus.specs.StimulusText.{Text, numbers_text, given_text, IsWithin
 use Rattle.stimulus.specs.declared.stimulus.Given.{Given}
 use Rattle.stimulus.specs.declared.stimulus.Entry.{Entry}
 
--- `digits` are the decimal text of the number n, which is below 2^64
-abbrev pub Reads : Text → ℕ → Type 0
-Reads digits n = (n < 2 ^ 64) × (decimal n ≡ digits)
-
--- `digits` are not the decimal text of a number below 2^64
-abbrev pub IsNoNumber : Text → Type 0
-IsNoNumber digits = (n : ℕ) → Reads digits n → ⊥
-
 -- the text is a space, the number n, and `after`, which does not go on with the number
 abbrev pub ReadsNext : Text → ℕ → Text → Type 0
 ReadsNext text n after = (n < 2 ^ 64) × (32 ∷ (decimal n ++ after) ≡ text) × StartsWith 32 after

@@ -1,5 +1,5 @@
 -- Texts cut at the first of a byte.
-use Rattle.std.specs.Prelude.{◌≡◌, ◌≢◌, ℕ, ◌≤◌, List, [], ◌∷◌, length, take, drop}
+use Rattle.std.specs.Prelude.{◌≡◌, ℕ, ◌≤◌, List, [], ◌∷◌, length, take, drop}
 
 -- the byte does not stand in the text
 abbrev pub Without : ℕ → List ℕ → Type 0

@@ -1,11 +1,11 @@
 // The lines of a stimulus.
-ghost use Rattle.std.specs.Prelude.{◌≡◌, ◌≢◌, ◌≤◌, ◌↔◌, IsTrue, List, ℕ, ◌∷◌, ◌++◌, length, drop, IfOk, MatchOption};
-ghost use Rattle.std.specs.Str.Parse.{AllDigits};
+ghost use Rattle.std.specs.Prelude.{◌≡◌, ◌≢◌, List, ℕ, ◌∷◌, ◌++◌, length, drop, IfOk, MatchOption};
 ghost use Rattle.stimulus.specs.Words.{IsBefore};
 ghost use Rattle.stimulus.specs.StimulusText.{Gives};
-ghost use Rattle.stimulus.specs.StimulusReading.{IsNoEntry, IsNoGiven, ReadsGiven, IsNoNumbers, ReadsNumbers, BeginsNoNumber, ReadsNext, IsNoNumber, Reads};
+ghost use Rattle.stimulus.specs.StimulusReading.{IsNoEntry, IsNoGiven, ReadsGiven, IsNoNumbers, ReadsNumbers, BeginsNoNumber, ReadsNext};
 
 use crate::stimulus::Given;
+use decimal::read_number;
 use std::alloc::{AllocError, Global};
 use syntax::{Items, Name};
 
@@ -112,49 +112,4 @@ pub fn length_before(byte: u8, text: &[u8]) -> usize
         }
     }
     text.len()
-}
-
-/// The number below 2^64 whose decimal text without leading zeros this is.
-fn read_number(digits: &[u8]) -> Option<u64>
-    ensures { MatchOption result (IsNoNumber digits.now) (λ n. Reads digits.now n) }
-{
-    if are_digits(digits) {
-        value_of(digits)
-    } else {
-        None
-    }
-}
-
-/// Whether each byte is a decimal digit.
-fn are_digits(text: &[u8]) -> bool
-    ensures { IsTrue result ↔ AllDigits 10 text.now }
-{
-    for byte in text {
-        if !byte.is_ascii_digit() {
-            return false;
-        }
-    }
-    true
-}
-
-/// The number below 2^64 that the digits are the decimal text of.
-fn value_of(digits: &[u8]) -> Option<u64>
-    requires { AllDigits 10 digits.now }
-    ensures { MatchOption result (IsNoNumber digits.now) (λ n. Reads digits.now n) }
-{
-    if digits.is_empty() {
-        return None;
-    }
-    if digits[0] == b'0' && digits.len() > 1 {
-        return None;
-    }
-    let mut number: u64 = 0;
-    for digit in digits {
-        let wider = number as u128 * 10 + (*digit - b'0') as u128;
-        if wider > u64::MAX as u128 {
-            return None;
-        }
-        number = wider as u64;
-    }
-    Some(number)
 }

@@ -7,12 +7,12 @@ ghost use Rattle.types.specs.Verdict as verdict;
 use crate::command::made;
 use crate::expression::{Valued, least_value};
 use crate::scope::{Names, Scope};
-use typed::{Action, Arm, ChannelUse, Command, Guarded, Labelled, Place};
 use crate::verdict::{and, both, with_next};
 use crate::{Fault, uses};
 use indexmap::IndexSet;
 use std::alloc::{AllocError, Global};
 use syntax::{Items, Label, LabelValue};
+use typed::{Action, Arm, ChannelUse, Command, Guarded, Labelled, Place};
 use value::Value;
 
 /// Arms, and what they owe as a whole where each of them is right.

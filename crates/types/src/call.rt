@@ -4,12 +4,12 @@ ghost use Rattle.types.specs.Names.{entries, look_up};
 
 use crate::command::made;
 use crate::scope::{Meaning, Names, Scope};
-use typed::{Action, ChannelUse, Command, Place, PortKind};
 use crate::verdict::{both, with_next};
 use crate::{Fault, uses};
 use indexmap::IndexSet;
 use std::alloc::{AllocError, Global};
 use syntax::{Identifier, Items};
+use typed::{Action, ChannelUse, Command, Place, PortKind};
 use value::Width;
 
 /// A call of the procedure with the arguments.

@@ -15,12 +15,12 @@ use crate::arms::{
 use crate::call::called;
 use crate::expression::{Valued, settled_expression};
 use crate::scope::Scope;
-use typed::{Action, Arm, ChannelUse, Command, Guarded, Labelled, Place, VariableUse};
 use crate::verdict::{and, both, with_next};
 use crate::{Fault, uses};
 use indexmap::IndexSet;
 use std::alloc::{AllocError, Global};
 use syntax::{Identifier, Items};
+use typed::{Action, Arm, ChannelUse, Command, Guarded, Labelled, Place, VariableUse};
 use value::Width;
 
 /// The command with its names settled, at a place around which these channels are open.

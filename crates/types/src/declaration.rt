@@ -10,10 +10,10 @@ use crate::Fault;
 use crate::command::settled_command;
 use crate::expression::{declared_width, type_width};
 use crate::scope::{Meaning, Names, Scope};
-use typed::{Command, Local, LocalKind, Port, PortKind, Procedure};
 use crate::verdict::{and, both, with_next};
 use std::alloc::{AllocError, Global};
 use syntax::{Identifier, Items, Name, TypeDeclaration, TypeDefinition, TypeName};
+use typed::{Command, Local, LocalKind, Port, PortKind, Procedure};
 use value::{Value, Width};
 
 /// Declares the types, each with its elements, in order.

@@ -7,11 +7,11 @@ ghost use Rattle.types.specs.Verdict as verdict;
 
 use crate::Fault;
 use crate::scope::Names;
-use typed::{Expression, Place};
 use crate::uses::{self, Named};
 use crate::verdict::both;
 use std::alloc::{AllocError, Global};
 use syntax::{Boxed, Name, Operator, Shape, TypeName};
+use typed::{Expression, Place};
 use value::{Value, Width};
 
 /// A typed expression, and how many bits its value has.

@@ -5,10 +5,10 @@ ghost use Rattle.types.specs.Names as names;
 ghost use Rattle.types.specs.Names.{entries};
 
 use crate::Fault;
-use typed::{LocalKind, Place, PortKind};
 use indexmap::IndexMap;
 use std::alloc::{AllocError, Global};
 use syntax::{Identifier, Items, Name};
+use typed::{LocalKind, Place, PortKind};
 use value::{Value, Width};
 
 /// What a declared name means.

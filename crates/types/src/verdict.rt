@@ -60,7 +60,11 @@ pub(crate) fn with_next<T: Drop>(
 fn lesser(one: Fault, other: Fault) -> Fault
     ensures { result ≡ refusal.lesser one other }
 {
-    if goes_before(&other, &one) { other } else { one }
+    if goes_before(&other, &one) {
+        other
+    } else {
+        one
+    }
 }
 
 #[tactic(auto, unfolding(crate::specs::Refusal::goes_before))]

@@ -1,5 +1,5 @@
 use Rattle.std.proofs.Common.{subst}
-use Rattle.stimulus.specs.StimulusReading.{IsNoNumber}
+use Rattle.decimal.specs.Reading.{IsNoNumber}
 use Rattle.stimulus.proofs.Readings.{no_next-number}
 use Rattle.stimulus.proofs.entry.read_next.Goals as goal
 

@@ -1,6 +1,6 @@
 use Rattle.std.proofs.Common.{take}
 use Rattle.std.specs.Str.Parse.{AllDigits}
-use Rattle.stimulus.proofs.entry.are_digits.Given as goal
+use Rattle.decimal.proofs.are_digits.Given as goal
 
 -- the bytes passed are digits
 abbrev pub invariant-loop-byte : goal.invariant-loop-byte

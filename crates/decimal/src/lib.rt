@@ -1,13 +1,15 @@
-ghost use Rattle.std.specs.Prelude.{MatchOption};
-ghost use Rattle.std.specs.Str.Parse.{AllDigits};
-ghost use Rattle.debug_session.specs.Numbers.{ReadsNumber, IsNoNumber};
-ghost use Rattle.std.specs.Prelude.{◌≡◌, ◌<◌, length, IsTrue, ◌↔◌, slice_index};
+//! Numbers by their decimal text: digits alone, without leading zeros.
+#![tactic(auto)]
 
-/// The number of 64 bits that `text` is the decimal text of, if there is one.
-pub(crate) fn read_number(text: &[u8]) -> Option<u64>
-    ensures { MatchOption result (IsNoNumber text.now) (λ n. ReadsNumber text.now n) }
+ghost use Rattle.std.specs.Prelude.{◌≡◌, ◌<◌, ◌↔◌, IsTrue, MatchOption, length, slice_index};
+ghost use Rattle.std.specs.Str.Parse.{AllDigits};
+ghost use Rattle.decimal.specs.Reading.{IsNoNumber, Reads};
+
+/// The number below 2^64 with this decimal text, or `None` where no such number has it.
+pub fn read_number(text: &[u8]) -> Option<u64>
+    ensures { MatchOption result (IsNoNumber text.now) (λ n. Reads text.now n) }
 {
-    if !is_digits(text) {
+    if !are_digits(text) {
         return None;
     }
     if text.is_empty() {
@@ -20,7 +22,7 @@ pub(crate) fn read_number(text: &[u8]) -> Option<u64>
 }
 
 /// Whether each byte is a decimal digit.
-fn is_digits(text: &[u8]) -> bool
+fn are_digits(text: &[u8]) -> bool
     ensures { IsTrue result ↔ AllDigits 10 text.now }
 {
     for byte in text {
@@ -31,12 +33,12 @@ fn is_digits(text: &[u8]) -> bool
     true
 }
 
-/// The value of digits without a leading zero, if it has 64 bits.
+/// The value of digits without a leading zero, if it is below 2^64.
 fn value(digits: &[u8]) -> Option<u64>
     requires all { AllDigits 10 digits.now }
     requires some { 0 < length digits.now }
     requires lead { slice_index digits.now 0 ≡ 48 → length digits.now ≡ 1 }
-    ensures { MatchOption result (IsNoNumber digits.now) (λ n. ReadsNumber digits.now n) }
+    ensures { MatchOption result (IsNoNumber digits.now) (λ n. Reads digits.now n) }
 {
     let mut number: u64 = 0;
     for digit in digits {

@@ -2,8 +2,8 @@ use Rattle.std.proofs.Common.{◌≡◌, ◌+◌, ◌-◌, ◌*◌, ◌^◌, ◌
 use Rattle.std.proofs.lemmas.Str.Parse.{digit_at}
 use Rattle.std.proofs.lemmas.List.{take_all}
 use Rattle.std.specs.Str.Parse.{digits_value}
-use Rattle.debug_session.proofs.DecimalLemmas.{no-number-large, number-of-digits, digit-more}
-use Rattle.debug_session.proofs.number.value.Goals as goal
+use Rattle.decimal.proofs.DigitLemmas.{no-number-large, number-of-digits, digit-more}
+use Rattle.decimal.proofs.value.Goals as goal
 
 pub overflow_sub-digit : goal.overflow_sub-digit
 overflow_sub-digit c = (digit_at c.args.digits.now c.loop-digit.digit-index c.requires.all c.loop-digit-test.true).0

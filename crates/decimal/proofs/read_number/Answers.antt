@@ -1,11 +1,11 @@
 use Rattle.std.proofs.Common.{sym, ◌∙◌, eqb-true}
 use Rattle.std.proofs.lemmas.Bool.{false≢true}
-use Rattle.debug_session.proofs.DecimalLemmas.{no-number-digits, no-number-empty, no-number-zero}
-use Rattle.debug_session.proofs.number.read_number.Goals as goal
+use Rattle.decimal.proofs.DigitLemmas.{no-number-digits, no-number-empty, no-number-zero}
+use Rattle.decimal.proofs.read_number.Goals as goal
 
-pub returns-then-not-is_digits : goal.returns-then-not-is_digits
-returns-then-not-is_digits c =
-    no-number-digits c.args.text.now (λ all. false≢true (sym c.if-not-is_digits.true ∙ c.is_digits.ensures.1 all))
+pub returns-then-not-are_digits : goal.returns-then-not-are_digits
+returns-then-not-are_digits c =
+    no-number-digits c.args.text.now (λ all. false≢true (sym c.if-not-are_digits.true ∙ c.are_digits.ensures.1 all))
 
 pub returns-then-is_empty : goal.returns-then-is_empty
 returns-then-is_empty c = no-number-empty c.args.text.now (eqb-true _ _ (sym c.is_empty.ensures ∙ c.if-is_empty.true))

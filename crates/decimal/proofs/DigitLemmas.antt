@@ -1,4 +1,4 @@
--- Decimal digits and the numbers of 64 bits that they are the text of.
+-- Decimal digits and the numbers below 2^64 that they are the text of.
 use Rattle.std.proofs.Common.{◌≡◌, ℕ, ◌+◌, ◌*◌, ◌-◌, ◌<◌, ◌≤◌, ◌^◌, List, length, take, get_or, ap, subst, sym, inl, inr, arith, true, false}
 use Rattle.std.specs.Fmt.{decimal}
 use Rattle.std.specs.Char.{digit_value, is_ascii_digit}
@@ -10,7 +10,7 @@ use Rattle.std.proofs.lemmas.Fmt.{decimal_nonempty, first_decimal, length-decima
 use Rattle.std.proofs.lemmas.Int.Digits.{digits_value_more}
 use Rattle.std.proofs.lemmas.Str.{digit_value_digit}
 use Rattle.std.proofs.lemmas.Str.Parse.{IsNumeralModel, numerals_by_value, tells_digits, digit_at, digits_value-take-le}
-use Rattle.debug_session.specs.Numbers.{ReadsNumber, IsNoNumber}
+use Rattle.decimal.specs.Reading.{Reads, IsNoNumber}
 
 -- std's words for digits and their value
 own : IsNumeralModel (AllDigits 10) (digits_value 10)
@@ -36,7 +36,7 @@ no-number-zero ds e long n h =
       | inr none ↦ omega (arith, length-decimal-le 1 n (omega arith) (omega (arith, none)) h.0, ap length h.1, long)
     ]
 
--- no number of 64 bits has digits of which the first are worth more
+-- no number below 2^64 has digits of which the first are worth more
 pub no-number-large : (ds : List ℕ) (k : ℕ) → 2 ^ 64 ≤ digits_value 10 (take k ds) → IsNoNumber ds
 no-number-large ds k big n h =
     omega (
@@ -50,7 +50,7 @@ no-number-large ds k big n h =
 
 -- digits with no leading zero are the text of their value
 pub number-of-digits : (ds : List ℕ) (n : ℕ) → AllDigits 10 ds → 0 < length ds → (get_or ds 0 0 ≡ 48 → length ds ≡ 1)
-    → n ≡ digits_value 10 ds → n < 2 ^ 64 → ReadsNumber ds n
+    → n ≡ digits_value 10 ds → n < 2 ^ 64 → Reads ds n
 number-of-digits ds n all some lead e small = (
   small,
   subst (λ m. decimal m ≡ ds) (sym e)

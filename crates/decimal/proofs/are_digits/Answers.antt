@@ -2,8 +2,8 @@ use Rattle.std.proofs.Common.{get_or, sym, ◌∙◌}
 use Rattle.std.proofs.lemmas.Bool.{false≢true}
 use Rattle.std.proofs.lemmas.Int.Digits.{digits_more}
 use Rattle.std.proofs.lemmas.Str.Parse.{digit_at}
-use Rattle.debug_session.proofs.DecimalLemmas.{digit-passes, digit-fails}
-use Rattle.debug_session.proofs.number.is_digits.Goals as goal
+use Rattle.decimal.proofs.DigitLemmas.{digit-passes, digit-fails}
+use Rattle.decimal.proofs.are_digits.Goals as goal
 
 pub returns-then-not-is_ascii_digit : goal.returns-then-not-is_ascii_digit
 returns-then-not-is_ascii_digit c = (

@@ -1,7 +1,0 @@
-use Rattle.std.proofs.Common.{◌≡◌, ◌<◌, ◌^◌, take}
-use Rattle.std.specs.Str.Parse.{digits_value}
-use Rattle.address.proofs.text.read_number.Given as goal
-
--- the value of the digits passed, in 32 bits
-abbrev pub invariant-loop-digit : goal.invariant-loop-digit
-invariant-loop-digit l = (l.number < 2 ^ 32) × (l.number ≡ digits_value 10 (take l.digit-index l.digits))

@@ -1,7 +1,0 @@
-use Rattle.std.proofs.Common.{take}
-use Rattle.std.specs.Str.Parse.{AllDigits}
-use Rattle.debug_session.proofs.number.is_digits.Given as goal
-
--- the bytes passed are digits
-abbrev pub invariant-loop-byte : goal.invariant-loop-byte
-invariant-loop-byte l = AllDigits 10 (take l.byte-index l.text)
