@@ -1,7 +1,10 @@
 -- What was passed on the way, with one more.
-use Rattle.std.proofs.Common.{◌≡◌, ◌≤◌, ℕ, List, [], ◌∷◌, ◌++◌, false, true≢false, arith, refl, sym, ap, ◌∙◌}
+use Rattle.std.proofs.Common.{◌≡◌, ◌≤◌, ℕ, List, [], ◌∷◌, ◌++◌, false, true≢false, Some, None, arith, refl, sym, ap, ◌∙◌}
 use Rattle.value.specs.Word.{Word}
-use Rattle.system.specs.Residual.{Residual, inside, beside, put_residual}
+use Rattle.system.specs.Residual.{Residual, inside, beside, along, put_residual}
+use Rattle.calculus.specs.Moves.{Place}
+use Rattle.calculus.specs.After.{Ask, Answer, around, after}
+use Rattle.calculus.specs.Below.{below_branch}
 use Rattle.calculus.specs.Left.{left_layer, residual_of_left}
 use Rattle.calculus.specs.declared.left.Left.{Left}
 use Rattle.calculus.specs.declared.left.Left.TheVariants.{Inside, Beside, rolls-Inside, rolls-Beside}
@@ -10,8 +13,9 @@ use Rattle.calculus.specs.declared.left.Left.TheOpen.{Left-F}
 use Rattle.calculus.specs.declared.left.Left.TheFolds.{fold-roll-Left}
 use Rattle.calculus.specs.declared.left.Passed.{Passed}
 use Rattle.calculus.specs.declared.left.Passed.TheVariants.{InOrder, InBranch}
-use Rattle.calculus.specs.Passed.{before, behind, goes_on}
+use Rattle.calculus.specs.Passed.{before, behind, goes_on, along_all}
 use Rattle.calculus.proofs.left.Left.TheLaws.{the_size}
+use Rattle.calculus.proofs.Below.{in_branch_none}
 use Rattle.calculus.proofs.TreeAnswers.{left_inside, left_beside}
 
 -- the last that was passed stands right before the rest
@@ -101,3 +105,30 @@ pub ends : (left : Left) → ((n : ℕ) (child next : Left) → left ≡ Inside 
 ends left p q =
     let e : left ≡ roll-Left (out-Left left) = sym (roll-out-Left left) in
     ap (λ z. goes_on (residual_of_left z)) e ∙ layer_ends (out-Left left) left e p q
+
+-- the last branch that was passed stands right beside the rest
+pub along_last : (ps : List (ℕ × Left)) (p : ℕ × Left) (r : Residual) → along_all (ps ++ p ∷ []) r ≡ along_all ps (along p.0 (residual_of_left p.1) r)
+along_last [] p r = refl
+along_last (q ∷ ps) p r = ap (along q.0 (residual_of_left q.1)) (along_last ps p r)
+
+-- an answer beside one that was passed, and then beside those before it
+around_twice : (f g : Residual → Residual) (x : Answer) → around f (around g x) ≡ around (λ r. f (g r)) x
+around_twice f g None = refl
+around_twice f g (Some x) = refl
+
+-- one step along branches, past one in which the place is not
+pub passes_branch : (k : Ask) (a : Place) (whole : Answer) (old new : List (ℕ × Left)) (left child rest got made : Left) (n : ℕ)
+    → left ≡ Beside n child rest → got ≡ rest → made ≡ child → new ≡ old ++ (n, made) ∷ [] → below_branch n a ≡ None
+    → around (along_all old) (after k (residual_of_left left) a) ≡ whole → around (along_all new) (after k (residual_of_left got) a) ≡ whole
+passes_branch k a whole old new left child rest got made n es eg em en h w =
+    let f : Left → Residual = residual_of_left in
+    let others : Answer = after k (f rest) a in
+    ap (λ z. around (along_all new) (after k (f z) a)) eg
+    ∙ ap (λ ps. around (along_all ps) others) (en ∙ ap (λ z. old ++ (n, z) ∷ []) em)
+    ∙ (λ i. around (λ r. along_last old (n, child) r i) others)
+    ∙ sym (around_twice (along_all old) (λ r. along n (f child) r) others)
+    ∙ sym (ap (around (along_all old))
+    (in_branch_none n a (λ b. around (λ t. along n t (f rest)) (after k (f child) b)) (around (λ t. along n (f child) t) others) h))
+    ∙ sym (ap (λ r. around (along_all old) (after k r a)) (left_beside n child rest))
+    ∙ sym (ap (λ z. around (along_all old) (after k (f z) a)) es)
+    ∙ w

@@ -14,7 +14,7 @@ use Rattle.calculus.specs.declared.left.Left.TheOpen.{Left-F}
 use Rattle.calculus.specs.declared.left.Left.TheFolds.{fold-roll-Left}
 use Rattle.calculus.specs.declared.moves.Moved.{Moved}
 use Rattle.calculus.specs.Left.{left_layer, residual_of_left}
-use Rattle.calculus.proofs.Below.{in_child_found, in_branch_found, in_branch_none}
+use Rattle.calculus.proofs.Below.{in_child_found, in_branch_found}
 use Rattle.calculus.proofs.Lefts.{arm_found, arm_past}
 
 -- what a child in order is to do
@@ -56,22 +56,6 @@ branch_answers r k self child rest g h n a b answer es eg eh eb ea i =
     ∙ sym (ap (λ z. after k z a) (left_beside n child rest))
     ∙ sym (ap (λ z. after k (f z) a) es) in
     IfOk-weaker r (λ x. answer_of x ≡ around (λ t. along n t (f h)) (answer_of answer)) (λ x. answer_of x ≡ after k (f self) a) (λ x p. p ∙ e) i
-
--- elsewhere the other branches answer
-pub rest_answers : {E : Type 0} (r : Result (Option Moved) E) (k : Ask) (self child rest g h : Left) (n : ℕ) (a : Place) (answer : Option Moved)
-    → self ≡ Beside n child rest → g ≡ rest → h ≡ child → None ≡ below_branch n a → answer_of answer ≡ after k (residual_of_left g) a
-    → IfOk r (λ x. answer_of x ≡ around (λ t. along n (residual_of_left h) t) (answer_of answer))
-    → IfOk r (λ x. answer_of x ≡ after k (residual_of_left self) a)
-rest_answers r k self child rest g h n a answer es eg eh eb ea i =
-    let f : Left → Residual = residual_of_left in
-    let w : Residual → Residual = λ t. along n (f child) t in
-    let e : around (λ t. along n (f h) t) (answer_of answer) ≡ after k (f self) a =
-    ap (λ z. around (λ t. along n (f z) t) (answer_of answer)) eh
-    ∙ ap (around w) (ea ∙ ap (λ z. after k (f z) a) eg)
-    ∙ sym (in_branch_none n a (λ c. around (λ t. along n t (f rest)) (after k (f child) c)) (around w (after k (f rest) a)) (sym eb))
-    ∙ sym (ap (λ z. after k z a) (left_beside n child rest))
-    ∙ sym (ap (λ z. after k (f z) a) es) in
-    IfOk-weaker r (λ x. answer_of x ≡ around (λ t. along n (f h) t) (answer_of answer)) (λ x. answer_of x ≡ after k (f self) a) (λ x p. p ∙ e) i
 
 -- a clone of an arm that there is
 pub arm_copied : {E : Type 0} (r : Result Left E) (xs : List Left) (k : ℕ) (x : Left) (Q : E → Type 0) → slice_get xs k ≡ Some x

@@ -7,8 +7,9 @@ ghost use Rattle.system.specs.Decisions.{decision_of};
 ghost use Rattle.calculus.specs.After as model;
 ghost use Rattle.calculus.specs.Left.{residual_of_left};
 ghost use Rattle.calculus.specs.Answers.{ask_of, move_of, answer_of};
+ghost use Rattle.calculus.specs.Passed.{along_all};
 
-use crate::left::{Left, along, with_received, within};
+use crate::left::{Left, along, along_all, with_received, within};
 use crate::moves::{Ask, Move, Moved};
 use crate::place::{is_act, is_here, is_turn};
 use crate::shared::Shared;
@@ -64,19 +65,18 @@ pub(crate) fn in_branch(
     }
 }
 
-/// An answer in the other branches, with the branch.
+/// An answer in the other branches, with those that were passed.
 pub(crate) fn beside(
     alloc: Global,
-    number: u64,
-    child: &Shared<Left>,
+    passed: Items<(u64, Shared<Left>)>,
     answer: Option<Moved>,
 ) -> Result<Option<Moved>, AllocError>
-    ensures { IfOk result (λ r. answer_of r ≡ model.around (λ t. residual.along number (residual_of_left child.now) t) (answer_of answer)) }
+    ensures { IfOk result (λ r. answer_of r ≡ model.around (along_all passed) (answer_of answer)) }
 {
     match answer {
         Some(moved) => {
             let Moved { by, left } = moved;
-            let left = along(alloc, number, child.clone()?, left)?;
+            let left = along_all(alloc, passed, left)?;
             Ok(Some(Moved { by, left }))
         }
         None => Ok(None),

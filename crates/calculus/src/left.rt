@@ -3,7 +3,7 @@ ghost use Rattle.system.specs.Residual as model;
 ghost use Rattle.system.specs.Translation.{arms_of};
 ghost use Rattle.system.specs.Decisions.{decision_of};
 ghost use Rattle.calculus.specs.Left.{residual_of_left, is_done};
-ghost use Rattle.calculus.specs.Passed.{before, behind, goes_on};
+ghost use Rattle.calculus.specs.Passed.{along_all, before, behind, goes_on};
 
 use crate::shared::Shared;
 use std::alloc::{AllocError, Global};
@@ -277,4 +277,21 @@ pub(crate) fn along(
     } else {
         Shared::new(alloc, Left::Beside(number, child, rest))
     }
+}
+
+/// The branches that were passed, and the rest beside them; a finished branch is erased.
+#[tactic(auto, using(crate::proofs::Passing::along_last))]
+pub(crate) fn along_all(
+    alloc: Global,
+    passed: Items<(u64, Shared<Left>)>,
+    last: Shared<Left>,
+) -> Result<Shared<Left>, AllocError>
+    ensures { IfOk result (λ made. residual_of_left made ≡ along_all passed (residual_of_left last)) }
+{
+    let mut left = last;
+    let mut passed = passed;
+    while let Some((number, child)) = passed.pop() {
+        left = along(alloc, number, child, left)?;
+    }
+    Ok(left)
 }

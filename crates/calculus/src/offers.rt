@@ -1,8 +1,9 @@
 // Local moves in memory: the move that is asked for at a place, and what is left after it.
-ghost use Rattle.std.specs.Prelude.{◌≡◌, IfOk};
+ghost use Rattle.std.specs.Prelude.{◌≡◌, IfOk, IsFalse};
 ghost use Rattle.calculus.specs.After as model;
 ghost use Rattle.calculus.specs.Left.{residual_of_left};
 ghost use Rattle.calculus.specs.Answers.{ask_of, answer_of};
+ghost use Rattle.calculus.specs.Passed.{is_passed};
 
 use crate::answers;
 use crate::left::Left;
@@ -10,14 +11,47 @@ use crate::moves::{Ask, Moved};
 use crate::place::{below_branch, below_child};
 use address::Entry;
 use std::alloc::{AllocError, Global};
+use syntax::Items;
 
-/// The move that is asked of the tree at the place, and what is left after it. `None` where there is no such move.
+/// The move that is asked of the tree at the place, and what is left after it. `None` where there is no such move. It
+/// goes along branches by a loop, so that many take no stack.
+#[cycle(after)]
+#[tactic(auto)]
 pub(crate) fn after(
     alloc: Global,
     ask: Ask,
     left: &Left,
     place: &[Entry],
 ) -> Result<Option<Moved>, AllocError>
+    ensures { IfOk result (λ r. answer_of r ≡ model.after (ask_of ask) (residual_of_left left.now) place.now) }
+{
+    let mut passed = Items::new(alloc);
+    let mut left = left;
+    'passing: loop {
+        match left {
+            Left::Beside(number, child, rest) => {
+                if below_branch(place, *number).is_some() {
+                    break 'passing;
+                }
+                passed.push((*number, child.clone()?))?;
+                left = rest.get();
+            }
+            _ => break 'passing,
+        }
+    }
+    let answer = last_after(alloc, ask, left, place)?;
+    answers::beside(alloc, passed, answer)
+}
+
+/// The same, but not beside a branch in which the place is not.
+#[cycle(after)]
+fn last_after(
+    alloc: Global,
+    ask: Ask,
+    left: &Left,
+    place: &[Entry],
+) -> Result<Option<Moved>, AllocError>
+    requires { IsFalse (is_passed place.now (residual_of_left left.now)) }
     ensures { IfOk result (λ r. answer_of r ≡ model.after (ask_of ask) (residual_of_left left.now) place.now) }
 {
     match left {
@@ -34,10 +68,7 @@ pub(crate) fn after(
                 let answer = after(alloc, ask, child.get(), below)?;
                 answers::in_branch(alloc, *number, answer, rest)
             }
-            None => {
-                let answer = after(alloc, ask, rest.get(), place)?;
-                answers::beside(alloc, *number, child, answer)
-            }
+            None => unreachable!(),
         },
         Left::Assign(variable, width, value) => {
             answers::assign(alloc, ask, place, *variable, *width, value)

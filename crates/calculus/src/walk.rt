@@ -1,5 +1,5 @@
 // The moves that are offered now: a walk through what is left to do.
-ghost use Rattle.std.specs.Prelude.{◌≡◌, ◌*◌, ◌^◌, ◌≤◌, [], ◌∷◌, ◌++◌, map, Some, None, true, false, IfOk, OnErr};
+ghost use Rattle.std.specs.Prelude.{◌≡◌, ◌*◌, ◌^◌, ◌≤◌, [], ◌∷◌, ◌++◌, map, Some, None, true, false, IfOk, IsFalse, OnErr};
 ghost use Rattle.system.specs.Expression as expression;
 ghost use Rattle.system.specs.Translation.{expression_of};
 ghost use Rattle.system.specs.Decisions.{decision_of};
@@ -8,6 +8,7 @@ ghost use Rattle.calculus.specs.Events.{at};
 ghost use Rattle.calculus.specs.Left.{residual_of_left};
 ghost use Rattle.calculus.specs.Answers.{move_of};
 ghost use Rattle.calculus.specs.AllowedEvents as model;
+ghost use Rattle.calculus.specs.Passed.{goes_on};
 ghost use Rattle.calculus.specs.Walk.{located_of, below};
 
 use crate::answers::one_guard;
@@ -26,8 +27,8 @@ pub(crate) struct Offer {
     pub(crate) by: Boxed<Move>,
 }
 
-/// Adds the moves that the tree at the place offers. A number of 2^32 and more has no place: it takes more memory to
-/// get there than there is, and the answer is the same.
+/// Adds the moves that the tree at the place offers. It goes along branches by a loop, so that many take no stack. A
+/// number of 2^32 and more has no place: it takes more memory to get there than there is, and the answer is the same.
 pub(crate) fn add_offers(
     alloc: Global,
     values: &[Value],
@@ -37,17 +38,38 @@ pub(crate) fn add_offers(
 ) -> Result<(), AllocError>
     ensures { IfOk result (λ _. map located_of found.new ≡ map located_of found.old ++ below place.now (model.offers values.now (residual_of_left left.now))) }
 {
+    let mut left = left;
+    'passing: loop {
+        match left {
+            Left::Inside(number, child, _) => {
+                let inner = ordered(alloc, place, *number)?;
+                return add_offers(alloc, values, child.get(), &inner, found);
+            }
+            Left::Beside(number, child, rest) => {
+                let inner = in_branch(alloc, place, *number)?;
+                add_offers(alloc, values, child.get(), &inner, found)?;
+                left = rest.get();
+            }
+            _ => break 'passing,
+        }
+    }
+    add_own(alloc, values, left, place, found)
+}
+
+/// Adds the moves of a tree that has them at its own place, and not below a child.
+fn add_own(
+    alloc: Global,
+    values: &[Value],
+    left: &Left,
+    place: &Address,
+    found: &mut Items<Offer>,
+) -> Result<(), AllocError>
+    requires { IsFalse (goes_on (residual_of_left left.now)) }
+    ensures { IfOk result (λ _. map located_of found.new ≡ map located_of found.old ++ below place.now (model.offers values.now (residual_of_left left.now))) }
+{
     match left {
+        Left::Inside(_, _, _) | Left::Beside(_, _, _) => unreachable!(),
         Left::Done | Left::Halted => Ok(()),
-        Left::Inside(number, child, _) => {
-            let inner = ordered(alloc, place, *number)?;
-            add_offers(alloc, values, child.get(), &inner, found)
-        }
-        Left::Beside(number, child, rest) => {
-            let inner = in_branch(alloc, place, *number)?;
-            add_offers(alloc, values, child.get(), &inner, found)?;
-            add_offers(alloc, values, rest.get(), place, found)
-        }
         Left::Assign(variable, width, value) => {
             add_assign(alloc, place, *variable, *width, value, found)
         }
