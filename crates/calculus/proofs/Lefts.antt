@@ -1,19 +1,31 @@
 -- Trees in memory as arms.
-use Rattle.std.proofs.Common.{◌≡◌, ℕ, zero, suc, List, [], ◌∷◌, ◌++◌, map, slice_get, None, Some, refl, sym, ap, ◌∙◌}
+use Rattle.std.proofs.Common.{◌≡◌, ℕ, zero, suc, List, [], ◌∷◌, ◌++◌, map, slice_get, Option, None, Some, refl, sym, ap, ◌∙◌}
+use Rattle.std.specs.Option.{option_map}
 use Rattle.std.proofs.lemmas.List.{map-append}
 use Rattle.system.specs.Residual.{Residual, done, arm_at}
-use Rattle.system.specs.Translation.{arms_of}
+use Rattle.system.specs.declared.command.Command.{Command}
+use Rattle.system.specs.Translation.{arms_of, residual_of}
 use Rattle.calculus.specs.declared.left.Left.{Left}
 use Rattle.calculus.specs.Left.{residual_of_left}
 use Rattle.calculus.proofs.Arms.{arms_of_last}
 use Rattle.calculus.proofs.Options.{none-some, some-injective}
 
 -- an else is the last arm
-pub arms_with_last : (xs : List Left) (x : Left)
+arms_with_last : (xs : List Left) (x : Left)
     → arms_of (map residual_of_left (xs ++ x ∷ [])) None ≡ arms_of (map residual_of_left xs) (Some (residual_of_left x))
 arms_with_last xs x =
     let f : Left → Residual = residual_of_left in
     ap (λ rs. arms_of rs None) (map-append f xs (x ∷ [])) ∙ arms_of_last (map f xs) (f x)
+
+-- what the `else` is to do is the last arm
+pub arms_and_last : (new xs : List Left) (x : Left) (body : Command) (last : Option Command) → last ≡ Some body
+    → residual_of_left x ≡ residual_of body → new ≡ xs ++ x ∷ []
+    → arms_of (map residual_of_left new) None ≡ arms_of (map residual_of_left xs) (option_map residual_of last)
+arms_and_last new xs x body last h e n =
+    ap (λ ys. arms_of (map residual_of_left ys) None) n
+    ∙ arms_with_last xs x
+    ∙ ap (λ r. arms_of (map residual_of_left xs) (Some r)) e
+    ∙ sym (ap (λ o. arms_of (map residual_of_left xs) (option_map residual_of o)) h)
 
 -- an arm by its number
 pub arm_found : (xs : List Left) (k : ℕ) (x : Left) → slice_get xs k ≡ Some x → arm_at (arms_of (map residual_of_left xs) None) k ≡ residual_of_left x

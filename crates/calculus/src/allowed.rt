@@ -1,5 +1,7 @@
 // The events that are allowed now.
-ghost use Rattle.std.specs.Prelude.{◌≡◌, [], ◌∷◌, ◌++◌, map, IfOk, OnOk};
+ghost use Rattle.std.specs.Prelude.{◌≡◌, [], ◌∷◌, ◌++◌, map, Some, IfOk, OnOk};
+ghost use Rattle.calculus.specs.Moves as moves;
+ghost use Rattle.calculus.specs.Events.{at};
 ghost use Rattle.calculus.specs.Made as made;
 ghost use Rattle.calculus.specs.AllowedEvents as model;
 ghost use Rattle.calculus.specs.Plain.{state_of};
@@ -92,11 +94,27 @@ fn event_of_two(
     let met = other.by.get();
     match (by, met) {
         (Move::Sends(_, width, value, true), Move::Opens(channel, arm, _)) => {
-            let opens = Move::Opens(*channel, *arm, Some(sent(values, *width, value)));
-            made_apart(alloc, values, &one.place, by, &other.place, &opens)
+            let received = sent(values, *width, value);
+            event_of_open(alloc, values, one, &other.place, *channel, *arm, received)
         }
         _ => made_apart(alloc, values, &one.place, by, &other.place, met),
     }
+}
+
+/// The event of this move and the open of an arm at the place that receives the value, if they make one.
+fn event_of_open(
+    alloc: Global,
+    values: &[Value],
+    one: &Offer,
+    place: &Address,
+    channel: u32,
+    arm: u32,
+    received: Value,
+) -> Result<Option<Event>, AllocError>
+    ensures { IfOk result (λ r. r ≡ made.event_of values.now (located_of one.now ∷ at place.now (moves.opens channel arm (Some received)) ∷ [])) }
+{
+    let opens = Move::Opens(channel, arm, Some(received));
+    made_apart(alloc, values, &one.place, one.by.get(), place, &opens)
 }
 
 /// Adds the event, if there is one.

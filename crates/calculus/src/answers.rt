@@ -5,6 +5,7 @@ ghost use Rattle.system.specs.Residual as residual;
 ghost use Rattle.system.specs.Translation.{expression_of, arms_of};
 ghost use Rattle.system.specs.Decisions.{decision_of};
 ghost use Rattle.calculus.specs.After as model;
+ghost use Rattle.calculus.specs.Moves as moves;
 ghost use Rattle.calculus.specs.Left.{residual_of_left};
 ghost use Rattle.calculus.specs.Answers.{ask_of, move_of, answer_of};
 ghost use Rattle.calculus.specs.Passed.{along_all};
@@ -100,12 +101,25 @@ pub(crate) fn assign(
     }
     match ask {
         Ask::Assign => {
-            let value = value.copy(alloc)?;
             let done = Left::done(alloc)?;
-            moved(alloc, Move::Assigns(variable, width, value), done)
+            assigned(alloc, variable, width, value, done)
         }
         _ => Ok(None),
     }
+}
+
+/// An assignment, and what is left after it.
+fn assigned(
+    alloc: Global,
+    variable: u32,
+    width: Width,
+    value: &Expression,
+    left: Shared<Left>,
+) -> Result<Option<Moved>, AllocError>
+    ensures { IfOk result (λ r. answer_of r ≡ Some (moves.assigns variable width (expression_of value.now), residual_of_left left)) }
+{
+    let value = value.copy(alloc)?;
+    moved(alloc, Move::Assigns(variable, width, value), left)
 }
 
 /// The answer of a send.
@@ -125,17 +139,30 @@ pub(crate) fn send(
     }
     match ask {
         Ask::Send => {
-            let value = value.copy(alloc)?;
             let done = Left::done(alloc)?;
-            moved(alloc, Move::Sends(channel, width, value, false), done)
+            sent(alloc, channel, width, value, false, done)
         }
         Ask::Hold => {
-            let value = value.copy(alloc)?;
             let held = Shared::new(alloc, Left::Held(channel))?;
-            moved(alloc, Move::Sends(channel, width, value, true), held)
+            sent(alloc, channel, width, value, true, held)
         }
         _ => Ok(None),
     }
+}
+
+/// A send, held or not, and what is left after it.
+fn sent(
+    alloc: Global,
+    channel: u32,
+    width: Width,
+    value: &Expression,
+    held: bool,
+    left: Shared<Left>,
+) -> Result<Option<Moved>, AllocError>
+    ensures { IfOk result (λ r. answer_of r ≡ Some (moves.sends channel width (expression_of value.now) held, residual_of_left left)) }
+{
+    let value = value.copy(alloc)?;
+    moved(alloc, Move::Sends(channel, width, value, held), left)
 }
 
 /// The answer of a receive.
@@ -259,17 +286,15 @@ pub(crate) fn repeat_while(
     }
     match ask {
         Ask::Test(None) => {
-            let decision = one_guard(alloc, guard)?;
             let done = Left::done(alloc)?;
-            moved(alloc, Move::Tests(decision, None), done)
+            guard_tested(alloc, guard, None, done)
         }
         Ask::Test(Some(arm)) => {
             if arm != 0 {
                 return Ok(None);
             }
-            let decision = one_guard(alloc, guard)?;
             let left = in_test(alloc, turn, guard, body)?;
-            moved(alloc, Move::Tests(decision, Some(0)), left)
+            guard_tested(alloc, guard, Some(0), left)
         }
         _ => Ok(None),
     }
@@ -285,10 +310,35 @@ fn in_test(
     requires { turn < 2 ^ 32 }
     ensures { IfOk result (λ made. residual_of_left made ≡ residual.within (2 * turn + 1) (residual_of_left body.now) (residual.while (turn + 1) (expression_of guard.now) (residual_of_left body.now))) }
 {
-    let guard = guard.copy(alloc)?;
-    let again = body.clone()?;
-    let next = Shared::new(alloc, Left::While(turn + 1, guard, again))?;
+    let next = next_test(alloc, turn, guard, body.clone()?)?;
     within(alloc, 2 * turn + 1, body.clone()?, next)
+}
+
+/// A while loop before its next test.
+fn next_test(
+    alloc: Global,
+    turn: u64,
+    guard: &Expression,
+    body: Shared<Left>,
+) -> Result<Shared<Left>, AllocError>
+    requires { turn < 2 ^ 32 }
+    ensures { IfOk result (λ made. residual_of_left made ≡ residual.while (turn + 1) (expression_of guard.now) (residual_of_left body)) }
+{
+    let guard = guard.copy(alloc)?;
+    Shared::new(alloc, Left::While(turn + 1, guard, body))
+}
+
+/// The test of a while loop that took this arm, and what is left after it.
+fn guard_tested(
+    alloc: Global,
+    guard: &Expression,
+    arm: Option<u32>,
+    left: Shared<Left>,
+) -> Result<Option<Moved>, AllocError>
+    ensures { IfOk result (λ r. answer_of r ≡ Some (moves.tests (expression.by_guards (expression_of guard.now ∷ []) false) arm, residual_of_left left)) }
+{
+    let decision = one_guard(alloc, guard)?;
+    moved(alloc, Move::Tests(decision, arm), left)
 }
 
 /// The test of a while loop.
@@ -316,19 +366,41 @@ pub(crate) fn test(
     }
     match ask {
         Ask::Test(None) => {
-            let decision = decision.copy(alloc)?;
             let done = Left::done(alloc)?;
-            moved(alloc, Move::Tests(decision, None), done)
+            tested(alloc, decision, None, done)
         }
         Ask::Test(Some(arm)) => {
-            let decision = decision.copy(alloc)?;
-            let body = arm_at(alloc, arms, arm)?;
-            let done = Left::done(alloc)?;
-            let left = within(alloc, 1, body, done)?;
-            moved(alloc, Move::Tests(decision, Some(arm)), left)
+            let left = in_tested_arm(alloc, arms, arm)?;
+            tested(alloc, decision, Some(arm), left)
         }
         _ => Ok(None),
     }
+}
+
+/// A test that took this arm, and what is left after it.
+fn tested(
+    alloc: Global,
+    decision: &Decision,
+    arm: Option<u32>,
+    left: Shared<Left>,
+) -> Result<Option<Moved>, AllocError>
+    ensures { IfOk result (λ r. answer_of r ≡ Some (moves.tests (decision_of decision.now) arm, residual_of_left left)) }
+{
+    let decision = decision.copy(alloc)?;
+    moved(alloc, Move::Tests(decision, arm), left)
+}
+
+/// An arm that was taken, with nothing after it.
+fn in_tested_arm(
+    alloc: Global,
+    arms: &Items<Shared<Left>>,
+    arm: u32,
+) -> Result<Shared<Left>, AllocError>
+    ensures { IfOk result (λ made. residual_of_left made ≡ residual.within 1 (residual.arm_at (arms_of (map residual_of_left arms.now) None) arm) residual.done) }
+{
+    let done = Left::done(alloc)?;
+    let body = arm_at(alloc, arms, arm)?;
+    within(alloc, 1, body, done)
 }
 
 /// The arm of this number; nothing past the last.

@@ -1,6 +1,7 @@
 ghost use Rattle.std.specs.Prelude.{◌≡◌, map, IfOk, IsFalse};
 ghost use Rattle.system.specs.Residual as model;
-ghost use Rattle.system.specs.Translation.{arms_of};
+ghost use Rattle.system.specs.Expression.{put_value, put_decision};
+ghost use Rattle.system.specs.Translation.{expression_of, arms_of};
 ghost use Rattle.system.specs.Decisions.{decision_of};
 ghost use Rattle.calculus.specs.Left.{residual_of_left, is_done};
 ghost use Rattle.calculus.specs.Passed.{along_all, before, behind, goes_on};
@@ -165,31 +166,24 @@ fn last_with_received(
         Left::Inside(_, _, _) => unreachable!(),
         Left::Beside(_, _, _) => unreachable!(),
         Left::Assign(variable, width, written) => {
-            let written = written.with_received(alloc, channel, value)?;
-            Shared::new(alloc, Left::Assign(*variable, *width, written))
+            assign_received(alloc, *variable, *width, written, channel, value)
         }
-        Left::Send(on, width, sent) => {
-            let sent = sent.with_received(alloc, channel, value)?;
-            Shared::new(alloc, Left::Send(*on, *width, sent))
-        }
+        Left::Send(on, width, sent) => send_received(alloc, *on, *width, sent, channel, value),
         Left::Loop(turn, body) => {
             let body = with_received(alloc, body.get(), channel, value)?;
             Shared::new(alloc, Left::Loop(*turn, body))
         }
         Left::While(turn, guard, body) => {
-            let guard = guard.with_received(alloc, channel, value)?;
             let body = with_received(alloc, body.get(), channel, value)?;
-            Shared::new(alloc, Left::While(*turn, guard, body))
+            while_received(alloc, *turn, guard, body, channel, value)
         }
         Left::Test(decision, arms) => {
-            let decision = decision.with_received(alloc, channel, value)?;
             let arms = all_with_received(alloc, arms.get().as_slice(), channel, value)?;
-            Shared::new(alloc, Left::Test(decision, arms))
+            test_received(alloc, decision, arms, channel, value)
         }
         Left::Choose(channels, arms) => {
-            let channels = Vec::from_slice(alloc, channels.as_slice())?;
             let arms = all_with_received(alloc, arms.get().as_slice(), channel, value)?;
-            Shared::new(alloc, Left::Choose(Items::from_vec(channels), arms))
+            choose_again(alloc, channels.as_slice(), arms)
         }
         Left::Done => Shared::new(alloc, Left::Done),
         Left::Halted => Shared::new(alloc, Left::Halted),
@@ -199,6 +193,77 @@ fn last_with_received(
         Left::Closing(on) => Shared::new(alloc, Left::Closing(*on)),
         Left::Drain(on, act) => Shared::new(alloc, Left::Drain(*on, *act)),
     }
+}
+
+/// An assignment in which the value stands for each name of the channel.
+fn assign_received(
+    alloc: Global,
+    variable: u32,
+    width: Width,
+    written: &Expression,
+    channel: u32,
+    value: Value,
+) -> Result<Shared<Left>, AllocError>
+    ensures { IfOk result (λ made. residual_of_left made ≡ model.assign variable width (put_value channel value (expression_of written.now))) }
+{
+    let written = written.with_received(alloc, channel, value)?;
+    Shared::new(alloc, Left::Assign(variable, width, written))
+}
+
+/// A send in which the value stands for each name of the channel.
+fn send_received(
+    alloc: Global,
+    on: u32,
+    width: Width,
+    sent: &Expression,
+    channel: u32,
+    value: Value,
+) -> Result<Shared<Left>, AllocError>
+    ensures { IfOk result (λ made. residual_of_left made ≡ model.send on width (put_value channel value (expression_of sent.now))) }
+{
+    let sent = sent.with_received(alloc, channel, value)?;
+    Shared::new(alloc, Left::Send(on, width, sent))
+}
+
+/// A while loop with this body, in whose guard the value stands for each name of the channel.
+fn while_received(
+    alloc: Global,
+    turn: u64,
+    guard: &Expression,
+    body: Shared<Left>,
+    channel: u32,
+    value: Value,
+) -> Result<Shared<Left>, AllocError>
+    ensures { IfOk result (λ made. residual_of_left made ≡ model.while turn (put_value channel value (expression_of guard.now)) (residual_of_left body)) }
+{
+    let guard = guard.with_received(alloc, channel, value)?;
+    Shared::new(alloc, Left::While(turn, guard, body))
+}
+
+/// A test with these arms, in whose decision the value stands for each name of the channel.
+fn test_received(
+    alloc: Global,
+    decision: &Decision,
+    arms: Shared<Items<Shared<Left>>>,
+    channel: u32,
+    value: Value,
+) -> Result<Shared<Left>, AllocError>
+    ensures { IfOk result (λ made. residual_of_left made ≡ model.test (put_decision channel value (decision_of decision.now)) (arms_of (map residual_of_left arms) None)) }
+{
+    let decision = decision.with_received(alloc, channel, value)?;
+    Shared::new(alloc, Left::Test(decision, arms))
+}
+
+/// Arms that wait on the same channels.
+fn choose_again(
+    alloc: Global,
+    channels: &[u32],
+    arms: Shared<Items<Shared<Left>>>,
+) -> Result<Shared<Left>, AllocError>
+    ensures { IfOk result (λ made. residual_of_left made ≡ model.choose channels.now (arms_of (map residual_of_left arms) None)) }
+{
+    let channels = Vec::from_slice(alloc, channels)?;
+    Shared::new(alloc, Left::Choose(Items::from_vec(channels), arms))
 }
 
 /// Arms in which the value stands for each name of the channel.

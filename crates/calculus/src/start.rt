@@ -1,5 +1,5 @@
 // The state before the first event.
-ghost use Rattle.std.specs.Prelude.{◌≡◌, ◌∷◌, map, IfOk};
+ghost use Rattle.std.specs.Prelude.{◌≡◌, [], ◌∷◌, ◌++◌, map, IfOk};
 ghost use Rattle.system.specs.Expression.{constant, word};
 ghost use Rattle.system.specs.Residual as residual;
 ghost use Rattle.system.specs.Translation as translation;
@@ -33,9 +33,20 @@ fn branches_of(alloc: Global, system: &System) -> Result<Items<Shared<Left>>, Al
     let mut lefts = Items::with_capacity(alloc, 1)?;
     lefts.push(left_of(alloc, &system.main)?)?;
     for branch in system.environment.as_slice() {
-        lefts.push(branch_left(alloc, branch)?)?;
+        add_branch(alloc, branch, &mut lefts)?;
     }
     Ok(lefts)
+}
+
+/// Adds what the environment is to do on one port.
+fn add_branch(
+    alloc: Global,
+    branch: &Branch,
+    lefts: &mut Items<Shared<Left>>,
+) -> Result<(), AllocError>
+    ensures { IfOk result (λ _. map residual_of_left lefts.new ≡ map residual_of_left lefts.old ++ translation.branch_of branch.now ∷ []) }
+{
+    lefts.push(branch_left(alloc, branch)?)
 }
 
 /// What the environment is to do on one port.

@@ -167,14 +167,27 @@ fn agreed(
 {
     match made {
         Some(made) => {
-            if !made.equals(event) {
-                return Ok(None);
+            if made.equals(event) {
+                taken(alloc, state, event, left)
+            } else {
+                Ok(None)
             }
-            let values = values_after(alloc, event, state.values.as_slice())?;
-            Ok(Some(Plain { left, values }))
         }
         None => Ok(None),
     }
+}
+
+/// The state after the event with this left to do.
+fn taken(
+    alloc: Global,
+    state: &Plain,
+    event: &Event,
+    left: Shared<Left>,
+) -> Result<Option<Plain>, AllocError>
+    ensures { IfOk result (λ r. option_map state_of r ≡ Some (record { residual = residual_of_left left; store = store_after event.now (state_of state.now).store })) }
+{
+    let values = values_after(alloc, event, state.values.as_slice())?;
+    Ok(Some(Plain { left, values }))
 }
 
 /// The values of the variables after the event.

@@ -1,9 +1,10 @@
 // What a system is to do, as a tree in memory.
-ghost use Rattle.std.specs.Prelude.{◌≡◌, List, [], ◌∷◌, map, is_some, IfOk, None};
+ghost use Rattle.std.specs.Prelude.{◌≡◌, List, [], ◌∷◌, map, IfOk, None};
 ghost use Rattle.std.specs.Option.{option_map};
 ghost use Rattle.system.specs.Expression as expression;
 ghost use Rattle.system.specs.Residual as residual;
 ghost use Rattle.system.specs.Translation as translation;
+ghost use Rattle.system.specs.Decisions.{decision_of};
 ghost use Rattle.calculus.specs.Left.{residual_of_left};
 ghost use Rattle.calculus.specs.Translate.{guarded_of, labelled_of, arm_of};
 
@@ -12,6 +13,7 @@ use crate::shared::Shared;
 use std::alloc::{AllocError, Global};
 use syntax::Items;
 use system::{Action, Arm, Command, Decision, Expression, Guarded, Labelled};
+use value::Width;
 
 /// What the command is to do.
 #[cycle(left_of)]
@@ -22,13 +24,9 @@ pub(crate) fn left_of(alloc: Global, command: &Command) -> Result<Shared<Left>, 
         Action::Continue => Shared::new(alloc, Left::Done),
         Action::Halt => Shared::new(alloc, Left::Halted),
         Action::Assign(variable, width, value) => {
-            let value = value.copy(alloc)?;
-            Shared::new(alloc, Left::Assign(variable.number, *width, value))
+            assign_left(alloc, variable.number, *width, value)
         }
-        Action::Send(channel, width, value) => {
-            let value = value.copy(alloc)?;
-            Shared::new(alloc, Left::Send(channel.number, *width, value))
-        }
+        Action::Send(channel, width, value) => { send_left(alloc, channel.number, *width, value) }
         Action::Receive(channel, variable) => {
             Shared::new(alloc, Left::Receive(channel.number, variable.number))
         }
@@ -38,19 +36,18 @@ pub(crate) fn left_of(alloc: Global, command: &Command) -> Result<Shared<Left>, 
             Shared::new(alloc, Left::Loop(0, body))
         }
         Action::While(guard, body) => {
-            let guard = guard.copy(alloc)?;
             let body = left_of(alloc, body)?;
-            Shared::new(alloc, Left::While(0, guard, body))
+            while_left(alloc, guard, body)
         }
         Action::If(arms, last) => {
             let bodies = bodies_of_if(alloc, arms.as_slice())?;
-            let last = left_of_last(alloc, last)?;
-            if_left(alloc, arms.as_slice(), bodies, last)
+            let bodies = with_last(alloc, last, bodies)?;
+            if_left(alloc, arms.as_slice(), last.is_some(), bodies)
         }
         Action::Case(subject, arms, last) => {
             let bodies = bodies_of_case(alloc, arms.as_slice())?;
-            let last = left_of_last(alloc, last)?;
-            case_left(alloc, subject, arms.as_slice(), bodies, last)
+            let bodies = with_last(alloc, last, bodies)?;
+            case_left(alloc, subject, arms.as_slice(), last.is_some(), bodies)
         }
         Action::Input(channel, body) => {
             let body = left_of(alloc, body)?;
@@ -119,15 +116,61 @@ fn bodies_of_arms(alloc: Global, arms: &[Arm]) -> Result<Items<Shared<Left>>, Al
     Ok(lefts)
 }
 
-/// What the `else` is to do, if there is one.
+/// The arms, and what the `else` is to do as the last of them.
 #[cycle(left_of)]
-fn left_of_last(alloc: Global, last: &Option<Command>) -> Result<Option<Shared<Left>>, AllocError>
-    ensures { IfOk result (λ made. option_map residual_of_left made ≡ option_map translation.residual_of last.now) }
+fn with_last(
+    alloc: Global,
+    last: &Option<Command>,
+    arms: Items<Shared<Left>>,
+) -> Result<Items<Shared<Left>>, AllocError>
+    ensures { IfOk result (λ made. translation.arms_of (map residual_of_left made) None ≡ translation.arms_of (map residual_of_left arms) (option_map translation.residual_of last.now)) }
 {
     match last {
-        Some(body) => Ok(Some(left_of(alloc, body)?)),
-        None => Ok(None),
+        Some(last) => {
+            let mut arms = arms;
+            arms.push(left_of(alloc, last)?)?;
+            Ok(arms)
+        }
+        None => Ok(arms),
     }
+}
+
+/// An assignment.
+fn assign_left(
+    alloc: Global,
+    variable: u32,
+    width: Width,
+    value: &Expression,
+) -> Result<Shared<Left>, AllocError>
+    ensures { IfOk result (λ made. residual_of_left made ≡ residual.assign variable width (translation.expression_of value.now)) }
+{
+    let value = value.copy(alloc)?;
+    Shared::new(alloc, Left::Assign(variable, width, value))
+}
+
+/// A send.
+fn send_left(
+    alloc: Global,
+    channel: u32,
+    width: Width,
+    value: &Expression,
+) -> Result<Shared<Left>, AllocError>
+    ensures { IfOk result (λ made. residual_of_left made ≡ residual.send channel width (translation.expression_of value.now)) }
+{
+    let value = value.copy(alloc)?;
+    Shared::new(alloc, Left::Send(channel, width, value))
+}
+
+/// A while loop before its first test.
+fn while_left(
+    alloc: Global,
+    guard: &Expression,
+    body: Shared<Left>,
+) -> Result<Shared<Left>, AllocError>
+    ensures { IfOk result (λ made. residual_of_left made ≡ residual.while 0 (translation.expression_of guard.now) (residual_of_left body)) }
+{
+    let guard = guard.copy(alloc)?;
+    Shared::new(alloc, Left::While(0, guard, body))
 }
 
 /// The guards of the arms of an `if`.
@@ -159,53 +202,44 @@ fn labels_of(alloc: Global, arms: &[Labelled]) -> Result<Items<Items<u64>>, Allo
     Ok(labels)
 }
 
-/// An `if` before its test, with these bodies.
+/// An `if` before its test, with these bodies; whether the last is that of an `else`.
 fn if_left(
     alloc: Global,
     arms: &[Guarded],
+    ends: bool,
     bodies: Items<Shared<Left>>,
-    last: Option<Shared<Left>>,
 ) -> Result<Shared<Left>, AllocError>
-    ensures { IfOk result (λ made. residual_of_left made ≡ residual.test (expression.by_guards (map (λ a. a.guard) (map guarded_of arms.now)) (is_some last)) (translation.arms_of (map residual_of_left bodies) (option_map residual_of_left last))) }
+    ensures { IfOk result (λ made. residual_of_left made ≡ residual.test (expression.by_guards (map (λ a. a.guard) (map guarded_of arms.now)) ends) (translation.arms_of (map residual_of_left bodies) None)) }
 {
     let guards = guards_of(alloc, arms)?;
-    let decision = Decision::Guards(guards, last.is_some());
-    let bodies = with_last(bodies, last)?;
-    Left::test(alloc, decision, bodies)
+    Left::test(alloc, Decision::Guards(guards, ends), bodies)
 }
 
-/// A `case` before its test, with these bodies.
+/// A `case` before its test, with these bodies; whether the last is that of an `else`.
 fn case_left(
     alloc: Global,
     subject: &Expression,
     arms: &[Labelled],
+    ends: bool,
     bodies: Items<Shared<Left>>,
-    last: Option<Shared<Left>>,
 ) -> Result<Shared<Left>, AllocError>
-    ensures { IfOk result (λ made. residual_of_left made ≡ residual.test (expression.by_labels (translation.expression_of subject.now) (map (λ a. a.labels) (map labelled_of arms.now)) (is_some last)) (translation.arms_of (map residual_of_left bodies) (option_map residual_of_left last))) }
+    ensures { IfOk result (λ made. residual_of_left made ≡ residual.test (expression.by_labels (translation.expression_of subject.now) (map (λ a. a.labels) (map labelled_of arms.now)) ends) (translation.arms_of (map residual_of_left bodies) None)) }
 {
-    let labels = labels_of(alloc, arms)?;
-    let decision = Decision::Labels(subject.copy(alloc)?, labels, last.is_some());
-    let bodies = with_last(bodies, last)?;
+    let decision = labels_of_case(alloc, subject, arms, ends)?;
     Left::test(alloc, decision, bodies)
 }
 
-/// The arms with the `else` as the last.
-#[tactic(auto, using(crate::proofs::Lefts::arms_with_last))]
-fn with_last(
-    arms: Items<Shared<Left>>,
-    last: Option<Shared<Left>>,
-) -> Result<Items<Shared<Left>>, AllocError>
-    ensures { IfOk result (λ made. translation.arms_of (map residual_of_left made) None ≡ translation.arms_of (map residual_of_left arms) (option_map residual_of_left last)) }
+/// The decision of a `case`.
+fn labels_of_case(
+    alloc: Global,
+    subject: &Expression,
+    arms: &[Labelled],
+    ends: bool,
+) -> Result<Decision, AllocError>
+    ensures { IfOk result (λ made. decision_of made ≡ expression.by_labels (translation.expression_of subject.now) (map (λ a. a.labels) (map labelled_of arms.now)) ends) }
 {
-    match last {
-        Some(last) => {
-            let mut arms = arms;
-            arms.push(last)?;
-            Ok(arms)
-        }
-        None => Ok(arms),
-    }
+    let labels = labels_of(alloc, arms)?;
+    Ok(Decision::Labels(subject.copy(alloc)?, labels, ends))
 }
 
 /// A command that waits for the channel to enclose it.
@@ -228,12 +262,20 @@ fn choose_left(
 ) -> Result<Shared<Left>, AllocError>
     ensures { IfOk result (λ made. residual_of_left made ≡ residual.choose (map (λ a. a.channel) (map arm_of arms.now)) (translation.arms_of (map residual_of_left bodies) None)) }
 {
+    let bodies = Shared::new(alloc, bodies)?;
+    let channels = channels_of(alloc, arms)?;
+    Shared::new(alloc, Left::Choose(channels, bodies))
+}
+
+/// The channels of arms that wait.
+fn channels_of(alloc: Global, arms: &[Arm]) -> Result<Items<u32>, AllocError>
+    ensures { IfOk result (λ made. made ≡ map (λ a. a.channel) (map arm_of arms.now)) }
+{
     let mut channels = Items::with_capacity(alloc, arms.len())?;
     for arm in arms {
         channels.push(arm.channel.number)?;
     }
-    let bodies = Shared::new(alloc, bodies)?;
-    Shared::new(alloc, Left::Choose(channels, bodies))
+    Ok(channels)
 }
 
 /// The children one after another.

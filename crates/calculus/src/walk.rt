@@ -74,32 +74,13 @@ fn add_own(
             add_assign(alloc, place, *variable, *width, value, found)
         }
         Left::Send(channel, width, value) => {
-            add_send(alloc, place, *channel, *width, value, found, false)?;
-            add_send(alloc, place, *channel, *width, value, found, true)
+            add_sends(alloc, place, *channel, *width, value, found)
         }
-        Left::Receive(channel, variable) => {
-            let here = place.copy(alloc)?;
-            add(
-                alloc,
-                here,
-                Move::Receives(*channel, Some(*variable)),
-                found,
-            )
-        }
-        Left::Sync(channel) => {
-            add_act(alloc, place, 0, Move::Syncs(*channel, false), found)?;
-            add_act(alloc, place, 0, Move::Syncs(*channel, true), found)
-        }
+        Left::Receive(channel, variable) => add_receive(alloc, place, *channel, *variable, found),
+        Left::Sync(channel) => add_syncs(alloc, place, *channel, found),
         Left::Held(channel) => add_act(alloc, place, 1, Move::Releases(*channel), found),
-        Left::Loop(turn, _) => {
-            let act = act_of_turn(*turn)?;
-            add_act(alloc, place, act, Move::Turns, found)
-        }
-        Left::While(turn, guard, _) => {
-            let act = act_of_turn(*turn)?;
-            let decision = one_guard(alloc, guard)?;
-            add_test(alloc, values, place, act, decision, found)
-        }
+        Left::Loop(turn, _) => add_turn(alloc, place, *turn, found),
+        Left::While(turn, guard, _) => add_guard(alloc, values, place, *turn, guard, found),
         Left::Test(decision, _) => {
             let decision = decision.copy(alloc)?;
             add_test(alloc, values, place, 0, decision, found)
@@ -150,6 +131,21 @@ fn add_assign(
     add(alloc, here, Move::Assigns(variable, width, value), found)
 }
 
+/// Adds a send, not held and held.
+fn add_sends(
+    alloc: Global,
+    place: &Address,
+    channel: u32,
+    width: Width,
+    value: &Expression,
+    found: &mut Items<Offer>,
+) -> Result<(), AllocError>
+    ensures { IfOk result (λ _. map located_of found.new ≡ map located_of found.old ++ at (place.now ++ Entry.Ordered 0 ∷ []) (moves.sends channel width (expression_of value.now) false) ∷ at (place.now ++ Entry.Ordered 0 ∷ []) (moves.sends channel width (expression_of value.now) true) ∷ []) }
+{
+    add_send(alloc, place, channel, width, value, found, false)?;
+    add_send(alloc, place, channel, width, value, found, true)
+}
+
 /// Adds a send, held or not.
 fn add_send(
     alloc: Global,
@@ -170,6 +166,62 @@ fn add_send(
         Move::Sends(channel, width, value, held),
         found,
     )
+}
+
+/// Adds a receive.
+fn add_receive(
+    alloc: Global,
+    place: &Address,
+    channel: u32,
+    variable: u32,
+    found: &mut Items<Offer>,
+) -> Result<(), AllocError>
+    ensures { IfOk result (λ _. map located_of found.new ≡ map located_of found.old ++ at place.now (moves.receives channel (Some variable)) ∷ []) }
+{
+    let here = place.copy(alloc)?;
+    add(alloc, here, Move::Receives(channel, Some(variable)), found)
+}
+
+/// Adds a handshake without data, not held and held.
+fn add_syncs(
+    alloc: Global,
+    place: &Address,
+    channel: u32,
+    found: &mut Items<Offer>,
+) -> Result<(), AllocError>
+    ensures { IfOk result (λ _. map located_of found.new ≡ map located_of found.old ++ at (place.now ++ Entry.Ordered 0 ∷ []) (moves.syncs channel false) ∷ at (place.now ++ Entry.Ordered 0 ∷ []) (moves.syncs channel true) ∷ []) }
+{
+    add_act(alloc, place, 0, Move::Syncs(channel, false), found)?;
+    add_act(alloc, place, 0, Move::Syncs(channel, true), found)
+}
+
+/// Adds the turn of a loop.
+fn add_turn(
+    alloc: Global,
+    place: &Address,
+    turn: u64,
+    found: &mut Items<Offer>,
+) -> Result<(), AllocError>
+    ensures { IfOk result (λ _. map located_of found.new ≡ map located_of found.old ++ at (place.now ++ Entry.Ordered (2 * turn) ∷ []) moves.turns ∷ []) }
+{
+    let act = act_of_turn(turn)?;
+    add_act(alloc, place, act, Move::Turns, found)
+}
+
+/// Adds the test of a while loop.
+fn add_guard(
+    alloc: Global,
+    values: &[Value],
+    place: &Address,
+    turn: u64,
+    guard: &Expression,
+    found: &mut Items<Offer>,
+) -> Result<(), AllocError>
+    ensures { IfOk result (λ _. map located_of found.new ≡ map located_of found.old ++ at (place.now ++ Entry.Ordered (2 * turn) ∷ []) (moves.tests (expression.by_guards (expression_of guard.now ∷ []) false) (expression.decide values.now (expression.by_guards (expression_of guard.now ∷ []) false))) ∷ []) }
+{
+    let act = act_of_turn(turn)?;
+    let decision = one_guard(alloc, guard)?;
+    add_test(alloc, values, place, act, decision, found)
 }
 
 /// Adds a test, with the arm that it takes.

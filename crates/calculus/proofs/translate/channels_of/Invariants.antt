@@ -1,6 +1,6 @@
 use Rattle.std.proofs.Common.{◌≡◌, ◌++◌, drop, map}
 use Rattle.calculus.specs.Translate.{arm_of}
-use Rattle.calculus.proofs.translate.choose_left.Given as goal
+use Rattle.calculus.proofs.translate.channels_of.Given as goal
 
 abbrev pub invariant-loop-arm : goal.invariant-loop-arm
 invariant-loop-arm l =
