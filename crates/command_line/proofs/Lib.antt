@@ -1,2 +1,3 @@
+pub mod RunningLemmas
 pub mod ServingLemmas
 pub mod TellingLemmas

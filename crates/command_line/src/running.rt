@@ -1,8 +1,9 @@
 //! One run of the program, over whatever reads and writes.
 
-ghost use Rattle.std.specs.Prelude.{◌≡◌, ◌≤◌};
+ghost use Rattle.std.specs.Prelude.{◌≡◌, ◌≢◌, ◌≤◌, ◌⊎◌, [], IfOk};
 ghost use Rattle.debug_session.specs.Counting.{device, failures, after_writing};
 ghost use Rattle.command_line.specs.Serving.{Done, Told, status_of, told_text, WriterBlamed, DevicesBlamed, Checked, ChecksFile, DebugsFiles, Serves};
+ghost use Rattle.command_line.specs.Running.{TellsSome, TellsHelp, Explains, ServesSome};
 
 use crate::files::Files;
 use crate::request::{Request, requested};
@@ -10,7 +11,7 @@ use crate::telling::write_fault;
 use clap::Error;
 use clap::error::ErrorKind;
 use debug_session::{Counted, Fault, accept, debug, write_out};
-use std::alloc::Global;
+use std::alloc::{AllocError, Global};
 use std::convert::AsStr;
 use std::io::{BufRead, Write};
 
@@ -131,22 +132,64 @@ pub fn serve<F: Files, I: BufRead, O: Write, E: Write>(
     finish(done, err)
 }
 
+/// The text of an error, which is not empty.
+fn text_of(alloc: Global, error: &Error) -> Result<String, AllocError>
+    ensures { IfOk result (λ text. text.bytes.items ≢ []) }
+{
+    let mut text = error.to_string(alloc)?;
+    if text.is_empty() {
+        text.push('\n')?;
+    }
+    Ok(text)
+}
+
+/// Tells a mistake in the words, with the status for it.
+fn tell_mistake<E: Write>(text: &[u8], err: &mut Counted<E>) -> u8
+    requires { text.now ≢ [] }
+    ensures status { result ≡ 2 }
+    ensures told { TellsSome (WriterBlamed (failures err.old) (failures err.new)) (E.contents (device err.old)) (E.contents (device err.new)) }
+{
+    let _ = write_out(err, text);
+    2
+}
+
+/// Tells the help that was asked for, with the status for it: a refusal where it could not be written.
+fn tell_help<O: Write, E: Write>(text: &[u8], out: &mut Counted<O>, err: &mut Counted<E>) -> u8
+    requires { text.now ≢ [] }
+    ensures status { result ≤ 1 }
+    ensures quiet { result ≡ 0 → err.new ≡ err.old }
+    ensures told { TellsHelp result (err.new ≡ err.old)
+        (WriterBlamed (failures out.old) (failures out.new)) (WriterBlamed (failures err.old) (failures err.new))
+        (O.contents (device out.old)) (O.contents (device out.new)) (E.contents (device err.old)) (E.contents (device err.new)) }
+{
+    let done = write_out(out, text);
+    finish(done, err).status
+}
+
 /// Says why there is nothing to do: help was asked for, or the words are mistaken.
-fn explain<O: Write, E: Write>(error: &Error, out: &mut Counted<O>, err: &mut Counted<E>) -> u8
+fn explain<O: Write, E: Write>(
+    alloc: Global,
+    error: &Error,
+    out: &mut Counted<O>,
+    err: &mut Counted<E>,
+) -> u8
     ensures status { result ≤ 2 }
     ensures mistake { result ≡ 2 → out.new ≡ out.old }
-    ensures help { result ≡ 0 → err.new ≡ err.old }
+    ensures quiet { result ≡ 0 → err.new ≡ err.old }
+    ensures explained { Explains result (out.new ≡ out.old) (err.new ≡ err.old)
+        (WriterBlamed (failures out.old) (failures out.new)) (WriterBlamed (failures err.old) (failures err.new))
+        (O.contents (device out.old)) (O.contents (device out.new)) (E.contents (device err.old)) (E.contents (device err.new)) }
 {
     if error.kind() == ErrorKind::OutOfMemory {
         return finish(Err(Fault::Memory), err).status;
     }
+    let Ok(text) = text_of(alloc, error) else {
+        return finish(Err(Fault::Memory), err).status;
+    };
     if error.use_stderr() {
-        let _ = write!(err, "{error}");
-        return 2;
-    }
-    match write!(out, "{error}") {
-        Ok(()) => 0,
-        Err(_) => finish(Err(Fault::WriteFailed), err).status,
+        tell_mistake(text.as_bytes(), err)
+    } else {
+        tell_help(text.as_bytes(), out, err)
     }
 }
 
@@ -162,14 +205,22 @@ pub fn run<R: AllocGlobal, S: AsStr, F: Files, I: BufRead, O: Write, E: Write>(
     out: &mut Counted<O>,
     err: &mut Counted<E>,
 ) -> u8
+    ensures run { ServesSome (F.holds files.now) result (reader.new ≡ reader.old) (out.new ≡ out.old)
+        (WriterBlamed (failures out.old) (failures out.new)) (WriterBlamed (failures err.old) (failures err.new))
+        (DevicesBlamed (failures reader.old) (failures reader.new) (failures out.old) (failures out.new))
+        (I.remaining (device reader.old)) (I.remaining (device reader.new)) (O.contents (device out.old)) (O.contents (device out.new))
+        (E.contents (device err.old)) (E.contents (device err.new))
+        ⊎ ((reader.new ≡ reader.old) × Explains result (out.new ≡ out.old) (err.new ≡ err.old)
+        (WriterBlamed (failures out.old) (failures out.new)) (WriterBlamed (failures err.old) (failures err.new))
+        (O.contents (device out.old)) (O.contents (device out.new)) (E.contents (device err.old)) (E.contents (device err.new))) }
     ensures status { result ≤ 2 }
     ensures mistake { result ≡ 2 → out.new ≡ out.old }
     ensures unread { result ≡ 2 → reader.new ≡ reader.old }
-    ensures done { result ≡ 0 → err.new ≡ err.old }
+    ensures quiet { result ≡ 0 → err.new ≡ err.old }
 {
     let alloc = rt.alloc();
     match requested(alloc, words) {
         Ok(request) => serve(alloc, request, files, reader, out, err).status,
-        Err(error) => explain(&error, out, err),
+        Err(error) => explain(alloc, &error, out, err),
     }
 }
