@@ -14,11 +14,11 @@ mod lines;
 #[cfg(test)]
 mod lists;
 #[cfg(test)]
+mod numbers;
+#[cfg(test)]
 mod one;
 #[cfg(test)]
 mod parsing;
-#[cfg(test)]
-mod refusals;
 #[cfg(test)]
 mod runs;
 #[cfg(test)]
