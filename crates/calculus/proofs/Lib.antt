@@ -18,6 +18,7 @@ pub mod Clear
 pub mod Decisions
 pub mod Effects
 pub mod Elements
+pub mod Firsts
 pub mod FollowersLaw
 pub mod FromOpening
 pub mod Kept

@@ -1,25 +1,21 @@
 -- Moves below a place, and what the forms of a tree offer there.
-use Rattle.std.proofs.Common.{◌≡◌, ℕ, List, [], ◌∷◌, ◌++◌, true, false, refl, sym, ◌∙◌, ap, append_assoc, map, Result}
+use Rattle.std.proofs.Common.{◌≡◌, ℕ, List, [], ◌∷◌, ◌++◌, refl, sym, ◌∙◌, ap, append_assoc, map, Result}
 use Rattle.std.specs.Prelude.{IfOk}
 use Rattle.std.proofs.lemmas.Result.{IfOk-weaker}
 use Rattle.address.specs.declared.Entry.{Entry}
 use Rattle.address.specs.declared.Entry.TheVariants.{Ordered, Branch}
-use Rattle.system.specs.declared.expression.Expression.{Expression}
 use Rattle.system.specs.Expression.{Store}
 use Rattle.system.specs.Residual.{Residual}
-use Rattle.system.specs.Translation.{expression_of}
-use Rattle.calculus.specs.Moves.{Place, sends, syncs}
+use Rattle.calculus.specs.Moves.{Place}
 use Rattle.calculus.specs.Events.{Located, at}
 use Rattle.calculus.specs.AllowedEvents.{behind, offers, events_among, allowed_events}
-use Rattle.calculus.specs.Left.{left_layer, residual_of_left}
+use Rattle.calculus.specs.Left.{residual_of_left}
 use Rattle.calculus.specs.Walk.{located_of, below}
 use Rattle.calculus.specs.Plain.{state_of}
 use Rattle.calculus.specs.declared.plain.Plain.{Plain}
 use Rattle.calculus.specs.declared.walk.Offer.{Offer}
 use Rattle.calculus.specs.declared.left.Left.{Left}
-use Rattle.calculus.specs.declared.left.Left.TheVariants.{Inside, Beside, Send, Sync, rolls-Send, rolls-Sync}
-use Rattle.calculus.specs.declared.left.Left.TheOpen.{Left-F}
-use Rattle.calculus.specs.declared.left.Left.TheFolds.{fold-roll-Left}
+use Rattle.calculus.specs.declared.left.Left.TheVariants.{Inside, Beside}
 use Rattle.calculus.proofs.TreeAnswers.{left_inside, left_beside}
 
 pub below_root : (ls : List Located) → below [] ls ≡ ls
@@ -70,23 +66,6 @@ beside_offers s left child rest given other n p inner old between es eg eh ei eb
     (sym (below_join p (behind (Branch n) (offers s (f child))) (offers s (f rest)))
     ∙ ap (λ r. below p (offers s r)) (sym (left_beside n child rest))
     ∙ ap (λ z. below p (offers s (f z))) (sym es))
-
--- two offers added one after the other
-pub added_two : (old between ls : List Located) (a b : Located) → between ≡ old ++ a ∷ [] → ls ≡ a ∷ b ∷ [] → between ++ b ∷ [] ≡ old ++ ls
-added_two old between ls a b h g = ap (λ ks. ks ++ b ∷ []) h ∙ append_assoc old (a ∷ []) (b ∷ []) ∙ ap (λ ks. old ++ ks) (sym g)
-
-pub send_offers : (s : Store) (left : Left) (c : ℕ) (w : ℕ) (e : Expression) (p : Place) → left ≡ Send c w e
-    → below p (offers s (residual_of_left left))
-    ≡ at (p ++ Ordered 0 ∷ []) (sends c w (expression_of e) false) ∷ at (p ++ Ordered 0 ∷ []) (sends c w (expression_of e) true) ∷ []
-send_offers s left c w e p es =
-    ap (λ z. below p (offers s (residual_of_left z))) es
-    ∙ ap (λ r. below p (offers s r)) (ap residual_of_left (sym (rolls-Send c w e)) ∙ fold-roll-Left Residual left_layer (Left-F.Send c w e))
-
-pub sync_offers : (s : Store) (left : Left) (c : ℕ) (p : Place) → left ≡ Sync c
-    → below p (offers s (residual_of_left left)) ≡ at (p ++ Ordered 0 ∷ []) (syncs c false) ∷ at (p ++ Ordered 0 ∷ []) (syncs c true) ∷ []
-sync_offers s left c p es =
-    ap (λ z. below p (offers s (residual_of_left z))) es
-    ∙ ap (λ r. below p (offers s r)) (ap residual_of_left (sym (rolls-Sync c)) ∙ fold-roll-Left Residual left_layer (Left-F.Sync c))
 
 -- what is found below the root are the offers of the whole
 pub found_all : (p : Plain) (values : Store) (given : Left) (root : Place) (none found slice : List Offer)

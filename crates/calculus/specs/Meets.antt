@@ -1,7 +1,7 @@
 -- The event of a send and what meets it, from the value that is sent and the variables that are read.
-use Rattle.std.specs.Prelude.{ℕ, ◌==◌, ◌&&◌, List, cond, Option, Some, None}
+use Rattle.std.specs.Prelude.{ℕ, ◌==◌, ◌&&◌, Bool, true, false, List, cond, Option, Some, None}
 use Rattle.value.specs.Word.{Word}
-use Rattle.calculus.specs.Moves.{Place, Move, receives, opens}
+use Rattle.calculus.specs.Moves.{Place, Move, sends, receives, syncs, opens, releases}
 use Rattle.calculus.specs.Tests.{same_option, same_word}
 use Rattle.calculus.specs.declared.event.Event.{Event}
 use Rattle.calculus.specs.declared.event.Kind.TheVariants.{Meet, Open}
@@ -21,3 +21,10 @@ opened_by_send a b c v read (opens d k u) =
     (Some (record { kind = Open; first = a; second = Some b; arm = Some k; channel = Some c; value = u; written = None; read = read }))
     None
 opened_by_send a b c v read _ = None
+
+-- whether a move can be the first of two that make an event
+abbrev pub is_first : Move → Bool
+is_first (sends c w e held) = true
+is_first (syncs c held) = true
+is_first (releases c) = true
+is_first _ = false

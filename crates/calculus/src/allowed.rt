@@ -7,7 +7,7 @@ ghost use Rattle.calculus.specs.AllowedEvents as model;
 ghost use Rattle.calculus.specs.Plain.{state_of};
 ghost use Rattle.calculus.specs.Walk.{located_of};
 
-use crate::making::{made_alone, sent};
+use crate::making::{is_first, made_alone, sent};
 use crate::moves::Move;
 use crate::step::made_apart;
 use crate::walk::{Offer, add_offers};
@@ -65,8 +65,25 @@ fn add_alone(
     Ok(())
 }
 
-/// Adds the events of this move with each of the others.
+/// Adds the events of this move with each of the others. A move that is no first of two is not tried with them.
 fn add_with(
+    alloc: Global,
+    values: &[Value],
+    one: &Offer,
+    others: &[Offer],
+    events: &mut Items<Event>,
+) -> Result<(), AllocError>
+    ensures { IfOk result (λ _. events.new ≡ events.old ++ model.events_with values.now (located_of one.now) (map located_of others.now)) }
+{
+    if is_first(one.by.get()) {
+        add_meetings(alloc, values, one, others, events)
+    } else {
+        Ok(())
+    }
+}
+
+/// Adds the events of this move, as the first of two, with each of the others.
+fn add_meetings(
     alloc: Global,
     values: &[Value],
     one: &Offer,

@@ -4,7 +4,7 @@ ghost use Rattle.system.specs.Translation.{expression_of};
 ghost use Rattle.calculus.specs.Events.{sent};
 ghost use Rattle.calculus.specs.Made as model;
 ghost use Rattle.calculus.specs.Moves as moves;
-ghost use Rattle.calculus.specs.Meets.{met, opened_by_send};
+ghost use Rattle.calculus.specs.Meets.{met, opened_by_send, is_first};
 ghost use Rattle.calculus.specs.Answers.{move_of};
 ghost use Rattle.system.specs.Decisions.{decision_of};
 
@@ -115,6 +115,21 @@ fn turned(alloc: Global, place: &Address) -> Result<Option<Event>, AllocError>
         written: None,
         read,
     }))
+}
+
+/// Whether the move can be the first of two that make an event.
+pub(crate) fn is_first(by: &Move) -> bool
+    ensures { result ≡ is_first (move_of by.now) }
+{
+    match by {
+        Move::Sends(_, _, _, _) | Move::Syncs(_, _) | Move::Releases(_) => true,
+        Move::Assigns(_, _, _)
+        | Move::Tests(_, _)
+        | Move::Turns
+        | Move::Receives(_, _)
+        | Move::Opens(_, _, _)
+        | Move::Closes(_) => false,
+    }
 }
 
 /// The event of two moves, if they make one.

@@ -1,4 +1,3 @@
-use Rattle.std.proofs.Common.{◌∙◌}
 use Rattle.calculus.proofs.Lefts.{arms_and_last}
 use Rattle.calculus.proofs.translate.+left_of.Goals as goal
 

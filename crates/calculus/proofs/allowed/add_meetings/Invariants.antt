@@ -1,7 +1,7 @@
 use Rattle.std.proofs.Common.{◌≡◌, ◌++◌, drop, map}
 use Rattle.calculus.specs.AllowedEvents.{events_with}
 use Rattle.calculus.specs.Walk.{located_of}
-use Rattle.calculus.proofs.allowed.add_with.Given as goal
+use Rattle.calculus.proofs.allowed.add_meetings.Given as goal
 
 abbrev pub invariant-loop-other : goal.invariant-loop-other
 invariant-loop-other l =
