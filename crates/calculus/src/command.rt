@@ -75,6 +75,10 @@ pub enum Refusal {
     NeverWritten,
     /// no ticket is left
     Spent,
+    /// as many lines have a breakpoint as may have one
+    BreaksFull,
+    /// no command begins on this line
+    NoSuchLine,
 }
 
 impl Refusal {
@@ -90,6 +94,8 @@ impl Refusal {
             Refusal::NeededBy(_) => 24,
             Refusal::NeverWritten => 25,
             Refusal::Spent => 26,
+            Refusal::BreaksFull => 27,
+            Refusal::NoSuchLine => 28,
         }
     }
 }
@@ -104,6 +110,8 @@ impl fmt::Display for Refusal {
             Refusal::NeededBy(ticket) => write!(f, "event {ticket} depends on it"),
             Refusal::NeverWritten => f.write_str("no live event wrote this variable"),
             Refusal::Spent => f.write_str("no ticket is left"),
+            Refusal::BreaksFull => f.write_str("as many lines have a breakpoint as may have one"),
+            Refusal::NoSuchLine => f.write_str("no command begins on this line"),
         }
     }
 }

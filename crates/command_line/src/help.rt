@@ -53,11 +53,21 @@ standard input, and each line is answered as soon as it is read:
   roll TICKET     take all of those back: `rolled COUNT`
   blame X         tell which step wrote the variable X last: `blame TICKET`
   rollvalue X     take that step back, with all that depend on it
+  branch N        take the first step of branch N that can be taken now, past
+                  lines with a breakpoint: `step TICKET EVENT`. `stopped LINE`
+                  where all are on such lines, `idle` where there is none
+  break LINE      set a breakpoint on this line of FILE, from 1: `ok`
+  clear LINE      take it away: `ok`
+  session N       go on as session N, 0 to 15. All sessions step one run; each
+                  has breakpoints of its own. The session is 0 at first
+  view            print FILE with marks: `>` where a step can be taken, `*` for
+                  a breakpoint, `!` for a select that could take several arms
 
 A place is written like /0.1.0. /0 is the body of the last procedure, and /1,
 /2 and so on are the environment at its ports. Behind that, .N counts what comes
 one after the other, and /N the branches of ||, both from 0. A meeting is
-stepped at its receiver.
+stepped at its receiver. The branches of `branch` are those of the body where it
+is a ||, else the body is branch 0; the environment's come behind them.
 
 Example, with the lines that are typed behind `>`:
   balsadbg debug examples/one.balsa examples/one.stimulus
@@ -105,6 +115,8 @@ nothing has changed, and the script goes on:
   24  the step with the ticket that is named depends on this one
   25  no live step has written this variable
   26  no ticket is left
+  27  this session has 64 breakpoints
+  28  no command begins on this line
 
 docs/refusals.md has an example and the usual cause of each. A command line that
 cannot be read ends with status 2. All else ends with status 0.";

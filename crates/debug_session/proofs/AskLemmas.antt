@@ -1,7 +1,6 @@
 -- What a line asks for.
-use Rattle.std.proofs.Common.{◌≡◌, ℕ, List, [], ◌++◌, Option, Some, None, MatchOption, Result, Ok, Err, IfOk, IfErr, OnErr, ◌≢◌, ◌⊎◌, inr, refl, sym, ap, ◌∙◌, subst}
+use Rattle.std.proofs.Common.{◌≡◌, ℕ, List, [], ◌++◌, Option, Some, None, MatchOption, Result, Ok, Err, IfOk, IfErr, OnErr, ◌≢◌, ◌⊎◌, inl, inr, refl, sym, ap, ◌∙◌, subst}
 use Rattle.system.specs.declared.system.System.{System}
-use Rattle.calculus.specs.declared.command.Command.{Command}
 use Rattle.debug_session.specs.declared.word.Word.{Word}
 use Rattle.debug_session.specs.declared.word.Word.TheVariants as words
 use Rattle.debug_session.specs.EventText.{field}
@@ -9,7 +8,7 @@ use Rattle.debug_session.specs.Fields.{BeginsField, CutAtSpace}
 use Rattle.debug_session.specs.Words.{spelling, SpellsNothing}
 use Rattle.debug_session.specs.declared.line.Line.{Line}
 use Rattle.debug_session.specs.declared.fault.Fault.{Fault}
-use Rattle.debug_session.specs.Lines.{IsNoVariable, IsNoChoice, MayBeChoice, MayBeStep, AsksBy, AsksNothingBy, Asks, AsksNothing, Says}
+use Rattle.debug_session.specs.Lines.{IsNoVariable, IsNoChoice, MayBeChoice, MayBeStep, AsksBy, AsksNothingBy, Asks, AsksNothing, Says, SaysSession}
 use Rattle.debug_session.proofs.CutLemmas.{cut-same}
 use Rattle.debug_session.proofs.WordLemmas.{spelling-no-space, one-word}
 
@@ -18,7 +17,7 @@ field-begins : (rest text : List ℕ) → rest ≡ field text → BeginsField re
 field-begins rest text e = subst BeginsField (sym e) refl
 
 -- what stands behind a word is nothing or begins with a space
-pub behind-begins : (system : System) (w : Word) (rest : List ℕ) (c : Command) → AsksBy system w rest c → BeginsField rest
+pub behind-begins : (system : System) (w : Word) (rest : List ℕ) (c : Line) → AsksBy system w rest c → BeginsField rest
 behind-begins system words.Step rest c (d, h, e) = subst BeginsField (sym h.2.1) refl
 behind-begins system words.Undo rest c (t, h, e) = subst BeginsField (sym h.1) refl
 behind-begins system words.Roll rest c (t, h, e) = subst BeginsField (sym h.1) refl
@@ -28,9 +27,14 @@ behind-begins system words.Ready rest c (h, e) = subst BeginsField (sym h) tt
 behind-begins system words.Consequences rest c (t, h, e) = subst BeginsField (sym h.1) refl
 behind-begins system words.Live rest c (h, e) = subst BeginsField (sym h) tt
 behind-begins system words.Value rest c (x, h, e) = subst BeginsField (sym h.1) refl
+behind-begins system words.Branch rest c (k, h, e) = subst BeginsField (sym h.1) refl
+behind-begins system words.Break rest c (n, h, e) = subst BeginsField (sym h.1) refl
+behind-begins system words.Clear rest c (n, h, e) = subst BeginsField (sym h.1) refl
+behind-begins system words.Session rest c (k, h, e) = subst BeginsField (sym h.1) refl
+behind-begins system words.View rest c (h, e) = subst BeginsField (sym h) tt
 
 -- the word and the rest are the parts of the line
-asked-parts : (system : System) (line text rest : List ℕ) (c : Command) → CutAtSpace line text rest → (a : Asks system line c)
+asked-parts : (system : System) (line text rest : List ℕ) (c : Line) → CutAtSpace line text rest → (a : Asks system line c)
     → (spelling a.word ≡ text) × (a.rest ≡ rest)
 asked-parts system line text rest c cut a =
     cut-same (spelling a.word) text a.rest rest (spelling-no-space a.word) cut.clear
@@ -49,7 +53,7 @@ nothing-behind system line text rest w cut h none c a =
     none c (subst (λ r. AsksBy system w r c) (asked-parts system line text rest c cut a).1 moved)
 
 -- a line asks for what its word asks for with what is behind it
-pub asks-behind : (system : System) (line text rest : List ℕ) (w : Word) (c : Command) → CutAtSpace line text rest
+pub asks-behind : (system : System) (line text rest : List ℕ) (w : Word) (c : Line) → CutAtSpace line text rest
     → spelling w ≡ text → AsksBy system w rest c → Asks system line c
 asks-behind system line text rest w c cut h asked = record {
   word = w;
@@ -75,14 +79,14 @@ pub step-nothing : (system : System) (w : Word) (rest : List ℕ) → w ≡ word
 step-nothing system w rest e none = subst (λ v. AsksNothingBy system v rest) (sym e) (λ c h. none h.0 h.1)
 
 -- what is read behind the word is what the line asks for
-asked-found : (system : System) (line text rest : List ℕ) (w : Word) (found : Option Command) → CutAtSpace line text rest
+asked-found : (system : System) (line text rest : List ℕ) (w : Word) (found : Option Line) → CutAtSpace line text rest
     → spelling w ≡ text → MatchOption found (AsksNothingBy system w rest) (λ c. AsksBy system w rest c)
     → MatchOption found (AsksNothing system line) (λ c. Asks system line c)
 asked-found system line text rest w None cut h none = nothing-behind system line text rest w cut h none
 asked-found system line text rest w (Some c) cut h some = asks-behind system line text rest w c cut h some
 
 -- the same of the answer, unless there was no memory
-pub asked-read : {E : Type 0} → (system : System) (line text rest : List ℕ) (w : Word) (r : Result (Option Command) E) → CutAtSpace line text rest
+pub asked-read : {E : Type 0} → (system : System) (line text rest : List ℕ) (w : Word) (r : Result (Option Line) E) → CutAtSpace line text rest
     → spelling w ≡ text
     → IfOk r (λ found. MatchOption found (AsksNothingBy system w rest) (λ c. AsksBy system w rest c))
     → IfOk r (λ found. MatchOption found (AsksNothing system line) (λ c. Asks system line c))
@@ -96,12 +100,35 @@ asked-memory line text rest w (Ok found) cut h is = tt
 asked-memory line text rest w (Err e) cut h is =
     (rest, sym cut.joined ∙ ap (λ t. t ++ rest) (sym h ∙ ap spelling is.0), is.1)
 
--- what a line says where a command was found, or none
-pub found-says : (system : System) (line : List ℕ) (number : ℕ) (found : Option Command) (r : Result Line Fault)
-    → MatchOption found (r ≡ Err (Fault.BadCommand number)) (λ c. r ≡ Ok (Line.Asked c))
+-- what a line says where something was found, or nothing
+pub found-says : (system : System) (line : List ℕ) (number : ℕ) (found : Option Line) (r : Result Line Fault)
+    → MatchOption found (r ≡ Err (Fault.BadCommand number)) (λ c. r ≡ Ok c)
     → MatchOption found (AsksNothing system line) (λ c. Asks system line c) → IfOk r (λ said. Says system line said)
 found-says system line number None r e h = subst (λ x. IfOk x (λ said. Says system line said)) (sym e) tt
-found-says system line number (Some c) r e h = subst (λ x. IfOk x (λ said. Says system line said)) (sym e) h
+found-says system line number (Some c) r e h = subst (λ x. IfOk x (λ said. Says system line said)) (sym e) (inl h)
+
+-- a session that a line names is one of the sixteen
+session-by : (system : System) (w : Word) (rest : List ℕ) (c : Line) → AsksBy system w rest c → SaysSession c
+session-by system words.Step rest c (x, h, e) = subst SaysSession (sym e) tt
+session-by system words.Undo rest c (x, h, e) = subst SaysSession (sym e) tt
+session-by system words.Roll rest c (x, h, e) = subst SaysSession (sym e) tt
+session-by system words.RollValue rest c (x, h, e) = subst SaysSession (sym e) tt
+session-by system words.Blame rest c (x, h, e) = subst SaysSession (sym e) tt
+session-by system words.Ready rest c (h, e) = subst SaysSession (sym e) tt
+session-by system words.Consequences rest c (x, h, e) = subst SaysSession (sym e) tt
+session-by system words.Live rest c (h, e) = subst SaysSession (sym e) tt
+session-by system words.Value rest c (x, h, e) = subst SaysSession (sym e) tt
+session-by system words.Branch rest c (x, h, e) = subst SaysSession (sym e) tt
+session-by system words.Break rest c (x, h, e) = subst SaysSession (sym e) tt
+session-by system words.Clear rest c (x, h, e) = subst SaysSession (sym e) tt
+session-by system words.Session rest c (k, h, e) = subst SaysSession (sym e) h.0
+session-by system words.View rest c (h, e) = subst SaysSession (sym e) tt
+
+pub found-session : (system : System) (line : List ℕ) (number : ℕ) (found : Option Line) (r : Result Line Fault)
+    → MatchOption found (r ≡ Err (Fault.BadCommand number)) (λ c. r ≡ Ok c)
+    → MatchOption found (AsksNothing system line) (λ c. Asks system line c) → IfOk r SaysSession
+found-session system line number None r e h = subst (λ x. IfOk x SaysSession) (sym e) tt
+found-session system line number (Some c) r e h = subst (λ x. IfOk x SaysSession) (sym e) (session-by system h.word h.rest c h.asked)
 
 -- why a line says nothing
 abbrev pub Unsaid : System → List ℕ → ℕ → Fault → Type 0
@@ -109,8 +136,8 @@ Unsaid system line number fault =
     ((fault ≡ Fault.Memory) × MayBeStep line) ⊎ ((fault ≡ Fault.BadCommand number) × (line ≢ []) × AsksNothing system line)
 
 -- why a line says nothing where no command was found
-pub found-nothing : (system : System) (line : List ℕ) (number : ℕ) (found : Option Command) (r : Result Line Fault)
-    → MatchOption found (r ≡ Err (Fault.BadCommand number)) (λ c. r ≡ Ok (Line.Asked c)) → (line ≡ [] → ⊥)
+pub found-nothing : (system : System) (line : List ℕ) (number : ℕ) (found : Option Line) (r : Result Line Fault)
+    → MatchOption found (r ≡ Err (Fault.BadCommand number)) (λ c. r ≡ Ok c) → (line ≡ [] → ⊥)
     → MatchOption found (AsksNothing system line) (λ c. Asks system line c) → IfErr r (Unsaid system line number)
 found-nothing system line number None r e some h = subst (λ x. IfErr x (Unsaid system line number)) (sym e) (inr (refl, some, h))
 found-nothing system line number (Some c) r e some h = subst (λ x. IfErr x (Unsaid system line number)) (sym e) tt

@@ -1,7 +1,7 @@
 -- What a fault says of the failures of reader and writer.
-use Rattle.std.proofs.Common.{◌≡◌, ◌≢◌, ◌⊎◌, inl, inr, ℕ, List, Result, Err, refl, sym, ap, ◌∙◌}
+use Rattle.std.proofs.Common.{◌≡◌, ◌⊎◌, inl, inr, ℕ, List, Result, Err, refl, sym, ap, ◌∙◌}
 use Rattle.system.specs.declared.system.System.{System}
-use Rattle.calculus.specs.Object.{Object}
+use Rattle.debug_session.specs.AtLine.{AtLine}
 use Rattle.debug_session.specs.Accepting.{IsRefused}
 use Rattle.debug_session.specs.Counting.{fault_reads, fault_writes, after_reading, after_writing}
 use Rattle.debug_session.specs.Pieces.{LineStops}
@@ -19,7 +19,7 @@ unsaid-writes s line number fault n h =
     elim h [ inl e ↦ ap (λ (f : Fault). fault_writes f n) e.0 | inr e ↦ ap (λ (f : Fault). fault_writes f n) e.0 ]
 
 -- a line that is not answered is no fault of reading
-pub stops-reads : (s : System) (o : Object) (line : List ℕ) (number : ℕ) (given : List ℕ) (fault : Fault) (n : ℕ)
+pub stops-reads : (s : System) (o : AtLine) (line : List ℕ) (number : ℕ) (given : List ℕ) (fault : Fault) (n : ℕ)
     → LineStops s o line number given fault → fault_reads fault n ≡ n
 stops-reads s o line number given Fault.Memory n h = refl
 stops-reads s o line number given (Fault.Lexer f) n h = refl

@@ -8,12 +8,12 @@ use Rattle.address.proofs.Finds.{text_of-injective}
 use Rattle.system.specs.Named.{variable_from}
 use Rattle.system.specs.declared.system.System.{System}
 use Rattle.calculus.specs.declared.event.Choice.{Choice}
-use Rattle.calculus.specs.declared.command.Command.{Command}
+use Rattle.locked_execution.specs.declared.command.Command.{Command}
 use Rattle.debug_session.specs.declared.line.Line.{Line}
 use Rattle.debug_session.specs.declared.word.Word.{Word}
 use Rattle.debug_session.specs.declared.word.Word.TheVariants as words
 use Rattle.debug_session.specs.Words.{spelling}
-use Rattle.debug_session.specs.Lines.{IsNumber, IsVariable, IsArm, IsChoice, AsksBy, Asks, Says}
+use Rattle.debug_session.specs.Lines.{IsNumber, IsBranch, IsSession, IsVariable, IsArm, IsChoice, AsksBy, Asks, Says}
 use Rattle.debug_session.proofs.CutLemmas.{cut-same, address-no-space}
 use Rattle.debug_session.proofs.NumberLemmas.{field-same, field-some, same-found}
 use Rattle.debug_session.proofs.ChoiceLemmas.{arm-begins}
@@ -23,6 +23,14 @@ use Rattle.debug_session.proofs.AskLemmas.{behind-begins}
 -- one number stands in a field
 one-number : (m n : ℕ) (rest : List ℕ) → IsNumber m rest → IsNumber n rest → m ≡ n
 one-number m n rest h k = decimal_injective m n h.0 k.0 (field-same rest (decimal m) (decimal n) h.1 k.1)
+
+-- one branch stands in a field
+one-branch : (m n : ℕ) (rest : List ℕ) → IsBranch m rest → IsBranch n rest → m ≡ n
+one-branch m n rest h k = one-number m n rest (omega (arith, h.0), h.1) (omega (arith, k.0), k.1)
+
+-- one session stands in a field
+one-session : (m n : ℕ) (rest : List ℕ) → IsSession m rest → IsSession n rest → m ≡ n
+one-session m n rest h k = one-number m n rest (omega (arith, h.0), h.1) (omega (arith, k.0), k.1)
 
 -- one variable is named
 one-variable : (system : System) (x y : ℕ) (rest : List ℕ) → IsVariable system x rest → IsVariable system y rest → x ≡ y
@@ -60,20 +68,25 @@ one-choice c d rest h k =
     same-choice c d (text_of-injective c.place d.place h.1 k.1 both.0)
     (one-arm c.arm d.arm k.2.0 (subst (IsArm c.arm) both.1 h.2.2) k.2.2)
 
--- a word and what is behind it ask for one command
-one-behind : (system : System) (w : Word) (rest : List ℕ) (c d : Command) → AsksBy system w rest c → AsksBy system w rest d → c ≡ d
-one-behind system words.Step rest c d (a, h, e) (b, k, f) = e ∙ (ap Command.Step (one-choice a b rest h k) ∙ sym f)
-one-behind system words.Undo rest c d (t, h, e) (u, k, f) = e ∙ (ap Command.Undo (one-number t u rest h k) ∙ sym f)
-one-behind system words.Roll rest c d (t, h, e) (u, k, f) = e ∙ (ap Command.Roll (one-number t u rest h k) ∙ sym f)
-one-behind system words.RollValue rest c d (x, h, e) (y, k, f) = e ∙ (ap Command.RollValue (one-variable system x y rest h k) ∙ sym f)
-one-behind system words.Blame rest c d (x, h, e) (y, k, f) = e ∙ (ap Command.Blame (one-variable system x y rest h k) ∙ sym f)
+-- a word and what is behind it ask for one thing
+one-behind : (system : System) (w : Word) (rest : List ℕ) (c d : Line) → AsksBy system w rest c → AsksBy system w rest d → c ≡ d
+one-behind system words.Step rest c d (a, h, e) (b, k, f) = e ∙ (ap (λ x. Line.Asked (Command.Step x)) (one-choice a b rest h k) ∙ sym f)
+one-behind system words.Undo rest c d (t, h, e) (u, k, f) = e ∙ (ap (λ x. Line.Asked (Command.Undo x)) (one-number t u rest h k) ∙ sym f)
+one-behind system words.Roll rest c d (t, h, e) (u, k, f) = e ∙ (ap (λ x. Line.Asked (Command.Roll x)) (one-number t u rest h k) ∙ sym f)
+one-behind system words.RollValue rest c d (x, h, e) (y, k, f) = e ∙ (ap (λ x. Line.Asked (Command.RollValue x)) (one-variable system x y rest h k) ∙ sym f)
+one-behind system words.Blame rest c d (x, h, e) (y, k, f) = e ∙ (ap (λ x. Line.Asked (Command.Blame x)) (one-variable system x y rest h k) ∙ sym f)
 one-behind system words.Ready rest c d (h, e) (k, f) = e ∙ sym f
-one-behind system words.Consequences rest c d (t, h, e) (u, k, f) = e ∙ (ap Command.Consequences (one-number t u rest h k) ∙ sym f)
+one-behind system words.Consequences rest c d (t, h, e) (u, k, f) = e ∙ (ap (λ x. Line.Asked (Command.Consequences x)) (one-number t u rest h k) ∙ sym f)
 one-behind system words.Live rest c d (h, e) (k, f) = e ∙ sym f
-one-behind system words.Value rest c d (x, h, e) (y, k, f) = e ∙ (ap Command.Value (one-variable system x y rest h k) ∙ sym f)
+one-behind system words.Value rest c d (x, h, e) (y, k, f) = e ∙ (ap (λ x. Line.Asked (Command.Value x)) (one-variable system x y rest h k) ∙ sym f)
+one-behind system words.Branch rest c d (m, h, e) (n, k, f) = e ∙ (ap (λ x. Line.Asked (Command.Branch x)) (one-branch m n rest h k) ∙ sym f)
+one-behind system words.Break rest c d (m, h, e) (n, k, f) = e ∙ (ap (λ x. Line.Asked (Command.Break x)) (one-number m n rest h k) ∙ sym f)
+one-behind system words.Clear rest c d (m, h, e) (n, k, f) = e ∙ (ap (λ x. Line.Asked (Command.Clear x)) (one-number m n rest h k) ∙ sym f)
+one-behind system words.Session rest c d (m, h, e) (n, k, f) = e ∙ (ap Line.Session (one-session m n rest h k) ∙ sym f)
+one-behind system words.View rest c d (h, e) (k, f) = e ∙ sym f
 
--- a line asks for one command
-one-asked : (system : System) (line : List ℕ) (c d : Command) → Asks system line c → Asks system line d → c ≡ d
+-- a line asks for one thing
+one-asked : (system : System) (line : List ℕ) (c d : Line) → Asks system line c → Asks system line d → c ≡ d
 one-asked system line c d a b =
     let both : (spelling a.word ≡ spelling b.word) × (a.rest ≡ b.rest) =
     cut-same (spelling a.word) (spelling b.word) a.rest b.rest (spelling-no-space a.word) (spelling-no-space b.word)
@@ -97,14 +110,19 @@ some-word words.Ready rest e = some-text _ _ e
 some-word words.Consequences rest e = some-text _ _ e
 some-word words.Live rest e = some-text _ _ e
 some-word words.Value rest e = some-text _ _ e
+some-word words.Branch rest e = some-text _ _ e
+some-word words.Break rest e = some-text _ _ e
+some-word words.Clear rest e = some-text _ _ e
+some-word words.Session rest e = some-text _ _ e
+some-word words.View rest e = some-text _ _ e
 
 -- an empty line asks for nothing
-empty-asks : (system : System) (line : List ℕ) (c : Command) → line ≡ [] → Asks system line c → ⊥
+empty-asks : (system : System) (line : List ℕ) (c : Line) → line ≡ [] → Asks system line c → ⊥
 empty-asks system line c e a = some-word a.word a.rest (sym a.spelled ∙ e)
 
 -- a line says one thing
 pub one-meaning : (system : System) (line : List ℕ) (x y : Line) → Says system line x → Says system line y → x ≡ y
-one-meaning system line (Line.Asked c) (Line.Asked d) h k = ap Line.Asked (one-asked system line c d h k)
-one-meaning system line (Line.Asked c) Line.Empty h k = absurd (empty-asks system line c k h)
-one-meaning system line Line.Empty (Line.Asked d) h k = absurd (empty-asks system line d h k)
-one-meaning system line Line.Empty Line.Empty h k = refl
+one-meaning system line x y (inl h) (inl k) = one-asked system line x y h k
+one-meaning system line x y (inl h) (inr k) = absurd (empty-asks system line x k.0 h)
+one-meaning system line x y (inr h) (inl k) = absurd (empty-asks system line y h.0 k)
+one-meaning system line x y (inr h) (inr k) = h.1 ∙ sym k.1

@@ -1,5 +1,5 @@
 -- Numbers and names behind the word of a line.
-use Rattle.std.proofs.Common.{◌≡◌, ℕ, ◌<◌, ◌^◌, List, [], Option, Some, None, MatchOption, sym, ap, ◌∙◌, subst, inl, inr, arith}
+use Rattle.std.proofs.Common.{◌≡◌, ℕ, ◌<◌, ◌≤◌, ◌^◌, List, [], Option, Some, None, MatchOption, sym, ap, ◌∙◌, subst, inl, inr, arith}
 use Rattle.std.specs.Option.{SomeIff}
 use Rattle.std.specs.Fmt.{decimal}
 use Rattle.std.proofs.lemmas.Fmt.{decimal_injective}
@@ -8,7 +8,7 @@ use Rattle.system.specs.declared.system.System.{System}
 use Rattle.debug_session.specs.EventText.{field}
 use Rattle.debug_session.specs.Fields.{IsNoField}
 use Rattle.decimal.specs.Reading.{Reads, IsNoNumber}
-use Rattle.debug_session.specs.Lines.{IsNumber, IsNoTicket, IsVariable, IsNoVariable, IsArm, IsNoArm}
+use Rattle.debug_session.specs.Lines.{IsNumber, IsNoTicket, IsBranch, IsNoBranch, IsNoSession, IsVariable, IsNoVariable, IsArm, IsNoArm}
 use Rattle.debug_session.proofs.CutLemmas.{tails}
 
 -- equal fields have equal texts
@@ -40,6 +40,31 @@ pub ticket-read : (r : Option ℕ) (rest text : List ℕ) → rest ≡ field tex
     → MatchOption r (IsNoTicket rest) (λ n. IsNumber n rest)
 ticket-read None rest text e h = λ n k. h n (k.0, field-same rest (decimal n) text k.1 e)
 ticket-read (Some n) rest text e h = (h.0, e ∙ ap field (sym h.1))
+
+-- no branch and no session stand where no number does
+pub no-branch-number : (rest : List ℕ) → IsNoTicket rest → IsNoBranch rest
+no-branch-number rest none k h = none k (omega (arith, h.0), h.1)
+
+pub no-session-number : (rest : List ℕ) → IsNoTicket rest → IsNoSession rest
+no-session-number rest none k h = none k (omega (arith, h.0), h.1)
+
+-- the number that is read is the one that stands there
+read-number : (n k : ℕ) (rest : List ℕ) → IsNumber n rest → k < 2 ^ 64 → rest ≡ field (decimal k) → k ≡ n
+read-number n k rest h small e = decimal_injective k n small h.0 (field-same rest (decimal k) (decimal n) e h.1)
+
+-- the branch whose number is read, where it has 32 bits
+pub branch-read : (rest : List ℕ) (n : ℕ) (r : Option ℕ) → IsNumber n rest → SomeIff r (n < 2 ^ 32) n
+    → MatchOption r (IsNoBranch rest) (λ k. IsBranch k rest)
+branch-read rest n None read h =
+    λ k b. h (subst (λ m. m < 2 ^ 32) (read-number n k rest read (omega (arith, b.0)) b.1) b.0)
+branch-read rest n (Some k) read h = (subst (λ m. m < 2 ^ 32) (sym h.1) h.0, read.1 ∙ ap (λ m. field (decimal m)) (sym h.1))
+
+-- a number of 16 and more is of no session
+pub no-session-above : (rest : List ℕ) (n : ℕ) → IsNumber n rest → 16 ≤ n → IsNoSession rest
+no-session-above rest n read above k h =
+    let same : k ≡ n = read-number n k rest read (omega (arith, h.0)) h.1 in
+    let below : k < 16 = h.0 in
+    omega arith
 
 -- no variable is named where no field stands
 pub no-variable-field : (system : System) (rest : List ℕ) → IsNoField rest → IsNoVariable system rest

@@ -2,10 +2,9 @@
 use Rattle.std.proofs.Common.{◌≡◌, ℕ, List, [], Option, MatchResult, Result, Ok, Err, refl, sym, subst, ◌∙◌, inl, inr}
 use Rattle.std.specs.Io.KnownBytes.{Appends}
 use Rattle.system.specs.declared.system.System.{System}
-use Rattle.calculus.specs.Object.{Object}
-use Rattle.calculus.specs.declared.command.Command.{Command}
 use Rattle.debug_session.specs.declared.line.Line.{Line}
 use Rattle.debug_session.specs.declared.fault.Fault.{Fault}
+use Rattle.debug_session.specs.AtLine.{AtLine}
 use Rattle.debug_session.specs.Lines.{Asks, Says}
 use Rattle.debug_session.specs.Transcript.{SaidAnswered, LineAnswered}
 use Rattle.debug_session.specs.Pieces.{WritingStops, LineStops}
@@ -13,13 +12,13 @@ use Rattle.debug_session.proofs.AskLemmas.{Unsaid}
 use Rattle.debug_session.proofs.KnownLemmas.{Appends-none}
 
 -- what came of a line
-abbrev pub LineEnds : System → Object → List ℕ → ℕ → Object → Option (List ℕ) → Option (List ℕ) → Result (Unit {0}) Fault → Type 0
+abbrev pub LineEnds : System → AtLine → List ℕ → ℕ → AtLine → Option (List ℕ) → Option (List ℕ) → Result (Unit {0}) Fault → Type 0
 LineEnds s o line number o' held held' r =
     (given : List ℕ) × Appends held held' given
     × MatchResult r (λ _. LineAnswered s o line given o') (λ fault. LineStops s o line number given fault)
 
 -- why a line says nothing
-unsaid : (s : System) (o : Object) (line : List ℕ) (number : ℕ) (fault : Fault)
+unsaid : (s : System) (o : AtLine) (line : List ℕ) (number : ℕ) (fault : Fault)
     → Unsaid s line number fault → LineStops s o line number [] fault
 unsaid s o line number fault h =
     elim h [
@@ -28,7 +27,7 @@ unsaid s o line number fault h =
     ]
 
 -- the line says nothing, and the result is its fault
-pub line-unsaid : (s t : System) (o o' : Object) (line : List ℕ) (number : ℕ) (held : Option (List ℕ)) (fault : Fault)
+pub line-unsaid : (s t : System) (o o' : AtLine) (line : List ℕ) (number : ℕ) (held : Option (List ℕ)) (fault : Fault)
     (r : Result (Unit {0}) Fault) → t ≡ s
     → Unsaid t line number fault → r ≡ Err fault
     → LineEnds s o line number o' held held r
@@ -40,15 +39,16 @@ line-unsaid s t o o' line number held fault r same h e =
     )
 
 -- there was no memory for the answer
-pub line-unmade : (s t : System) (o o' : Object) (line : List ℕ) (number : ℕ) (held : Option (List ℕ)) (said : Line)
-    (r : Result (Unit {0}) Fault) → t ≡ s → Says t line said → (command : Command) × (said ≡ Line.Asked command)
-    → r ≡ Err Fault.Memory → LineEnds s o line number o' held held r
-line-unmade s t o o' line number held said r same says (command, asked) e =
-    let here : Asks s line command = subst (λ x. Asks x line command) same (subst (λ x. Says t line x) asked says) in
-    subst (λ x. LineEnds s o line number o' held held x) (sym e) ([], Appends-none held, (refl, inl (command, here)))
+pub line-unmade : (s t : System) (o o' : AtLine) (line : List ℕ) (number : ℕ) (held : Option (List ℕ)) (said : Line)
+    (r : Result (Unit {0}) Fault) → t ≡ s → Says t line said → (said ≡ Line.Empty → ⊥) → r ≡ Err Fault.Memory
+    → LineEnds s o line number o' held held r
+line-unmade s t o o' line number held said r same (inl asks) some e =
+    let here : Asks s line said = subst (λ x. Asks x line said) same asks in
+    subst (λ x. LineEnds s o line number o' held held x) (sym e) ([], Appends-none held, (refl, inl (said, here)))
+line-unmade s t o o' line number held said r same (inr nothing) some e = absurd (some nothing.1)
 
 -- the answer is written, or a beginning of it
-pub line-written : (s t : System) (o o' : Object) (line : List ℕ) (number : ℕ) (held held' : Option (List ℕ)) (said : Line)
+pub line-written : (s t : System) (o o' : AtLine) (line : List ℕ) (number : ℕ) (held held' : Option (List ℕ)) (said : Line)
     (answer bytes : List ℕ) (r : Result (Unit {0}) Fault) → t ≡ s → bytes ≡ answer → Says t line said → SaidAnswered s o said answer o'
     → (given : List ℕ) × Appends held held' given × MatchResult r (λ _. given ≡ bytes) (λ fault. WritingStops bytes given fault)
     → LineEnds s o line number o' held held' r

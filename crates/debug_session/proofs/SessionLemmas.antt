@@ -7,9 +7,7 @@ use Rattle.std.proofs.lemmas.List.Concat.{flat_map-append}
 use Rattle.std.proofs.lemmas.List.Elements.{All-nil}
 use Rattle.system.specs.Lists.{Every}
 use Rattle.system.specs.declared.system.System.{System}
-use Rattle.calculus.specs.Object.{Object, new_object}
-use Rattle.calculus.specs.Opening.{opening}
-use Rattle.locked_execution.specs.Held.{Held, object}
+use Rattle.debug_session.specs.AtLine.{AtLine, first_line}
 use Rattle.debug_session.specs.declared.fault.Fault.{Fault}
 use Rattle.debug_session.specs.Script.{with_end, IsNoEnd, IsLine, IsEnding, EndWith}
 use Rattle.debug_session.specs.Transcript.{LineAnswered, Transcript, Stopped, Ends}
@@ -17,7 +15,7 @@ use Rattle.debug_session.specs.Pieces.{TakesLine, ReadingStops, LineStops}
 use Rattle.debug_session.proofs.KnownLemmas.{Appends-none, Consumes-none, Appends-then, Consumes-then, end-known}
 
 -- a transcript goes on with one more line
-pub transcript-push : (s : System) (o m o' : Object) (lines : List (List ℕ)) (output line answer : List ℕ)
+pub transcript-push : (s : System) (o m o' : AtLine) (lines : List (List ℕ)) (output line answer : List ℕ)
     → Transcript s o lines output m → LineAnswered s m line answer o' → Transcript s o (lines ++ line ∷ []) (output ++ answer) o'
 transcript-push s o m o' [] output line answer (e, k) h =
     (answer, [], o', subst (λ x. LineAnswered s x line answer o') k h, (refl, refl), ap (λ t. t ++ answer) e ∙ sym (append-nil answer))
@@ -46,7 +44,7 @@ length-push [] line = refl
 length-push (l ∷ lines) line = ap suc (length-push lines line)
 
 -- the lines that were taken from the reader are answered, and the answers given to the writer
-pub record Progress (s : System) (o : Object) (read left wrote held : Option (List ℕ)) (m : Object) (number : ℕ) : Type 0 where
+pub record Progress (s : System) (o : AtLine) (read left wrote held : Option (List ℕ)) (m : AtLine) (number : ℕ) : Type 0 where
   pub lines : List (List ℕ)
   pub output : List ℕ
   pub each : Every IsLine lines
@@ -56,7 +54,7 @@ pub record Progress (s : System) (o : Object) (read left wrote held : Option (Li
   pub counted : number ≡ suc (length lines)
 
 -- the beginning
-pub progress-start : (s : System) (o : Object) (read wrote : Option (List ℕ)) → Progress s o read read wrote wrote o 1
+pub progress-start : (s : System) (o : AtLine) (read wrote : Option (List ℕ)) → Progress s o read read wrote wrote o 1
 progress-start s o read wrote = record {
   lines = [];
   output = [];
@@ -68,7 +66,7 @@ progress-start s o read wrote = record {
 }
 
 -- one more line
-pub progress-more : (s : System) (o m o' : Object) (read left left' wrote held held' : Option (List ℕ)) (number next : ℕ) (line answer : List ℕ)
+pub progress-more : (s : System) (o m o' : AtLine) (read left left' wrote held held' : Option (List ℕ)) (number next : ℕ) (line answer : List ℕ)
     → Progress s o read left wrote held m number → IsLine line → Consumes left left' (with_end line)
     → Appends held held' answer → LineAnswered s m line answer o' → next ≡ suc number → Progress s o read left' wrote held' o' next
 progress-more s o m o' read left left' wrote held held' number next line answer p one takes gives a e = record {
@@ -82,7 +80,7 @@ progress-more s o m o' read left left' wrote held held' number next line answer 
 }
 
 -- the last line has no end
-pub session-done : (s : System) (o m o' : Object) (read left left' wrote held held' : Option (List ℕ)) (number : ℕ) (line answer : List ℕ)
+pub session-done : (s : System) (o m o' : AtLine) (read left left' wrote held held' : Option (List ℕ)) (number : ℕ) (line answer : List ℕ)
     → Progress s o read left wrote held m number → IsLine line → Consumes left left' line → IfSome left (λ _. IsAtEnd left')
     → Appends held held' answer → LineAnswered s m line answer o' → Ends s o read left' wrote held' (Ok tt)
 session-done s o m o' read left left' wrote held held' number line answer p one takes ended gives a = (
@@ -97,7 +95,7 @@ session-done s o m o' read left left' wrote held held' number line answer p one 
 )
 
 -- reading stopped
-pub session-unread : (s : System) (o m : Object) (read left left' wrote held : Option (List ℕ)) (number : ℕ) (line : List ℕ) (fault : Fault)
+pub session-unread : (s : System) (o m : AtLine) (read left left' wrote held : Option (List ℕ)) (number : ℕ) (line : List ℕ) (fault : Fault)
     → Progress s o read left wrote held m number → ReadingStops left left' line fault → Ends s o read left' wrote held (Err fault)
 session-unread s o m read left left' wrote held number line fault p (one, takes, which) = (
   flat_map with_end p.lines ++ line,
@@ -126,7 +124,7 @@ lines-and-line : (at_end : Type 0) (lines : List (List ℕ)) (line tail : List �
 lines-and-line at_end lines line tail h k e = record { tail = tail; joined = refl; each = h; unended = k; ending = e }
 
 -- the line that was taken is not answered, or only a part of its answer is out
-stopped-at : (s : System) (o m : Object) (at_end : Type 0) (lines : List (List ℕ)) (output line tail given : List ℕ) (number : ℕ) (fault : Fault)
+stopped-at : (s : System) (o m : AtLine) (at_end : Type 0) (lines : List (List ℕ)) (output line tail given : List ℕ) (number : ℕ) (fault : Fault)
     → Every IsLine lines → IsLine line → IsEnding at_end tail → Transcript s o lines output m → number ≡ suc (length lines)
     → LineStops s m line number given fault
     → Stopped s o at_end (flat_map with_end lines ++ (line ++ tail)) (output ++ given) fault
@@ -161,7 +159,7 @@ stopped-at s o m at_end lines output line tail given number (Fault.Elaborate fau
 stopped-at s o m at_end lines output line tail given number (Fault.Sharing fault) h one e t c stops = absurd stops
 
 -- a line stopped the session
-pub session-stopped : (s : System) (o m : Object) (read left left' wrote held held' : Option (List ℕ)) (number : ℕ) (line given : List ℕ)
+pub session-stopped : (s : System) (o m : AtLine) (read left left' wrote held held' : Option (List ℕ)) (number : ℕ) (line given : List ℕ)
     (complete : Bool) (fault : Fault) → Progress s o read left wrote held m number → TakesLine left left' line complete
     → Appends held held' given → LineStops s m line number given fault → Ends s o read left' wrote held' (Err fault)
 session-stopped s o m read left left' wrote held held' number line given complete fault p takes gives stops =
@@ -179,7 +177,7 @@ no-bytes : IsLine []
 no-bytes = All-nil IsNoEnd
 
 -- no line is left to count
-pub session-endless : (s : System) (o m : Object) (read left wrote held : Option (List ℕ)) (number : ℕ)
+pub session-endless : (s : System) (o m : AtLine) (read left wrote held : Option (List ℕ)) (number : ℕ)
     → Progress s o read left wrote held m number → Ends s o read left wrote held (Err Fault.Memory)
 session-endless s o m read left wrote held number p = (
   flat_map with_end p.lines,
@@ -190,19 +188,19 @@ session-endless s o m read left wrote held number p = (
 )
 
 -- the end that the result is equal to
-pub ends-at : (s : System) (o : Object) (read left wrote held : Option (List ℕ)) (r q : Result (Unit {0}) Fault) → r ≡ q
+pub ends-at : (s : System) (o : AtLine) (read left wrote held : Option (List ℕ)) (r q : Result (Unit {0}) Fault) → r ≡ q
     → Ends s o read left wrote held q → Ends s o read left wrote held r
 ends-at s o read left wrote held r q e h = subst (λ x. Ends s o read left wrote held x) (sym e) h
 
 -- reading stopped, and the result is its fault
-pub unread-by-line : (s : System) (o m : Object) (read left left' wrote held : Option (List ℕ)) (number : ℕ) (line : List ℕ) (fault : Fault)
+pub unread-by-line : (s : System) (o m : AtLine) (read left left' wrote held : Option (List ℕ)) (number : ℕ) (line : List ℕ) (fault : Fault)
     (r : Result (Unit {0}) Fault) → Progress s o read left wrote held m number → ReadingStops left left' line fault → r ≡ Err fault
     → Ends s o read left' wrote held r
 unread-by-line s o m read left left' wrote held number line fault r p stops e =
     ends-at s o read left' wrote held r (Err fault) e (session-unread s o m read left left' wrote held number line fault p stops)
 
 -- the line stopped the session, and the result is its fault
-pub stopped-by-line : (s t : System) (o m : Object) (read left left' wrote held held' : Option (List ℕ)) (number : ℕ) (line text : List ℕ)
+pub stopped-by-line : (s t : System) (o m : AtLine) (read left left' wrote held held' : Option (List ℕ)) (number : ℕ) (line text : List ℕ)
     (complete : Bool) (fault : Fault) (r : Result (Unit {0}) Fault) → t ≡ s → text ≡ line
     → Progress s o read left wrote held m number → TakesLine left left' line complete
     → (given : List ℕ) × Appends held held' given × LineStops t m text number given fault → r ≡ Err fault
@@ -214,13 +212,13 @@ stopped-by-line s t o m read left left' wrote held held' number line text comple
     (session-stopped s o m read left left' wrote held held' number line stops.0 complete fault p takes stops.1 here)
 
 -- an answer on the system and the line
-answered-here : (s t : System) (m o' : Object) (line text given : List ℕ) → t ≡ s → text ≡ line → LineAnswered t m text given o'
+answered-here : (s t : System) (m o' : AtLine) (line text given : List ℕ) → t ≡ s → text ≡ line → LineAnswered t m text given o'
     → LineAnswered s m line given o'
 answered-here s t m o' line text given same whole a =
     subst (λ x. LineAnswered s m x given o') whole (subst (λ x. LineAnswered x m text given o') same a)
 
 -- the last line without an end was answered
-pub done-by-line : (s t : System) (o m o' : Object) (read left left' wrote held held' : Option (List ℕ)) (number : ℕ) (line text : List ℕ)
+pub done-by-line : (s t : System) (o m o' : AtLine) (read left left' wrote held held' : Option (List ℕ)) (number : ℕ) (line text : List ℕ)
     (complete : Bool) → t ≡ s → text ≡ line → complete ≡ false
     → Progress s o read left wrote held m number → TakesLine left left' line complete
     → (given : List ℕ) × Appends held held' given × LineAnswered t m text given o'
@@ -231,7 +229,7 @@ done-by-line s t o m o' read left left' wrote held held' number line text comple
     (answered-here s t m o' line text a.0 same whole a.2)
 
 -- a line with its end was answered
-pub more-by-line : (s t : System) (o m o' : Object) (read left left' wrote held held' : Option (List ℕ)) (number : ℕ) (line text : List ℕ)
+pub more-by-line : (s t : System) (o m o' : AtLine) (read left left' wrote held held' : Option (List ℕ)) (number : ℕ) (line text : List ℕ)
     (complete : Bool) → t ≡ s → text ≡ line → complete ≡ true
     → Progress s o read left wrote held m number → TakesLine left left' line complete
     → (given : List ℕ) × Appends held held' given × LineAnswered t m text given o'
@@ -242,7 +240,7 @@ more-by-line s t o m o' read left left' wrote held held' number line text comple
     (answered-here s t m o' line text a.0 same whole a.2) (add-one number)
 
 -- the session on a new desk
-pub begun : (h : Held) (system : System) (read left wrote held : Option (List ℕ)) (r : Result (Unit {0}) Fault)
-    → h ≡ record { checked = system; live = []; next = 1 } → Ends h.checked (object h) read left wrote held r
-    → Ends system (new_object (opening system)) read left wrote held r
-begun h system read left wrote held r e ends = subst (λ k. Ends k.checked (object k) read left wrote held r) e ends
+pub begun : (o : AtLine) (system : System) (source : List ℕ) (read left wrote held : Option (List ℕ)) (r : Result (Unit {0}) Fault)
+    → o ≡ first_line system source → Ends o.desk.held.checked o read left wrote held r
+    → Ends system (first_line system source) read left wrote held r
+begun o system source read left wrote held r e ends = subst (λ x. Ends x.desk.held.checked x read left wrote held r) e ends

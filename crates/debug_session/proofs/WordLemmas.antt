@@ -5,14 +5,14 @@ use Rattle.std.specs.Str.{bytes_eq}
 use Rattle.std.specs.List.{All}
 use Rattle.std.specs.Cmp.Lexicographic.{same_text}
 use Rattle.debug_session.specs.declared.word.Word.{Word}
-use Rattle.debug_session.specs.declared.word.Word.TheVariants.{Step, Undo, Roll, RollValue, Blame, Ready, Consequences, Live, Value}
+use Rattle.debug_session.specs.declared.word.Word.TheVariants.{Step, Undo, Roll, RollValue, Blame, Ready, Consequences, Live, Value, Branch, Break, Clear, Session, View}
 use Rattle.debug_session.specs.Fields.{IsNoSpace}
 use Rattle.debug_session.specs.Words.{spelling, first_spelled, SpellsNothing}
 use Rattle.debug_session.proofs.CutLemmas.{clear-by-test}
 
 -- all words
 abbrev pub all_words : List Word
-all_words = Step ∷ Undo ∷ Roll ∷ RollValue ∷ Blame ∷ Ready ∷ Consequences ∷ Live ∷ Value ∷ []
+all_words = Step ∷ Undo ∷ Roll ∷ RollValue ∷ Blame ∷ Ready ∷ Consequences ∷ Live ∷ Value ∷ Branch ∷ Break ∷ Clear ∷ Session ∷ View ∷ []
 
 -- each word is found by its spelling
 pub all-spelled : (w : Word) → first_spelled all_words (spelling w) ≡ Some w
@@ -25,6 +25,11 @@ all-spelled Ready = refl
 all-spelled Consequences = refl
 all-spelled Live = refl
 all-spelled Value = refl
+all-spelled Branch = refl
+all-spelled Break = refl
+all-spelled Clear = refl
+all-spelled Session = refl
+all-spelled View = refl
 
 -- a spelling has no space
 pub spelling-no-space : (w : Word) → All IsNoSpace (spelling w)
@@ -37,6 +42,11 @@ spelling-no-space Ready = clear-by-test (spelling Ready) refl
 spelling-no-space Consequences = clear-by-test (spelling Consequences) refl
 spelling-no-space Live = clear-by-test (spelling Live) refl
 spelling-no-space Value = clear-by-test (spelling Value) refl
+spelling-no-space Branch = clear-by-test (spelling Branch) refl
+spelling-no-space Break = clear-by-test (spelling Break) refl
+spelling-no-space Clear = clear-by-test (spelling Clear) refl
+spelling-no-space Session = clear-by-test (spelling Session) refl
+spelling-no-space View = clear-by-test (spelling View) refl
 
 -- nothing is not a word
 none-some : (r : Option Word) (w : Word) → r ≡ None → r ≡ Some w → ⊥

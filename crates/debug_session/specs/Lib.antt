@@ -1,4 +1,5 @@
 pub mod Accepting
+pub mod AtLine
 pub mod Counting
 pub mod EventText
 pub mod FaultNumbers

@@ -6,7 +6,7 @@ use Rattle.address.specs.Reading.{NumbersFit}
 use Rattle.system.specs.declared.system.System.{System}
 use Rattle.system.specs.Named.{variable_from}
 use Rattle.calculus.specs.declared.event.Choice.{Choice}
-use Rattle.calculus.specs.declared.command.Command.{Command}
+use Rattle.locked_execution.specs.declared.command.Command.{Command}
 use Rattle.debug_session.specs.declared.line.Line.{Line}
 use Rattle.debug_session.specs.declared.word.Word.{Word}
 use Rattle.debug_session.specs.EventText.{field}
@@ -20,6 +20,22 @@ IsNumber n rest = (n < 2 ^ 64) × (rest ≡ field (decimal n))
 -- the rest is no number of 64 bits behind a space
 abbrev pub IsNoTicket : List ℕ → Type 0
 IsNoTicket rest = (n : ℕ) → IsNumber n rest → ⊥
+
+-- a space and this number of a branch, which has 32 bits
+abbrev pub IsBranch : ℕ → List ℕ → Type 0
+IsBranch k rest = (k < 2 ^ 32) × (rest ≡ field (decimal k))
+
+-- the rest is no number of a branch
+abbrev pub IsNoBranch : List ℕ → Type 0
+IsNoBranch rest = (k : ℕ) → IsBranch k rest → ⊥
+
+-- a space and this number of a session, of which there are sixteen
+abbrev pub IsSession : ℕ → List ℕ → Type 0
+IsSession k rest = (k < 16) × (rest ≡ field (decimal k))
+
+-- the rest is no number of a session
+abbrev pub IsNoSession : List ℕ → Type 0
+IsNoSession rest = (k : ℕ) → IsSession k rest → ⊥
 
 -- a space and the name of the variable of this number, the first with that name; the number has 32 bits
 abbrev pub IsVariable : System → ℕ → List ℕ → Type 0
@@ -56,38 +72,47 @@ MayBeChoice rest =
 abbrev pub MayBeStep : List ℕ → Type 0
 MayBeStep line = (rest : List ℕ) × (line ≡ spelling Word.Step ++ rest) × MayBeChoice rest
 
--- the word, and `rest` behind it, ask for the command
-abbrev pub AsksBy : System → Word → List ℕ → Command → Type 0
-AsksBy system Word.Step rest c = (choice : Choice) × IsChoice choice rest × (c ≡ Command.Step choice)
-AsksBy system Word.Undo rest c = (ticket : ℕ) × IsNumber ticket rest × (c ≡ Command.Undo ticket)
-AsksBy system Word.Roll rest c = (ticket : ℕ) × IsNumber ticket rest × (c ≡ Command.Roll ticket)
-AsksBy system Word.RollValue rest c = (x : ℕ) × IsVariable system x rest × (c ≡ Command.RollValue x)
-AsksBy system Word.Blame rest c = (x : ℕ) × IsVariable system x rest × (c ≡ Command.Blame x)
-AsksBy system Word.Ready rest c = (rest ≡ []) × (c ≡ Command.Ready)
-AsksBy system Word.Consequences rest c = (ticket : ℕ) × IsNumber ticket rest × (c ≡ Command.Consequences ticket)
-AsksBy system Word.Live rest c = (rest ≡ []) × (c ≡ Command.Live)
-AsksBy system Word.Value rest c = (x : ℕ) × IsVariable system x rest × (c ≡ Command.Value x)
+-- the word, and `rest` behind it, ask for this
+abbrev pub AsksBy : System → Word → List ℕ → Line → Type 0
+AsksBy system Word.Step rest said = (choice : Choice) × IsChoice choice rest × (said ≡ Line.Asked (Command.Step choice))
+AsksBy system Word.Undo rest said = (ticket : ℕ) × IsNumber ticket rest × (said ≡ Line.Asked (Command.Undo ticket))
+AsksBy system Word.Roll rest said = (ticket : ℕ) × IsNumber ticket rest × (said ≡ Line.Asked (Command.Roll ticket))
+AsksBy system Word.RollValue rest said = (x : ℕ) × IsVariable system x rest × (said ≡ Line.Asked (Command.RollValue x))
+AsksBy system Word.Blame rest said = (x : ℕ) × IsVariable system x rest × (said ≡ Line.Asked (Command.Blame x))
+AsksBy system Word.Ready rest said = (rest ≡ []) × (said ≡ Line.Asked Command.Ready)
+AsksBy system Word.Consequences rest said = (ticket : ℕ) × IsNumber ticket rest × (said ≡ Line.Asked (Command.Consequences ticket))
+AsksBy system Word.Live rest said = (rest ≡ []) × (said ≡ Line.Asked Command.Live)
+AsksBy system Word.Value rest said = (x : ℕ) × IsVariable system x rest × (said ≡ Line.Asked (Command.Value x))
+AsksBy system Word.Branch rest said = (k : ℕ) × IsBranch k rest × (said ≡ Line.Asked (Command.Branch k))
+AsksBy system Word.Break rest said = (line : ℕ) × IsNumber line rest × (said ≡ Line.Asked (Command.Break line))
+AsksBy system Word.Clear rest said = (line : ℕ) × IsNumber line rest × (said ≡ Line.Asked (Command.Clear line))
+AsksBy system Word.Session rest said = (k : ℕ) × IsSession k rest × (said ≡ Line.Session k)
+AsksBy system Word.View rest said = (rest ≡ []) × (said ≡ Line.View)
 
--- the word and the rest ask for no command
+-- the word and the rest ask for nothing
 abbrev pub AsksNothingBy : System → Word → List ℕ → Type 0
-AsksNothingBy system word rest = (c : Command) → AsksBy system word rest c → ⊥
+AsksNothingBy system word rest = (said : Line) → AsksBy system word rest said → ⊥
 
--- the line asks for the command
-pub record Asks (system : System) (line : List ℕ) (c : Command) : Type 0 where
+-- the line asks for this
+pub record Asks (system : System) (line : List ℕ) (said : Line) : Type 0 where
   pub word : Word
   pub rest : List ℕ
   pub spelled : line ≡ spelling word ++ rest
-  pub asked : AsksBy system word rest c
+  pub asked : AsksBy system word rest said
 
--- the line asks for no command
+-- the line asks for nothing
 abbrev pub AsksNothing : System → List ℕ → Type 0
-AsksNothing system line = (c : Command) → Asks system line c → ⊥
+AsksNothing system line = (said : Line) → Asks system line said → ⊥
 
--- an answer to the line may want memory: it asks for a command, or it may ask for a step
+-- an answer to the line may want memory: it asks for something, or it may ask for a step
 abbrev pub LineMayWantMemory : System → List ℕ → Type 0
-LineMayWantMemory system line = ((c : Command) × Asks system line c) ⊎ MayBeStep line
+LineMayWantMemory system line = ((said : Line) × Asks system line said) ⊎ MayBeStep line
 
--- what the line says
+-- what the line says: what it asks for, or nothing where it is empty
 abbrev pub Says : System → List ℕ → Line → Type 0
-Says system line (Line.Asked c) = Asks system line c
-Says system line Line.Empty = line ≡ []
+Says system line said = Asks system line said ⊎ ((line ≡ []) × (said ≡ Line.Empty))
+
+-- where a session is named, it is one of the sixteen
+abbrev pub SaysSession : Line → Type 0
+SaysSession (Line.Session k) = k < 16
+SaysSession _ = Unit {0}

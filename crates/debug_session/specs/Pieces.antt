@@ -2,8 +2,8 @@
 use Rattle.std.specs.Prelude.{ℕ, ◌≡◌, ◌≢◌, ◌⊎◌, ◌++◌, List, [], Bool, Option, IfSome, MatchBool}
 use Rattle.std.specs.Io.KnownBytes.{Consumes, IsAtEnd}
 use Rattle.system.specs.declared.system.System.{System}
-use Rattle.calculus.specs.Object.{Object}
 use Rattle.debug_session.specs.declared.fault.Fault.{Fault}
+use Rattle.debug_session.specs.AtLine.{AtLine}
 use Rattle.debug_session.specs.Lines.{AsksNothing, LineMayWantMemory}
 use Rattle.debug_session.specs.Script.{IsLine, with_end}
 use Rattle.debug_session.specs.Transcript.{LineAnswered}
@@ -22,9 +22,9 @@ abbrev pub WritingStops : List ℕ → List ℕ → Fault → Type 0
 WritingStops bytes given fault = (fault ≡ Fault.WriteFailed) × ((missing : List ℕ) × (bytes ≡ given ++ missing))
 
 -- why the line of this number was not answered, and what was given of its answer
-abbrev pub LineStops : System → Object → List ℕ → ℕ → List ℕ → Fault → Type 0
-LineStops system o line number given Fault.Memory = (given ≡ []) × LineMayWantMemory system line
-LineStops system o line number given (Fault.BadCommand n) = (given ≡ []) × (n ≡ number) × (line ≢ []) × AsksNothing system line
-LineStops system o line number given Fault.WriteFailed =
-    (answer : List ℕ) × (missing : List ℕ) × (o' : Object) × LineAnswered system o line answer o' × (answer ≡ given ++ missing)
-LineStops system o line number given fault = ⊥
+abbrev pub LineStops : System → AtLine → List ℕ → ℕ → List ℕ → Fault → Type 0
+LineStops system a line number given Fault.Memory = (given ≡ []) × LineMayWantMemory system line
+LineStops system a line number given (Fault.BadCommand n) = (given ≡ []) × (n ≡ number) × (line ≢ []) × AsksNothing system line
+LineStops system a line number given Fault.WriteFailed =
+    (answer : List ℕ) × (missing : List ℕ) × (a' : AtLine) × LineAnswered system a line answer a' × (answer ≡ given ++ missing)
+LineStops system a line number given fault = ⊥

@@ -5,11 +5,10 @@ use Rattle.std.specs.Fmt.{decimal}
 use Rattle.system.specs.declared.system.System.{System}
 use Rattle.calculus.specs.Refusals.{number_of}
 use Rattle.calculus.specs.declared.event.Event.{Event}
-use Rattle.calculus.specs.declared.command.Command.{Command}
-use Rattle.calculus.specs.declared.command.Reply.{Reply}
 use Rattle.calculus.specs.declared.command.Refusal.{Refusal}
 use Rattle.calculus.specs.declared.command.Refusal.TheVariants.{NeededBy}
-use Rattle.debug_session.specs.declared.line.Line.{Line}
+use Rattle.locked_execution.specs.declared.command.Command.{Command}
+use Rattle.locked_execution.specs.declared.command.Reply.{Reply}
 use Rattle.debug_session.specs.EventText.{field, variable_text, event_text}
 
 -- the end of a line
@@ -48,9 +47,11 @@ answer_text system command (Reply.Live pairs) =
     codes "live" ++ field (decimal (length pairs)) ++ ending ++ flat_map (live_line system) pairs
 answer_text system command (Reply.Value v) =
     codes "value" ++ field (asked_variable system command) ++ field (decimal v.bits) ++ ending
+answer_text system command (Reply.Stopped line) = codes "stopped" ++ field (decimal line) ++ ending
+answer_text system command Reply.Idle = codes "idle" ++ ending
+answer_text system command Reply.Done = codes "ok" ++ ending
 answer_text system command (Reply.Refused why) = codes "refused" ++ refusal_text why ++ ending
 
--- the bytes with which a line is answered; an empty line has no answer
-abbrev pub reply_text : System → Line → Reply → List ℕ
-reply_text system (Line.Asked command) reply = answer_text system command reply
-reply_text system Line.Empty reply = []
+-- the answer to a line that names the session whose lines follow
+abbrev pub session_text : ℕ → List ℕ
+session_text session = codes "session" ++ field (decimal session) ++ ending

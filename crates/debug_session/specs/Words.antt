@@ -2,7 +2,7 @@
 use Rattle.std.specs.Prelude.{◌≡◌, ℕ, List, [], ◌∷◌, codes, Option, Some, None, if◌then◌else◌}
 use Rattle.std.specs.Str.{bytes_eq}
 use Rattle.debug_session.specs.declared.word.Word.{Word}
-use Rattle.debug_session.specs.declared.word.Word.TheVariants.{Step, Undo, Roll, RollValue, Blame, Ready, Consequences, Live, Value}
+use Rattle.debug_session.specs.declared.word.Word.TheVariants.{Step, Undo, Roll, RollValue, Blame, Ready, Consequences, Live, Value, Branch, Break, Clear, Session, View}
 
 -- how a word is spelled
 abbrev pub spelling : Word → List ℕ
@@ -15,6 +15,11 @@ spelling Ready = codes "ready"
 spelling Consequences = codes "consequences"
 spelling Live = codes "live"
 spelling Value = codes "value"
+spelling Branch = codes "branch"
+spelling Break = codes "break"
+spelling Clear = codes "clear"
+spelling Session = codes "session"
+spelling View = codes "view"
 
 -- the first of these words that is spelled so
 abbrev pub first_spelled : List Word → List ℕ → Option Word

@@ -3,7 +3,7 @@ ghost use Rattle.std.specs.Prelude.{◌≡◌, ◌<◌, ◌^◌, MatchOption, If
 ghost use Rattle.std.specs.Option.{SomeIff};
 ghost use Rattle.debug_session.specs.EventText.{field};
 ghost use Rattle.debug_session.specs.Fields.{CutAtSpace, IsFieldEnd, IsNoField};
-ghost use Rattle.debug_session.specs.Lines.{IsNumber, IsNoTicket, IsVariable, IsNoVariable, IsArm, IsNoArm, IsChoice, IsNoChoice, MayBeChoice};
+ghost use Rattle.debug_session.specs.Lines.{IsNumber, IsNoTicket, IsBranch, IsNoBranch, IsSession, IsNoSession, IsVariable, IsNoVariable, IsArm, IsNoArm, IsChoice, IsNoChoice, MayBeChoice};
 
 use calculus::Choice;
 use decimal::read_number;
@@ -44,6 +44,25 @@ pub(crate) fn read_ticket(rest: &[u8]) -> Option<u64>
     ensures { MatchOption result (IsNoTicket rest.now) (λ ticket. IsNumber ticket rest.now) }
 {
     read_number(behind_space(rest)?)
+}
+
+/// The number of a branch.
+pub(crate) fn read_branch(rest: &[u8]) -> Option<u32>
+    ensures { MatchOption result (IsNoBranch rest.now) (λ branch. IsBranch branch rest.now) }
+{
+    narrow(read_ticket(rest)?)
+}
+
+/// The number of a session.
+pub(crate) fn read_session(rest: &[u8]) -> Option<u32>
+    ensures { MatchOption result (IsNoSession rest.now) (λ session. IsSession session rest.now) }
+{
+    let number = read_ticket(rest)?;
+    if number < 16 {
+        Some(number as u32)
+    } else {
+        None
+    }
 }
 
 /// The number of the variable that is named.

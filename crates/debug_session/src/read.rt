@@ -1,12 +1,14 @@
-ghost use Rattle.std.specs.Prelude.{◌≡◌, ◌≢◌, ◌⊎◌, [], Ok, Err, MatchOption, IfOk, IfErr, OnErr};
-ghost use Rattle.debug_session.specs.Lines.{Asks, AsksBy, AsksNothing, AsksNothingBy, MayBeChoice, MayBeStep, Says};
+ghost use Rattle.std.specs.Prelude.{◌≡◌, ◌≢◌, ◌⊎◌, [], Ok, Err, Some, MatchOption, IfOk, IfErr, OnErr};
+ghost use Rattle.debug_session.specs.Lines.{Asks, AsksBy, AsksNothing, AsksNothingBy, MayBeChoice, MayBeStep, Says, SaysSession};
 ghost use Rattle.debug_session.specs.declared.word.Word.TheVariants as words;
 ghost use Rattle.debug_session.specs.declared.fault.Fault.TheVariants.{Memory, BadCommand};
 
-use crate::fields::{cut_at_space, read_choice, read_ticket, read_variable};
+use crate::fields::{
+    cut_at_space, read_branch, read_choice, read_session, read_ticket, read_variable,
+};
 use crate::word::Word;
 use crate::{Fault, Line};
-use calculus::Command;
+use locked_execution::Command;
 use sharing_check::Checked;
 use std::alloc::{AllocError, Global};
 use system::System;
@@ -22,28 +24,29 @@ pub fn read_command(
     number: u64,
 ) -> Result<Line, Fault>
     ensures line { IfOk result (λ said. Says checked.now line.now said) }
+    ensures session { IfOk result SaysSession }
     ensures fault { IfErr result (λ fault. ((fault ≡ Memory) × MayBeStep line.now)
         ⊎ ((fault ≡ BadCommand number) × (line.now ≢ []) × AsksNothing checked.now line.now)) }
 {
     if line.is_empty() {
         return Ok(Line::Empty);
     }
-    asked(read_asked(alloc, checked.system(), line)?, number)
+    or_fault(read_asked(alloc, checked.system(), line)?, number)
 }
 
-/// The line of this number that asks for the command, or for none.
-fn asked(found: Option<Command>, number: u64) -> Result<Line, Fault>
-    ensures { MatchOption found (result ≡ Err (BadCommand number)) (λ command. result ≡ Ok (Line.Asked command)) }
+/// What the line of this number asks for, where it asks for something.
+fn or_fault(found: Option<Line>, number: u64) -> Result<Line, Fault>
+    ensures { MatchOption found (result ≡ Err (BadCommand number)) (λ said. result ≡ Ok said) }
 {
     match found {
-        Some(command) => Ok(Line::Asked(command)),
+        Some(said) => Ok(said),
         None => Err(Fault::BadCommand(number)),
     }
 }
 
-/// The command that the line asks for.
-fn read_asked(alloc: Global, system: &System, line: &[u8]) -> Result<Option<Command>, AllocError>
-    ensures found { IfOk result (λ found. MatchOption found (AsksNothing system.now line.now) (λ command. Asks system.now line.now command)) }
+/// What the line asks for.
+fn read_asked(alloc: Global, system: &System, line: &[u8]) -> Result<Option<Line>, AllocError>
+    ensures found { IfOk result (λ found. MatchOption found (AsksNothing system.now line.now) (λ said. Asks system.now line.now said)) }
     ensures memory { OnErr result (MayBeStep line.now) }
 {
     let (text, rest) = cut_at_space(line);
@@ -53,46 +56,58 @@ fn read_asked(alloc: Global, system: &System, line: &[u8]) -> Result<Option<Comm
     read_behind(alloc, system, word, rest)
 }
 
-/// The command that the word asks for with `rest` behind it.
+/// What the word asks for with `rest` behind it.
 fn read_behind(
     alloc: Global,
     system: &System,
     word: Word,
     rest: &[u8],
-) -> Result<Option<Command>, AllocError>
-    ensures found { IfOk result (λ found. MatchOption found (AsksNothingBy system.now word rest.now) (λ command. AsksBy system.now word rest.now command)) }
+) -> Result<Option<Line>, AllocError>
+    ensures found { IfOk result (λ found. MatchOption found (AsksNothingBy system.now word rest.now) (λ said. AsksBy system.now word rest.now said)) }
     ensures memory { OnErr result ((word ≡ words.Step) × MayBeChoice rest.now) }
 {
     match word {
         Word::Step => match read_choice(alloc, rest)? {
-            Some(choice) => Ok(Some(Command::Step(choice))),
+            Some(choice) => Ok(asked(Command::Step(choice))),
             None => Ok(None),
         },
         other => Ok(read_simple(system, other, rest)),
     }
 }
 
-/// The command that a word other than `step` asks for with `rest` behind it.
-fn read_simple(system: &System, word: Word, rest: &[u8]) -> Option<Command>
+/// What a word other than `step` asks for with `rest` behind it.
+fn read_simple(system: &System, word: Word, rest: &[u8]) -> Option<Line>
     requires { word ≢ words.Step }
-    ensures { MatchOption result (AsksNothingBy system.now word rest.now) (λ command. AsksBy system.now word rest.now command) }
+    ensures { MatchOption result (AsksNothingBy system.now word rest.now) (λ said. AsksBy system.now word rest.now said) }
 {
     match word {
         Word::Step => None,
-        Word::Undo => Some(Command::Undo(read_ticket(rest)?)),
-        Word::Roll => Some(Command::Roll(read_ticket(rest)?)),
-        Word::Consequences => Some(Command::Consequences(read_ticket(rest)?)),
-        Word::RollValue => Some(Command::RollValue(read_variable(system, rest)?)),
-        Word::Blame => Some(Command::Blame(read_variable(system, rest)?)),
-        Word::Value => Some(Command::Value(read_variable(system, rest)?)),
-        Word::Ready => bare(rest, Command::Ready),
-        Word::Live => bare(rest, Command::Live),
+        Word::Undo => asked(Command::Undo(read_ticket(rest)?)),
+        Word::Roll => asked(Command::Roll(read_ticket(rest)?)),
+        Word::Consequences => asked(Command::Consequences(read_ticket(rest)?)),
+        Word::RollValue => asked(Command::RollValue(read_variable(system, rest)?)),
+        Word::Blame => asked(Command::Blame(read_variable(system, rest)?)),
+        Word::Value => asked(Command::Value(read_variable(system, rest)?)),
+        Word::Ready => bare(rest, Line::Asked(Command::Ready)),
+        Word::Live => bare(rest, Line::Asked(Command::Live)),
+        Word::Branch => asked(Command::Branch(read_branch(rest)?)),
+        Word::Break => asked(Command::Break(read_ticket(rest)?)),
+        Word::Clear => asked(Command::Clear(read_ticket(rest)?)),
+        Word::Session => Some(Line::Session(read_session(rest)?)),
+        Word::View => bare(rest, Line::View),
     }
 }
 
-/// The command, where nothing is left.
-fn bare(rest: &[u8], command: Command) -> Option<Command>
-    ensures { MatchOption result (rest.now ≢ []) (λ given. (rest.now ≡ []) × (given ≡ command)) }
+/// The line that asks for the command.
+fn asked(command: Command) -> Option<Line>
+    ensures { result ≡ Some (Line.Asked command) }
 {
-    if rest.is_empty() { Some(command) } else { None }
+    Some(Line::Asked(command))
+}
+
+/// The line, where nothing is left.
+fn bare(rest: &[u8], line: Line) -> Option<Line>
+    ensures { MatchOption result (rest.now ≢ []) (λ given. (rest.now ≡ []) × (given ≡ line)) }
+{
+    if rest.is_empty() { Some(line) } else { None }
 }

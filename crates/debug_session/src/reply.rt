@@ -2,30 +2,37 @@ ghost use Rattle.std.specs.Prelude.{◌≡◌, ◌++◌, OnOk, IfOk, codes, leng
 ghost use Rattle.std.specs.Fmt.{decimal};
 ghost use Rattle.std.specs.List.{flat_map};
 ghost use Rattle.debug_session.specs.EventText.{field, event_text};
-ghost use Rattle.debug_session.specs.ReplyText.{ready_line, live_line, refusal_text, asked_variable, answer_text, reply_text, ending};
+ghost use Rattle.debug_session.specs.ReplyText.{ready_line, live_line, refusal_text, asked_variable, answer_text, session_text, ending};
 
-use crate::Line;
 use crate::event::add_event;
 use crate::text::{add_bytes, add_decimal, add_field, add_number, add_variable};
-use calculus::{Command, Event, Refusal, Reply};
+use calculus::{Event, Refusal};
+use locked_execution::{Command, Reply};
 use sharing_check::Checked;
 use std::alloc::{AllocError, Global};
 use system::System;
 
-/// The bytes with which the line is answered where this is the reply to its command: each line with byte 10 at its
-/// end. Variables and channels that the description has not are written as `?`. It is an error if there is no memory.
+/// The bytes with which the command is answered where this is the reply to it: each line with byte 10 at its end.
+/// Variables and channels that the description has not are written as `?`. It is an error if there is no memory.
 pub fn write_reply(
     alloc: Global,
     checked: &Checked,
-    line: &Line,
+    command: &Command,
     reply: &Reply,
 ) -> Result<Vec<u8>, AllocError>
-    ensures { IfOk result (λ text. text.items ≡ reply_text checked.now line.now reply.now) }
+    ensures { IfOk result (λ text. text.items ≡ answer_text checked.now command.now reply.now) }
 {
     let mut out = Vec::new(alloc);
-    if let Line::Asked(command) = line {
-        add_answer(&mut out, checked.system(), command, reply)?;
-    }
+    add_answer(&mut out, checked.system(), command, reply)?;
+    Ok(out)
+}
+
+/// The bytes with which a line is answered that names the session whose lines follow. It is an error if there is no memory.
+pub fn write_session(alloc: Global, session: u32) -> Result<Vec<u8>, AllocError>
+    ensures { IfOk result (λ text. text.items ≡ session_text session) }
+{
+    let mut out = Vec::new(alloc);
+    add_numbered(&mut out, b"session", u64::from(session))?;
     Ok(out)
 }
 
@@ -47,6 +54,9 @@ fn add_answer(
         Reply::Consequences(tickets) => add_consequences(out, tickets.as_slice()),
         Reply::Live(pairs) => add_live(out, system, pairs.as_slice()),
         Reply::Value(value) => add_valued(out, system, command, value.bits()),
+        Reply::Stopped(line) => add_numbered(out, b"stopped", *line),
+        Reply::Idle => add_bytes(out, b"idle\n"),
+        Reply::Done => add_bytes(out, b"ok\n"),
         Reply::Refused(why) => add_refusal(out, *why),
     }
 }

@@ -4,10 +4,11 @@ ghost use Rattle.debug_session.specs.Counting.{device, failures, after_reading, 
 ghost use Rattle.debug_session.specs.Transcript.{Debugged};
 
 use crate::answer::answer_lines;
+use crate::sitting::Sitting;
 use crate::{Counted, Fault};
 use elaborate::{Stimulus, elaborate};
 use lexer::lex;
-use locked_execution::{Desk, Machine};
+use locked_execution::Machine;
 use parser::parse;
 use sharing_check::{Checked, check_sharing};
 use std::alloc::Global;
@@ -47,6 +48,6 @@ pub fn debug<R: BufRead, W: Write>(
     ensures write_failures { failures writer.new ≡ after_writing result (failures writer.old) }
 {
     let checked = accept(alloc, source, stimulus)?;
-    let mut desk = Desk::new(Machine::new(alloc, checked)?);
-    answer_lines(alloc, &mut desk, reader, writer)
+    let mut sitting = Sitting::new(Machine::new(alloc, checked)?, source);
+    answer_lines(alloc, &mut sitting, reader, writer)
 }

@@ -13,9 +13,14 @@ pub(crate) enum Word {
     Consequences,
     Live,
     Value,
+    Branch,
+    Break,
+    Clear,
+    Session,
+    View,
 }
 
-const ALL: [Word; 9] = [
+const ALL: [Word; 14] = [
     Word::Step,
     Word::Undo,
     Word::Roll,
@@ -25,6 +30,11 @@ const ALL: [Word; 9] = [
     Word::Consequences,
     Word::Live,
     Word::Value,
+    Word::Branch,
+    Word::Break,
+    Word::Clear,
+    Word::Session,
+    Word::View,
 ];
 
 impl Word {
@@ -48,6 +58,11 @@ impl Word {
             Word::Consequences => b"consequences",
             Word::Live => b"live",
             Word::Value => b"value",
+            Word::Branch => b"branch",
+            Word::Break => b"break",
+            Word::Clear => b"clear",
+            Word::Session => b"session",
+            Word::View => b"view",
         }
     }
 }

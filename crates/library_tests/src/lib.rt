@@ -33,3 +33,5 @@ mod systems;
 mod told;
 #[cfg(test)]
 mod transcripts;
+#[cfg(test)]
+mod views;

@@ -2,10 +2,11 @@
 
 use crate::told::place;
 use address::Address;
-use calculus::{Choice, Command, Reply};
+use calculus::Choice;
 use debug_session::accept;
 use event_places::{line_after, select_after};
-use locked_execution::{Desk, Machine};
+use locked_execution::{Command, Desk, Reply};
+use machine::Machine;
 use sharing_check::Checked;
 use std::alloc::Global;
 use std::test::Fail;

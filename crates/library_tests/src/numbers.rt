@@ -21,6 +21,12 @@ fn refusals_have_numbers_and_texts(rt: HostRuntime) -> Result<(), Fail> {
             "no live event wrote this variable",
         ),
         (Refusal::Spent, 26, "no ticket is left"),
+        (
+            Refusal::BreaksFull,
+            27,
+            "as many lines have a breakpoint as may have one",
+        ),
+        (Refusal::NoSuchLine, 28, "no command begins on this line"),
     ];
     for (refusal, number, text) in all {
         assert_eq!(rt; refusal.number(), number);

@@ -1,10 +1,6 @@
-pub mod Asked
-pub mod Choosing
-pub mod Dependents
-pub mod Following
-pub mod Headline
-pub mod Held
-pub mod Histories
-pub mod Insertion
-pub mod KeptState
-pub mod Sorting
+pub mod Answered
+pub mod AtDesk
+pub mod Bridge
+pub mod Frames
+pub mod Performs
+pub mod Replies

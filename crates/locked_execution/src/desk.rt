@@ -1,87 +1,86 @@
-ghost use Rattle.std.specs.Prelude.{◌≡◌, ◌<◌, IfOk, OnErr};
-ghost use Rattle.system.specs.Lists.{Every};
-ghost use Rattle.calculus.specs.Does.{Answers};
-ghost use Rattle.calculus.specs.Answered.{Answered};
-ghost use Rattle.calculus.specs.Sound.{Sound};
-ghost use Rattle.locked_execution.specs.Held.{object};
-ghost use Rattle.locked_execution.specs.Headline.{Headline, Grows};
-ghost use Rattle.locked_execution.specs.Asked.{asked};
+ghost use Rattle.std.specs.Prelude.{◌≡◌, ◌<◌, [], replicate};
+ghost use Rattle.machine.specs.Headline.{Headline};
+ghost use Rattle.locked_execution.specs.AtDesk.{execution, OfSessions, new_desk, breaks_of, sessions};
 
-use crate::Machine;
-use calculus::{Command, Reply};
-use std::alloc::{AllocError, Global};
+use machine::{Breaks, Machine};
 use std::marker::Model;
 
-/// A machine and the designers who work on it.
+/// A machine and the sixteen sessions that work on it, each with breakpoints of its own.
 #[derive(Drop)]
 pub struct Desk {
-    machine: Machine,
+    pub(crate) machine: Machine,
+    pub(crate) sessions: [Breaks; 16],
 }
 
 impl Model for Desk {
-    ghost use Rattle.locked_execution.specs.Held.{Held};
     ghost use Rattle.std.specs.Coded.{codes};
     ghost use Rattle.system.specs.contracts.system.System as whole;
+    ghost use Rattle.locked_execution.specs.AtDesk.{AtDesk, OfSessions};
 
-    ghost Value = { Held };
+    ghost Value = { AtDesk };
 
     ghost coded = { Prim.hlevel (codes, whole.the_row.coded) };
 
-    ghost view = { λ desk. desk.machine };
+    ghost view = { λ desk. record { held = desk.machine; breaks = desk.sessions } };
+
+    ghost invariant = { λ desk. OfSessions desk.sessions };
 }
 
 impl Desk {
-    /// A desk for the machine.
+    /// A desk for the machine, without breakpoints. It takes no memory.
     pub fn new(machine: Machine) -> Desk
-        ensures { result ≡ machine }
+        ensures { result ≡ new_desk machine }
     {
-        Desk { machine }
+        Desk {
+            machine,
+            sessions: no_breaks(),
+        }
     }
 
     /// The machine.
     pub fn machine(&self) -> &Machine
-        ensures { result.now ≡ self.now }
+        ensures { result.now ≡ self.now.held }
     {
         &self.machine
     }
 
+    /// The breakpoints of the session, 0 to 15.
+    pub fn breaks(&self, session: u32) -> &Breaks
+        requires { session < 16 }
+        ensures { result.now ≡ breaks_of self.now session }
+    {
+        &self.sessions[session as usize]
+    }
+
     /// What holds of every desk at every moment: nothing is done, the contract says it.
     pub fn is_sound(&self)
-        ensures { Headline (object self.now) }
+        ensures execution { Headline (execution self.now) }
+        ensures breakpoints { OfSessions self.now.breaks }
     {
         self.machine.is_sound();
     }
-
-    /// Answers the command of a session, 0 to 15. Where there is no memory for it, it is refused and nothing changes.
-    pub fn perform(&mut self, session: u32, command: &Command) -> Reply
-        requires { session < 16 }
-        ensures answers { Answers (object self.old) command.now result (object self.new) }
-        ensures system { self.new.checked ≡ self.old.checked }
-    {
-        let _session = session;
-        self.machine.perform(command)
-    }
 }
 
-/// Answers the commands of sessions, each 0 to 15, in their order. It is an error if there is no memory for the replies,
-/// and then nothing was performed.
-pub fn run_commands(
-    alloc: Global,
-    desk: &mut Desk,
-    commands: &[(u32, Command)],
-) -> Result<Vec<Reply>, AllocError>
-    requires { Every (λ entry. entry.0 < 16) commands.now }
-    ensures answered { IfOk result (λ replies. Answered (object desk.old) (asked commands.now) replies.items (object desk.new)) }
-    ensures refused { OnErr result (desk.new ≡ desk.old) }
-    ensures headline { Headline (object desk.new) }
-    ensures tickets { Grows (object desk.old) (object desk.new) }
-    ensures system { desk.new.checked ≡ desk.old.checked }
+/// No breakpoints in any session.
+fn no_breaks() -> [Breaks; 16]
+    ensures { result ≡ replicate sessions [] }
 {
-    desk.is_sound();
-    let mut replies = Vec::with_capacity(alloc, commands.len())?;
-    for (session, command) in commands {
-        let reply = desk.perform(*session, command);
-        replies.push_reserved(reply);
-    }
-    Ok(replies)
+    [
+        Breaks::new(),
+        Breaks::new(),
+        Breaks::new(),
+        Breaks::new(),
+        Breaks::new(),
+        Breaks::new(),
+        Breaks::new(),
+        Breaks::new(),
+        Breaks::new(),
+        Breaks::new(),
+        Breaks::new(),
+        Breaks::new(),
+        Breaks::new(),
+        Breaks::new(),
+        Breaks::new(),
+        Breaks::new(),
+    ]
 }

@@ -1,20 +1,16 @@
-//! One execution of a description: a designer takes events, takes them back, and asks what is live.
+//! One execution of a description and the sessions of the designers who work on it: they take events, take them back, ask
+//! what is live, and step a branch up to their breakpoints.
 #![tactic(auto)]
 
-mod asking;
-mod dependence;
+mod asked;
+mod command;
 mod desk;
-mod following;
-mod history;
-mod machine;
-mod order;
+mod laws;
 mod performing;
-mod ready;
-mod rolling;
-mod scan;
-mod stepping;
-mod undoing;
 
-pub use calculus::{Choice, Command, Event, Kind, Refusal, Reply};
-pub use desk::{Desk, run_commands};
-pub use machine::Machine;
+pub use asked::run_commands;
+pub use calculus::{Choice, Event, Kind, Refusal};
+pub use command::{Command, Reply};
+pub use desk::Desk;
+pub use laws::{breakpoint_laws, execution_laws, reply_laws};
+pub use machine::{Breaks, Machine};

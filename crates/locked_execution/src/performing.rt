@@ -1,43 +1,109 @@
-// One command.
-ghost use Rattle.std.specs.Prelude.{◌≡◌, MatchResult};
-ghost use Rattle.calculus.specs.Sound.{Sound};
-ghost use Rattle.calculus.specs.Does.{Answers};
-ghost use Rattle.locked_execution.specs.Histories.{execution};
-ghost use Rattle.locked_execution.specs.KeptState.{KeepsState};
+// One command of a session.
+ghost use Rattle.std.specs.Prelude.{◌≡◌, ◌<◌, [], slice_index_or};
+ghost use Rattle.machine.specs.Branching.{AnswersBranch};
+ghost use Rattle.machine.specs.declared.branching.BranchReply.{BranchReply};
+ghost use Rattle.locked_execution.specs.Performs as performs;
+ghost use Rattle.locked_execution.specs.Performs.{Answers};
 
-use crate::history::History;
-use calculus::{Command, Refusal, Reply};
-use sharing_check::Checked;
-use std::alloc::{AllocError, Global};
+use crate::{Command, Desk, Reply};
+use calculus::Refusal;
+use machine::{BranchReply, Breaks, Machine};
 
-impl History {
-    /// Answers the command.
-    pub(crate) fn perform(&mut self, alloc: Global, system: &Checked, command: &Command) -> Reply
-        requires sound { Sound (execution system.now self.old) }
-        requires kept { KeepsState system.now self.old }
-        ensures answers { Answers (execution system.now self.old) command.now result (execution system.now self.new) }
-        ensures kept { KeepsState system.now self.new }
+impl Desk {
+    /// Answers the command of a session, 0 to 15. Where there is no memory for it, it is refused and nothing changes.
+    pub fn perform(&mut self, session: u32, command: &Command) -> Reply
+        requires { session < 16 }
+        ensures answers { Answers self.old session command.now result self.new }
+        ensures system { self.new.held.checked ≡ self.old.held.checked }
     {
         match command {
-            Command::Step(choice) => or_no_memory(self.step(alloc, system, choice)),
-            Command::Undo(ticket) => self.undo(*ticket),
-            Command::Roll(ticket) => or_no_memory(self.roll(alloc, *ticket)),
-            Command::RollValue(variable) => or_no_memory(self.roll_value(alloc, *variable)),
-            Command::Blame(variable) => self.tell_blame(*variable),
-            Command::Ready => or_no_memory(self.tell_ready(alloc, system)),
-            Command::Consequences(ticket) => or_no_memory(self.tell_consequences(alloc, *ticket)),
-            Command::Live => or_no_memory(self.tell_live(alloc, system)),
-            Command::Value(variable) => or_no_memory(self.tell_value(alloc, system, *variable)),
+            Command::Step(choice) => shown(self.machine.step(choice)),
+            Command::Undo(ticket) => shown(self.machine.undo(*ticket)),
+            Command::Roll(ticket) => shown(self.machine.roll(*ticket)),
+            Command::RollValue(variable) => shown(self.machine.roll_value(*variable)),
+            Command::Blame(variable) => shown(self.machine.blame(*variable)),
+            Command::Ready => shown(self.machine.tell_ready()),
+            Command::Consequences(ticket) => shown(self.machine.consequences(*ticket)),
+            Command::Live => shown(self.machine.live()),
+            Command::Value(variable) => shown(self.machine.value(*variable)),
+            Command::Branch(branch) => self.step_branch(session, *branch),
+            Command::Break(line) => self.set_break(session, *line),
+            Command::Clear(line) => self.clear_break(session, *line),
         }
+    }
+
+    /// Steps the branch up to the breakpoints of the session.
+    fn step_branch(&mut self, session: u32, branch: u32) -> Reply
+        requires { session < 16 }
+        ensures answers { Answers self.old session (Command.Branch branch) result self.new }
+        ensures system { self.new.held.checked ≡ self.old.held.checked }
+    {
+        step_past(&mut self.machine, &self.sessions, session, branch)
+    }
+
+    /// Sets a breakpoint of the session on the line.
+    fn set_break(&mut self, session: u32, line: u64) -> Reply
+        requires { session < 16 }
+        ensures { performs.SetsBreak self.old session line result self.new }
+    {
+        if !self.machine.checked().begins(line) {
+            return Reply::Refused(Refusal::NoSuchLine);
+        }
+        let breaks = &mut self.sessions[session as usize];
+        let set = breaks.set(line);
+        breaks.are_few();
+        match set {
+            Ok(()) => Reply::Done,
+            Err(why) => Reply::Refused(why),
+        }
+    }
+
+    /// Clears the breakpoint of the session on the line.
+    fn clear_break(&mut self, session: u32, line: u64) -> Reply
+        requires { session < 16 }
+        ensures { performs.ClearsBreak self.old session line result self.new }
+    {
+        let breaks = &mut self.sessions[session as usize];
+        breaks.clear(line);
+        breaks.are_few();
+        Reply::Done
     }
 }
 
-/// The reply, or that there was no memory for it.
-fn or_no_memory(told: Result<Reply, AllocError>) -> Reply
-    ensures { MatchResult told (λ reply. result ≡ reply) (λ _. result ≡ Reply.Refused Refusal.Memory) }
+/// Steps the branch up to the breakpoints of this session.
+fn step_past(machine: &mut Machine, sessions: &[Breaks; 16], session: u32, branch: u32) -> Reply
+    requires { session < 16 }
+    ensures answers { (answer : BranchReply) × (result ≡ performs.shown_branch answer) × AnswersBranch machine.old branch (slice_index_or sessions.now session []) answer machine.new }
+    ensures system { machine.new.checked ≡ machine.old.checked }
 {
-    match told {
-        Ok(reply) => reply,
-        Err(_) => Reply::Refused(Refusal::Memory),
+    shown_branch(machine.branch_step(branch, &sessions[session as usize]))
+}
+
+/// What a session is told where the execution answers so.
+fn shown(reply: calculus::Reply) -> Reply
+    ensures { result ≡ performs.shown reply }
+{
+    match reply {
+        calculus::Reply::Stepped(ticket, event) => Reply::Stepped(ticket, event),
+        calculus::Reply::Undone(ticket, event) => Reply::Undone(ticket, event),
+        calculus::Reply::Rolled(count) => Reply::Rolled(count),
+        calculus::Reply::Blamed(ticket) => Reply::Blamed(ticket),
+        calculus::Reply::Ready(events) => Reply::Ready(events),
+        calculus::Reply::Consequences(tickets) => Reply::Consequences(tickets),
+        calculus::Reply::Live(entries) => Reply::Live(entries),
+        calculus::Reply::Value(value) => Reply::Value(value),
+        calculus::Reply::Refused(why) => Reply::Refused(why),
+    }
+}
+
+/// What a session is told of a step in a branch.
+fn shown_branch(reply: BranchReply) -> Reply
+    ensures { result ≡ performs.shown_branch reply }
+{
+    match reply {
+        BranchReply::Stepped(ticket, event) => Reply::Stepped(ticket, event),
+        BranchReply::Stopped(line) => Reply::Stopped(line),
+        BranchReply::Idle => Reply::Idle,
+        BranchReply::Refused(why) => Reply::Refused(why),
     }
 }

@@ -1,1 +1,2 @@
+mod ActingLines
 mod ChildPlaces

@@ -1,4 +1,5 @@
 pub mod CommandPlaces
+pub mod Laws
 pub mod LinesBegun
 pub mod SystemBranches
 pub mod TakenArms

@@ -3,11 +3,13 @@
 #![tactic(auto)]
 
 mod command_places;
+mod laws;
 mod lines_begun;
 mod system_branches;
 mod taken_arms;
 
 pub use command_places::{is_open_of_select, line_at};
+pub use laws::line_law;
 pub use lines_begun::begins_on;
 pub use system_branches::{branch_at, branch_count};
 pub use taken_arms::{TakenArms, is_open_under, line_under};

@@ -29,8 +29,6 @@ class SourceWriter(ExpressionWriter):
     def parallel(self, rights: Rights, depth: int) -> None:
         count = 1 if depth <= 0 else self.random.choice([1, 1, 1, 2, 2, 3])
         branches = [rights] if count == 1 else self.split(rights, count)
-        if "continue" not in self.style.forms and not all(branch.write for branch in branches):
-            branches = [rights]
         for number, branch in enumerate(branches):
             self.separated(number, "||")
             self.simple(branch, depth - 1)
@@ -39,14 +37,10 @@ class SourceWriter(ExpressionWriter):
         self.budget -= 1
         depth = depth if self.budget >= 0 else 0
         forms = SIMPLE_FORMS + (NESTING_FORMS if depth > 0 else [])
-        forms = [form for form in forms if form == "brackets" or form in self.style.forms]
         for _ in range(8):
             if self.form(self.random.choice(forms), rights, depth):
                 return
-        if "continue" in self.style.forms:
-            self.write(self.random.choice(["continue", "continue", "halt"]))
-        else:
-            self.assignment(self.pick(rights.write) or self.random.choice(NAMES), rights)
+        self.write(self.random.choice(["continue", "continue", "halt"]))
 
     def form(self, form: str, rights: Rights, depth: int) -> bool:
         match form:
@@ -78,14 +72,11 @@ class SourceWriter(ExpressionWriter):
 
     # Forms without commands inside
 
-    def assignment(self, name: str, rights: Rights) -> None:
-        self.write(name, ":=")
-        self.expression_for(rights, self.width_of(name))
-
     def assign(self, rights: Rights, depth: int) -> bool:
         name = self.pick_or_wild(rights.write)
         if name is not None:
-            self.assignment(name, rights)
+            self.write(name, ":=")
+            self.expression_for(rights, self.width_of(name))
         return name is not None
 
     def send(self, rights: Rights, depth: int) -> bool:

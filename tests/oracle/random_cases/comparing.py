@@ -16,7 +16,6 @@ from pathlib import Path
 
 from reference import debugger
 from reference.debugger import Outcome
-from reference.offers import OFFERS, TODAY, Offer
 
 from .cases import KINDS, Case, case_of, kinds_at
 
@@ -58,9 +57,8 @@ def sort_of(outcome: Outcome | None) -> str:
 class Comparison:
     """Compares one program with the reference, in a folder for the files of the cases."""
 
-    def __init__(self, program: Path, offer: Offer, folder: Path) -> None:
+    def __init__(self, program: Path, folder: Path) -> None:
         self.program = program
-        self.offer = offer
         self.folder = folder
 
     def got(self, case: Case) -> Outcome | None:
@@ -79,7 +77,7 @@ class Comparison:
     def wanted(self, case: Case) -> Outcome:
         if case.word == "check":
             return debugger.check(case.source)
-        return debugger.debug(case.source, case.stimulus, case.script, self.offer)
+        return debugger.debug(case.source, case.stimulus, case.script)
 
     def difference(self, case: Case) -> Difference | None:
         got, wanted = self.got(case), self.wanted(case)
@@ -149,7 +147,7 @@ def judge(comparison: Comparison, kind: str, seed: int, tally: Tally) -> None:
     too."""
     tally.kinds[kind] += 1
     try:
-        case = case_of(kind, seed, comparison.offer)
+        case = case_of(kind, seed)
         wanted = comparison.wanted(case)
     except Exception:
         tally.failed += 1
@@ -189,7 +187,6 @@ def asked_for() -> argparse.Namespace:
     parser.add_argument("--kinds", nargs="+", choices=list(KINDS), default=[], metavar="KIND",
                         help="of " + ", ".join(KINDS))
     parser.add_argument("--outcomes", action="store_true", help="print how often each kind had which outcome")
-    parser.add_argument("--offer", choices=list(OFFERS), default=TODAY, help=f"what the program offers ({TODAY})")
     asked = parser.parse_args()
     asked.program = asked.program.resolve()
     if not os.access(asked.program, os.X_OK) or asked.program.is_dir():
@@ -203,4 +200,4 @@ def main() -> int:
     except SystemExit as ended:
         return int(ended.code or 0)
     with tempfile.TemporaryDirectory(prefix="balsadbg-") as folder:
-        return compare(Comparison(asked.program, OFFERS[asked.offer], Path(folder)), asked)
+        return compare(Comparison(asked.program, Path(folder)), asked)

@@ -9,6 +9,7 @@ COMMENTS = [
     "-- @$~\r\n", "(-- \xe9 @ --)",
 ]
 BLANKS = ["\n", "\r\n", "\t", "  ", "\r", "\n\n", " \n "]
+LINE_ENDS = ["\n"] * 6 + ["\r\n", "\n\n", " -- c\n", "\n(-- \xe9 @\n--) "]
 JOINED = (":=", "<-", "->", "||", "/=", "<=", ">=", "--", "(-")
 
 
@@ -43,3 +44,11 @@ def render(random: Random, words: list[str], plain: bool | None = None) -> bytes
     for before, behind in zip(words, words[1:]):
         parts += [" " if plain else between(random, before, behind), behind]
     return ("".join(parts) + random.choice(["", "\n"])).encode("latin-1")
+
+
+def on_lines(random: Random, text: str) -> bytes:
+    """The source, whose words have one space between them, on few lines or on many."""
+    often = random.choice([0, 0.05, 0.2, 0.4, 0.8])
+    words = text.replace("[", "[ ").split(" ")
+    parts = [word + (random.choice(LINE_ENDS) if random.random() < often else " ") for word in words[:-1]]
+    return ("".join(parts) + words[-1] + random.choice(["", "\n", "\r\n"])).encode("latin-1")

@@ -8,7 +8,6 @@ from dataclasses import dataclass, field
 from random import Random
 
 from reference.names_and_types import least_width
-from reference.offers import EVERYTHING
 
 from .words import EDGE_NUMBERS, NAMES
 
@@ -36,11 +35,10 @@ class Declared:
 
 @dataclass
 class Style:
-    """How often something goes wrong on purpose, and which forms may stand in the source."""
+    """How often something goes wrong on purpose."""
 
     wild: float
     breaks_sharing: float
-    forms: frozenset[str] = EVERYTHING.forms
 
 
 def any_style(random: Random) -> Style:
@@ -133,9 +131,7 @@ class Writer:
 
     def declaration(self, kinds: list[str], counts: list[int]) -> list[Declared]:
         """Writes ports or locals of one kind."""
-        if "sync" in self.style.forms:
-            kinds = kinds + ["sync"]
-        kind = self.random.choice(kinds)
+        kind = self.random.choice(kinds + ["sync"])
         self.write(kind)
         names: list[str] = []
         for number in range(self.random.choice(counts)):
@@ -167,19 +163,10 @@ class Writer:
         self.write("is")
         for _ in range(self.random.choice([0, 1, 1, 2, 2, 3])):
             self.declaration(["variable", "variable", "channel"], [1, 1, 2, 3])
-        if not any(one.kind == "variable" for one in self.scope.values()):
-            self.variable_to_write()
         self.write("begin")
         self.body(self.rights({port.name for port in ports}))
         self.write("end")
         self.procedures.setdefault(name, ports)
-
-    def variable_to_write(self) -> None:
-        """Where only assignments are always possible, there has to be a variable."""
-        if "continue" not in self.style.forms:
-            name = self.fresh(self.visible() | set(self.scope))
-            self.write("variable", name, ":")
-            self.scope.setdefault(name, Declared(name, "variable", self.type()))
 
     def rights(self, ports: set[str]) -> Rights:
         """All that a whole body may use."""

@@ -5,6 +5,8 @@ from __future__ import annotations
 from dataclasses import dataclass, field
 from random import Random
 
+from .rendering import on_lines
+
 
 @dataclass
 class Thread:
@@ -180,7 +182,7 @@ def declared_ports(channels: dict[str, str], type_name: str) -> str:
 
 
 def threads(random: Random) -> tuple[bytes, bytes]:
-    """A description and its stimulus."""
+    """A description, on some lines, and its stimulus."""
     writer = ThreadWriter(random)
     description = writer.description()
-    return description.encode(), writer.stimulus().encode()
+    return on_lines(random, description), writer.stimulus().encode()

@@ -10,15 +10,12 @@ from dataclasses import dataclass
 
 from .elaboration import System, elaborate
 from .faults import Number, Refused
-from .forms import is_built
-from .machine import Machine
 from .names_and_types import typed
-from .offers import Offer, chosen
 from .parser import Parser
 from .script import BadLine, answer
+from .sessions import Desk
 from .sharing import check_sharing
 from .stimulus import read_stimulus
-from .syntax import Description
 from .tokens import lines_of, tokens_of
 
 HELP = "program check FILE, or program debug FILE STIMULUS with a script on standard input"
@@ -36,16 +33,17 @@ class Outcome:
 
 
 def outcome(lines: list[str], fault: str | None = None) -> Outcome:
-    output = "".join(line + "\n" for line in lines).encode()
+    """A character of a line is a byte."""
+    output = "".join(line + "\n" for line in lines).encode("latin-1")
     return Outcome(output, b"", 0) if fault is None else Outcome(output, f"balsadbg: {fault}\n".encode(), 1)
 
 
-def accept(source: bytes, stimulus: bytes) -> tuple[Description, System]:
-    """The description and its system. Each pass speaks before the next."""
+def accept(source: bytes, stimulus: bytes) -> System:
+    """The system, or the refusal. Each pass speaks before the next."""
     description = typed(Parser(tokens_of(source)).description())
     system = elaborate(description, read_stimulus(stimulus))
     check_sharing(system)
-    return description.description, system
+    return system
 
 
 def check(source: bytes) -> Outcome:
@@ -56,18 +54,15 @@ def check(source: bytes) -> Outcome:
     return outcome(["accepted"])
 
 
-def debug(source: bytes, stimulus: bytes, script: bytes, offer: Offer) -> Outcome:
+def debug(source: bytes, stimulus: bytes, script: bytes) -> Outcome:
     try:
-        description, system = accept(source, stimulus)
+        desk = Desk(accept(source, stimulus), source)
     except Refused as refused:
         return outcome([], refused.text())
-    if not is_built(description, offer):
-        return outcome([], "not built")
-    machine = Machine(system)
     answers: list[str] = []
     for number, line in enumerate(lines_of(script), 1):
         try:
-            answers += answer(machine, line, offer) if line else []
+            answers += answer(desk, line) if line else []
         except BadLine:
             return outcome(answers, Refused(Number.BAD_COMMAND, number).text())
     return outcome(answers)
@@ -87,7 +82,7 @@ def run(words: list[str], script: Callable[[], bytes]) -> Outcome:
                 texts.append(file.read())
     except OSError:
         return outcome([], Refused(Number.READ_FAILED).text())
-    return check(*texts) if words[0] == "check" else debug(*texts, script(), chosen())
+    return check(*texts) if words[0] == "check" else debug(*texts, script())
 
 
 def with_deep_stack(work: Callable[[], int]) -> int:

@@ -95,21 +95,22 @@ class Scope:
                 self.names[name.text] = elaboration.new_local(before + name.text, entry.kind, entry.width, name.offset)
 
     def command(self, command: Command) -> Command:
+        """The command of the system, on its own line; of a call the body, on the lines of the procedure."""
         match command:
             case Sequence(children) | Parallel(children):
                 return replace(command, children=tuple(self.command(child) for child in children))
             case Assign(variable, expression):
-                return Assign(self.use(variable), self.expression(expression))
+                return replace(command, variable=self.use(variable), expression=self.expression(expression))
             case Send(channel, expression):
-                return Send(self.names[channel.text], self.expression(expression))
+                return replace(command, channel=self.names[channel.text], expression=self.expression(expression))
             case Receive(channel, variable):
-                return Receive(self.names[channel.text], self.use(variable))
+                return replace(command, channel=self.names[channel.text], variable=self.use(variable))
             case Sync(channel):
-                return Sync(self.names[channel.text])
+                return replace(command, channel=self.names[channel.text])
             case Loop(body):
-                return Loop(self.command(body))
+                return replace(command, body=self.command(body))
             case While(guard, body):
-                return While(self.expression(guard), self.command(body))
+                return replace(command, guard=self.expression(guard), body=self.command(body))
             case If() | Case() | Choose():
                 return self.command_with_arms(command)
             case Call():
@@ -119,15 +120,16 @@ class Scope:
     def command_with_arms(self, command: If | Case | Choose) -> Command:
         if isinstance(command, Choose):
             arms = [ChannelArm(self.names[arm.channel.text], self.command(arm.body)) for arm in command.arms]
-            return Choose(command.word, tuple(arms))
+            return replace(command, arms=tuple(arms))
         if isinstance(command, If):
             arms = tuple(GuardedArm(self.expression(arm.guard), self.command(arm.body)) for arm in command.arms)
-            return If(arms, self.otherwise(command))
+            return replace(command, arms=arms, otherwise=self.otherwise(command))
         arms = tuple(
             LabelledArm(tuple(self.expression(label) for label in arm.labels), self.command(arm.body))
             for arm in command.arms
         )
-        return Case(self.expression(command.expression), arms, self.otherwise(command))
+        expression = self.expression(command.expression)
+        return replace(command, expression=expression, arms=arms, otherwise=self.otherwise(command))
 
     def otherwise(self, command: If | Case) -> Command | None:
         return None if command.otherwise is None else self.command(command.otherwise)
@@ -196,6 +198,16 @@ class Elaboration:
         if isinstance(type_, BitsType):
             return type_
         return BitsType(type_.offset, self.types[type_.name].width or 0)
+
+
+def lines_begun(command: Command) -> set[int]:
+    """The lines on which the command or one within it begins."""
+    lines, left = set(), [command]
+    while left:
+        one = left.pop()
+        lines.add(one.line)
+        left += children_of(one)
+    return lines
 
 
 def environment_of(port: Port, channel: Channel, given: Given | None) -> Environment:

@@ -8,7 +8,7 @@ from dataclasses import dataclass
 from .elaboration import System
 from .places import Address, branch, is_before, text_of
 from .residuals import ALONE, Acting, Meeting, Move, Residual, moves_of, start
-from .syntax import Variable
+from .syntax import Choose, Command, Variable
 from .values import Store
 
 
@@ -35,6 +35,21 @@ class Event:
     @property
     def places(self) -> list[Address]:
         return [move.place for move in self.moves]
+
+    @property
+    def command(self) -> Command | None:
+        """The command that acts; None where that is the environment."""
+        [command] = [move.command for move in self.moves if move.place == self.acting]
+        return command
+
+    @property
+    def line(self) -> int | None:
+        """The line of the acting place. An arm's command is the one that was taken, since no other is left."""
+        return None if self.command is None else self.command.line
+
+    @property
+    def opens_select(self) -> bool:
+        return self.moves[-1].kind == "open" and isinstance(self.command, Choose) and self.command.word == "select"
 
     @property
     def channel(self) -> object:

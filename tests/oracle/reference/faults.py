@@ -27,6 +27,8 @@ class Number(IntEnum):
     NO_SUCH_EVENT = 23
     NEEDED_BY = 24
     NEVER_WRITTEN = 25
+    BREAKS_FULL = 27
+    NO_SUCH_LINE = 28
     READ_FAILED = 41
     WRITE_FAILED = 42
     BAD_STIMULUS = 51

@@ -2,6 +2,7 @@
 
 from __future__ import annotations
 
+from dataclasses import replace
 from typing import NoReturn
 
 from .faults import Number, Refused
@@ -153,17 +154,23 @@ class Parser:
         children = [self.parallel()]
         while self.accept(";"):
             children.append(self.parallel())
-        return children[0] if len(children) == 1 else Sequence(tuple(children))
+        return children[0] if len(children) == 1 else Sequence(tuple(children), line=children[0].line)
 
     def parallel(self) -> Command:
         children = [self.simple()]
         while self.accept("||"):
             children.append(self.simple())
-        return children[0] if len(children) == 1 else Parallel(tuple(children))
+        return children[0] if len(children) == 1 else Parallel(tuple(children), line=children[0].line)
 
     def simple(self) -> Command:
+        if self.stands("["):
+            return self.brackets()
+        line = self.token.line
+        return replace(self.form(), line=line)
+
+    def form(self) -> Command:
         forms = {"loop": self.loop, "if": self.conditional, "case": self.case, "select": self.select,
-                 "arbitrate": self.arbitrate, "[": self.brackets}
+                 "arbitrate": self.arbitrate}
         if self.token.kind is Kind.NAME:
             return self.command_of_name()
         if self.stands(*forms):

@@ -41,10 +41,10 @@ def read_address(text: bytes) -> Address | None:
     """The address that the text spells, of at least one entry; None where it spells none."""
     if not text.startswith((b".", b"/")):
         return None
-    place: Address = ()
+    place: list[Entry] = []
     for part in text.replace(b".", b"\n.").replace(b"/", b"\n/").split(b"\n")[1:]:
         number = plain_number(part[1:], 2**32)
         if number is None:
             return None
-        place += (Entry(part.startswith(b"/"), number),)
-    return place
+        place.append(Entry(part.startswith(b"/"), number))
+    return tuple(place)

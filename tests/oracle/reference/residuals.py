@@ -27,7 +27,7 @@ class Done:
 class Held:
     """A send or sync whose partner has opened an arm and not closed it yet."""
 
-    channel: Channel
+    command: Send | Sync
 
 
 @dataclass(frozen=True)
@@ -64,8 +64,9 @@ class InArm:
 
 @dataclass(frozen=True)
 class Opened:
-    """An arm opened on a channel; when it is done, it is to be closed."""
+    """An arm that a command opened on a channel; when it is done, it is to be closed."""
 
+    command: Choose
     channel: Channel
     inside: Residual
 
@@ -96,10 +97,12 @@ ALONE = Meeting()
 
 @dataclass(frozen=True)
 class Move:
-    """A local move. The kind is assign, turn, test, send, receive, sync, open, release or close. `leaves` gives the
-    residual behind it. The value is what is assigned or sent, the arm what is opened or what a test takes."""
+    """A local move of a command, which is None for the environment. The kind is assign, turn, test, send, receive,
+    sync, open, release or close. `leaves` gives the residual behind it. The value is what is assigned or sent, the arm
+    what is opened or what a test takes."""
 
     kind: str
+    command: Command | None
     place: Address
     leaves: Callable[[Meeting], Residual]
     channel: Channel | None = None
@@ -160,20 +163,20 @@ def moves_of(residual: Residual, place: Address, store: Store) -> Moves:
     match residual:
         case Assign(use, expression):
             value, reads = value_of(expression, store), read_by(expression)
-            yield Move("assign", place, leaves_done, variable=use.variable, value=value, reads=reads)
+            yield Move("assign", residual, place, leaves_done, variable=use.variable, value=value, reads=reads)
         case Receive(channel, use):
-            yield Move("receive", place, leaves_done, channel, use.variable)
+            yield Move("receive", residual, place, leaves_done, channel, use.variable)
         case Send() | Sync():
             yield offer_of(residual, place, store)
-        case Held(channel):
-            yield Move("release", ordered(place, 1), leaves_done, channel)
+        case Held(command):
+            yield Move("release", command, ordered(place, 1), leaves_done, command.channel)
         case Acting():
             yield from environment_moves(residual, place)
         case If() | Case():
             yield test_of(residual, place, store)
         case Choose():
             for number, arm in enumerate(residual.arms):
-                yield Move("open", ordered(place, 0), opening(arm), arm.channel, arm=number)
+                yield Move("open", residual, ordered(place, 0), opening(residual, arm), arm.channel, arm=number)
         case Inside() | Beside() | Turning() | InArm() | Opened():
             yield from inner_moves(residual, place, store)
 
@@ -194,11 +197,11 @@ def inner_moves(residual: Residual, place: Address, store: Store) -> Moves:
             yield from within(moves, lambda left: in_turn(loop, turn, left))
         case InArm(inside):
             yield from within(moves_of(inside, ordered(place, 1), store), in_arm)
-        case Opened(channel, Done()):
-            yield Move("close", ordered(place, 2), leaves_done, channel)
-        case Opened(channel, inside):
+        case Opened(command, channel, Done()):
+            yield Move("close", command, ordered(place, 2), leaves_done, channel)
+        case Opened(command, channel, inside):
             moves = moves_of(inside, ordered(place, 1), store)
-            yield from within(moves, lambda left: Opened(channel, left))
+            yield from within(moves, lambda left: Opened(command, channel, left))
 
 
 def replacing(children: tuple[Residual, ...], number: int) -> Callable[[Residual], Residual]:
@@ -210,12 +213,12 @@ def offer_of(command: Send | Sync, place: Address, store: Store) -> Move:
     channel = command.channel
 
     def leaves(meeting: Meeting) -> Residual:
-        return Held(channel) if meeting.opens else DONE
+        return Held(command) if meeting.opens else DONE
 
     if isinstance(command, Sync):
-        return Move("sync", ordered(place, 0), leaves, channel)
+        return Move("sync", command, ordered(place, 0), leaves, channel)
     value, reads = value_of(command.expression, store), read_by(command.expression)
-    return Move("send", ordered(place, 0), leaves, channel, value=value, reads=reads)
+    return Move("send", command, ordered(place, 0), leaves, channel, value=value, reads=reads)
 
 
 def environment_moves(acting: Acting, place: Address) -> Moves:
@@ -228,13 +231,13 @@ def environment_moves(acting: Acting, place: Address) -> Moves:
 
     here = ordered(place, act)
     if acting.held:
-        yield Move("release", ordered(here, 1), lambda meeting: following, channel)
+        yield Move("release", None, ordered(here, 1), lambda meeting: following, channel)
     elif channel.kind == "output":
-        yield Move("receive", here, leaves, channel)
+        yield Move("receive", None, here, leaves, channel)
     elif channel.kind == "input" and act < len(environment.values):
-        yield Move("send", ordered(here, 0), leaves, channel, value=environment.values[act])
+        yield Move("send", None, ordered(here, 0), leaves, channel, value=environment.values[act])
     elif channel.kind == "sync" and act < environment.count:
-        yield Move("sync", ordered(here, 0), leaves, channel)
+        yield Move("sync", None, ordered(here, 0), leaves, channel)
 
 
 def turn_of(loop: Loop | While, turn: int, place: Address, store: Store) -> Move:
@@ -244,9 +247,9 @@ def turn_of(loop: Loop | While, turn: int, place: Address, store: Store) -> Move
         return in_turn(loop, turn, start(loop.body))
 
     if isinstance(loop, Loop):
-        return Move("turn", place, enters)
-    holds = value_of(loop.guard, store) != 0
-    return Move("test", place, enters if holds else leaves_done, arm=0 if holds else None, reads=read_by(loop.guard))
+        return Move("turn", loop, place, enters)
+    holds, reads = value_of(loop.guard, store) != 0, read_by(loop.guard)
+    return Move("test", loop, place, enters if holds else leaves_done, arm=0 if holds else None, reads=reads)
 
 
 def test_of(command: If | Case, place: Address, store: Store) -> Move:
@@ -262,15 +265,15 @@ def test_of(command: If | Case, place: Address, store: Store) -> Move:
     taken = next((number for number, fits in enumerate(fitting) if fits), len(command.arms))
     body = bodies[taken]
     if body is None:
-        return Move("test", ordered(place, 0), leaves_done, reads=reads)
-    return Move("test", ordered(place, 0), lambda meeting: in_arm(start(body)), arm=taken, reads=reads)
+        return Move("test", command, ordered(place, 0), leaves_done, reads=reads)
+    return Move("test", command, ordered(place, 0), lambda meeting: in_arm(start(body)), arm=taken, reads=reads)
 
 
-def opening(arm: ChannelArm) -> Callable[[Meeting], Residual]:
+def opening(command: Choose, arm: ChannelArm) -> Callable[[Meeting], Residual]:
     """What is left where an arm opens: the arm with the value received put into it, if there is one."""
 
     def leaves(meeting: Meeting) -> Residual:
         body = arm.body if meeting.value is None else put(arm.body, arm.channel, meeting.value)
-        return Opened(arm.channel, start(body))
+        return Opened(command, arm.channel, start(body))
 
     return leaves

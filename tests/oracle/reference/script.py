@@ -5,11 +5,12 @@ from __future__ import annotations
 from collections.abc import Callable
 
 from .faults import Refused
-from .machine import Live, Machine
-from .offers import Offer
+from .machine import Live
 from .places import read_address
+from .sessions import SESSIONS, Desk
 from .syntax import Variable
 from .tokens import plain_number
+from .view import view
 
 
 class BadLine(Exception):
@@ -23,12 +24,13 @@ def number(field: bytes, limit: int) -> int:
     return found
 
 
-def ticket(field: bytes) -> int:
+def long_number(field: bytes) -> int:
+    """A ticket or a line."""
     return number(field, 2**64)
 
 
-def variable(machine: Machine, name: bytes) -> Variable:
-    found = machine.variable(name)
+def variable(desk: Desk, name: bytes) -> Variable:
+    found = desk.machine.variable(name)
     if found is None:
         raise BadLine
     return found
@@ -38,45 +40,69 @@ def shown(entry: Live) -> str:
     return f"{entry.ticket} {entry.event.text}"
 
 
-def step(machine: Machine, place: bytes, arm: bytes = b"0") -> list[str]:
+def step(desk: Desk, place: bytes, arm: bytes = b"0") -> list[str]:
     acting, taken = read_address(place), number(arm, 2**32)
     if acting is None:
         raise BadLine
-    return [f"step {shown(machine.step(acting, taken))}"]
+    return [f"step {shown(desk.machine.step(acting, taken))}"]
 
 
-def undo(machine: Machine, field: bytes) -> list[str]:
-    return [f"undone {shown(machine.undo(ticket(field)))}"]
+def undo(desk: Desk, field: bytes) -> list[str]:
+    return [f"undone {shown(desk.machine.undo(long_number(field)))}"]
 
 
-def live(machine: Machine) -> list[str]:
-    return [f"live {len(machine.live)}", *(f"  {shown(entry)}" for entry in machine.live)]
+def live(desk: Desk) -> list[str]:
+    entries = desk.machine.live
+    return [f"live {len(entries)}", *(f"  {shown(entry)}" for entry in entries)]
 
 
-def value(machine: Machine, name: bytes) -> list[str]:
-    found = variable(machine, name)
-    return [f"value {found.name} {machine.value(found)}"]
+def value(desk: Desk, name: bytes) -> list[str]:
+    found = variable(desk, name)
+    return [f"value {found.name} {desk.machine.value(found)}"]
 
 
-def ready(machine: Machine) -> list[str]:
-    events = machine.ready()
+def ready(desk: Desk) -> list[str]:
+    events = desk.machine.ready()
     return [f"ready {len(events)}", *(f"  {event.text}" for event in events)]
 
 
-def roll(machine: Machine, field: bytes) -> list[str]:
-    return [f"rolled {machine.roll(ticket(field))}"]
+def roll(desk: Desk, field: bytes) -> list[str]:
+    return [f"rolled {desk.machine.roll(long_number(field))}"]
 
 
-def consequences(machine: Machine, field: bytes) -> list[str]:
-    return [" ".join(["consequences", *(str(entry.ticket) for entry in machine.closure(ticket(field)))])]
+def consequences(desk: Desk, field: bytes) -> list[str]:
+    tickets = [str(entry.ticket) for entry in desk.machine.closure(long_number(field))]
+    return [" ".join(["consequences", *tickets])]
 
 
-def blame(machine: Machine, name: bytes) -> list[str]:
-    return [f"blame {machine.last_writer(variable(machine, name))}"]
+def blame(desk: Desk, name: bytes) -> list[str]:
+    return [f"blame {desk.machine.last_writer(variable(desk, name))}"]
 
 
-def rollvalue(machine: Machine, name: bytes) -> list[str]:
-    return [f"rolled {machine.roll(machine.last_writer(variable(machine, name)))}"]
+def rollvalue(desk: Desk, name: bytes) -> list[str]:
+    return [f"rolled {desk.machine.roll(desk.machine.last_writer(variable(desk, name)))}"]
+
+
+def session(desk: Desk, field: bytes) -> list[str]:
+    desk.session = number(field, SESSIONS)
+    return [f"session {desk.session}"]
+
+
+def branch(desk: Desk, field: bytes) -> list[str]:
+    found = desk.step_branch(number(field, 2**32))
+    if found is None:
+        return ["idle"]
+    return [f"step {shown(found)}" if isinstance(found, Live) else f"stopped {found}"]
+
+
+def break_at(desk: Desk, field: bytes) -> list[str]:
+    desk.set_breakpoint(long_number(field))
+    return ["ok"]
+
+
+def clear(desk: Desk, field: bytes) -> list[str]:
+    desk.clear_breakpoint(long_number(field))
+    return ["ok"]
 
 
 # What answers a line of so many fields.
@@ -91,16 +117,21 @@ LINES: dict[tuple[bytes, int], Callable[..., list[str]]] = {
     (b"consequences", 2): consequences,
     (b"blame", 2): blame,
     (b"rollvalue", 2): rollvalue,
+    (b"session", 2): session,
+    (b"branch", 2): branch,
+    (b"break", 2): break_at,
+    (b"clear", 2): clear,
+    (b"view", 1): view,
 }
 
 
-def answer(machine: Machine, line: bytes, offer: Offer) -> list[str]:
-    """The lines that answer a line, which is not empty. Raises BadLine where it asks for nothing that is offered."""
+def answer(desk: Desk, line: bytes) -> list[str]:
+    """The lines that answer a line, which is not empty. Raises BadLine where it asks for nothing."""
     word, *fields = line.split(b" ")
     command = LINES.get((word, 1 + len(fields)))
-    if command is None or b"" in fields or word.decode() not in offer.lines:
+    if command is None or b"" in fields:
         raise BadLine
     try:
-        return command(machine, *fields)
+        return command(desk, *fields)
     except Refused as refused:
         return [refused.text()]

@@ -7,7 +7,7 @@ system that elaboration makes, it has a `Use` or a `Channel` there, and an expre
 
 from __future__ import annotations
 
-from dataclasses import dataclass
+from dataclasses import dataclass, field
 from typing import Union
 
 
@@ -125,55 +125,62 @@ Expression = Union[Numeral, Name, Literal, Use, Received, Not, Cast, Parentheses
 
 
 @dataclass(frozen=True)
-class Continue(Node):
+class Form(Node):
+    """A command, on the line of its first token, any `[` not counted."""
+
+    line: int = field(default=0, kw_only=True)
+
+
+@dataclass(frozen=True)
+class Continue(Form):
     pass
 
 
 @dataclass(frozen=True)
-class Halt(Node):
+class Halt(Form):
     pass
 
 
 @dataclass(frozen=True)
-class Sequence(Node):
+class Sequence(Form):
     children: tuple[Command, ...]
 
 
 @dataclass(frozen=True)
-class Parallel(Node):
+class Parallel(Form):
     children: tuple[Command, ...]
 
 
 @dataclass(frozen=True)
-class Assign(Node):
+class Assign(Form):
     variable: Name | Use
     expression: Expression
 
 
 @dataclass(frozen=True)
-class Send(Node):
+class Send(Form):
     channel: Name | Channel
     expression: Expression
 
 
 @dataclass(frozen=True)
-class Receive(Node):
+class Receive(Form):
     channel: Name | Channel
     variable: Name | Use
 
 
 @dataclass(frozen=True)
-class Sync(Node):
+class Sync(Form):
     channel: Name | Channel
 
 
 @dataclass(frozen=True)
-class Loop(Node):
+class Loop(Form):
     body: Command
 
 
 @dataclass(frozen=True)
-class While(Node):
+class While(Form):
     guard: Expression
     body: Command
 
@@ -185,7 +192,7 @@ class GuardedArm(Node):
 
 
 @dataclass(frozen=True)
-class If(Node):
+class If(Form):
     arms: tuple[GuardedArm, ...]
     otherwise: Command | None
 
@@ -199,7 +206,7 @@ class LabelledArm(Node):
 
 
 @dataclass(frozen=True)
-class Case(Node):
+class Case(Form):
     expression: Expression
     arms: tuple[LabelledArm, ...]
     otherwise: Command | None
@@ -212,7 +219,7 @@ class ChannelArm(Node):
 
 
 @dataclass(frozen=True)
-class Choose(Node):
+class Choose(Form):
     """An enclosed input, a select or an arbitrate: `word` is enclose, select or arbitrate."""
 
     word: str
@@ -220,7 +227,7 @@ class Choose(Node):
 
 
 @dataclass(frozen=True)
-class Call(Node):
+class Call(Form):
     procedure: Name
     arguments: tuple[Name, ...]
 

@@ -35,6 +35,7 @@ class Token:
     kind: Kind
     text: str
     offset: int
+    line: int
     number: int = 0
 
 
@@ -50,37 +51,39 @@ def behind_comment(source: bytes, start: int) -> int:
     return at
 
 
-def number_token(digits: bytes, offset: int) -> Token:
+def number_token(digits: bytes, offset: int, line: int) -> Token:
     significant = digits.lstrip(b"0") or b"0"
     if len(significant) > 20 or int(significant) >= 2**64:
         raise Refused(Number.NUMBER_TOO_LARGE, offset)
-    return Token(Kind.NUMBER, digits.decode(), offset, int(significant))
+    return Token(Kind.NUMBER, digits.decode(), offset, line, int(significant))
 
 
-def token_at(source: bytes, at: int) -> tuple[Token, int]:
-    """The token that begins at the offset, and the offset behind it."""
+def token_at(source: bytes, at: int, line: int) -> tuple[Token, int]:
+    """The token that begins at the offset, on that line, and the offset behind it."""
     if found := NAME.match(source, at):
         text = found.group().decode()
-        return Token(Kind.WORD if text in RESERVED else Kind.NAME, text, at), found.end()
+        return Token(Kind.WORD if text in RESERVED else Kind.NAME, text, at, line), found.end()
     if found := DIGITS.match(source, at):
-        return number_token(found.group(), at), found.end()
+        return number_token(found.group(), at, line), found.end()
     if found := SYMBOL.match(source, at):
-        return Token(Kind.SYMBOL, found.group().decode(), at), found.end()
+        return Token(Kind.SYMBOL, found.group().decode(), at, line), found.end()
     raise Refused(Number.BAD_CHARACTER, at)
 
 
 def tokens_of(source: bytes) -> list[Token]:
     """All tokens, the end of the source last."""
-    tokens, at = [], 0
+    tokens, at, line = [], 0, 1
     while at < len(source):
+        start = at
         if found := BLANKS.match(source, at) or LINE_COMMENT.match(source, at):
             at = found.end()
         elif source.startswith(b"(--", at):
             at = behind_comment(source, at)
         else:
-            token, at = token_at(source, at)
+            token, at = token_at(source, at, line)
             tokens.append(token)
-    tokens.append(Token(Kind.END, "", len(source)))
+        line += source.count(b"\n", start, at)
+    tokens.append(Token(Kind.END, "", len(source), line))
     return tokens
 
 

@@ -1,0 +1,79 @@
+ghost use Rattle.std.specs.Prelude.{◌≡◌, ◌<◌, IfOk};
+ghost use Rattle.source_view.specs.View.{IsView};
+ghost use Rattle.locked_execution.specs.AtDesk.{breaks_of, new_desk};
+ghost use Rattle.locked_execution.specs.Performs.{Answers};
+
+use locked_execution::{Command, Desk, Machine, Reply};
+use sharing_check::Checked;
+use source_view::view;
+use std::alloc::{AllocError, Global};
+use std::marker::Model;
+
+/// A desk, the session whose lines come, and the source that a view shows.
+#[derive(Drop)]
+pub(crate) struct Sitting<'a> {
+    desk: Desk,
+    session: u32,
+    source: &'a [u8],
+}
+
+impl<'a> Model for Sitting<'a> {
+    ghost use Rattle.std.specs.Prelude.{◌<◌};
+    ghost use Rattle.std.specs.Coded.{codes};
+    ghost use Rattle.system.specs.contracts.system.System as whole;
+    ghost use Rattle.debug_session.specs.AtLine.{AtLine};
+
+    ghost Value = { AtLine };
+
+    ghost coded = { Prim.hlevel (codes, whole.the_row.coded) };
+
+    ghost view = { λ sitting. record { desk = sitting.desk; session = sitting.session; source = sitting.source.now } };
+
+    ghost invariant = { λ sitting. sitting.session < 16 };
+}
+
+impl<'a> Sitting<'a> {
+    /// Session 0, on the machine of this source.
+    pub(crate) fn new(machine: Machine, source: &'a [u8]) -> Sitting<'a>
+        ensures { result ≡ record { desk = new_desk machine; session = 0; source = source.now } }
+    {
+        Sitting {
+            desk: Desk::new(machine),
+            session: 0,
+            source,
+        }
+    }
+
+    /// The system.
+    pub(crate) fn checked(&self) -> &Checked
+        ensures { result.now ≡ self.now.desk.held.checked }
+    {
+        self.desk.machine().checked()
+    }
+
+    /// What the desk answers to the command of the session.
+    pub(crate) fn ask(&mut self, command: &Command) -> Reply
+        ensures answers { Answers self.old.desk self.old.session command.now result self.new.desk }
+        ensures session { self.new.session ≡ self.old.session }
+        ensures source { self.new.source ≡ self.old.source }
+        ensures system { self.new.desk.held.checked ≡ self.old.desk.held.checked }
+    {
+        self.desk.perform(self.session, command)
+    }
+
+    /// Makes this the session whose lines come.
+    pub(crate) fn turn_to(&mut self, session: u32)
+        requires { session < 16 }
+        ensures { self.new ≡ record { desk = self.old.desk; session = session; source = self.old.source } }
+    {
+        self.session = session;
+    }
+
+    /// The view that the session has of the source.
+    pub(crate) fn view(&self, alloc: Global) -> Result<Vec<u8>, AllocError>
+        ensures { IfOk result (λ bytes. IsView self.now.desk.held (breaks_of self.now.desk self.now.session) self.now.source bytes.items) }
+    {
+        let breaks = self.desk.breaks(self.session);
+        view(alloc, self.desk.machine(), breaks, self.source)
+    }
+}

@@ -1,0 +1,75 @@
+-- Each command of a session has a reply.
+use Rattle.std.proofs.Common.{◌≡◌, inl, inr, ℕ, Bool, true, false, length, refl, ap, subst}
+use Rattle.std.proofs.lemmas.Bool.{cases_lt}
+use Rattle.system.specs.Expression.{is_in}
+use Rattle.system_places.specs.LinesBegun.{begins}
+use Rattle.calculus.specs.Opening.{opening}
+use Rattle.calculus.specs.Object.{Object}
+use Rattle.calculus.specs.Does.{Does}
+use Rattle.calculus.specs.Sound.{Sound}
+use Rattle.calculus.specs.declared.command.Command as calculus_command
+use Rattle.calculus.specs.declared.command.Refusal.TheVariants.{BreaksFull, NoSuchLine}
+use Rattle.calculus.proofs.Effects.{Effect, unchanged, added, taken, does-effect}
+use Rattle.calculus.proofs.SomeReplies.{some-reply}
+use Rattle.machine.specs.Breakpoints.{most_breaks, with_line, without_line}
+use Rattle.locked_execution.specs.AtDesk.{AtDesk, execution, breaks_of, with_breaks}
+use Rattle.locked_execution.specs.Performs.{Performs, OnExecution, shown, shown_branch}
+use Rattle.locked_execution.specs.Replies.{SomeReply}
+use Rattle.locked_execution.specs.declared.command.Command.{Command}
+use Rattle.locked_execution.specs.declared.command.Reply.{Reply}
+use Rattle.locked_execution.proofs.BranchReplies.{some-branch}
+
+-- a reply to the command
+abbrev Replied : AtDesk → ℕ → Command → Type 0
+Replied d session command = (reply : Reply) × (d' : AtDesk) × Performs d session command reply d'
+
+-- an execution goes on from where it began
+same-opening : (o o' : Object) → Effect o o' → o'.opening ≡ o.opening
+same-opening o o' (unchanged is) = ap (λ (p : Object). p.opening) is
+same-opening o o' (added e T r a room left is) = ap (λ (p : Object). p.opening) is
+same-opening o o' (taken k back is) = ap (λ (p : Object). p.opening) is
+
+-- the desk with the execution that is left
+on-execution : (d : AtDesk) (c : calculus_command.Command) → Sound (execution d) → (reply : Reply) × (d' : AtDesk) × OnExecution d c reply d'
+on-execution d c s =
+    let some = some-reply (execution d) c s in
+    let after : AtDesk = record { held = record { checked = d.held.checked; live = some.1.live; next = some.1.next }; breaks = d.breaks } in
+    let begun : some.1.opening ≡ opening d.held.checked = same-opening (execution d) some.1 (does-effect (execution d) c some.0 some.1 s some.2) in
+    let one : some.1 ≡ execution after = (λ i. record { opening = begun i; live = some.1.live; next = some.1.next }) in
+    (shown some.0, after, (some.0, refl, subst (λ (o : Object). Does (execution d) c some.0 o) one some.2, refl, refl))
+
+on-branch : (d : AtDesk) (session k : ℕ) → Sound (execution d) → Replied d session (Command.Branch k)
+on-branch d session k s =
+    let some = some-branch d.held k (breaks_of d session) s in
+    (shown_branch some.0, record { held = some.1; breaks = d.breaks }, (some.0, refl, some.3, some.2, refl))
+
+-- the desk with a breakpoint of the session on the line
+abbrev set-there : AtDesk → ℕ → ℕ → AtDesk
+set-there d session line = with_breaks d session (with_line line (breaks_of d session))
+
+some-set : (d : AtDesk) (session line : ℕ) → Replied d session (Command.Break line)
+some-set d session line = pick (begins line d.held.checked.main) refl (is_in line (breaks_of d session)) refl
+  where
+    pick : (begun : Bool) → begins line d.held.checked.main ≡ begun → (there : Bool) → is_in line (breaks_of d session) ≡ there →
+        Replied d session (Command.Break line)
+    pick false off there is = (Reply.Refused NoSuchLine, d, (off, refl))
+    pick true on true is = (Reply.Done, set-there d session line, (on, inl is, refl))
+    pick true on false is =
+        elim (cases_lt (length (breaks_of d session)) most_breaks) [
+          | inl room ↦ (Reply.Done, set-there d session line, (on, inr room, refl))
+          | inr full ↦ (Reply.Refused BreaksFull, d, ((on, is, full), refl))
+        ]
+
+pub some-reply-each : SomeReply
+some-reply-each d session (Command.Step c) s = on-execution d (calculus_command.Command.Step c) s
+some-reply-each d session (Command.Undo t) s = on-execution d (calculus_command.Command.Undo t) s
+some-reply-each d session (Command.Roll t) s = on-execution d (calculus_command.Command.Roll t) s
+some-reply-each d session (Command.RollValue x) s = on-execution d (calculus_command.Command.RollValue x) s
+some-reply-each d session (Command.Blame x) s = on-execution d (calculus_command.Command.Blame x) s
+some-reply-each d session Command.Ready s = on-execution d calculus_command.Command.Ready s
+some-reply-each d session (Command.Consequences t) s = on-execution d (calculus_command.Command.Consequences t) s
+some-reply-each d session Command.Live s = on-execution d calculus_command.Command.Live s
+some-reply-each d session (Command.Value x) s = on-execution d (calculus_command.Command.Value x) s
+some-reply-each d session (Command.Branch k) s = on-branch d session k s
+some-reply-each d session (Command.Break line) s = some-set d session line
+some-reply-each d session (Command.Clear line) s = (Reply.Done, with_breaks d session (without_line line (breaks_of d session)), refl)

@@ -1,0 +1,37 @@
+use Rattle.std.proofs.Common.{◌∙◌, arith, take}
+use Rattle.machine.proofs.HeadlineLaws.{headline, grows}
+use Rattle.calculus.proofs.ObjectLaws.{stays-over-lists}
+use Rattle.locked_execution.specs.AtDesk.{execution}
+use Rattle.locked_execution.specs.Bridge.{commands_of}
+use Rattle.locked_execution.proofs.AskedLists.{answered-more}
+use Rattle.locked_execution.proofs.BridgeLaws.{are-on-execution}
+use Rattle.locked_execution.proofs.asked.run_commands.Goals as goal
+
+pub loop-session-preserved : goal.loop-session-preserved
+loop-session-preserved c = record {
+  answered =
+      answered-more c.args.desk.now c.loop-session.desk c.perform-reply.new.self c.args.commands.now c.loop-session.session-index
+      c.loop-session-item.result c.loop-session.replies.items _ c.perform-reply.result c.loop-session-test.true c.loop-session-item.is
+      c.loop-session.invariant.answered c.perform-reply.ensures.answers c.push_reserved.ensures.items;
+  system = c.perform-reply.ensures.system ∙ c.loop-session.invariant.system;
+  room = c.push_reserved.ensures.capacity ∙ c.loop-session.invariant.room;
+  number = omega arith;
+}
+
+pub returns-in_err-replies-clause-headline : goal.returns-in_err-replies-clause-headline
+returns-in_err-replies-clause-headline c = c.is_sound.ensures.execution
+
+pub returns-clause-headline : goal.returns-clause-headline
+returns-clause-headline c =
+    let done = take c.loop-session.session-index c.args.commands.now in
+    let there = are-on-execution c.args.desk.now c.loop-session.desk done c.loop-session.replies.items c.loop-session.invariant.answered in
+    headline (execution c.loop-session.desk)
+    (stays-over-lists (execution c.args.desk.now) (execution c.loop-session.desk) (commands_of done c.loop-session.replies.items)
+    there.0 c.is_sound.ensures.execution.sound there.2)
+
+pub returns-clause-tickets : goal.returns-clause-tickets
+returns-clause-tickets c =
+    let done = take c.loop-session.session-index c.args.commands.now in
+    let there = are-on-execution c.args.desk.now c.loop-session.desk done c.loop-session.replies.items c.loop-session.invariant.answered in
+    grows (execution c.args.desk.now) (execution c.loop-session.desk) (commands_of done c.loop-session.replies.items)
+    there.0 c.is_sound.ensures.execution.sound there.2

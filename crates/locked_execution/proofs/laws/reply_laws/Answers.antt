@@ -1,0 +1,8 @@
+-- Replies.
+use Rattle.locked_execution.proofs.AskedLists.{answered-joins}
+use Rattle.locked_execution.proofs.OneReplies.{one-reply-each}
+use Rattle.locked_execution.proofs.SomeReplies.{some-reply-each}
+use Rattle.locked_execution.proofs.laws.reply_laws.Goals as goal
+
+pub returns : goal.returns
+returns c = record { one = one-reply-each; some = some-reply-each; joins = answered-joins }

@@ -1,0 +1,61 @@
+-- What the commands of sessions are on the execution, so that every law on its lists of commands holds of them.
+use Rattle.std.specs.Prelude.{◌≡◌, ℕ, List, [], ◌∷◌, map, Option, Some, None, MatchOption, option_map}
+use Rattle.calculus.specs.Answered as calculus
+use Rattle.calculus.specs.Choices.{choice_of}
+use Rattle.calculus.specs.Does.{Answers}
+use Rattle.calculus.specs.declared.command.Command as calculus_command
+use Rattle.calculus.specs.declared.command.Reply as calculus_reply
+use Rattle.locked_execution.specs.AtDesk.{AtDesk, execution}
+use Rattle.locked_execution.specs.Answered.{Answered}
+use Rattle.locked_execution.specs.Performs as performs
+use Rattle.locked_execution.specs.declared.command.Command.{Command}
+use Rattle.locked_execution.specs.declared.command.Reply.{Reply}
+
+-- the command of the execution that a session's command is where it is answered so: a step in a branch is the step of the
+-- event that it took; the others are none
+abbrev pub on_execution : Command → Reply → Option calculus_command.Command
+on_execution (Command.Step c) reply = Some (calculus_command.Command.Step c)
+on_execution (Command.Undo t) reply = Some (calculus_command.Command.Undo t)
+on_execution (Command.Roll t) reply = Some (calculus_command.Command.Roll t)
+on_execution (Command.RollValue x) reply = Some (calculus_command.Command.RollValue x)
+on_execution (Command.Blame x) reply = Some (calculus_command.Command.Blame x)
+on_execution Command.Ready reply = Some calculus_command.Command.Ready
+on_execution (Command.Consequences t) reply = Some (calculus_command.Command.Consequences t)
+on_execution Command.Live reply = Some calculus_command.Command.Live
+on_execution (Command.Value x) reply = Some (calculus_command.Command.Value x)
+on_execution (Command.Branch k) (Reply.Stepped t e) = Some (calculus_command.Command.Step (choice_of e))
+on_execution _ reply = None
+
+-- x first, where there is one
+abbrev pub onto : {X : Type 0} → Option X → List X → List X
+onto None xs = xs
+onto (Some x) xs = x ∷ xs
+
+-- the commands of the execution that the commands of sessions are, where these are their replies
+abbrev pub commands_of : List (ℕ × Command) → List Reply → List calculus_command.Command
+commands_of [] replies = []
+commands_of (x ∷ xs) [] = []
+commands_of (x ∷ xs) (reply ∷ replies) = onto (on_execution x.1 reply) (commands_of xs replies)
+
+-- the reply, where it is one of the execution
+abbrev pub replied : Command → Reply → Option Reply
+replied command reply = option_map (λ _. reply) (on_execution command reply)
+
+-- the replies to these
+abbrev pub replies_of : List (ℕ × Command) → List Reply → List Reply
+replies_of [] replies = []
+replies_of (x ∷ xs) [] = []
+replies_of (x ∷ xs) (reply ∷ replies) = onto (replied x.1 reply) (replies_of xs replies)
+
+-- what a session is answered, the execution answers; where its command is none of the execution, that stays as it is
+abbrev pub IsOnExecution : Type 0
+IsOnExecution = (d d' : AtDesk) (session : ℕ) (command : Command) (reply : Reply) → performs.Answers d session command reply d' →
+    MatchOption (on_execution command reply)
+    (d'.held ≡ d.held)
+    (λ c. (answer : calculus_reply.Reply) × (performs.shown answer ≡ reply) × Answers (execution d) c answer (execution d'))
+
+-- and so it is with lists
+abbrev pub AreOnExecution : Type 0
+AreOnExecution = (d d' : AtDesk) (commands : List (ℕ × Command)) (replies : List Reply) → Answered d commands replies d' →
+    (answers : List calculus_reply.Reply) × (map performs.shown answers ≡ replies_of commands replies)
+    × calculus.Answered (execution d) (commands_of commands replies) answers (execution d')

@@ -1,0 +1,101 @@
+-- What each command of a session answers and leaves.
+use Rattle.std.specs.Prelude.{◌≡◌, ◌⊎◌, ℕ, ◌<◌, ◌≤◌, length, true, false}
+use Rattle.system.specs.Expression.{is_in}
+use Rattle.system_places.specs.LinesBegun.{begins}
+use Rattle.calculus.specs.Does as calculus
+use Rattle.calculus.specs.declared.command.Command as calculus_command
+use Rattle.calculus.specs.declared.command.Reply as calculus_reply
+use Rattle.calculus.specs.declared.command.Refusal.{Refusal}
+use Rattle.calculus.specs.declared.command.Refusal.TheVariants.{Memory, BreaksFull, NoSuchLine}
+use Rattle.machine.specs.Breakpoints.{most_breaks, with_line, without_line}
+use Rattle.machine.specs.Branching.{StepsBranch}
+use Rattle.machine.specs.declared.branching.BranchReply.{BranchReply}
+use Rattle.locked_execution.specs.AtDesk.{AtDesk, execution, breaks_of, with_breaks}
+use Rattle.locked_execution.specs.declared.command.Command.{Command}
+use Rattle.locked_execution.specs.declared.command.Reply.{Reply}
+
+-- what a session is told where the execution answers so
+abbrev pub shown : calculus_reply.Reply → Reply
+shown (calculus_reply.Reply.Stepped t e) = Reply.Stepped t e
+shown (calculus_reply.Reply.Undone t e) = Reply.Undone t e
+shown (calculus_reply.Reply.Rolled n) = Reply.Rolled n
+shown (calculus_reply.Reply.Blamed t) = Reply.Blamed t
+shown (calculus_reply.Reply.Ready es) = Reply.Ready es
+shown (calculus_reply.Reply.Consequences ts) = Reply.Consequences ts
+shown (calculus_reply.Reply.Live l) = Reply.Live l
+shown (calculus_reply.Reply.Value v) = Reply.Value v
+shown (calculus_reply.Reply.Refused why) = Reply.Refused why
+
+-- what a session is told of a step in a branch
+abbrev pub shown_branch : BranchReply → Reply
+shown_branch (BranchReply.Stepped t e) = Reply.Stepped t e
+shown_branch (BranchReply.Stopped line) = Reply.Stopped line
+shown_branch BranchReply.Idle = Reply.Idle
+shown_branch (BranchReply.Refused why) = Reply.Refused why
+
+-- a command of the execution: no breakpoint changes
+abbrev pub OnExecution : AtDesk → calculus_command.Command → Reply → AtDesk → Type 0
+OnExecution d c reply d' =
+    (answer : calculus_reply.Reply) × (reply ≡ shown answer) × calculus.Does (execution d) c answer (execution d')
+    × (d'.held.checked ≡ d.held.checked) × (d'.breaks ≡ d.breaks)
+
+-- a step in the branch, past the breakpoints of the session: no breakpoint changes
+abbrev pub OnBranch : AtDesk → ℕ → ℕ → Reply → AtDesk → Type 0
+OnBranch d session k reply d' =
+    (answer : BranchReply) × (reply ≡ shown_branch answer) × StepsBranch d.held k (breaks_of d session) answer d'.held
+    × (d'.held.checked ≡ d.held.checked) × (d'.breaks ≡ d.breaks)
+
+-- why a session gets no breakpoint on a line: no command begins there; or it has none there yet, and as many as may be
+abbrev pub RefusesBreak : AtDesk → ℕ → ℕ → Refusal → Type 0
+RefusesBreak d session line NoSuchLine = begins line d.held.checked.main ≡ false
+RefusesBreak d session line BreaksFull =
+    (begins line d.held.checked.main ≡ true) × (is_in line (breaks_of d session) ≡ false) × (most_breaks ≤ length (breaks_of d session))
+RefusesBreak d session line _ = ⊥
+
+-- a breakpoint of the session on a line on which a command begins: it has it already, or there is room for it
+abbrev pub SetsBreak : AtDesk → ℕ → ℕ → Reply → AtDesk → Type 0
+SetsBreak d session line Reply.Done d' =
+    (begins line d.held.checked.main ≡ true) × ((is_in line (breaks_of d session) ≡ true) ⊎ (length (breaks_of d session) < most_breaks))
+    × (d' ≡ with_breaks d session (with_line line (breaks_of d session)))
+SetsBreak d session line (Reply.Refused why) d' = RefusesBreak d session line why × (d' ≡ d)
+SetsBreak d session line _ d' = ⊥
+
+-- no breakpoint of the session on the line
+abbrev pub ClearsBreak : AtDesk → ℕ → ℕ → Reply → AtDesk → Type 0
+ClearsBreak d session line Reply.Done d' = d' ≡ with_breaks d session (without_line line (breaks_of d session))
+ClearsBreak d session line _ d' = ⊥
+
+-- the command of the session is answered by this reply, and leaves d'
+abbrev pub Performs : AtDesk → ℕ → Command → Reply → AtDesk → Type 0
+Performs d session (Command.Step c) reply d' = OnExecution d (calculus_command.Command.Step c) reply d'
+Performs d session (Command.Undo t) reply d' = OnExecution d (calculus_command.Command.Undo t) reply d'
+Performs d session (Command.Roll t) reply d' = OnExecution d (calculus_command.Command.Roll t) reply d'
+Performs d session (Command.RollValue x) reply d' = OnExecution d (calculus_command.Command.RollValue x) reply d'
+Performs d session (Command.Blame x) reply d' = OnExecution d (calculus_command.Command.Blame x) reply d'
+Performs d session Command.Ready reply d' = OnExecution d calculus_command.Command.Ready reply d'
+Performs d session (Command.Consequences t) reply d' = OnExecution d (calculus_command.Command.Consequences t) reply d'
+Performs d session Command.Live reply d' = OnExecution d calculus_command.Command.Live reply d'
+Performs d session (Command.Value x) reply d' = OnExecution d (calculus_command.Command.Value x) reply d'
+Performs d session (Command.Branch k) reply d' = OnBranch d session k reply d'
+Performs d session (Command.Break line) reply d' = SetsBreak d session line reply d'
+Performs d session (Command.Clear line) reply d' = ClearsBreak d session line reply d'
+
+-- there may be no memory for the command: a step in a branch may want some, breakpoints take none
+abbrev pub MayWantMemory : AtDesk → Command → Type 0
+MayWantMemory d (Command.Step c) = calculus.MayWantMemory (execution d) (calculus_command.Command.Step c)
+MayWantMemory d (Command.Undo t) = calculus.MayWantMemory (execution d) (calculus_command.Command.Undo t)
+MayWantMemory d (Command.Roll t) = calculus.MayWantMemory (execution d) (calculus_command.Command.Roll t)
+MayWantMemory d (Command.RollValue x) = calculus.MayWantMemory (execution d) (calculus_command.Command.RollValue x)
+MayWantMemory d (Command.Blame x) = calculus.MayWantMemory (execution d) (calculus_command.Command.Blame x)
+MayWantMemory d Command.Ready = calculus.MayWantMemory (execution d) calculus_command.Command.Ready
+MayWantMemory d (Command.Consequences t) = calculus.MayWantMemory (execution d) (calculus_command.Command.Consequences t)
+MayWantMemory d Command.Live = calculus.MayWantMemory (execution d) calculus_command.Command.Live
+MayWantMemory d (Command.Value x) = calculus.MayWantMemory (execution d) (calculus_command.Command.Value x)
+MayWantMemory d (Command.Branch k) = Unit {0}
+MayWantMemory d (Command.Break line) = ⊥
+MayWantMemory d (Command.Clear line) = ⊥
+
+-- the same, or there was no memory for it and nothing changed
+abbrev pub Answers : AtDesk → ℕ → Command → Reply → AtDesk → Type 0
+Answers d session command reply d' =
+    Performs d session command reply d' ⊎ (MayWantMemory d command × (reply ≡ Reply.Refused Memory) × (d' ≡ d))

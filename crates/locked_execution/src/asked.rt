@@ -1,0 +1,32 @@
+// The commands of several sessions.
+ghost use Rattle.std.specs.Prelude.{◌≡◌, ◌<◌, IfOk, OnErr};
+ghost use Rattle.system.specs.Lists.{Every};
+ghost use Rattle.machine.specs.Headline.{Headline, Grows};
+ghost use Rattle.locked_execution.specs.AtDesk.{execution};
+ghost use Rattle.locked_execution.specs.Answered.{Answered};
+
+use crate::{Command, Desk, Reply};
+use std::alloc::{AllocError, Global};
+
+/// Answers the commands of sessions, each 0 to 15, in their order. It is an error if there is no memory for the replies,
+/// and then nothing was performed.
+pub fn run_commands(
+    alloc: Global,
+    desk: &mut Desk,
+    commands: &[(u32, Command)],
+) -> Result<Vec<Reply>, AllocError>
+    requires { Every (λ entry. entry.0 < 16) commands.now }
+    ensures answered { IfOk result (λ replies. Answered desk.old commands.now replies.items desk.new) }
+    ensures refused { OnErr result (desk.new ≡ desk.old) }
+    ensures headline { Headline (execution desk.new) }
+    ensures tickets { Grows (execution desk.old) (execution desk.new) }
+    ensures system { desk.new.held.checked ≡ desk.old.held.checked }
+{
+    desk.is_sound();
+    let mut replies = Vec::with_capacity(alloc, commands.len())?;
+    for (session, command) in commands {
+        let reply = desk.perform(*session, command);
+        replies.push_reserved(reply);
+    }
+    Ok(replies)
+}

@@ -1,0 +1,32 @@
+// Laws of the desk, each the contract of a function that does nothing.
+ghost use Rattle.locked_execution.specs.Bridge.{IsOnExecution, AreOnExecution};
+ghost use Rattle.locked_execution.specs.Frames.{OnlyBreaksAndClears, OthersKeepTheirs, OthersKeepTheirsOverLists, BreakLeavesExecution, ClearLeavesExecution, RefusalLeavesAll, BreakSets, ClearClears};
+ghost use Rattle.locked_execution.specs.Replies.{OneReply, SomeReply, AnsweredJoins};
+
+/// What sessions are answered is what their execution answers to its own commands, a step in a branch being the step of the
+/// event that it took. So each law on lists of commands of an execution holds of those of sessions.
+pub fn execution_laws()
+    ensures one { IsOnExecution }
+    ensures lists { AreOnExecution }
+{}
+
+/// Breakpoints change by the breaks and the clears of their session alone, as it asks, and these leave the execution. A
+/// refusal leaves everything.
+pub fn breakpoint_laws()
+    ensures changes { OnlyBreaksAndClears }
+    ensures others { OthersKeepTheirs }
+    ensures lists { OthersKeepTheirsOverLists }
+    ensures break_leaves { BreakLeavesExecution }
+    ensures clear_leaves { ClearLeavesExecution }
+    ensures refusal { RefusalLeavesAll }
+    ensures sets { BreakSets }
+    ensures clears { ClearClears }
+{}
+
+/// Each command of a session has exactly one reply, which determines the execution and all breakpoints after it. Lists of
+/// commands that are answered one after the other are answered as one.
+pub fn reply_laws()
+    ensures one { OneReply }
+    ensures some { SomeReply }
+    ensures joins { AnsweredJoins }
+{}

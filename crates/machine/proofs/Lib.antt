@@ -1,0 +1,13 @@
+pub mod Branches
+pub mod Direct
+pub mod Entries
+pub mod Found
+pub mod Gathering
+pub mod HeadlineLaws
+pub mod KeptStates
+pub mod Placed
+pub mod SetLines
+pub mod Sooner
+pub mod Stepped
+pub mod TakenOut
+pub mod Undone

@@ -1,0 +1,41 @@
+use Rattle.std.proofs.Common.{◌≡◌, List, false, subst}
+use Rattle.std.specs.Prelude.{MatchOption}
+use Rattle.std.proofs.lemmas.Result.{IfOk-weaker}
+use Rattle.system.specs.Lists.{Every}
+use Rattle.calculus.specs.declared.event.Event.{Event}
+use Rattle.machine.specs.Taking.{FirstAt, Takes}
+use Rattle.machine.specs.Histories.{held}
+use Rattle.machine.specs.Branching.{moves, in_branch, line_of_first, StepsBranch}
+use Rattle.machine.specs.declared.branching.BranchReply.{BranchReply}
+use Rattle.machine.proofs.Entries.{within-at}
+use Rattle.machine.proofs.Branches.{moving-chosen, taken-branched, back-branched}
+use Rattle.machine.proofs.history.History.branch_from_state.Goals as goal
+
+pub take_at-requires : goal.take_at-requires
+take_at-requires c =
+    let h = held c.args.system.now c.args.self.now in
+    let first : FirstAt (moves h c.args.branch c.args.breaks.now) c.in_ok-events.events c.in-Some.place =
+    subst (λ (k : List Event). FirstAt (moves h c.args.branch c.args.breaks.now) k c.in-Some.place) c.as_slice.ensures c.in-Some.ensures in
+    within-at c.in_ok-events.events c.in-Some.place first.0 first.1
+
+pub returns-in-Some-clause-done : goal.returns-in-Some-clause-done
+returns-in-Some-clause-done c =
+    let h = held c.args.system.now c.args.self.now in
+    let h' = held c.args.system.now c.take_at.new.self in
+    let state = c.in_ok-events.ensures in
+    let first : FirstAt (moves h c.args.branch c.args.breaks.now) c.in_ok-events.events c.in-Some.place =
+    subst (λ (k : List Event). FirstAt (moves h c.args.branch c.args.breaks.now) k c.in-Some.place) c.as_slice.ensures c.in-Some.ensures in
+    IfOk-weaker c.take_at.result (λ reply. Takes h first.0 reply h') (λ reply. StepsBranch h c.args.branch c.args.breaks.now reply h')
+    (λ reply takes. taken-branched h h' c.args.branch c.args.breaks.now state.0 c.in_ok-events.events c.in-Some.place reply state.1 state.2 first takes)
+    (c.take_at.ensures.done c.args.system.now state.0 first.0 state.1 first.1
+    (moving-chosen h c.args.branch c.args.breaks.now state.0 c.in_ok-events.events c.in-Some.place state.2 first))
+
+pub returns-in-None-clause-done : goal.returns-in-None-clause-done
+returns-in-None-clause-done c =
+    let h = held c.args.system.now c.args.self.now in
+    let state = c.in_ok-events.ensures in
+    back-branched h c.args.branch c.args.breaks.now state.0 c.in_ok-events.events c.kept_back.result state.1 state.2
+    (subst (λ (k : List Event). Every (λ e. moves h c.args.branch c.args.breaks.now e ≡ false) k) c.as_slice.ensures c.in-None.ensures)
+    (subst
+    (λ (k : List Event). MatchOption (line_of_first h (in_branch h c.args.branch k)) (c.kept_back.result ≡ BranchReply.Idle) (λ line. c.kept_back.result ≡ BranchReply.Stopped line))
+    c.as_slice-in-None.ensures c.kept_back.ensures)

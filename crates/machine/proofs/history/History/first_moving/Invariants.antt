@@ -1,0 +1,8 @@
+use Rattle.std.proofs.Common.{◌≡◌, false, take}
+use Rattle.system.specs.Lists.{Every}
+use Rattle.machine.specs.Histories.{held}
+use Rattle.machine.specs.Branching.{moves}
+use Rattle.machine.proofs.history.History.first_moving.Given as goal
+
+abbrev pub invariant-loop-i : goal.invariant-loop-i
+invariant-loop-i l = Every (λ e. moves (held l.system l.self) l.branch l.breaks e ≡ false) (take l.i l.events)

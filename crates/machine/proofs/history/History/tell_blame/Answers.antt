@@ -1,0 +1,15 @@
+use Rattle.std.proofs.Common.{subst, refl}
+use Rattle.calculus.specs.Live.{Live, NoWriter}
+use Rattle.machine.specs.Following.{WritesLast}
+use Rattle.machine.proofs.Gathering.{last-is-last}
+use Rattle.machine.proofs.history.History.tell_blame.Goals as goal
+
+pub returns-in-Some : goal.returns-in-Some
+returns-in-Some c = λ system s. (
+  last-is-last c.args.self.now.live.items c.args.variable c.in-Some.ticket c.args.self.now.next s.rising
+      (subst (λ (l : Live). WritesLast l c.args.variable c.in-Some.ticket) c.as_slice.ensures.value c.in-Some.ensures),
+  refl,
+)
+
+pub returns-in-None : goal.returns-in-None
+returns-in-None c = λ system s. (subst (λ (l : Live). NoWriter l c.args.variable) c.as_slice.ensures.value c.in-None.ensures, refl)

@@ -1,0 +1,5 @@
+use Rattle.machine.proofs.Branches.{stepped-is-step, others-leave}
+use Rattle.machine.proofs.laws.branch_laws.Goals as goal
+
+pub returns : goal.returns
+returns c = record { steps = stepped-is-step; others = others-leave }

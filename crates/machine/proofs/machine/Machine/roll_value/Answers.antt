@@ -1,0 +1,27 @@
+use Rattle.std.proofs.Common.{subst}
+use Rattle.calculus.specs.Does.{Answers}
+use Rattle.calculus.specs.declared.command.Command.{Command}
+use Rattle.calculus.proofs.Effects.{stays-sound}
+use Rattle.machine.specs.Held.{Held, object}
+use Rattle.machine.specs.Histories.{execution}
+use Rattle.machine.proofs.Stepped.{answers-of}
+use Rattle.machine.proofs.machine.Machine.roll_value.Goals as goal
+
+pub returns-clause-answers : goal.returns-clause-answers
+returns-clause-answers c =
+    subst
+    (λ (h : Held). Answers (object h) (Command.RollValue c.args.variable) c.or_no_memory.result (execution c.self.inside.system c.roll_value.new.self))
+    c.self.view_is
+    (answers-of (execution c.self.inside.system c.self.inside.history) (execution c.self.inside.system c.roll_value.new.self) (Command.RollValue c.args.variable)
+    c.roll_value.result c.or_no_memory.result (c.roll_value.ensures.done c.self.inside.system c.self.invariant.0) (c.roll_value.ensures.wanted c.self.inside.system c.self.invariant.0)
+    (c.roll_value.ensures.unchanged c.self.inside.system) c.or_no_memory.ensures)
+
+pub invariant_of-self : goal.invariant_of-self
+invariant_of-self c = (
+  stays-sound (execution c.self.inside.system c.self.inside.history) (Command.RollValue c.args.variable) c.or_no_memory.result
+      (execution c.self.inside.system c.roll_value.new.self) c.self.invariant.0
+      (answers-of (execution c.self.inside.system c.self.inside.history) (execution c.self.inside.system c.roll_value.new.self) (Command.RollValue c.args.variable)
+      c.roll_value.result c.or_no_memory.result (c.roll_value.ensures.done c.self.inside.system c.self.invariant.0) (c.roll_value.ensures.wanted c.self.inside.system c.self.invariant.0)
+      (c.roll_value.ensures.unchanged c.self.inside.system) c.or_no_memory.ensures),
+  c.roll_value.ensures.kept c.self.inside.system c.self.invariant.1,
+)

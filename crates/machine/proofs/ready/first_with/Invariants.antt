@@ -1,0 +1,6 @@
+use Rattle.std.proofs.Common.{take}
+use Rattle.machine.specs.Choosing.{HasNone}
+use Rattle.machine.proofs.ready.first_with.Given as goal
+
+abbrev pub invariant-loop-i : goal.invariant-loop-i
+invariant-loop-i l = HasNone l.choice (take l.i l.events)

@@ -1,0 +1,94 @@
+-- What a branch does: the first of its events that no breakpoint keeps back is taken.
+use Rattle.std.specs.Prelude.{◌≡◌, ◌⊎◌, ℕ, ◌==◌, List, [], ◌∷◌, ◌++◌, Bool, true, false, cond, not, Option, Some, None, filter}
+use Rattle.system.specs.Lists.{Every}
+use Rattle.system.specs.Expression.{is_in}
+use Rattle.system_places.specs.SystemBranches.{branch_at}
+use Rattle.calculus.specs.Steps.{State}
+use Rattle.calculus.specs.Events.{acting}
+use Rattle.calculus.specs.Choices.{choice_of}
+use Rattle.calculus.specs.Ready.{ReadyList}
+use Rattle.calculus.specs.Live.{events}
+use Rattle.calculus.specs.Object.{Reaches}
+use Rattle.calculus.specs.Does.{Steps, Does, RefusesStep}
+use Rattle.calculus.specs.declared.event.Event.{Event}
+use Rattle.calculus.specs.declared.command.Command.{Command}
+use Rattle.calculus.specs.declared.command.Reply.{Reply}
+use Rattle.calculus.specs.declared.command.Refusal.TheVariants.{Memory}
+use Rattle.event_places.specs.EventPlaces.{line_after}
+use Rattle.machine.specs.Held.{Held, object}
+use Rattle.machine.specs.declared.branching.BranchReply.{BranchReply}
+use Rattle.machine.specs.declared.branching.BranchReply.TheVariants.{Stepped, Stopped, Idle, Refused}
+
+-- the line of the command at which an event acts, after the live events
+abbrev pub line_of : Held → Event → Option ℕ
+line_of h e = line_after (events h.live) h.checked (acting e)
+
+-- whether this is branch k
+abbrev pub is_branch : ℕ → Option ℕ → Bool
+is_branch k None = false
+is_branch k (Some b) = b == k
+
+-- whether an event acts in branch k
+abbrev pub acts_in : Held → ℕ → Event → Bool
+acts_in h k e = is_branch k (branch_at h.checked (acting e))
+
+-- the events that act in branch k, in order
+abbrev pub in_branch : Held → ℕ → List Event → List Event
+in_branch h k es = filter (acts_in h k) es
+
+-- whether a line has no breakpoint
+abbrev pub is_passed : List ℕ → Option ℕ → Bool
+is_passed breaks None = true
+is_passed breaks (Some line) = not (is_in line breaks)
+
+-- whether no breakpoint keeps an event back
+abbrev pub is_free : Held → List ℕ → Event → Bool
+is_free h breaks e = is_passed breaks (line_of h e)
+
+-- whether an event acts in branch k and no breakpoint keeps it back
+abbrev pub moves : Held → ℕ → List ℕ → Event → Bool
+moves h k breaks e = cond (acts_in h k e) (is_free h breaks e) false
+
+-- the line of the first event of the list
+abbrev pub line_of_first : Held → List Event → Option ℕ
+line_of_first h [] = None
+line_of_first h (e ∷ es) = line_of h e
+
+-- e is the first event of the list that is free
+pub record FirstFree (free : Event → Bool) (es : List Event) (e : Event) : Type 0 where
+  pub before : List Event
+  pub after : List Event
+  pub parts : es ≡ before ++ e ∷ after
+  pub is_free : free e ≡ true
+  pub kept_back : Every (λ f. free f ≡ false) before
+
+-- breakpoints keep all events back, and `line` is that of the first
+abbrev pub AllKeptBack : Held → List ℕ → List Event → ℕ → Type 0
+AllKeptBack h breaks [] line = ⊥
+AllKeptBack h breaks (e ∷ es) line = (line_of h e ≡ Some line) × Every (λ f. is_free h breaks f ≡ false) (e ∷ es)
+
+-- what is answered where these are the events of the branch that are ready, and what is left
+abbrev pub Branched : Held → List ℕ → List Event → BranchReply → Held → Type 0
+Branched h breaks es (Stepped t e) h' = FirstFree (is_free h breaks) es e × Steps (object h) (choice_of e) (Reply.Stepped t e) (object h')
+Branched h breaks es (Stopped line) h' = AllKeptBack h breaks es line × (h' ≡ h)
+Branched h breaks es Idle h' = (es ≡ []) × (h' ≡ h)
+Branched h breaks es (Refused why) h' = ((e : Event) × FirstFree (is_free h breaks) es e × RefusesStep (object h) (choice_of e) why) × (h' ≡ h)
+
+-- a step of branch k
+abbrev pub StepsBranch : Held → ℕ → List ℕ → BranchReply → Held → Type 0
+StepsBranch h k breaks reply h' =
+    (T : State) × (es : List Event) × Reaches (object h) T × ReadyList T es × Branched h breaks (in_branch h k es) reply h'
+
+-- the same, or there was no memory for it and nothing changed
+abbrev pub AnswersBranch : Held → ℕ → List ℕ → BranchReply → Held → Type 0
+AnswersBranch h k breaks reply h' = StepsBranch h k breaks reply h' ⊎ ((reply ≡ Refused Memory) × (h' ≡ h))
+
+-- a branch that takes an event takes a step at its choice
+abbrev pub SteppedIsStep : Type 0
+SteppedIsStep = (h h' : Held) (k t : ℕ) (breaks : List ℕ) (e : Event) → AnswersBranch h k breaks (Stepped t e) h' →
+    Does (object h) (Command.Step (choice_of e)) (Reply.Stepped t e) (object h')
+
+-- one that takes none leaves all as it was
+abbrev pub OthersLeave : Type 0
+OthersLeave = (h h' : Held) (k : ℕ) (breaks : List ℕ) (reply : BranchReply) → AnswersBranch h k breaks reply h' →
+    ((t : ℕ) × (e : Event) × (reply ≡ Stepped t e)) ⊎ (h' ≡ h)

@@ -1,0 +1,175 @@
+// A step of a branch: its first ready event whose line has no breakpoint.
+ghost use Rattle.std.specs.Prelude.{◌≡◌, ◌<◌, false, length, slice_get, Some, IfOk, OnErr, MatchOption, MatchResult};
+ghost use Rattle.system.specs.Lists.{Every};
+ghost use Rattle.system_places.specs.SystemBranches.{branch_at};
+ghost use Rattle.calculus.specs.Events.{acting};
+ghost use Rattle.calculus.specs.Choices.{choice_of};
+ghost use Rattle.calculus.specs.Steps.{State};
+ghost use Rattle.calculus.specs.Ready.{Chosen};
+ghost use Rattle.calculus.specs.Object.{Reaches};
+ghost use Rattle.calculus.specs.Sound.{Sound};
+ghost use Rattle.machine.specs.Branching.{is_branch, acts_in, in_branch, is_free, moves, line_of_first, StepsBranch};
+ghost use Rattle.machine.specs.Taking.{FirstAt, Takes};
+ghost use Rattle.machine.specs.Histories.{held, execution};
+ghost use Rattle.machine.specs.KeptState.{KeepsState};
+
+use crate::following::is_among;
+use crate::history::History;
+use calculus::{Event, Refusal};
+use event_places::line_after;
+use sharing_check::Checked;
+use std::alloc::{AllocError, Global};
+use syntax::Items;
+
+/// What is answered to a step of a branch.
+#[derive(Drop)]
+pub enum BranchReply {
+    /// the event was taken, under this ticket
+    Stepped(u64, Event),
+    /// breakpoints keep all its ready events back; the line of the first
+    Stopped(u64),
+    /// no event of it is ready, or there is no such branch
+    Idle,
+    /// nothing was done
+    Refused(Refusal),
+}
+
+impl History {
+    /// Takes the first ready event of the branch whose line is not among these.
+    pub(crate) fn branch_step(
+        &mut self,
+        alloc: Global,
+        system: &Checked,
+        branch: u32,
+        breaks: &[u64],
+    ) -> Result<BranchReply, AllocError>
+        requires sound { Sound (execution system.now self.old) }
+        requires kept { KeepsState system.now self.old }
+        ensures done { IfOk result (λ reply. StepsBranch (held system.now self.old) branch breaks.now reply (held system.now self.new)) }
+        ensures unchanged { OnErr result (held system.now self.new ≡ held system.now self.old) }
+        ensures kept { KeepsState system.now self.new }
+    {
+        self.keep_state(alloc, system)?;
+        self.branch_from_state(alloc, system, branch, breaks)
+    }
+
+    /// Takes that event. The state after it is kept where that before it is.
+    fn branch_from_state(
+        &mut self,
+        alloc: Global,
+        system: &Checked,
+        branch: u32,
+        breaks: &[u64],
+    ) -> Result<BranchReply, AllocError>
+        requires sound { Sound (execution system.now self.old) }
+        requires kept { KeepsState system.now self.old }
+        ensures done { IfOk result (λ reply. StepsBranch (held system.now self.old) branch breaks.now reply (held system.now self.new)) }
+        ensures unchanged { OnErr result (held system.now self.new ≡ held system.now self.old) }
+        ensures kept { KeepsState system.now self.new }
+    {
+        let events = self.ready(alloc, system)?;
+        match self.first_moving(system, events.as_slice(), branch, breaks) {
+            Some(place) => self.take_at(alloc, events, place),
+            None => Ok(self.kept_back(system, events.as_slice(), branch)),
+        }
+    }
+
+    /// Takes the event at this place of the list, where the limits leave room for it.
+    fn take_at(
+        &mut self,
+        alloc: Global,
+        events: Items<Event>,
+        place: usize,
+    ) -> Result<BranchReply, AllocError>
+        requires { place < length events }
+        ensures done { (system : Checked) (T : State) (e : Event) → Reaches (execution system self.old) T → slice_get events place ≡ Some e → Chosen T (choice_of e) e → IfOk result (λ reply. Takes (held system self.old) e reply (held system self.new)) }
+        ensures unchanged { (system : Checked) → OnErr result (held system self.new ≡ held system self.old) }
+        ensures kept { (system : Checked) → KeepsState system self.old → KeepsState system self.new }
+    {
+        let mut events = events.into_vec();
+        match self.admitted(Some(events.swap_remove(place))) {
+            Ok(event) => {
+                let entry = self.add(alloc, event)?;
+                Ok(BranchReply::Stepped(entry.0, entry.1))
+            }
+            Err(why) => Ok(BranchReply::Refused(why)),
+        }
+    }
+
+    /// Where the first of these events stands that acts in the branch and whose line is not among these.
+    fn first_moving(
+        &self,
+        system: &Checked,
+        events: &[Event],
+        branch: u32,
+        breaks: &[u64],
+    ) -> Option<usize>
+        ensures { MatchOption result (Every (λ e. moves (held system.now self.now) branch breaks.now e ≡ false) events.now) (λ i. FirstAt (moves (held system.now self.now) branch breaks.now) events.now i) }
+    {
+        for (i, event) in events.iter().enumerate() {
+            if self.moves(system, event, branch, breaks) {
+                return Some(i);
+            }
+        }
+        None
+    }
+
+    /// Whether the event acts in the branch and its line is not among these.
+    fn moves(&self, system: &Checked, event: &Event, branch: u32, breaks: &[u64]) -> bool
+        ensures { result ≡ moves (held system.now self.now) branch breaks.now event.now }
+    {
+        acts_in(system, event, branch) && self.is_free(system, event, breaks)
+    }
+
+    /// Whether the line of the event is not among these.
+    fn is_free(&self, system: &Checked, event: &Event, breaks: &[u64]) -> bool
+        ensures { result ≡ is_free (held system.now self.now) breaks.now event.now }
+    {
+        match line_after(system, self.live.as_slice(), event.acting_place()) {
+            Some(line) => !is_among(breaks, line),
+            None => true,
+        }
+    }
+
+    /// The answer where no event of the branch is taken: the line of the first, or that there is none.
+    fn kept_back(&self, system: &Checked, events: &[Event], branch: u32) -> BranchReply
+        ensures { MatchOption (line_of_first (held system.now self.now) (in_branch (held system.now self.now) branch events.now)) (result ≡ BranchReply.Idle) (λ line. result ≡ BranchReply.Stopped line) }
+    {
+        match self.first_line(system, events, branch) {
+            Some(line) => BranchReply::Stopped(line),
+            None => BranchReply::Idle,
+        }
+    }
+
+    /// The line of the first of these events that acts in the branch.
+    fn first_line(&self, system: &Checked, events: &[Event], branch: u32) -> Option<u64>
+        ensures { result ≡ line_of_first (held system.now self.now) (in_branch (held system.now self.now) branch events.now) }
+    {
+        for event in events {
+            if acts_in(system, event, branch) {
+                return line_after(system, self.live.as_slice(), event.acting_place());
+            }
+        }
+        None
+    }
+}
+
+/// Whether the event acts in the branch.
+fn acts_in(system: &Checked, event: &Event, branch: u32) -> bool
+    ensures { result ≡ is_branch branch (branch_at system.now (acting event.now)) }
+{
+    match system.branch(event.acting_place()) {
+        Some(number) => number == branch,
+        None => false,
+    }
+}
+
+/// The reply, or that there was no memory for it.
+pub(crate) fn or_refused(told: Result<BranchReply, AllocError>) -> BranchReply
+    ensures { MatchResult told (λ reply. result ≡ reply) (λ _. result ≡ BranchReply.Refused Refusal.Memory) }
+{
+    match told {
+        Ok(reply) => reply,
+        Err(_) => BranchReply::Refused(Refusal::Memory),
+    }
+}

@@ -1,0 +1,23 @@
+//! One execution of a description: its live events, the steps that it takes and takes back, and the questions about it.
+#![tactic(auto)]
+
+mod asking;
+mod branching;
+mod breaks;
+mod dependence;
+mod following;
+mod history;
+mod laws;
+mod machine;
+mod order;
+mod ready;
+mod replying;
+mod rolling;
+mod scan;
+mod stepping;
+mod undoing;
+
+pub use branching::BranchReply;
+pub use breaks::Breaks;
+pub use laws::{answered_laws, branch_laws};
+pub use machine::Machine;

@@ -1,0 +1,199 @@
+ghost use Rattle.std.specs.Prelude.{◌≡◌, [], IfOk, MatchOption, slice_get, Some, None};
+ghost use Rattle.calculus.specs.Steps.{State};
+ghost use Rattle.calculus.specs.Live.{events};
+ghost use Rattle.calculus.specs.Object.{Reaches};
+ghost use Rattle.calculus.specs.Ready.{ReadyList};
+ghost use Rattle.calculus.specs.Does.{Answers};
+ghost use Rattle.calculus.specs.declared.command.Command.{Command};
+ghost use Rattle.event_places.specs.EventPlaces.{line_after, is_open_after};
+ghost use Rattle.machine.specs.Branching.{AnswersBranch};
+ghost use Rattle.machine.specs.Held.{object};
+ghost use Rattle.machine.specs.Headline.{Headline};
+
+use crate::Breaks;
+use crate::branching::{BranchReply, or_refused};
+use crate::history::History;
+use crate::replying::or_no_memory;
+use address::Address;
+use calculus::{Choice, Event, Reply};
+use event_places::{line_after, select_after};
+use sharing_check::Checked;
+use std::alloc::{AllocError, Global};
+use std::marker::Model;
+use syntax::Items;
+
+/// One execution of a system: its live events with their tickets, and the ticket of the next step. The state is what
+/// the live events lead to: a step keeps it, and where none is kept it is replayed.
+#[derive(Drop)]
+pub struct Machine {
+    alloc: Global,
+    system: Checked,
+    history: History,
+}
+
+impl Model for Machine {
+    ghost use Rattle.machine.specs.Held.{Held};
+    ghost use Rattle.std.specs.Coded.{codes};
+    ghost use Rattle.system.specs.contracts.system.System as whole;
+
+    ghost Value = { Held };
+
+    ghost coded = { Prim.hlevel (codes, whole.the_row.coded) };
+
+    ghost use Rattle.calculus.specs.Sound.{Sound};
+    ghost use Rattle.machine.specs.Held.{object};
+    ghost use Rattle.machine.specs.Histories.{held, execution};
+    ghost use Rattle.machine.specs.KeptState.{KeepsState};
+
+    ghost view = { λ machine. held machine.system machine.history };
+
+    ghost invariant = { λ machine. Sound (execution machine.system machine.history) × KeepsState machine.system machine.history };
+}
+
+impl Machine {
+    /// The execution before its first event. It takes no memory yet.
+    pub fn new(alloc: Global, checked: Checked) -> Result<Machine, AllocError>
+        ensures { IfOk result (λ made. made ≡ record { checked = checked; live = []; next = 1 }) }
+    {
+        let history = History {
+            live: Vec::new(alloc),
+            next: 1,
+            state: None,
+        };
+        Ok(Machine {
+            alloc,
+            system: checked,
+            history,
+        })
+    }
+
+    /// The system.
+    pub fn checked(&self) -> &Checked
+        ensures { result.now ≡ self.now.checked }
+    {
+        &self.system
+    }
+
+    /// The ticket and the event at a place of the live events, counted from 0 in order of tickets; `None` past the last.
+    pub fn live_at(&self, place: u64) -> Option<(u64, &Event)>
+        ensures { MatchOption result (slice_get self.now.live place ≡ None) (λ entry. slice_get self.now.live place ≡ Some (entry.0, entry.1.now)) }
+    {
+        match self.history.live.get(place as usize) {
+            Some(entry) => Some((entry.0, &entry.1)),
+            None => None,
+        }
+    }
+
+    /// The ticket of the next step.
+    pub fn next_ticket(&self) -> u64
+        ensures { result ≡ self.now.next }
+    {
+        self.history.next
+    }
+
+    /// What holds of every machine at every moment: nothing is done, the contract says it.
+    pub fn is_sound(&self)
+        ensures { Headline (object self.now) }
+    {
+        let _history = &self.history;
+    }
+
+    /// Takes the event that the choice means.
+    pub fn step(&mut self, choice: &Choice) -> Reply
+        ensures answers { Answers (object self.old) (Command.Step choice.now) result (object self.new) }
+        ensures system { self.new.checked ≡ self.old.checked }
+    {
+        or_no_memory(self.history.step(self.alloc, &self.system, choice))
+    }
+
+    /// Takes the first ready event of the branch whose line has no breakpoint.
+    pub fn branch_step(&mut self, branch: u32, breaks: &Breaks) -> BranchReply
+        ensures answers { AnswersBranch self.old branch breaks.now result self.new }
+        ensures system { self.new.checked ≡ self.old.checked }
+    {
+        or_refused(
+            self.history
+                .branch_step(self.alloc, &self.system, branch, breaks.lines()),
+        )
+    }
+
+    /// Takes the event of this ticket back where no other live event depends on it. It takes no memory.
+    pub fn undo(&mut self, ticket: u64) -> Reply
+        ensures answers { Answers (object self.old) (Command.Undo ticket) result (object self.new) }
+        ensures system { self.new.checked ≡ self.old.checked }
+    {
+        self.history.undo(ticket)
+    }
+
+    /// Takes the event of this ticket back, and all live events that depend on it.
+    pub fn roll(&mut self, ticket: u64) -> Reply
+        ensures answers { Answers (object self.old) (Command.Roll ticket) result (object self.new) }
+        ensures system { self.new.checked ≡ self.old.checked }
+    {
+        or_no_memory(self.history.roll(self.alloc, ticket))
+    }
+
+    /// Takes the last event that wrote the variable back, and all live events that depend on it.
+    pub fn roll_value(&mut self, variable: u32) -> Reply
+        ensures answers { Answers (object self.old) (Command.RollValue variable) result (object self.new) }
+        ensures system { self.new.checked ≡ self.old.checked }
+    {
+        or_no_memory(self.history.roll_value(self.alloc, variable))
+    }
+
+    /// Tells the last live event that wrote the variable. It takes no memory.
+    pub fn blame(&self, variable: u32) -> Reply
+        ensures { Answers (object self.now) (Command.Blame variable) result (object self.now) }
+    {
+        self.history.tell_blame(variable)
+    }
+
+    /// Tells the live events that depend on the one of this ticket.
+    pub fn consequences(&self, ticket: u64) -> Reply
+        ensures { Answers (object self.now) (Command.Consequences ticket) result (object self.now) }
+    {
+        or_no_memory(self.history.tell_consequences(self.alloc, ticket))
+    }
+
+    /// Tells the live events.
+    pub fn live(&self) -> Reply
+        ensures { Answers (object self.now) Command.Live result (object self.now) }
+    {
+        or_no_memory(self.history.tell_live(self.alloc, &self.system))
+    }
+
+    /// Tells the value of the variable now.
+    pub fn value(&self, variable: u32) -> Reply
+        ensures { Answers (object self.now) (Command.Value variable) result (object self.now) }
+    {
+        or_no_memory(self.history.tell_value(self.alloc, &self.system, variable))
+    }
+
+    /// Tells the events that may be taken now.
+    pub fn tell_ready(&self) -> Reply
+        ensures { Answers (object self.now) Command.Ready result (object self.now) }
+    {
+        or_no_memory(self.history.tell_ready(self.alloc, &self.system))
+    }
+
+    /// The events that may be taken now, in order of acting address, then arm.
+    pub fn ready(&self) -> Result<Items<Event>, AllocError>
+        ensures { IfOk result (λ events. (T : State) × Reaches (object self.now) T × ReadyList T events) }
+    {
+        self.history.ready(self.alloc, &self.system)
+    }
+
+    /// The line, from 1, of the command that has this place after the live events. None where no command has it.
+    pub fn line(&self, place: &Address) -> Option<u64>
+        ensures { result ≡ line_after (events self.now.live) self.now.checked place.now }
+    {
+        line_after(&self.system, self.history.live.as_slice(), place)
+    }
+
+    /// Whether a `select` opens at this place, after the live events.
+    pub fn select(&self, place: &Address) -> bool
+        ensures { result ≡ is_open_after (events self.now.live) self.now.checked place.now }
+    {
+        select_after(&self.system, self.history.live.as_slice(), place)
+    }
+}

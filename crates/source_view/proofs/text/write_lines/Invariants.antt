@@ -1,0 +1,10 @@
+use Rattle.std.proofs.Common.{◌≡◌, suc, ◌+◌, ◌≤◌, ◌++◌, length}
+use Rattle.source_view.specs.View.{lines, lines_text}
+use Rattle.source_view.specs.Marking.{marks_at}
+use Rattle.source_view.proofs.text.write_lines.Given as goal
+
+abbrev pub invariant-loop-index : goal.invariant-loop-index
+invariant-loop-index l =
+    (length (lines l.rest) + l.index ≤ length l.marks)
+    × (l.out.items ++ lines_text (marks_at l.marks) (suc l.index) (lines l.rest)
+    ≡ lines_text (marks_at l.marks) 1 (lines l.source))

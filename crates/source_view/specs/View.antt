@@ -1,0 +1,83 @@
+-- The view of a source.
+use Rattle.std.specs.Prelude.{◌≡◌, ℕ, suc, ◌-◌, ◌==◌, ◌&&◌, not, List, [], ◌∷◌, ◌++◌, Bool, false, if◌then◌else◌, Option, Some, None, codes, length, replicate}
+use Rattle.std.specs.List.{list_any, onto_first}
+use Rattle.std.specs.Fmt.{decimal}
+use Rattle.system.specs.Expression.{is_in}
+use Rattle.calculus.specs.Choices.{choice_of}
+use Rattle.calculus.specs.Events.{acting}
+use Rattle.calculus.specs.Live.{events}
+use Rattle.calculus.specs.Object.{Reaches}
+use Rattle.calculus.specs.Ready.{ReadyList}
+use Rattle.calculus.specs.Steps.{State}
+use Rattle.calculus.specs.Tests.{same_place}
+use Rattle.calculus.specs.declared.event.Event.{Event}
+use Rattle.event_places.specs.EventPlaces.{is_open_after}
+use Rattle.machine.specs.Held.{Held, object}
+use Rattle.machine.specs.Branching.{line_of}
+use Rattle.source_view.specs.declared.marks.Marks.{Marks}
+
+-- whether the line is that of number n
+abbrev pub is_line : Option ℕ → ℕ → Bool
+is_line None n = false
+is_line (Some line) n = line == n
+
+-- whether e acts on line n
+abbrev pub acts_on : Held → ℕ → Event → Bool
+acts_on h n e = is_line (line_of h e) n
+
+-- whether e and f open different arms of the `select` at one place
+abbrev pub are_in_conflict : Held → Event → Event → Bool
+are_in_conflict h e f =
+    same_place (acting e) (acting f)
+    && (not ((choice_of e).arm == (choice_of f).arm) && is_open_after (events h.live) h.checked (acting e))
+
+-- whether one of the events acts on line n
+abbrev pub is_ready_on : Held → List Event → ℕ → Bool
+is_ready_on h es n = list_any (acts_on h n) es
+
+-- whether one of the events acts on line n and is in conflict with another
+abbrev pub is_conflict_on : Held → List Event → ℕ → Bool
+is_conflict_on h es n = list_any (λ e. acts_on h n e && list_any (are_in_conflict h e) es) es
+
+-- the marks of line n, where these events are ready
+abbrev pub marks_on : Held → List Event → List ℕ → ℕ → Marks
+marks_on h es breaks n =
+    record { is_ready = is_ready_on h es n; has_break = is_in n breaks; in_conflict = is_conflict_on h es n }
+
+-- whether the byte ends a line
+abbrev pub is_end : ℕ → Bool
+is_end byte = byte == 10
+
+-- the lines of a source: each ends at byte 10, the last one there or with the source
+abbrev pub lines : List ℕ → List (List ℕ)
+lines [] = []
+lines (byte ∷ source) = if is_end byte then [] ∷ lines source else onto_first byte (lines source)
+
+-- digits in 5 places, or in as many as they need
+abbrev pub right : List ℕ → List ℕ
+right digits = replicate (5 - length digits) 32 ++ digits
+
+-- the mark where it is to be seen, else a space
+abbrev pub mark : Bool → List ℕ → List ℕ
+mark is_seen text = if is_seen then text else codes " "
+
+-- the line of this number, with its marks
+abbrev pub line_text : ℕ → Marks → List ℕ → List ℕ
+line_text number marks line =
+    right (decimal number) ++ codes " "
+    ++ mark marks.is_ready (codes ">") ++ mark marks.has_break (codes "*") ++ mark marks.in_conflict (codes "!")
+    ++ codes " " ++ line ++ codes "\n"
+
+-- the lines from this number on, with the marks of each number
+abbrev pub lines_text : (ℕ → Marks) → ℕ → List (List ℕ) → List ℕ
+lines_text marks number [] = []
+lines_text marks number (line ∷ rest) = line_text number (marks number) line ++ lines_text marks (suc number) rest
+
+-- the view, where these events are ready
+abbrev pub view_text : Held → List Event → List ℕ → List ℕ → List ℕ
+view_text h es breaks source = lines_text (marks_on h es breaks) 1 (lines source)
+
+-- the bytes are the view, where just those events are ready that are allowed after the live ones
+abbrev pub IsView : Held → List ℕ → List ℕ → List ℕ → Type 0
+IsView h breaks source bytes =
+    (T : State) × (es : List Event) × Reaches (object h) T × ReadyList T es × (bytes ≡ view_text h es breaks source)

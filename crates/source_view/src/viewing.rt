@@ -1,0 +1,24 @@
+ghost use Rattle.std.specs.Prelude.{IfOk};
+ghost use Rattle.source_view.specs.View.{IsView};
+
+use crate::lines::room_for_lines;
+use crate::marks::marks_of;
+use crate::text::write_lines;
+use machine::{Breaks, Machine};
+use std::alloc::{AllocError, Global};
+
+/// The lines of the source, each behind its number and its marks: `>` where an event is ready, `*` where a breakpoint is, `!`
+/// where a `select` begins that two or more ready events would open in different arms.
+pub fn view(
+    alloc: Global,
+    machine: &Machine,
+    breaks: &Breaks,
+    source: &[u8],
+) -> Result<Vec<u8>, AllocError>
+    ensures { IfOk result (λ bytes. IsView machine.now breaks.now source.now bytes.items) }
+{
+    let ready = machine.ready()?;
+    let count = room_for_lines(source);
+    let marks = marks_of(alloc, machine, breaks, ready.as_slice(), count)?;
+    write_lines(alloc, marks.as_slice(), source)
+}
