@@ -58,9 +58,10 @@ fn an_identifier_is_copied(rt: HostRuntime) -> Result<(), Fail> {
 #[test]
 fn names_are_equal_by_their_bytes(rt: HostRuntime) -> Result<(), Fail> {
     let name = Name::new(rt.alloc(), b"buffer")?;
-    let joined = Name::from_vec(name.text().to_vec(rt.alloc())?);
-    assert!(rt; joined == name);
+    assert!(rt; name.clone()? == name);
     assert!(rt; Name::new(rt.alloc(), b"Buffer")? != name);
+    let long = Name::new(rt.alloc(), b"the_buffer_behind_the_arbiter")?;
+    assert!(rt; long.clone()? == long && long != name);
     Ok(())
 }
 

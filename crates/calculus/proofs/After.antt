@@ -6,7 +6,7 @@ use Rattle.calculus.specs.Moves.{Place, Move, assigns, tests, turns, sends, rece
 use Rattle.value.specs.Word.{Word}
 use Rattle.system.specs.Expression.{Expression, Decision, by_guards}
 use Rattle.system.specs.Residual.{Residual, done, halted, inside, beside, assign, send, receive, sync, held, loop, while, test, choose, closing, drain, Arms, within, along, arm_at, opened}
-use Rattle.calculus.specs.After.{Ask, to_assign, to_test, to_turn, to_send, to_hold, to_receive, to_open, to_sync, to_release, to_close, asks, Answer, around, at_place, at_act, in_child, in_branch, after_assign, after_send, after_receive, after_sync, after_held, after_loop, after_while, after_test, after_open, after_choose, after_closing, after_drain, after}
+use Rattle.calculus.specs.walking.After.{Ask, to_assign, to_test, to_turn, to_send, to_hold, to_receive, to_open, to_sync, to_release, to_close, asks, Answer, around, at_place, at_act, in_child, in_branch, after_assign, after_send, after_receive, after_sync, after_held, after_loop, after_while, after_test, after_open, after_choose, after_closing, after_drain, after}
 use Rattle.calculus.proofs.Options.{none-some, cond-some}
 use Rattle.calculus.proofs.WellFormed.{WellFormed}
 use Rattle.calculus.proofs.Kept.{branches-place}

@@ -6,9 +6,9 @@ use Rattle.system.specs.Expression.{Store}
 use Rattle.system.specs.Residual.{Residual}
 use Rattle.calculus.specs.Moves.{Move, Local, assigns, tests, turns, sends, receives, syncs, opens, releases, closes}
 use Rattle.calculus.specs.Events.{Located, at, sent, Makes, assigning, testing, turning, meeting, opening, opening_without_data, shutting, syncing, store_after}
-use Rattle.calculus.specs.Made.{event_of}
+use Rattle.calculus.specs.walking.Made.{event_of}
 use Rattle.calculus.specs.Steps.{State, Allowed}
-use Rattle.calculus.specs.AllowedEvents.{offers, received_by, meets, those, events_alone, events_with, events_together, allowed_events}
+use Rattle.calculus.specs.walking.AllowedEvents.{offers, received_by, meets, those, events_alone, events_with, events_together, allowed_events}
 use Rattle.calculus.specs.WellFormed.{WellFormed}
 use Rattle.calculus.specs.declared.event.Event.{Event}
 use Rattle.calculus.proofs.Made.{made-found, made-only}

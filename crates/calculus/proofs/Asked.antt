@@ -3,8 +3,8 @@ use Rattle.std.proofs.Common.{◌≡◌, ℕ, List, Option, None, refl}
 use Rattle.value.specs.Word.{Word}
 use Rattle.system.specs.Expression.{Expression, Decision}
 use Rattle.system.specs.Residual.{Residual, Arms}
-use Rattle.calculus.specs.After.{after_assign, after_send, after_receive, after_sync, after_held, after_loop, after_while, after_test, after_choose, after_closing, after_drain}
-use Rattle.calculus.specs.Answers.{ask_of}
+use Rattle.calculus.specs.walking.After.{after_assign, after_send, after_receive, after_sync, after_held, after_loop, after_while, after_test, after_choose, after_closing, after_drain}
+use Rattle.calculus.specs.walking.Meanings.{ask_of}
 use Rattle.calculus.specs.declared.moves.Ask.{Ask}
 use Rattle.calculus.specs.declared.moves.Ask.TheVariants.{Assign, Test, Turn, Send, Hold, Receive, Open, Sync, Release, Close}
 

@@ -1,10 +1,9 @@
 -- Going back: a part of the live events on which none of the others had a kept follower.
 use Rattle.std.proofs.Common.{◌≡◌, inl, inr, ℕ, suc, ◌<◌, ◌≤◌, [], ◌∷◌, ◌++◌, length, refl, ap, subst, arith}
 use Rattle.system.specs.Lists.{In, Every}
-use Rattle.calculus.specs.Steps.{State}
-use Rattle.calculus.specs.Runs.{Run}
-use Rattle.calculus.specs.Dependence.{Directly}
-use Rattle.calculus.specs.Live.{Live, events, Rising, LiveAt, Without, ended, stays, leaves}
+use Rattle.calculus.specs.Steps.{State, Run}
+use Rattle.calculus.specs.Dependence.{Directly, ended, stays, leaves}
+use Rattle.calculus.specs.Live.{Live, events, Rising, LiveAt, WithoutTickets}
 use Rattle.calculus.specs.declared.event.Event.{Event}
 use Rattle.calculus.proofs.WellFormed.{WellFormed}
 use Rattle.calculus.proofs.Swap.{step-formed}
@@ -115,17 +114,17 @@ ClosedIn L D = (t u : ℕ) (e f : Event) → LiveAt L t e → LiveAt L u f → t
 
 -- what is left after a closed set is taken out
 pub without-back : (L : Live) (D : ℕ → Type 0) (low next : ℕ) (l k : Live) → ((x : ℕ × Event) → In x l → In x L) → Rising low l next →
-    ClosedIn L D → Without D l k → Back l k
+    ClosedIn L D → WithoutTickets D l k → Back l k
 without-back L D low next l k inside r c ended = nothing
-without-back L D low next l k inside r c (stays {t = t} {e = e} {l = l'} {k = k'} out w) =
+without-back L D low next l k inside r c (stays {x = (t, e)} {l = l'} {k = k'} out w) =
     keeps (without-back L D (suc t) next l' k' (λ x i. inside x (inr i)) r.1 c w)
-without-back L D low next l k inside r c (leaves {t = t} {e = e} {l = l'} gone w) =
+without-back L D low next l k inside r c (leaves {x = (t, e)} {l = l'} gone w) =
     drops (none l' k (λ x i. inside x (inr i)) (λ u f i. (rising-in (suc t) next l' u f r.1 i).0) w)
     (without-back L D (suc t) next l' k (λ x i. inside x (inr i)) r.1 c w)
   where
-    none : (m k : Live) → ((x : ℕ × Event) → In x m → In x L) → ((u : ℕ) (f : Event) → LiveAt m u f → t < u) → Without D m k → Free e k
+    none : (m k : Live) → ((x : ℕ × Event) → In x m → In x L) → ((u : ℕ) (f : Event) → LiveAt m u f → t < u) → WithoutTickets D m k → Free e k
     none m k within above ended = tt
-    none m k within above (stays {t = u} {e = f} {l = m'} {k = k'} out w) = (
+    none m k within above (stays {x = (u, f)} {l = m'} {k = k'} out w) = (
       (λ d. out (c t u e f (inside (t, e) (inl refl)) (within (u, f) (inl refl)) (above u f (inl refl)) d gone)),
       none m' k' (λ x i. within x (inr i)) (λ v g i. above v g (inr i)) w,
     )

@@ -4,9 +4,8 @@ use Rattle.std.proofs.lemmas.List.{append-nil, append_assoc, length-append, leng
 use Rattle.std.proofs.lemmas.Bool.{eq-eqb, ne_eqb}
 use Rattle.system.specs.Lists.{In}
 use Rattle.system.specs.Expression.{is_in}
-use Rattle.sharing_check.specs.Sharing.{KeepsSharing}
-use Rattle.calculus.specs.Steps.{State}
-use Rattle.calculus.specs.Runs.{Run}
+use Rattle.calculus.proofs.SharingWidths.{KeepsSharing}
+use Rattle.calculus.specs.Steps.{State, Run}
 use Rattle.calculus.specs.Dependence.{Directly}
 use Rattle.calculus.specs.Choices.{choice_of}
 use Rattle.calculus.specs.Live.{Live, events, Rising, LiveAt, Follows, same, later}

@@ -3,9 +3,9 @@ use Rattle.std.proofs.Common.{◌≡◌, ℕ, ◌*◌, ◌/◌, ◌%◌, ◌==�
 use Rattle.std.proofs.lemmas.Bool.Decides.{Decides-eqb, Decides-and, Decides-like}
 use Rattle.address.specs.declared.Entry.TheVariants.{Ordered, Branch}
 use Rattle.calculus.specs.Moves.{Place}
-use Rattle.calculus.specs.EventLaws.{decided}
-use Rattle.calculus.specs.After.{Answer, at_place, at_act, in_child, in_branch}
-use Rattle.calculus.specs.Below.{below_child, below_branch, is_act, is_here}
+use Rattle.calculus.specs.walking.EventLaws.{decided}
+use Rattle.calculus.specs.walking.After.{Answer, at_place, at_act, in_child, in_branch}
+use Rattle.calculus.specs.walking.Below.{below_child, below_branch, is_act, is_here}
 
 -- an answer at the command's own place
 pub at_place_is : (a : Place) (answer : Answer) → at_place a answer ≡ cond (is_here a) answer None

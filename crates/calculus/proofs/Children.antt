@@ -5,7 +5,16 @@ use Rattle.system.specs.Residual.{Residual, done, within, along}
 use Rattle.system.specs.Translation.{in_sequence, in_parallel}
 use Rattle.calculus.specs.declared.left.Left.{Left}
 use Rattle.calculus.specs.Left.{residual_of_left}
-use Rattle.calculus.specs.Children.{sequence_onto, parallel_onto}
+
+-- children of a sequence from place n on, and then `next`
+abbrev pub sequence_onto : ℕ → List Residual → Residual → Residual
+sequence_onto n [] next = next
+sequence_onto n (r ∷ rs) next = within n r (sequence_onto (suc n) rs next)
+
+-- children of a parallel from branch n on, beside `rest`
+abbrev pub parallel_onto : ℕ → List Residual → Residual → Residual
+parallel_onto n [] rest = rest
+parallel_onto n (r ∷ rs) rest = along n r (parallel_onto (suc n) rs rest)
 
 -- with nothing after the last, it is the sequence
 sequence_onto_done : (n : ℕ) (rs : List Residual) → sequence_onto n rs done ≡ in_sequence n rs

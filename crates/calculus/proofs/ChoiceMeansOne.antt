@@ -1,7 +1,7 @@
 -- In a system that shares its channels well a choice means one of the allowed events.
 use Rattle.std.proofs.Common.{◌≡◌, ℕ, List, Bool, Option, Some, None, refl, sym, ◌∙◌, ap, subst}
 use Rattle.std.specs.declared.cmp.Ordering.TheVariants.{Less}
-use Rattle.sharing_check.specs.Sharing.{KeepsSharing}
+use Rattle.calculus.proofs.SharingWidths.{KeepsSharing}
 use Rattle.address.specs.Order.{order_of}
 use Rattle.address.specs.OrderLaws.{less-not-equal}
 use Rattle.address.proofs.Total.{order-itself}

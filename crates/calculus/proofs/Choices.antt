@@ -5,7 +5,7 @@ use Rattle.address.proofs.Places.{apart-symmetric}
 use Rattle.system.specs.Expression.{Store}
 use Rattle.system.specs.Residual.{Residual}
 use Rattle.sharing_check.specs.Measure.{sending, syncing}
-use Rattle.sharing_check.specs.Sharing.{KeepsSharing}
+use Rattle.calculus.proofs.SharingWidths.{KeepsSharing}
 use Rattle.calculus.specs.Moves.{Place, Move, sends, receives, syncs, opens, releases, closes}
 use Rattle.calculus.specs.Events.{Located, at, Makes, assigning, testing, turning, meeting, opening, opening_without_data, shutting, syncing as syncs_together, places, acting}
 use Rattle.calculus.specs.Steps.{State, Step}

@@ -1,8 +1,7 @@
 -- What a command does to an object: nothing, one event more, or a step back.
 use Rattle.std.proofs.Common.{◌≡◌, inl, inr, ℕ, ◌<◌, ◌≤◌, List, [], ◌∷◌, length, refl, sym, subst, arith}
 use Rattle.std.proofs.lemmas.List.{length_push}
-use Rattle.calculus.specs.Steps.{State, Step, Allowed}
-use Rattle.calculus.specs.Runs.{Run}
+use Rattle.calculus.specs.Steps.{State, Step, Allowed, Run}
 use Rattle.calculus.specs.Live.{Live, events, Follows, same, later, NoDependent}
 use Rattle.calculus.specs.Object.{Object, Reaches, most_live, last_ticket, with_event, with_live}
 use Rattle.calculus.specs.Does.{Steps, Undoes, Rolls, RollsValue, Blames, ListsReady, ListsFollowers, ListsLive, TellsValue, TakesOut, Does, Answers}

@@ -5,8 +5,9 @@ use Rattle.sharing_check.specs.Rule.{is_sync, is_shared}
 use Rattle.calculus.specs.Choices.{opened_arm, choice_of}
 use Rattle.calculus.specs.Dependence.{Directly}
 use Rattle.calculus.specs.Events.{Located, Makes, assigning, testing, turning, meeting, opening as opens_with_data, opening_without_data, shutting, syncing}
-use Rattle.calculus.specs.Laws.{NeighboursSwap, RunsWithout, RunsWithoutConsequences, RespectingOrdersRun, OneState, EventsAreDistinct, ActingOnce, EarlierPlaces, StatesAreWellFormed, RelatedAreOrdered, SameEventsRespect, OrdersDependAlike, RunsDependAlike, OneChoice, AllowedAreListed, AllowedWhereFormed, RunAsFunction}
-use Rattle.calculus.specs.Opening.{opening}
+use Rattle.calculus.specs.Laws.{NeighboursSwap, RunsWithout, RunsWithoutConsequences, RespectingOrdersRun, LeadsToOneState, EventsAreDistinct, ActingOnce, EarlierPlaces, StatesAreWellFormed, RelatedAreOrdered, SameEventsRespect, OrdersDependAlike, RunsDependAlike, OneChoice}
+use Rattle.calculus.specs.walking.Agreement.{AllowedAreListed, AllowedWhereFormed, RunAsFunction}
+use Rattle.calculus.specs.Steps.{opening}
 use Rattle.calculus.specs.declared.event.Choice.{Choice}
 use Rattle.calculus.specs.declared.event.Event.{Event}
 use Rattle.calculus.specs.declared.event.Kind.TheVariants.{Open}
@@ -51,7 +52,7 @@ pub respecting_orders : RespectingOrdersRun
 respecting_orders system h g T r o = respecting-runs (opening system) T h g (opening-formed system) r o
 
 -- a list leads to one state
-pub one_state : OneState
+pub one_state : LeadsToOneState
 one_state system h T U r q = run-determined (opening system) h T U (opening-formed system) r q
 
 -- events of a run are distinct

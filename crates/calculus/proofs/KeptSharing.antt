@@ -2,10 +2,9 @@
 use Rattle.std.proofs.Common.{ℕ, ◌≤◌, List, [], ◌∷◌, Bool, subst, le_refl, le_trans}
 use Rattle.system.specs.Residual.{Residual}
 use Rattle.calculus.specs.Events.{Located}
-use Rattle.calculus.specs.Steps.{State, Moves, Step}
-use Rattle.calculus.specs.Runs.{Run}
-use Rattle.sharing_check.specs.Measure.{Measure, amount, sending, receiving, syncing, on_variable}
-use Rattle.sharing_check.specs.Sharing.{KeepsSharing}
+use Rattle.calculus.specs.Steps.{State, Moves, Step, Run}
+use Rattle.sharing_check.specs.Measure.{Measure, amount, sending, receiving, syncing}
+use Rattle.calculus.proofs.SharingWidths.{on_variable, KeepsSharing}
 use Rattle.calculus.specs.declared.event.Event.{Event}
 use Rattle.calculus.proofs.Adding.{AddsUp, sums, variables_add_up}
 use Rattle.calculus.proofs.Amounts.{kept}

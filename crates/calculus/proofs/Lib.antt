@@ -53,6 +53,7 @@ pub mod RuleExamples
 pub mod SameCommand
 pub mod SameEvents
 pub mod Sameness
+pub mod SharingWidths
 pub mod Smart
 pub mod SomeReplies
 pub mod SortedLists

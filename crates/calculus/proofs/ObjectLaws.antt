@@ -1,11 +1,10 @@
 -- The laws of the object, in the words of the contracts.
 use Rattle.std.proofs.Common.{◌≡◌, ℕ, suc, ◌+◌, ◌<◌, ◌≤◌, List, [], ◌∷◌, ◌++◌, length, refl, sym, ◌∙◌, ap, subst, arith}
-use Rattle.calculus.specs.Steps.{State, Allowed}
+use Rattle.calculus.specs.Steps.{State, Allowed, opening}
 use Rattle.calculus.specs.Dependence.{Causes}
 use Rattle.system.specs.declared.system.System.{System}
-use Rattle.sharing_check.specs.Sharing.{KeepsSharing}
+use Rattle.calculus.proofs.SharingWidths.{KeepsSharing}
 use Rattle.sharing_check.specs.Rule.{SharesWell, is_sync, is_shared}
-use Rattle.calculus.specs.Opening.{opening}
 use Rattle.calculus.specs.Live.{Live, events, LiveAt, Follows}
 use Rattle.calculus.specs.Object.{Object, Reaches, most_live, last_ticket, with_event, with_live, new_object}
 use Rattle.calculus.specs.Does.{Does}
@@ -85,7 +84,7 @@ step-then-undo o m c t e s h =
           (refl, newest.live, newest.alone, (o.live, newest.rest, refl))),
       refl,
       (λ T. let is : m.opening ≡ o.opening = ap (λ (p : Object). p.opening) h.4 in
-          ((λ r. subst (λ (S : State). Rattle.calculus.specs.Runs.Run S (events o.live) T) is r), (λ r. subst (λ (S : State). Rattle.calculus.specs.Runs.Run S (events o.live) T) (sym is) r))),
+          ((λ r. subst (λ (S : State). Rattle.calculus.specs.Steps.Run S (events o.live) T) is r), (λ r. subst (λ (S : State). Rattle.calculus.specs.Steps.Run S (events o.live) T) (sym is) r))),
     )
 
 pub undoes-exactly : UndoesExactly
@@ -137,7 +136,7 @@ rolls-exactly o o' t n s h =
     let after = does-sound o (Command.Roll t) (Reply.Rolled n) o' s h in (
       e,
       h.0.1,
-      subst (λ (l : Live). Rattle.calculus.specs.Dependence.Kept (Causes (events o.live) e) (events o.live) (events l)) (sym is)
+      subst (λ (l : Live). Rattle.calculus.specs.Dependence.Without (Causes (events o.live) e) (events o.live) (events l)) (sym is)
           (without-kept o t e s h.0.1 o.live k (λ u f i. i) h.1.1),
       (λ u f. (
         (λ i. let at = live.0 u f (subst (λ (l : Live). LiveAt l u f) is i) in

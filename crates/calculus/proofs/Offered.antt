@@ -9,7 +9,7 @@ use Rattle.std.specs.Prelude.{slice_get, Bool, ◌==◌}
 use Rattle.value.specs.Word.{Word}
 use Rattle.calculus.specs.Moves.{Place, Move, Local, assigns, tests, turns, sends, receives, syncs, opens, releases, closes}
 use Rattle.calculus.specs.Events.{Located, at}
-use Rattle.calculus.specs.AllowedEvents.{behind, opens_from, offers}
+use Rattle.calculus.specs.walking.AllowedEvents.{behind, opens_from, offers}
 use Rattle.calculus.proofs.Lists.{in-left, in-right, in-parts}
 
 -- the move as an offer names it: an open without what it receives

@@ -5,9 +5,8 @@ use Rattle.std.proofs.Common.{◌≡◌, inl, inr, List, [], ◌∷◌, ◌++◌
 use Rattle.system.specs.Lists.{In, Every}
 use Rattle.system.specs.Residual.{Residual}
 use Rattle.calculus.specs.Moves.{Place}
-use Rattle.calculus.specs.Events.{Located, Makes, places, acting, acting_at}
-use Rattle.calculus.specs.Steps.{State, Moves}
-use Rattle.calculus.specs.Runs.{Run}
+use Rattle.calculus.specs.Events.{Located, places, acting, acting_at}
+use Rattle.calculus.specs.Steps.{State, Moves, Run}
 use Rattle.calculus.specs.Dependence.{Earlier}
 use Rattle.calculus.specs.declared.event.Event.{Event}
 use Rattle.calculus.specs.declared.event.Kind.{Kind}

@@ -3,7 +3,8 @@ use Rattle.std.proofs.Common.{◌≡◌, ℕ, ◌+◌, ◌<◌, ◌≤◌, List,
 use Rattle.value.specs.Word.{Word}
 use Rattle.calculus.specs.Steps.{State}
 use Rattle.calculus.specs.Ready.{Possible, Chosen, ReadyList, Sooner}
-use Rattle.calculus.specs.Live.{Live, events, LiveAt, Follows, Without, ended, stays, leaves, NoDependent, LastWriter, FollowersList}
+use Rattle.calculus.specs.Dependence.{ended, stays, leaves}
+use Rattle.calculus.specs.Live.{Live, events, LiveAt, Follows, WithoutTickets, NoDependent, LastWriter, FollowersList}
 use Rattle.calculus.specs.Object.{Object, Reaches, most_live, last_ticket, with_event, with_live}
 use Rattle.calculus.specs.Does.{TakesOut, Steps, Undoes, Rolls, RollsValue, Blames, ListsReady, ListsFollowers, ListsLive, TellsValue, RefusesStep, RefusesUndo, RefusesTicket, RefusesVariable, RefusesValue}
 use Rattle.calculus.specs.Sound.{Sound}
@@ -28,17 +29,17 @@ abbrev Same : Reply → Reply → Object → Object → Type 0
 Same reply other p q = (reply ≡ other) × (p ≡ q)
 
 -- what is left is determined
-without-end : (D : ℕ → Type 0) (k : Live) → Without D [] k → k ≡ []
+without-end : (D : ℕ → Type 0) (k : Live) → WithoutTickets D [] k → k ≡ []
 without-end D k ended = refl
 
-without-next : (D : ℕ → Type 0) (x : ℕ × Event) (l k m : Live) → ((a b : Live) → Without D l a → Without D l b → a ≡ b) →
-    Without D (x ∷ l) k → Without D (x ∷ l) m → k ≡ m
+without-next : (D : ℕ → Type 0) (x : ℕ × Event) (l k m : Live) → ((a b : Live) → WithoutTickets D l a → WithoutTickets D l b → a ≡ b) →
+    WithoutTickets D (x ∷ l) k → WithoutTickets D (x ∷ l) m → k ≡ m
 without-next D x l k m more (stays {k = a} out v) (stays {k = b} away w) = ap (λ (z : Live). x ∷ z) (more a b v w)
 without-next D x l k m more (stays out v) (leaves gone w) = absurd (out gone)
 without-next D x l k m more (leaves gone v) (stays out w) = absurd (out gone)
 without-next D x l k m more (leaves gone v) (leaves away w) = more k m v w
 
-without-determined : (D : ℕ → Type 0) (l k m : Live) → Without D l k → Without D l m → k ≡ m
+without-determined : (D : ℕ → Type 0) (l k m : Live) → WithoutTickets D l k → WithoutTickets D l m → k ≡ m
 without-determined D [] k m v w = without-end D k v ∙ sym (without-end D m w)
 without-determined D (x ∷ l) k m v w = without-next D x l k m (λ a b c d. without-determined D l a b c d) v w
 

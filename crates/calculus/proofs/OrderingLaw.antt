@@ -1,9 +1,8 @@
 -- The ordering law: of two related events of one run, the earlier has an address before an address of the later.
 use Rattle.std.proofs.Common.{ℕ, List, [], ◌∷◌, Bool, inl, inr, subst}
-use Rattle.calculus.specs.Steps.{State, Step}
-use Rattle.calculus.specs.Runs.{Run}
+use Rattle.calculus.specs.Steps.{State, Step, Run}
 use Rattle.calculus.specs.Dependence.{SomeBefore, Earlier}
-use Rattle.sharing_check.specs.Sharing.{KeepsSharing}
+use Rattle.calculus.proofs.SharingWidths.{KeepsSharing}
 use Rattle.calculus.specs.Related.{Related}
 use Rattle.calculus.specs.declared.event.Event.{Event}
 use Rattle.calculus.proofs.WellFormed.{WellFormed}

@@ -3,8 +3,8 @@ use Rattle.std.proofs.Common.{◌≡◌, ◌≤◌, ℕ, List, [], ◌∷◌, �
 use Rattle.value.specs.Word.{Word}
 use Rattle.system.specs.Residual.{Residual, inside, beside, along, put_residual}
 use Rattle.calculus.specs.Moves.{Place}
-use Rattle.calculus.specs.After.{Ask, Answer, around, after}
-use Rattle.calculus.specs.Below.{below_branch}
+use Rattle.calculus.specs.walking.After.{Ask, Answer, around, after}
+use Rattle.calculus.specs.walking.Below.{below_branch}
 use Rattle.calculus.specs.Left.{left_layer, residual_of_left}
 use Rattle.calculus.specs.declared.left.Left.{Left}
 use Rattle.calculus.specs.declared.left.Left.TheVariants.{Inside, Beside, rolls-Inside, rolls-Beside}
@@ -13,7 +13,7 @@ use Rattle.calculus.specs.declared.left.Left.TheOpen.{Left-F}
 use Rattle.calculus.specs.declared.left.Left.TheFolds.{fold-roll-Left}
 use Rattle.calculus.specs.declared.left.Passed.{Passed}
 use Rattle.calculus.specs.declared.left.Passed.TheVariants.{InOrder, InBranch}
-use Rattle.calculus.specs.Passed.{before, behind, goes_on, along_all}
+use Rattle.calculus.specs.walking.Passed.{before, behind, goes_on, along_all}
 use Rattle.calculus.proofs.left.Left.TheLaws.{the_size}
 use Rattle.calculus.proofs.Below.{in_branch_none}
 use Rattle.calculus.proofs.TreeAnswers.{left_inside, left_beside}

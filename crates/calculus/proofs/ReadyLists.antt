@@ -12,7 +12,7 @@ use Rattle.address.proofs.Places.{same?}
 use Rattle.calculus.specs.Moves.{Place}
 use Rattle.calculus.specs.Events.{Located, Makes, assigning, testing, turning, meeting, opening, opening_without_data, shutting, syncing, places, acting}
 use Rattle.calculus.specs.Steps.{State, Allowed}
-use Rattle.calculus.specs.AllowedEvents.{allowed_events}
+use Rattle.calculus.specs.walking.AllowedEvents.{allowed_events}
 use Rattle.calculus.specs.Choices.{choice_of}
 use Rattle.calculus.specs.InOrder.{InOrder}
 use Rattle.calculus.specs.Ready.{other, Sooner, ReadyList, Possible, Chosen}

@@ -4,12 +4,11 @@ use Rattle.system.specs.Lists.{In}
 use Rattle.address.specs.Places.{Before, Apart}
 use Rattle.system.specs.Residual.{Residual}
 use Rattle.calculus.specs.Events.{Located, Makes, places}
-use Rattle.calculus.specs.Steps.{State, Moves, Step}
+use Rattle.calculus.specs.Steps.{State, Moves, Step, Run}
 use Rattle.system.specs.Expression.{Store}
-use Rattle.calculus.specs.Runs.{Run}
 use Rattle.calculus.specs.Dependence.{SomeBefore}
-use Rattle.sharing_check.specs.Measure.{Measure, amount, sending, syncing, on_variable}
-use Rattle.sharing_check.specs.Sharing.{KeepsSharing}
+use Rattle.sharing_check.specs.Measure.{Measure, amount, sending, syncing}
+use Rattle.calculus.proofs.SharingWidths.{on_variable, KeepsSharing}
 use Rattle.calculus.specs.Related.{WritesOwn, Related}
 use Rattle.calculus.specs.declared.event.Event.{Event}
 use Rattle.calculus.proofs.WellFormed.{WellFormed}

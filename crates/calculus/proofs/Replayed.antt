@@ -1,21 +1,22 @@
 -- The answer of a replay in terms of runs.
-use Rattle.std.proofs.Common.{◌≡◌, List, Option, Some, None, Result, sym, ap, ◌∙◌}
+use Rattle.std.proofs.Common.{◌≡◌, ◌↔◌, List, Option, Some, None, Result, sym, ap, subst, ◌∙◌}
 use Rattle.std.specs.Prelude.{IfOk, MatchOption}
 use Rattle.std.specs.Option.{option_map, IfSome}
 use Rattle.std.proofs.lemmas.Result.{IfOk-weaker}
 use Rattle.system.specs.declared.system.System.{System}
 use Rattle.sharing_check.specs.Rule.{SharesWell}
 use Rattle.calculus.specs.Ruled.{RelatedInOrder, OneForEachChoice}
-use Rattle.calculus.specs.Steps.{State}
-use Rattle.calculus.specs.Runs.{Run}
-use Rattle.calculus.specs.StepOf.{run_of}
-use Rattle.calculus.specs.Opening.{opening}
-use Rattle.calculus.specs.Plain.{state_of}
+use Rattle.calculus.specs.Steps.{State, Step, Allowed, Run, opening}
+use Rattle.calculus.specs.walking.StepOf.{step_of, run_of}
+use Rattle.calculus.specs.walking.AllowedEvents.{allowed_events}
+use Rattle.calculus.specs.WellFormed.{WellFormed}
+use Rattle.system.specs.Lists.{In}
+use Rattle.calculus.specs.Left.{state_of}
 use Rattle.calculus.specs.declared.event.Event.{Event}
 use Rattle.calculus.specs.declared.plain.Plain.{Plain}
-use Rattle.calculus.proofs.FromOpening.{ordered, one_choice}
+use Rattle.calculus.proofs.FromOpening.{ordered, one_choice, allowed_where_formed}
 use Rattle.calculus.proofs.Options.{none-some}
-use Rattle.calculus.proofs.StepOf.{run-found, run-only}
+use Rattle.calculus.proofs.StepOf.{step-found, step-only, run-found, run-only}
 use Rattle.calculus.proofs.Opening.{opening-formed}
 
 -- a state is answered where the events run to it, and none where they do not run
@@ -23,6 +24,30 @@ answered : (system : System) (h : List Event) (r : Option Plain) → option_map 
     → MatchOption r ((T : State) → Run (opening system) h T → ⊥) (λ p. Run (opening system) h (state_of p))
 answered system h None e = λ T run. none-some T (e ∙ run-found (opening system) h T (opening-formed system) run)
 answered system h (Some p) e = run-only (opening system) h (state_of p) (sym e)
+
+-- a state is answered where the event leads to it, and none where the event is not possible
+after_one : (S : State) (e : Event) (r : Option Plain) → WellFormed S.residual → option_map state_of r ≡ step_of S e
+    → MatchOption r ((T : State) → Step S e T → ⊥) (λ p. Step S e (state_of p))
+after_one S e None w is = λ T step. none-some T (is ∙ step-found S e T w step)
+after_one S e (Some p) w is = step-only S e (state_of p) (sym is)
+
+-- the same of a result
+pub stepped : {E : Type 0} (S : State) (e : Event) (r : Result (Option Plain) E) → WellFormed S.residual
+    → IfOk r (λ o. option_map state_of o ≡ step_of S e)
+    → IfOk r (λ o. MatchOption o ((T : State) → Step S e T → ⊥) (λ p. Step S e (state_of p)))
+stepped S e r w i =
+    IfOk-weaker r (λ o. option_map state_of o ≡ step_of S e)
+    (λ o. MatchOption o ((T : State) → Step S e T → ⊥) (λ p. Step S e (state_of p)))
+    (λ o is. after_one S e o w is) i
+
+-- exactly the events that are allowed are listed
+pub listed : {E : Type 0} (S : State) (r : Result (List Event) E) → WellFormed S.residual → IfOk r (λ es. es ≡ allowed_events S)
+    → IfOk r (λ es. (e : Event) → In e es ↔ Allowed S e)
+listed S r w i =
+    IfOk-weaker r (λ es. es ≡ allowed_events S) (λ es. (e : Event) → In e es ↔ Allowed S e)
+    (λ es is e.
+    let both = allowed_where_formed S e w in
+    (λ here. both.1 (subst (In e) is here), λ a. subst (In e) (sym is) (both.0 a))) i
 
 -- the same of a result, of a system that is the one given
 pub replayed : {E : Type 0} (system given : System) (h : List Event) (r : Result (Option Plain) E) → given ≡ system

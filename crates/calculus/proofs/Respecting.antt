@@ -2,8 +2,7 @@
 use Rattle.calculus.proofs.Lists.{in-left, in-right, in-parts, every-of}
 use Rattle.std.proofs.Common.{◌≡◌, inl, inr, List, [], ◌∷◌, ◌++◌, refl, sym, subst}
 use Rattle.system.specs.Lists.{In}
-use Rattle.calculus.specs.Steps.{State}
-use Rattle.calculus.specs.Runs.{Run}
+use Rattle.calculus.specs.Steps.{State, Run}
 use Rattle.calculus.specs.Dependence.{Directly, Earlier, Rearranged, Respecting}
 use Rattle.calculus.specs.declared.event.Event.{Event}
 use Rattle.calculus.proofs.WellFormed.{WellFormed}

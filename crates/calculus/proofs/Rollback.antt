@@ -2,9 +2,8 @@
 use Rattle.calculus.proofs.Lists.{every-of}
 use Rattle.std.proofs.Common.{◌≡◌, inl, inr, List, [], ◌∷◌, refl, subst}
 use Rattle.system.specs.Lists.{Every}
-use Rattle.calculus.specs.Steps.{State}
-use Rattle.calculus.specs.Runs.{Run}
-use Rattle.calculus.specs.Dependence.{Directly, Earlier, Causes, itself, onwards, Kept, kept_all, kept, dropped}
+use Rattle.calculus.specs.Steps.{State, Run}
+use Rattle.calculus.specs.Dependence.{Directly, Earlier, Causes, itself, onwards, Without, ended, stays, leaves}
 use Rattle.calculus.specs.declared.event.Event.{Event}
 use Rattle.calculus.proofs.WellFormed.{WellFormed}
 use Rattle.calculus.proofs.Swap.{step-formed}
@@ -16,20 +15,20 @@ Closed D [] = Unit {0}
 Closed D (f ∷ h) = (D f → Every (λ g. Directly f g → D g) h) × Closed D h
 
 -- no kept event depends directly on f where all that do are of D
-none-kept : (D : Event → Type 0) (f : Event) (h k : List Event) → Kept D h k → Every (λ g. Directly f g → D g) h →
+none-kept : (D : Event → Type 0) (f : Event) (h k : List Event) → Without D h k → Every (λ g. Directly f g → D g) h →
     Every (λ g. Directly f g → ⊥) k
-none-kept D f h k kept_all every = tt
-none-kept D f h k (kept {f = g} {h = h'} {k = k'} out rest) every = ((λ d. out (every.0 d)), none-kept D f h' k' rest every.1)
-none-kept D f h k (dropped {h = h'} gone rest) every = none-kept D f h' k rest every.1
+none-kept D f h k ended every = tt
+none-kept D f h k (stays {x = g} {l = h'} {k = k'} out rest) every = ((λ d. out (every.0 d)), none-kept D f h' k' rest every.1)
+none-kept D f h k (leaves {l = h'} gone rest) every = none-kept D f h' k rest every.1
 
 -- the rest of a list runs where a closed set is dropped
-pub kept-runs : (D : Event → Type 0) (S T : State) (h k : List Event) → WellFormed S.residual → Run S h T → Closed D h → Kept D h k →
+pub kept-runs : (D : Event → Type 0) (S T : State) (h k : List Event) → WellFormed S.residual → Run S h T → Closed D h → Without D h k →
     (U : State) × Run S k U
-kept-runs D S T h k w r c kept_all = (S, refl)
-kept-runs D S T h k w r c (kept {f = f} {h = h'} {k = k'} out rest) =
+kept-runs D S T h k w r c ended = (S, refl)
+kept-runs D S T h k w r c (stays {x = f} {l = h'} {k = k'} out rest) =
     let later = kept-runs D r.0 T h' k' (step-formed S r.0 f w r.1) r.2 c.1 rest in
     (later.0, (r.0, r.1, later.1))
-kept-runs D S T h k w r c (dropped {f = f} {h = h'} gone rest) =
+kept-runs D S T h k w r c (leaves {x = f} {l = h'} gone rest) =
     let later = kept-runs D r.0 T h' k (step-formed S r.0 f w r.1) r.2 c.1 rest in
     let moved = past S r.0 later.0 f k w r.1 later.1 (none-kept D f h' k rest (c.0 gone)) in
     (moved.before, moved.run)
@@ -43,7 +42,7 @@ closed-part l e (f ∷ h) inside = (
 )
 
 -- a list that runs, runs without an event and all that depends on it
-pub rolled : (S T : State) (e : Event) (h k : List Event) → WellFormed S.residual → Run S h T → Kept (Causes h e) h k →
+pub rolled : (S T : State) (e : Event) (h k : List Event) → WellFormed S.residual → Run S h T → Without (Causes h e) h k →
     (U : State) × Run S k U
 rolled S T e h k w r rest = kept-runs (Causes h e) S T h k w r (closed-part h e h (λ f g s. s)) rest
 

@@ -2,9 +2,9 @@
 use Rattle.std.proofs.Common.{◌≡◌, inl, inr, ℕ, suc, ◌<◌, ◌≤◌, List, [], ◌∷◌, ◌++◌, Some, refl, sym, ◌∙◌, ap, subst, arith}
 use Rattle.system.specs.Lists.{In}
 use Rattle.system.specs.Expression.{get, Store}
-use Rattle.calculus.specs.Steps.{State}
-use Rattle.calculus.specs.Runs.{Run}
-use Rattle.calculus.specs.Live.{Live, events, Rising, LiveAt, Follows, same, Without, ended, stays, leaves, LastWriter, NoWriter}
+use Rattle.calculus.specs.Steps.{State, Run}
+use Rattle.calculus.specs.Dependence.{ended, stays, leaves}
+use Rattle.calculus.specs.Live.{Live, events, Rising, LiveAt, Follows, same, WithoutTickets, LastWriter, NoWriter}
 use Rattle.calculus.specs.Object.{Object}
 use Rattle.calculus.specs.Sound.{Sound}
 use Rattle.calculus.specs.declared.event.Event.{Event}
@@ -38,13 +38,13 @@ run-unwritten S T (y ∷ l) x r none =
     ∙ ap (λ (s : Store). get s x) r.1.stored
     ∙ get-after S.store y.1 x (λ is. none y.0 y.1 (inl refl) is)
 
-without-inside : (D : ℕ → Type 0) (l k : Live) → Without D l k → (x : ℕ × Event) → In x k → In x l
+without-inside : (D : ℕ → Type 0) (l k : Live) → WithoutTickets D l k → (x : ℕ × Event) → In x k → In x l
 without-inside D l k ended x i = i
 without-inside D l k (stays {l = l'} {k = k'} out w) x i = elim i [ inl a ↦ inl a | inr a ↦ inr (without-inside D l' k' w x a) ]
 without-inside D l k (leaves {l = l'} gone w) x i = inr (without-inside D l' k w x i)
 
 -- what is left after the first entry was taken out
-without-head : (D : ℕ → Type 0) (t : ℕ) (e : Event) (l k : Live) → D t → Without D ((t, e) ∷ l) k → (x : ℕ × Event) → In x k → In x l
+without-head : (D : ℕ → Type 0) (t : ℕ) (e : Event) (l k : Live) → D t → WithoutTickets D ((t, e) ∷ l) k → (x : ℕ × Event) → In x k → In x l
 without-head D t e l k d (stays out w) x i = absurd (out d)
 without-head D t e l k d (leaves gone w) x i = without-inside D l k w x i
 
@@ -52,10 +52,10 @@ without-head D t e l k d (leaves gone w) x i = without-inside D l k w x i
 record Begins (D : ℕ → Type 0) (before after k : Live) : Type 0 where
   rest : Live
   is : k ≡ before ++ rest
-  left : Without D after rest
+  left : WithoutTickets D after rest
 
 without-begins : (D : ℕ → Type 0) (before after k : Live) → ((u : ℕ) (f : Event) → LiveAt before u f → D u → ⊥) →
-    Without D (before ++ after) k → Begins D before after k
+    WithoutTickets D (before ++ after) k → Begins D before after k
 without-begins D [] after k none w = record { rest = k; is = refl; left = w }
 without-begins D (x ∷ before) after k none (stays {k = k'} out w) =
     let rest = without-begins D before after k' (λ u f i. none u f (inr i)) w in
@@ -73,7 +73,7 @@ pub record WriterGone (o : Object) (x : ℕ) (k : Live) : Type 0 where
   pub none : NoWriter after x
   pub value : (S T : State) → Run o.opening (events before) S → Run o.opening (events k) T → get T.store x ≡ get S.store x
 
-pub writer-gone : (o : Object) (x t : ℕ) (k : Live) → Sound o → LastWriter o.live x t → Without (Follows o.live t) o.live k → WriterGone o x k
+pub writer-gone : (o : Object) (x t : ℕ) (k : Live) → Sound o → LastWriter o.live x t → WithoutTickets (Follows o.live t) o.live k → WriterGone o x k
 writer-gone o x t k s last w =
     let parts = split o.live t last.event last.live in
     let l : Live = parts.before ++ (t, last.event) ∷ parts.after in
@@ -89,7 +89,7 @@ writer-gone o x t k s last w =
     let up : t ≤ u = follows-up o.live t u follows in
     let below : u < bounds.0 = (rising-in 1 bounds.0 parts.before u f bounds.1 i).1 in
     absurd (omega arith))
-    (subst (λ (z : Live). Without (Follows o.live t) z k) parts.is w) in
+    (subst (λ (z : Live). WithoutTickets (Follows o.live t) z k) parts.is w) in
     record {
       before = parts.before;
       ticket = t;

@@ -3,10 +3,9 @@ use Rattle.std.proofs.Common.{◌≡◌, ◌⊎◌, ◌↔◌, inl, inr, ℕ, Li
 use Rattle.system.specs.Lists.{In}
 use Rattle.calculus.specs.Moves.{Place}
 use Rattle.calculus.specs.Events.{places}
-use Rattle.calculus.specs.Steps.{State}
-use Rattle.calculus.specs.Runs.{Run}
+use Rattle.calculus.specs.Steps.{State, Run}
 use Rattle.calculus.specs.Dependence.{Directly, SomeBefore, OnOneChannel, OnOneVariable, WritesFor, Earlier, Causes, itself, onwards, Rearranged, Respecting}
-use Rattle.sharing_check.specs.Sharing.{KeepsSharing}
+use Rattle.calculus.proofs.SharingWidths.{KeepsSharing}
 use Rattle.calculus.proofs.OrderingLaw.{ordered}
 use Rattle.calculus.proofs.Respecting.{run-distinct}
 use Rattle.calculus.proofs.Elements.{Distinct, rearranged-turned, rearranged-distinct, one-order, either-order}

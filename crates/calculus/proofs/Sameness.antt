@@ -6,8 +6,8 @@ use Rattle.std.proofs.lemmas.Bool.Decides.{Decides-eqb, Decides-and, Decides-or,
 use Rattle.address.specs.declared.Entry.TheVariants.{Ordered, Branch}
 use Rattle.calculus.specs.Moves.{Place}
 use Rattle.address.specs.Places.{Apart}
-use Rattle.calculus.specs.Tests.{apart}
-pub use Rattle.calculus.specs.EventLaws.{same_list-decides, same_option-decides, same_entry-decides, same_place-decides, same_word-decides, same_kind-decides, same_number-decides, same_event-decides}
+use Rattle.calculus.specs.walking.Below.{apart}
+pub use Rattle.calculus.specs.walking.EventLaws.{same_list-decides, same_option-decides, same_entry-decides, same_place-decides, same_word-decides, same_kind-decides, same_number-decides, same_event-decides}
 
 -- at branch numbers that are equal the rest decides
 branch_forward : (i j : ℕ) (a b : Place) → (i ≢ j) ⊎ Apart a b → (i ≢ j) ⊎ ((i ≡ j) × Apart a b)

@@ -5,7 +5,8 @@ use Rattle.system.specs.Lists.{In}
 use Rattle.value.specs.Word.{Word}
 use Rattle.calculus.specs.Steps.{State}
 use Rattle.calculus.specs.InOrder.{InOrder}
-use Rattle.calculus.specs.Live.{Live, events, Rising, LiveAt, Follows, Without, ended, stays, leaves, FollowersList}
+use Rattle.calculus.specs.Dependence.{ended, stays, leaves}
+use Rattle.calculus.specs.Live.{Live, events, Rising, LiveAt, Follows, WithoutTickets, FollowersList}
 use Rattle.calculus.specs.Object.{Object, Reaches, most_live, last_ticket, with_event, with_live}
 use Rattle.calculus.specs.Does.{Does, TakesOut, CanStep}
 use Rattle.calculus.specs.Sound.{Sound}
@@ -62,7 +63,7 @@ some-undo o t s =
 -- the list without the entries of which D holds, and how many those are
 record Left (D : ℕ → Type 0) (l : Live) : Type 0 where
   rest : Live
-  without : Without D l rest
+  without : WithoutTickets D l rest
   number : ℕ
   is : number + length rest ≡ length l
 

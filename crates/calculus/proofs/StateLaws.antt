@@ -1,7 +1,6 @@
 -- The state of an object: it is one, and every order that respects dependence gives it.
 use Rattle.std.proofs.Common.{◌≡◌, ◌↔◌, List, subst}
-use Rattle.calculus.specs.Steps.{State}
-use Rattle.calculus.specs.Runs.{Run}
+use Rattle.calculus.specs.Steps.{State, Run}
 use Rattle.calculus.specs.Dependence.{Respecting}
 use Rattle.calculus.specs.Live.{events}
 use Rattle.calculus.specs.Object.{Object, Reaches}

@@ -5,9 +5,9 @@ use Rattle.std.proofs.lemmas.Result.{IfOk-weaker}
 use Rattle.system.specs.Residual.{Residual, done, inside, beside, within, along, arm_at}
 use Rattle.system.specs.Translation.{arms_of}
 use Rattle.calculus.specs.Moves.{Place}
-use Rattle.calculus.specs.After.{Ask, around, after}
-use Rattle.calculus.specs.Below.{below_child, below_branch}
-use Rattle.calculus.specs.Answers.{answer_of}
+use Rattle.calculus.specs.walking.After.{Ask, around, after}
+use Rattle.calculus.specs.walking.Below.{below_child, below_branch}
+use Rattle.calculus.specs.walking.Meanings.{answer_of}
 use Rattle.calculus.specs.declared.left.Left.{Left}
 use Rattle.calculus.specs.declared.left.Left.TheVariants.{Inside, Beside, rolls-Inside, rolls-Beside}
 use Rattle.calculus.specs.declared.left.Left.TheOpen.{Left-F}

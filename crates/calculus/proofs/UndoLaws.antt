@@ -2,8 +2,8 @@
 use Rattle.std.proofs.Common.{◌≡◌, inl, inr, ℕ, suc, ◌<◌, ◌≤◌, [], ◌∷◌, ◌++◌, refl, sym, ◌∙◌, ap, subst, arith}
 use Rattle.std.proofs.lemmas.List.{append-nil}
 use Rattle.system.specs.Lists.{In}
-use Rattle.calculus.specs.Dependence.{Causes, Kept, kept_all, kept, dropped}
-use Rattle.calculus.specs.Live.{Live, events, Rising, LiveAt, Follows, Without, ended, stays, leaves, NoDependent}
+use Rattle.calculus.specs.Dependence.{Causes, Without, ended, stays, leaves}
+use Rattle.calculus.specs.Live.{Live, events, Rising, LiveAt, Follows, WithoutTickets, NoDependent}
 use Rattle.calculus.specs.Object.{Object, with_event}
 use Rattle.calculus.specs.Sound.{Sound}
 use Rattle.calculus.specs.declared.event.Event.{Event}
@@ -14,13 +14,13 @@ use Rattle.calculus.proofs.Effects.{sound-formed}
 use Rattle.calculus.proofs.FollowersLaw.{follows-up, follows-causes, causes-follows-at, causes-follows, one-ticket}
 
 -- nothing live has the ticket, so nothing leaves
-without-none : (t : ℕ) (l : Live) → ((u : ℕ) (e : Event) → LiveAt l u e → u ≡ t → ⊥) → Without (λ v. v ≡ t) l l
+without-none : (t : ℕ) (l : Live) → ((u : ℕ) (e : Event) → LiveAt l u e → u ≡ t → ⊥) → WithoutTickets (λ v. v ≡ t) l l
 without-none t [] none = ended
 without-none t (x ∷ l) none = stays (none x.0 x.1 (inl refl)) (without-none t l (λ u e i. none u e (inr i)))
 
 -- a list in which one entry alone has the ticket
 pub without-one : (t : ℕ) (e : Event) (l k : Live) → ((u : ℕ) (f : Event) → LiveAt l u f → u ≡ t → ⊥) → ((u : ℕ) (f : Event) → LiveAt k u f → u ≡ t → ⊥) →
-    Without (λ v. v ≡ t) (l ++ (t, e) ∷ k) (l ++ k)
+    WithoutTickets (λ v. v ≡ t) (l ++ (t, e) ∷ k) (l ++ k)
 without-one t e [] k none after = leaves refl (without-none t k after)
 without-one t e (x ∷ l) k none after = stays (none x.0 x.1 (inl refl)) (without-one t e l k (λ u f i. none u f (inr i)) after)
 
@@ -35,19 +35,19 @@ newest-alone o e s u f i follows =
 pub record UndoesNewest (o : Object) (e : Event) : Type 0 where
   pub live : LiveAt (with_event o e).live o.next e
   pub alone : NoDependent (with_event o e).live o.next
-  pub rest : Without (λ v. v ≡ o.next) (with_event o e).live o.live
+  pub rest : WithoutTickets (λ v. v ≡ o.next) (with_event o e).live o.live
 
 pub undoes-newest : (o : Object) (e : Event) → Sound o → UndoesNewest o e
 undoes-newest o e s = record {
   live = live-right o.live ((o.next, e) ∷ []) (o.next, e) (inl refl);
   alone = newest-alone o e s;
-  rest = subst (λ (l : Live). Without (λ v. v ≡ o.next) (o.live ++ (o.next, e) ∷ []) l) (append-nil o.live)
+  rest = subst (λ (l : Live). WithoutTickets (λ v. v ≡ o.next) (o.live ++ (o.next, e) ∷ []) l) (append-nil o.live)
       (without-one o.next e o.live []
       (λ u f i is. let below : u < o.next = (rising-in 1 o.next o.live u f s.rising i).1 in absurd (omega arith)) (λ u f i is. i));
 }
 
 -- the list without the entry of one ticket
-pub take-one : (t : ℕ) (l : Live) → (k : Live) × Without (λ v. v ≡ t) l k
+pub take-one : (t : ℕ) (l : Live) → (k : Live) × WithoutTickets (λ v. v ≡ t) l k
 take-one t [] = ([], ended)
 take-one t (x ∷ l) =
     let rest = take-one t l in
@@ -75,13 +75,13 @@ causes-by-alone o t e s i alone f j c =
 
 -- taking out what follows a ticket takes out the events that its event causes
 pub without-kept : (o : Object) (t : ℕ) (e : Event) → Sound o → LiveAt o.live t e → (l k : Live) → ((u : ℕ) (f : Event) → LiveAt l u f → LiveAt o.live u f) →
-    Without (Follows o.live t) l k → Kept (Causes (events o.live) e) (events l) (events k)
-without-kept o t e s i l k inside ended = kept_all
-without-kept o t e s i l k inside (stays {t = u} {e = f} {l = l'} {k = k'} out w) =
-    kept (λ c. out (causes-follows-at 1 o.next o.live t u e f s.rising (sound-distinct o s) i (inside u f (inl refl)) c))
+    WithoutTickets (Follows o.live t) l k → Without (Causes (events o.live) e) (events l) (events k)
+without-kept o t e s i l k inside ended = ended
+without-kept o t e s i l k inside (stays {x = (u, f)} {l = l'} {k = k'} out w) =
+    stays (λ c. out (causes-follows-at 1 o.next o.live t u e f s.rising (sound-distinct o s) i (inside u f (inl refl)) c))
     (without-kept o t e s i l' k' (λ v g j. inside v g (inr j)) w)
-without-kept o t e s i l k inside (leaves {t = u} {e = f} {l = l'} gone w) =
-    dropped (follows-causes 1 o.next o.live t u e f s.rising i gone (inside u f (inl refl)))
+without-kept o t e s i l k inside (leaves {x = (u, f)} {l = l'} gone w) =
+    leaves (follows-causes 1 o.next o.live t u e f s.rising i gone (inside u f (inl refl)))
     (without-kept o t e s i l' k (λ v g j. inside v g (inr j)) w)
 
 -- which entries are left
@@ -92,9 +92,9 @@ pub record LeftLive (D : ℕ → Type 0) (l k : Live) : Type 0 where
 ticket-moved : (D : ℕ → Type 0) (u t : ℕ) (e f : Event) → ◌≡◌ {A = ℕ × Event} (u, f) (t, e) → D u → D t
 ticket-moved D u t e f is d = subst D (ap (λ (y : ℕ × Event). y.0) is) d
 
-left-live : (D : ℕ → Type 0) (l k : Live) → Without D l k → LeftLive D l k
+left-live : (D : ℕ → Type 0) (l k : Live) → WithoutTickets D l k → LeftLive D l k
 left-live D l k ended = record { of_left = λ u f i. absurd i; to_left = λ u f i out. i }
-left-live D l k (stays {t = t} {e = e} {l = l'} {k = k'} out w) =
+left-live D l k (stays {x = (t, e)} {l = l'} {k = k'} out w) =
     let rest = left-live D l' k' w in
     record {
       of_left = λ u f i. elim i [
@@ -103,7 +103,7 @@ left-live D l k (stays {t = t} {e = e} {l = l'} {k = k'} out w) =
       ];
       to_left = λ u f i none. elim i [ inl a ↦ inl a | inr a ↦ inr (rest.to_left u f a none) ];
     }
-left-live D l k (leaves {t = t} {e = e} {l = l'} gone w) =
+left-live D l k (leaves {x = (t, e)} {l = l'} gone w) =
     let rest = left-live D l' k w in
     record {
       of_left = λ u f i. let at = rest.of_left u f i in (inr at.0, at.1);
@@ -113,7 +113,7 @@ left-live D l k (leaves {t = t} {e = e} {l = l'} gone w) =
       ];
     }
 
-pub without-live : (D : ℕ → Type 0) (l k : Live) → Without D l k →
+pub without-live : (D : ℕ → Type 0) (l k : Live) → WithoutTickets D l k →
     ((u : ℕ) (f : Event) → LiveAt k u f → LiveAt l u f × (D u → ⊥)) × ((u : ℕ) (f : Event) → LiveAt l u f → (D u → ⊥) → LiveAt k u f)
 without-live D l k w = let both = left-live D l k w in (both.of_left, both.to_left)
 
@@ -124,22 +124,22 @@ pub record TakenFrom (t : ℕ) (e : Event) (l k : Live) : Type 0 where
   pub is : l ≡ before ++ (t, e) ∷ after
   pub left : k ≡ before ++ after
 
-without-absent : (t : ℕ) (l k : Live) → ((u : ℕ) (f : Event) → LiveAt l u f → u ≡ t → ⊥) → Without (λ v. v ≡ t) l k → k ≡ l
+without-absent : (t : ℕ) (l k : Live) → ((u : ℕ) (f : Event) → LiveAt l u f → u ≡ t → ⊥) → WithoutTickets (λ v. v ≡ t) l k → k ≡ l
 without-absent t l k none ended = refl
-without-absent t l k none (stays {t = u} {e = e} {l = l'} {k = k'} out w) =
+without-absent t l k none (stays {x = (u, e)} {l = l'} {k = k'} out w) =
     ap (λ (z : Live). (u, e) ∷ z) (without-absent t l' k' (λ v f i. none v f (inr i)) w)
-without-absent t l k none (leaves {t = u} {e = e} {l = l'} gone w) = absurd (none u e (inl refl) gone)
+without-absent t l k none (leaves {x = (u, e)} {l = l'} gone w) = absurd (none u e (inl refl) gone)
 
-pub without-splits : (t low next : ℕ) (e : Event) (l k : Live) → Rising low l next → LiveAt l t e → Without (λ v. v ≡ t) l k → TakenFrom t e l k
+pub without-splits : (t low next : ℕ) (e : Event) (l k : Live) → Rising low l next → LiveAt l t e → WithoutTickets (λ v. v ≡ t) l k → TakenFrom t e l k
 without-splits t low next e l k r i ended = absurd i
-without-splits t low next e l k r i (stays {t = u} {e = f} {l = l'} {k = k'} out w) =
+without-splits t low next e l k r i (stays {x = (u, f)} {l = l'} {k = k'} out w) =
     elim i [
       | inl a ↦ absurd (out (sym (ap (λ (y : ℕ × Event). y.0) a)))
       | inr a ↦
           let rest = without-splits t (suc u) next e l' k' r.1 a w in
           record { before = (u, f) ∷ rest.before; after = rest.after; is = ap (λ (z : Live). (u, f) ∷ z) rest.is; left = ap (λ (z : Live). (u, f) ∷ z) rest.left }
     ]
-without-splits t low next e l k r i (leaves {t = u} {e = f} {l = l'} gone w) =
+without-splits t low next e l k r i (leaves {x = (u, f)} {l = l'} gone w) =
     let above : (v : ℕ) (g : Event) → LiveAt l' v g → v ≡ t → ⊥ = λ v g j is.
     let high : suc u ≤ v = (rising-in (suc u) next l' v g r.1 j).0 in
     let here : u ≡ t = gone in

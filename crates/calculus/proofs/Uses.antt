@@ -6,7 +6,8 @@ use Rattle.address.specs.Places.{Apart}
 use Rattle.system.specs.Expression.{Store, variables, decision_variables, ascending, inserted}
 use Rattle.calculus.specs.Moves.{sends, receives, syncs, opens, releases, closes, assigns, tests}
 use Rattle.calculus.specs.Events.{Located, at, Makes, assigning, testing, turning, meeting, opening, opening_without_data, shutting, syncing as syncs_together, places}
-use Rattle.sharing_check.specs.Measure.{Measure, most, only, sending, syncing, on_variable}
+use Rattle.sharing_check.specs.Measure.{Measure, most, only, sending, syncing}
+use Rattle.calculus.proofs.SharingWidths.{on_variable}
 use Rattle.calculus.specs.declared.event.Event.{Event}
 use Rattle.calculus.proofs.Most.{only_least, most_least}
 use Rattle.calculus.proofs.Clash.{count}

@@ -4,7 +4,8 @@ use Rattle.std.proofs.Math.Nat.{le-max_left, le-max_right, max-le}
 use Rattle.system.specs.Lists.{In}
 use Rattle.system.specs.Expression.{variables, decision_variables}
 use Rattle.system.specs.Residual.{Residual, inside, beside, assign, send, receive, loop, while, test, choose, Arms, no_arms, arm}
-use Rattle.sharing_check.specs.Measure.{amount, amount_of_arms, most, only, on_variable, variable_together}
+use Rattle.sharing_check.specs.Measure.{amount, amount_of_arms, most, only}
+use Rattle.calculus.proofs.SharingWidths.{on_variable, variable_together}
 use Rattle.sharing_check.specs.Sharing.{Writes, WritesInArms, Mentions, MentionsInArms, OneBranchWrites, OneBranchWritesInArms}
 use Rattle.calculus.proofs.Adding.{variables_add_up}
 use Rattle.calculus.proofs.Most.{only_least, most_least}

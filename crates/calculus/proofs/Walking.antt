@@ -8,10 +8,9 @@ use Rattle.system.specs.Expression.{Store}
 use Rattle.system.specs.Residual.{Residual}
 use Rattle.calculus.specs.Moves.{Place}
 use Rattle.calculus.specs.Events.{Located, at}
-use Rattle.calculus.specs.AllowedEvents.{behind, offers, events_among, allowed_events}
-use Rattle.calculus.specs.Left.{residual_of_left}
-use Rattle.calculus.specs.Walk.{located_of, below}
-use Rattle.calculus.specs.Plain.{state_of}
+use Rattle.calculus.specs.walking.AllowedEvents.{behind, offers, events_among, allowed_events}
+use Rattle.calculus.specs.Left.{residual_of_left, state_of}
+use Rattle.calculus.specs.walking.Walk.{located_of, below}
 use Rattle.calculus.specs.declared.plain.Plain.{Plain}
 use Rattle.calculus.specs.declared.walk.Offer.{Offer}
 use Rattle.calculus.specs.declared.left.Left.{Left}

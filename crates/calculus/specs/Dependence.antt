@@ -36,11 +36,11 @@ pub data Causes (h : List Event) (e : Event) : Event → Type 0 where
   itself : Causes h e e
   onwards : {f g : Event} → Causes h e f → Earlier h f g → Directly f g → Causes h e g
 
--- k is the list h without the elements of which D holds
-pub data Kept (D : Event → Type 0) : List Event → List Event → Type 0 where
-  kept_all : Kept D [] []
-  kept : {f : Event} {h k : List Event} → (D f → ⊥) → Kept D h k → Kept D (f ∷ h) (f ∷ k)
-  dropped : {f : Event} {h k : List Event} → D f → Kept D h k → Kept D (f ∷ h) k
+-- k is the list l without the elements of which D holds
+pub data Without {X : Type 0} (D : X → Type 0) : List X → List X → Type 0 where
+  ended : Without D [] []
+  stays : {x : X} {l k : List X} → (D x → ⊥) → Without D l k → Without D (x ∷ l) (x ∷ k)
+  leaves : {x : X} {l k : List X} → D x → Without D l k → Without D (x ∷ l) k
 
 -- g is a rearrangement of h
 abbrev pub Rearranged : List Event → List Event → Type 0

@@ -2,7 +2,7 @@
 use Rattle.std.specs.Prelude.{◌≡◌, ◌⊎◌, ℕ, ◌+◌, ◌<◌, ◌≤◌, length, Some, None, slice_get}
 use Rattle.calculus.specs.Steps.{State}
 use Rattle.calculus.specs.Ready.{ReadyList, Possible, Chosen}
-use Rattle.calculus.specs.Live.{Live, LiveAt, NoneAt, Follows, Without, FirstDependent, NoDependent, LastWriter, NoWriter, FollowersList}
+use Rattle.calculus.specs.Live.{Live, LiveAt, NoneAt, Follows, WithoutTickets, FirstDependent, NoDependent, LastWriter, NoWriter, FollowersList}
 use Rattle.calculus.specs.Object.{Object, Reaches, most_live, last_ticket, with_event, with_live}
 use Rattle.calculus.specs.declared.event.Event.{Event}
 use Rattle.calculus.specs.declared.event.Choice.{Choice}
@@ -40,13 +40,13 @@ RefusesUndo o t _ = ⊥
 abbrev pub Undoes : Object → ℕ → Reply → Object → Type 0
 Undoes o t (Reply.Undone u e) o' =
     (u ≡ t) × LiveAt o.live t e × NoDependent o.live t
-    × ((k : Live) × Without (λ v. v ≡ t) o.live k × (o' ≡ with_live o k))
+    × ((k : Live) × WithoutTickets (λ v. v ≡ t) o.live k × (o' ≡ with_live o k))
 Undoes o t (Reply.Refused why) o' = RefusesUndo o t why × (o' ≡ o)
 Undoes o t _ o' = ⊥
 
 -- the event of ticket t and the live events that depend on it, n in number, are taken out
 abbrev pub TakesOut : Object → ℕ → ℕ → Object → Type 0
-TakesOut o t n o' = (k : Live) × Without (Follows o.live t) o.live k × (n + length k ≡ length o.live) × (o' ≡ with_live o k)
+TakesOut o t n o' = (k : Live) × WithoutTickets (Follows o.live t) o.live k × (n + length k ≡ length o.live) × (o' ≡ with_live o k)
 
 -- why a command on the live event of ticket t is refused
 abbrev pub RefusesTicket : Object → ℕ → Refusal → Type 0

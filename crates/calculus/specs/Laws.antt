@@ -1,21 +1,17 @@
 -- The laws of runs: of any system, from its opening state.
-use Rattle.std.specs.Prelude.{◌≡◌, ◌↔◌, ◌⊎◌, List, ◌∷◌, ◌++◌, Some}
-use Rattle.calculus.specs.StepOf.{run_of}
+use Rattle.std.specs.Prelude.{◌≡◌, ◌↔◌, ◌⊎◌, List, ◌∷◌, ◌++◌}
 use Rattle.address.specs.Places.{Apart, Before}
 use Rattle.system.specs.Residual.{Residual}
-use Rattle.calculus.specs.AllowedEvents.{allowed_events}
 use Rattle.calculus.specs.Moves.{Place, Move, Local}
 use Rattle.system.specs.Lists.{In}
 use Rattle.system.specs.Translation.{opening_residual}
 use Rattle.system.specs.declared.system.System.{System}
 use Rattle.sharing_check.specs.Rule.{is_shared, SharesWell}
 use Rattle.calculus.specs.Choices.{choice_of}
-use Rattle.calculus.specs.Dependence.{SomeBefore, Directly, Earlier, Causes, Kept, Rearranged, Respecting}
+use Rattle.calculus.specs.Dependence.{SomeBefore, Directly, Earlier, Causes, Without, Rearranged, Respecting}
 use Rattle.calculus.specs.Events.{acting, places}
-use Rattle.calculus.specs.Opening.{opening}
+use Rattle.calculus.specs.Steps.{opening, Run, State, Step, Allowed}
 use Rattle.calculus.specs.Related.{Related, OnOneShared}
-use Rattle.calculus.specs.Runs.{Run}
-use Rattle.calculus.specs.Steps.{State, Step, Allowed}
 use Rattle.calculus.specs.WellFormed.{WellFormed}
 use Rattle.calculus.specs.declared.event.Event.{Event}
 
@@ -36,7 +32,7 @@ RunsWithout =
 abbrev pub RunsWithoutConsequences : Type 0
 RunsWithoutConsequences =
     (system : System) (h k : List Event) (e : Event) (T : State) →
-    Run (opening system) h T → Kept (Causes h e) h k → (U : State) × Run (opening system) k U
+    Run (opening system) h T → Without (Causes h e) h k → (U : State) × Run (opening system) k U
 
 -- an event on which nothing after it depends directly causes itself alone
 abbrev pub CausesAlone : Type 0
@@ -50,8 +46,8 @@ RespectingOrdersRun =
     Run (opening system) h T → Respecting h g → Run (opening system) g T
 
 -- a list that runs, runs to one state
-abbrev pub OneState : Type 0
-OneState =
+abbrev pub LeadsToOneState : Type 0
+LeadsToOneState =
     (system : System) (h : List Event) (T U : State) → Run (opening system) h T → Run (opening system) h U → T ≡ U
 
 -- no two events of a run are equal
@@ -117,17 +113,6 @@ OneChoice =
     (system : System) (h : List Event) (S : State) (e f : Event) → SharesWell system →
     Run (opening system) h S → Allowed S e → Allowed S f → choice_of e ≡ choice_of f → e ≡ f
 
--- an event is allowed in a state of a run exactly where it is in the list of allowed events
-abbrev pub AllowedAreListed : Type 0
-AllowedAreListed =
-    (system : System) (h : List Event) (S : State) (e : Event) → Run (opening system) h S →
-    Allowed S e ↔ In e (allowed_events S)
-
--- and so in every state whose residual is well formed
-abbrev pub AllowedWhereFormed : Type 0
-AllowedWhereFormed =
-    (S : State) (e : Event) → WellFormed S.residual → Allowed S e ↔ In e (allowed_events S)
-
 -- two moves that a residual offers at places apart can be made one after the other, in either order
 abbrev pub ApartMovesMeet : Type 0
 ApartMovesMeet =
@@ -139,8 +124,3 @@ abbrev pub ApartMovesWereOffered : Type 0
 ApartMovesWereOffered =
     (r : Residual) (a b : Place) (m n : Move) (s q : Residual) → WellFormed r → Apart a b → Local r a m s → Local s b n q →
     (t : Residual) × Local r b n t
-
--- the run as a function, by which `replay` is proved, is the run
-abbrev pub RunAsFunction : Type 0
-RunAsFunction =
-    (system : System) (h : List Event) (T : State) → (run_of (opening system) h ≡ Some T) ↔ Run (opening system) h T

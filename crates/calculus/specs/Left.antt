@@ -1,11 +1,12 @@
--- The residual that a tree in memory stands for.
-use Rattle.std.specs.Prelude.{Bool, true, false, None}
+-- What the trees in memory stand for: a residual, and the state of the slow replay.
+use Rattle.std.specs.Prelude.{None}
 use Rattle.system.specs.Residual.{Residual, done, halted, inside, beside, assign, send, receive, sync, held, loop, while, test, choose, closing, drain}
-use Rattle.system.specs.Translation.{expression_of, arms_of}
-use Rattle.system.specs.Decisions.{decision_of}
+use Rattle.system.specs.Translation.{expression_of, arms_of, decision_of}
 use Rattle.calculus.specs.declared.left.Left.{Left}
 use Rattle.calculus.specs.declared.left.Left.TheOpen.{Left-F}
 use Rattle.calculus.specs.declared.left.Left.TheFolds.{fold-Left}
+use Rattle.calculus.specs.Steps.{State}
+use Rattle.calculus.specs.declared.plain.Plain.{Plain}
 
 -- one layer, with the residuals of the children in their places
 abbrev pub left_layer : Left-F Residual → Residual
@@ -29,7 +30,6 @@ left_layer (Left-F.Drain c k) = drain c k
 abbrev pub residual_of_left : Left → Residual
 residual_of_left = fold-Left Residual left_layer
 
--- whether nothing is left
-abbrev pub is_done : Residual → Bool
-is_done done = true
-is_done _ = false
+-- the residual, and the values of the variables
+abbrev pub state_of : Plain → State
+state_of p = record { residual = residual_of_left p.left; store = p.values.items }

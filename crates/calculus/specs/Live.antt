@@ -1,7 +1,7 @@
 -- The live events of an execution, with their tickets.
 use Rattle.std.specs.Prelude.{◌≡◌, ◌≢◌, ◌↔◌, ℕ, suc, ◌<◌, ◌≤◌, List, [], ◌∷◌, Some}
 use Rattle.system.specs.Lists.{In}
-use Rattle.calculus.specs.Dependence.{Directly}
+use Rattle.calculus.specs.Dependence.{Directly, Without}
 use Rattle.calculus.specs.InOrder.{InOrder}
 use Rattle.calculus.specs.declared.event.Event.{Event}
 
@@ -34,10 +34,8 @@ pub data Follows (l : Live) (t : ℕ) : ℕ → Type 0 where
   later : {u v : ℕ} (e f : Event) → Follows l t u → LiveAt l u e → LiveAt l v f → u < v → Directly e f → Follows l t v
 
 -- k is l without the events of whose tickets D holds
-pub data Without (D : ℕ → Type 0) : Live → Live → Type 0 where
-  ended : Without D [] []
-  stays : {t : ℕ} {e : Event} {l k : Live} → (D t → ⊥) → Without D l k → Without D ((t, e) ∷ l) ((t, e) ∷ k)
-  leaves : {t : ℕ} {e : Event} {l k : Live} → D t → Without D l k → Without D ((t, e) ∷ l) k
+abbrev pub WithoutTickets : (ℕ → Type 0) → Live → Live → Type 0
+WithoutTickets D l k = Without (λ (x : ℕ × Event). D x.0) l k
 
 -- u is the least ticket of another live event that depends on that of ticket t
 pub record FirstDependent (l : Live) (t u : ℕ) : Type 0 where

@@ -1,8 +1,7 @@
 -- One execution as a mathematical object: its live events and its next ticket. It has no tree and no store; the
 -- state is read from the run of the live events.
 use Rattle.std.specs.Prelude.{ℕ, suc, ◌^◌, [], ◌∷◌, ◌++◌}
-use Rattle.calculus.specs.Steps.{State}
-use Rattle.calculus.specs.Runs.{Run}
+use Rattle.calculus.specs.Steps.{State, Run}
 use Rattle.calculus.specs.Live.{Live, events}
 use Rattle.calculus.specs.declared.event.Event.{Event}
 

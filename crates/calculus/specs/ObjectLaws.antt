@@ -4,10 +4,8 @@ use Rattle.system.specs.Lists.{In}
 use Rattle.system.specs.Expression.{get}
 use Rattle.system.specs.declared.system.System.{System}
 use Rattle.sharing_check.specs.Rule.{SharesWell}
-use Rattle.calculus.specs.Steps.{State, Step, Allowed}
-use Rattle.calculus.specs.Runs.{Run}
-use Rattle.calculus.specs.Dependence.{Causes, Kept, Respecting}
-use Rattle.calculus.specs.Opening.{opening}
+use Rattle.calculus.specs.Steps.{State, Step, Allowed, Run, opening}
+use Rattle.calculus.specs.Dependence.{Causes, Without, Respecting}
 use Rattle.calculus.specs.Choices.{choice_of}
 use Rattle.calculus.specs.InOrder.{InOrder}
 use Rattle.calculus.specs.Ready.{ReadyList, Chosen}
@@ -130,7 +128,7 @@ RollsValueWhereWritten = (o : Object) (x : ℕ) → Sound o →
 -- a rollback leaves exactly the events that do not depend on its event, answers how many are gone, and the rest runs
 abbrev pub RollsExactly : Type 0
 RollsExactly = (o o' : Object) (t n : ℕ) → Sound o → Does o (Command.Roll t) (Reply.Rolled n) o' →
-    (e : Event) × LiveAt o.live t e × Kept (Causes (events o.live) e) (events o.live) (events o'.live)
+    (e : Event) × LiveAt o.live t e × Without (Causes (events o.live) e) (events o.live) (events o'.live)
     × ((u : ℕ) (f : Event) → LiveAt o'.live u f ↔ (LiveAt o.live u f × (Causes (events o.live) e f → ⊥)))
     × (n + length o'.live ≡ length o.live) × ((T : State) × Reaches o' T)
 

@@ -1,8 +1,7 @@
 -- What holds of an object at every moment.
 use Rattle.std.specs.Prelude.{◌≡◌, suc, ◌≤◌, length}
 use Rattle.system.specs.declared.system.System.{System}
-use Rattle.calculus.specs.Steps.{State}
-use Rattle.calculus.specs.Opening.{opening}
+use Rattle.calculus.specs.Steps.{State, opening}
 use Rattle.calculus.specs.Live.{Rising}
 use Rattle.calculus.specs.Object.{Object, Reaches, most_live, last_ticket}
 

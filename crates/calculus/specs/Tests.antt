@@ -1,5 +1,5 @@
 -- Tests of equality, and of places that are apart.
-use Rattle.std.specs.Prelude.{◌==◌, List, [], ◌∷◌, Bool, true, false, not, ◌&&◌, ◌||◌, Option, Some, None}
+use Rattle.std.specs.Prelude.{◌==◌, List, [], ◌∷◌, Bool, true, false, ◌&&◌, Option, Some, None}
 use Rattle.address.specs.declared.Entry.{Entry}
 use Rattle.address.specs.declared.Entry.TheVariants.{Ordered, Branch}
 use Rattle.calculus.specs.declared.event.Kind.{Kind}
@@ -59,12 +59,3 @@ same_event e f =
     && (same_option same_word e.value f.value
     && (same_option ◌==◌ e.written f.written
     && same_list ◌==◌ e.read f.read))))))
-
--- whether at the first place at which they differ both entries are branch numbers
-abbrev pub apart : Place → Place → Bool
-apart [] b = false
-apart (x ∷ a) [] = false
-apart (Ordered i ∷ a) (Ordered j ∷ b) = (i == j) && apart a b
-apart (Ordered i ∷ a) (Branch j ∷ b) = false
-apart (Branch i ∷ a) (Ordered j ∷ b) = false
-apart (Branch i ∷ a) (Branch j ∷ b) = not (i == j) || apart a b

@@ -1,11 +1,15 @@
 // The events that are allowed now.
-ghost use Rattle.std.specs.Prelude.{◌≡◌, [], ◌∷◌, ◌++◌, map, Some, IfOk, OnOk};
+ghost use Rattle.std.specs.Prelude.{◌≡◌, ◌↔◌, [], ◌∷◌, ◌++◌, map, Some, IfOk, OnOk};
 ghost use Rattle.calculus.specs.Moves as moves;
+ghost use Rattle.system.specs.Lists.{In};
 ghost use Rattle.calculus.specs.Events.{at};
-ghost use Rattle.calculus.specs.Made as made;
-ghost use Rattle.calculus.specs.AllowedEvents as model;
-ghost use Rattle.calculus.specs.Plain.{state_of};
-ghost use Rattle.calculus.specs.Walk.{located_of};
+ghost use Rattle.calculus.specs.Steps.{Allowed};
+ghost use Rattle.calculus.specs.WellFormed.{WellFormed};
+ghost use Rattle.calculus.specs.declared.event.Event.{Event};
+ghost use Rattle.calculus.specs.walking.Made as made;
+ghost use Rattle.calculus.specs.walking.AllowedEvents as model;
+ghost use Rattle.calculus.specs.Left.{state_of};
+ghost use Rattle.calculus.specs.walking.Walk.{located_of};
 
 use crate::making::{is_first, made_alone, sent};
 use crate::moves::Move;
@@ -21,14 +25,22 @@ impl Plain {
     /// The events that are allowed in this state, in no order. A place with a number of 2^32 and more is answered as
     /// want of memory: a description that has one, or a run that gets to one, takes more than there is.
     pub fn allowed(&self, alloc: Global) -> Result<Items<Event>, AllocError>
-        ensures { IfOk result (λ events. events ≡ model.allowed_events (state_of self.now)) }
+        ensures computed { IfOk result (λ events. events ≡ model.allowed_events (state_of self.now)) }
+        ensures listed { WellFormed (state_of self.now).residual → IfOk result (λ events. (e : Event) → In e events ↔ Allowed (state_of self.now) e) }
     {
-        let values = self.values.as_slice();
-        let root = Address::from_vec(Vec::new(alloc));
-        let mut offers = Items::new(alloc);
-        add_offers(alloc, values, self.left.get(), &root, &mut offers)?;
-        events_among(alloc, values, offers.as_slice())
+        events_offered(alloc, self)
     }
+}
+
+/// The events that the moves of a state make.
+fn events_offered(alloc: Global, state: &Plain) -> Result<Items<Event>, AllocError>
+    ensures { IfOk result (λ events. events ≡ model.allowed_events (state_of state.now)) }
+{
+    let values = state.values.as_slice();
+    let root = Address::from_vec(Vec::new(alloc));
+    let mut offers = Items::new(alloc);
+    add_offers(alloc, values, state.left.get(), &root, &mut offers)?;
+    events_among(alloc, values, offers.as_slice())
 }
 
 /// The events that these moves make.

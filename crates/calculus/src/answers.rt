@@ -2,13 +2,12 @@
 ghost use Rattle.std.specs.Prelude.{◌≡◌, ◌+◌, ◌*◌, ◌<◌, ◌^◌, [], ◌∷◌, map, slice_get, Some, None, false, IfOk};
 ghost use Rattle.system.specs.Expression as expression;
 ghost use Rattle.system.specs.Residual as residual;
-ghost use Rattle.system.specs.Translation.{expression_of, arms_of};
-ghost use Rattle.system.specs.Decisions.{decision_of};
-ghost use Rattle.calculus.specs.After as model;
+ghost use Rattle.system.specs.Translation.{expression_of, arms_of, decision_of};
+ghost use Rattle.calculus.specs.walking.After as model;
 ghost use Rattle.calculus.specs.Moves as moves;
 ghost use Rattle.calculus.specs.Left.{residual_of_left};
-ghost use Rattle.calculus.specs.Answers.{ask_of, move_of, answer_of};
-ghost use Rattle.calculus.specs.Passed.{along_all};
+ghost use Rattle.calculus.specs.walking.Meanings.{ask_of, move_of, answer_of};
+ghost use Rattle.calculus.specs.walking.Passed.{along_all};
 
 use crate::left::{Left, along, along_all, with_received, within};
 use crate::moves::{Ask, Move, Moved};

@@ -1,5 +1,6 @@
 // The laws of runs, each the contract of a function that does nothing.
-ghost use Rattle.calculus.specs.Laws.{NeighboursSwap, RunsWithout, RunsWithoutConsequences, CausesAlone, RespectingOrdersRun, OneState, EventsAreDistinct, ActingOnce, EarlierPlaces, RelatedAreOrdered, SameEventsRespect, OrdersDependAlike, RunsDependAlike, OpeningIsWellFormed, StatesAreWellFormed, OneChoice, AllowedAreListed, AllowedWhereFormed, ApartMovesMeet, ApartMovesWereOffered, RunAsFunction};
+ghost use Rattle.calculus.specs.Laws.{NeighboursSwap, RunsWithout, RunsWithoutConsequences, CausesAlone, RespectingOrdersRun, LeadsToOneState, EventsAreDistinct, ActingOnce, EarlierPlaces, RelatedAreOrdered, SameEventsRespect, OrdersDependAlike, RunsDependAlike, OpeningIsWellFormed, StatesAreWellFormed, OneChoice, ApartMovesMeet, ApartMovesWereOffered};
+ghost use Rattle.calculus.specs.walking.Agreement.{AllowedAreListed, AllowedWhereFormed, RunAsFunction};
 
 /// Two neighbours of a run swap unless the second depends directly on the first.
 pub fn neighbours_swap()
@@ -29,7 +30,7 @@ pub fn respecting_orders()
 
 /// A list that runs, runs to one state.
 pub fn one_state()
-    ensures { OneState }
+    ensures { LeadsToOneState }
 {}
 
 /// No two events of a run are equal.

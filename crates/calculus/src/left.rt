@@ -1,10 +1,9 @@
 ghost use Rattle.std.specs.Prelude.{◌≡◌, map, IfOk, IsFalse};
 ghost use Rattle.system.specs.Residual as model;
 ghost use Rattle.system.specs.Expression.{put_value, put_decision};
-ghost use Rattle.system.specs.Translation.{expression_of, arms_of};
-ghost use Rattle.system.specs.Decisions.{decision_of};
-ghost use Rattle.calculus.specs.Left.{residual_of_left, is_done};
-ghost use Rattle.calculus.specs.Passed.{along_all, before, behind, goes_on};
+ghost use Rattle.system.specs.Translation.{expression_of, arms_of, decision_of};
+ghost use Rattle.calculus.specs.Left.{residual_of_left};
+ghost use Rattle.calculus.specs.walking.Passed.{is_done, along_all, before, behind, goes_on};
 
 use crate::shared::Shared;
 use std::alloc::{AllocError, Global};

@@ -1,12 +1,11 @@
 // The event that moves make over the values of the variables.
 ghost use Rattle.std.specs.Prelude.{◌≡◌, [], Some, None, IfOk};
-ghost use Rattle.system.specs.Translation.{expression_of};
+ghost use Rattle.system.specs.Translation.{expression_of, decision_of};
 ghost use Rattle.calculus.specs.Events.{sent};
-ghost use Rattle.calculus.specs.Made as model;
+ghost use Rattle.calculus.specs.walking.Made as model;
 ghost use Rattle.calculus.specs.Moves as moves;
-ghost use Rattle.calculus.specs.Meets.{met, opened_by_send, is_first};
-ghost use Rattle.calculus.specs.Answers.{move_of};
-ghost use Rattle.system.specs.Decisions.{decision_of};
+ghost use Rattle.calculus.specs.walking.Meets.{met, opened_by_send, is_first};
+ghost use Rattle.calculus.specs.walking.Meanings.{move_of};
 
 use crate::moves::Move;
 use crate::same::{same_arms, same_values};

@@ -1,9 +1,9 @@
 // Local moves in memory: the move that is asked for at a place, and what is left after it.
 ghost use Rattle.std.specs.Prelude.{◌≡◌, IfOk, IsFalse};
-ghost use Rattle.calculus.specs.After as model;
+ghost use Rattle.calculus.specs.walking.After as model;
 ghost use Rattle.calculus.specs.Left.{residual_of_left};
-ghost use Rattle.calculus.specs.Answers.{ask_of, answer_of};
-ghost use Rattle.calculus.specs.Passed.{is_passed};
+ghost use Rattle.calculus.specs.walking.Meanings.{ask_of, answer_of};
+ghost use Rattle.calculus.specs.walking.Passed.{is_passed};
 
 use crate::answers;
 use crate::left::Left;

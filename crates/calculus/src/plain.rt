@@ -1,5 +1,5 @@
 ghost use Rattle.std.specs.Prelude.{◌≡◌, slice_get};
-ghost use Rattle.calculus.specs.Plain.{state_of};
+ghost use Rattle.calculus.specs.Left.{state_of};
 
 use crate::left::Left;
 use crate::shared::Shared;

@@ -1,11 +1,9 @@
 ghost use Rattle.std.specs.Prelude.{◌≡◌, IfOk, MatchOption};
 ghost use Rattle.std.specs.Option.{option_map, IfSome};
-ghost use Rattle.calculus.specs.Steps.{State};
+ghost use Rattle.calculus.specs.Steps.{State, Run, opening};
 ghost use Rattle.calculus.specs.Ruled.{RelatedInOrder, OneForEachChoice};
-ghost use Rattle.calculus.specs.Runs.{Run};
-ghost use Rattle.calculus.specs.StepOf.{run_of};
-ghost use Rattle.calculus.specs.Plain.{state_of};
-ghost use Rattle.calculus.specs.Opening.{opening};
+ghost use Rattle.calculus.specs.walking.StepOf.{run_of};
+ghost use Rattle.calculus.specs.Left.{state_of};
 ghost use Rattle.calculus.specs.Live.{events};
 
 use crate::start::opening;
@@ -57,9 +55,21 @@ pub fn replay_live(
     system: &Checked,
     live: &[(u64, Event)],
 ) -> Result<Option<Plain>, AllocError>
+    ensures computed { IfOk result (λ r. option_map state_of r ≡ run_of (opening system.now) (events live.now)) }
+    ensures run { IfOk result (λ r. MatchOption r ((T : State) → Run (opening system.now) (events live.now) T → ⊥) (λ p. Run (opening system.now) (events live.now) (state_of p))) }
+{
+    state_after_live(alloc, system.system(), live)
+}
+
+/// The state after the live events in their order, if they are possible.
+fn state_after_live(
+    alloc: Global,
+    system: &System,
+    live: &[(u64, Event)],
+) -> Result<Option<Plain>, AllocError>
     ensures { IfOk result (λ r. option_map state_of r ≡ run_of (opening system.now) (events live.now)) }
 {
-    let mut state = opening(alloc, system.system())?;
+    let mut state = opening(alloc, system)?;
     for (_, event) in live {
         match step(alloc, &state, event)? {
             Some(next) => state = next,

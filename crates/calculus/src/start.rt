@@ -3,9 +3,8 @@ ghost use Rattle.std.specs.Prelude.{◌≡◌, [], ◌∷◌, ◌++◌, map, IfO
 ghost use Rattle.system.specs.Expression.{constant, word};
 ghost use Rattle.system.specs.Residual as residual;
 ghost use Rattle.system.specs.Translation as translation;
-ghost use Rattle.calculus.specs.Left.{residual_of_left};
-ghost use Rattle.calculus.specs.Plain.{state_of};
-ghost use Rattle.calculus.specs.Opening.{opening};
+ghost use Rattle.calculus.specs.Left.{residual_of_left, state_of};
+ghost use Rattle.calculus.specs.Steps.{opening};
 
 use crate::Plain;
 use crate::left::{Left, within};

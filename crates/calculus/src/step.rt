@@ -1,16 +1,17 @@
 // One event, taken in a state.
-ghost use Rattle.std.specs.Prelude.{◌≡◌, Option, Some, IfOk, cond, None};
+ghost use Rattle.std.specs.Prelude.{◌≡◌, Option, Some, IfOk, MatchOption, cond, None};
 ghost use Rattle.std.specs.Option.{option_map, option_and_then};
 ghost use Rattle.system.specs.Expression as expression;
-ghost use Rattle.calculus.specs.Left.{residual_of_left};
-ghost use Rattle.calculus.specs.Answers.{ask_of, move_of};
-ghost use Rattle.calculus.specs.After as after;
+ghost use Rattle.calculus.specs.Left.{residual_of_left, state_of};
+ghost use Rattle.calculus.specs.walking.Meanings.{ask_of, move_of};
+ghost use Rattle.calculus.specs.walking.After as after;
 ghost use Rattle.calculus.specs.Events.{store_after};
-ghost use Rattle.calculus.specs.Made.{made_together};
-ghost use Rattle.calculus.specs.Tests.{apart};
-ghost use Rattle.calculus.specs.StepOf.{step_of, agreed};
-ghost use Rattle.calculus.specs.Sides as sides;
-ghost use Rattle.calculus.specs.Plain.{state_of};
+ghost use Rattle.calculus.specs.Steps.{State, Step};
+ghost use Rattle.calculus.specs.WellFormed.{WellFormed};
+ghost use Rattle.calculus.specs.walking.Made.{made_together};
+ghost use Rattle.calculus.specs.walking.Below.{apart};
+ghost use Rattle.calculus.specs.walking.StepOf.{step_of, agreed};
+ghost use Rattle.calculus.specs.walking.Sides as sides;
 
 use crate::apart::are_apart;
 use crate::left::Left;
@@ -26,7 +27,8 @@ use value::Value;
 impl Plain {
     /// The state after the event. `None` where the event is not possible.
     pub fn after(&self, alloc: Global, event: &Event) -> Result<Option<Plain>, AllocError>
-        ensures { IfOk result (λ r. option_map state_of r ≡ step_of (state_of self.now) event.now) }
+        ensures computed { IfOk result (λ r. option_map state_of r ≡ step_of (state_of self.now) event.now) }
+        ensures step { WellFormed (state_of self.now).residual → IfOk result (λ r. MatchOption r ((T : State) → Step (state_of self.now) event.now T → ⊥) (λ p. Step (state_of self.now) event.now (state_of p))) }
     {
         step(alloc, self, event)
     }

@@ -4,9 +4,8 @@ ghost use Rattle.std.specs.Option.{option_map};
 ghost use Rattle.system.specs.Expression as expression;
 ghost use Rattle.system.specs.Residual as residual;
 ghost use Rattle.system.specs.Translation as translation;
-ghost use Rattle.system.specs.Decisions.{decision_of};
+ghost use Rattle.system.specs.Translation.{decision_of, guarded_of, labelled_of, arm_of};
 ghost use Rattle.calculus.specs.Left.{residual_of_left};
-ghost use Rattle.calculus.specs.Translate.{guarded_of, labelled_of, arm_of};
 
 use crate::left::{Left, along, within};
 use crate::shared::Shared;

@@ -1,15 +1,14 @@
 // The moves that are offered now: a walk through what is left to do.
 ghost use Rattle.std.specs.Prelude.{◌≡◌, ◌*◌, ◌^◌, ◌≤◌, [], ◌∷◌, ◌++◌, map, Some, None, true, false, IfOk, IsFalse, OnErr};
 ghost use Rattle.system.specs.Expression as expression;
-ghost use Rattle.system.specs.Translation.{expression_of};
-ghost use Rattle.system.specs.Decisions.{decision_of};
+ghost use Rattle.system.specs.Translation.{expression_of, decision_of};
 ghost use Rattle.calculus.specs.Moves as moves;
 ghost use Rattle.calculus.specs.Events.{at};
 ghost use Rattle.calculus.specs.Left.{residual_of_left};
-ghost use Rattle.calculus.specs.Answers.{move_of};
-ghost use Rattle.calculus.specs.AllowedEvents as model;
-ghost use Rattle.calculus.specs.Passed.{goes_on};
-ghost use Rattle.calculus.specs.Walk.{located_of, below};
+ghost use Rattle.calculus.specs.walking.Meanings.{move_of};
+ghost use Rattle.calculus.specs.walking.AllowedEvents as model;
+ghost use Rattle.calculus.specs.walking.Passed.{goes_on};
+ghost use Rattle.calculus.specs.walking.Walk.{located_of, below};
 
 use crate::answers::one_guard;
 use crate::left::Left;

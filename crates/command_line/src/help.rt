@@ -14,8 +14,8 @@ port o, what comes in at its ports, and a script of steps forth and back:
   balsadbg check examples/one.balsa
   balsadbg debug examples/one.balsa examples/one.stimulus < examples/one.script
 
-The lines of a script can be typed by hand just as well. `balsadbg debug --help`
-explains them.";
+The lines of a script can be typed by hand just as well, with Ctrl-D behind the
+last. `balsadbg debug --help` explains them.";
 
 pub const FILE: &str = "The description, a text of Balsa";
 
@@ -56,12 +56,15 @@ standard input, and each line is answered as soon as it is read:
   branch N        take the first step of branch N that can be taken now, past
                   lines with a breakpoint: `step TICKET EVENT`. `stopped LINE`
                   where all are on such lines, `idle` where there is none
-  break LINE      set a breakpoint on this line of FILE, from 1: `ok`
+  break LINE      set a breakpoint on this line of FILE, from 1: `ok`. A meeting
+                  is on the line of its receive (of two syncs, of the first), so
+                  a line with a send alone stops nothing
   clear LINE      take it away: `ok`
   session N       go on as session N, 0 to 15. All sessions step one run; each
                   has breakpoints of its own. The session is 0 at first
   view            print FILE with marks: `>` where a step can be taken, `*` for
-                  a breakpoint, `!` for a select that could take several arms
+                  a breakpoint, `!` for a select that could take several arms.
+                  What the environment takes at an output port is on no line
 
 A place is written like /0.1.0. /0 is the body of the last procedure, and /1,
 /2 and so on are the environment at its ports. Behind that, .N counts what comes
@@ -69,7 +72,7 @@ one after the other, and /N the branches of ||, both from 0. A meeting is
 stepped at its receiver. The branches of `branch` are those of the body where it
 is a ||, else the body is branch 0; the environment's come behind them.
 
-Example, with the lines that are typed behind `>`:
+Example, with the lines that are typed behind `>`, which is not printed:
   balsadbg debug examples/one.balsa examples/one.stimulus
   > step /0.0
   step 1 meet i 5 /1.0.0 /0.0

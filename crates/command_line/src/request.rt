@@ -64,8 +64,11 @@ fn chosen<'a>(matches: &ArgMatches<'a>) -> Option<Request<'a>> {
     if name == "check" {
         return Some(Request::Check { file });
     }
-    let stimulus = words.get_str("STIMULUS")?;
-    Some(Request::Debug { file, stimulus })
+    if name == "debug" {
+        let stimulus = words.get_str("STIMULUS")?;
+        return Some(Request::Debug { file, stimulus });
+    }
+    None
 }
 
 /// What `words` ask for, of which the first is the program's name; or the text to show instead.

@@ -19,12 +19,12 @@ use Rattle.sharing_check.specs.Refusal as sharing
 use Rattle.refusals.specs.declared.sharing_check.Fault as sharing_check
 use Rattle.refusals.specs.declared.sharing_check.Fault.TheVariants as not_shared
 use Rattle.syntax.specs.declared.declaration.Description.{Description}
-use Rattle.types.specs.DeclarationFaults.{found_description}
+use Rattle.types.specs.Declarations.{found_description}
 use Rattle.types.specs.Findings as types
 use Rattle.refusals.specs.declared.types.Fault as types_fault
 use Rattle.refusals.specs.declared.types.Fault.TheVariants as not_typed
 use Rattle.typed.specs.declared.tree.Procedure.{Procedure}
-use Rattle.debug_session.specs.Accepting.{Describes, IsTyped, MakesNone, IsRefused}
+use Rattle.debug_session.specs.Accepting.{Describes, IsTyped, Makes, MakesNone, IsRefused}
 use Rattle.debug_session.specs.Wrapping.{of_lexer, of_parser, of_types, of_elaborate, of_sharing}
 use Rattle.debug_session.specs.declared.fault.Fault.{Fault}
 
@@ -99,15 +99,11 @@ unmade source stimulus procedures entries fault typed given h =
     unmakable source stimulus procedures fault typed (elim h [ inl e ↦ inl e | inr r ↦ inr (inr (entries, given, r)) ])
 
 -- the rule on sharing refuses
-pub unshared : (source stimulus : List ℕ) (procedures : List Procedure) (entries : List Entry) (system : System) (fault : sharing_check.Fault)
-    → IsTyped source procedures → AreEntries 1 (lines stimulus) entries → elaboration.IsAccepted procedures entries
-    → system ≡ elaboration.system_of procedures entries → sharing.Refuses system fault
-    → IsRefused source stimulus (of_sharing fault)
-unshared source stimulus procedures entries system not_shared.Memory typed given accepted made refused = tt
-unshared source stimulus procedures entries system (not_shared.Shared offset) typed given accepted made refused =
-    (λ e. cc, (system, (procedures, entries, typed, given, accepted, made), refused))
-unshared source stimulus procedures entries system (not_shared.Width offset) typed given accepted made refused =
-    (λ e. cc, (system, (procedures, entries, typed, given, accepted, made), refused))
+pub unshared : (source stimulus : List ℕ) (system : System) (fault : sharing_check.Fault) → Makes source stimulus system
+    → sharing.Refuses system fault → IsRefused source stimulus (of_sharing fault)
+unshared source stimulus system not_shared.Memory made refused = tt
+unshared source stimulus system (not_shared.Shared offset) made refused = (λ e. cc, (system, made, refused))
+unshared source stimulus system (not_shared.Width offset) made refused = (λ e. cc, (system, made, refused))
 
 -- a fault that was handed on is what it was made of
 pub told : {A : Type 0} (r : Result A Fault) (fault : Fault) (P : Fault → Type 0) → IsErrAnd r (λ given. given ≡ fault) → P fault → IfErr r P

@@ -13,7 +13,7 @@ use Rattle.parser.specs.Accepted as parser
 use Rattle.sharing_check.specs.Refusal as sharing
 use Rattle.refusals.specs.declared.sharing_check.Fault.TheVariants as not_shared
 use Rattle.syntax.specs.declared.declaration.Description.{Description}
-use Rattle.types.specs.DeclarationFaults.{found_description}
+use Rattle.types.specs.Declarations.{found_description}
 use Rattle.types.specs.Findings as types
 use Rattle.refusals.specs.declared.types.Fault.TheVariants as not_typed
 use Rattle.typed.specs.declared.tree.Procedure.{Procedure}

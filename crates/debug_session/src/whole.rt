@@ -1,5 +1,5 @@
-ghost use Rattle.std.specs.Prelude.{◌≡◌, IfOk, IfErr};
-ghost use Rattle.debug_session.specs.Accepting.{Gives, IsRefused};
+ghost use Rattle.std.specs.Prelude.{◌≡◌, ℕ, List, IfOk, IfErr};
+ghost use Rattle.debug_session.specs.Accepting.{Describes, IsTyped, Makes, Gives, IsRefused};
 ghost use Rattle.debug_session.specs.Counting.{device, failures, after_reading, after_writing};
 ghost use Rattle.debug_session.specs.Transcript.{Debugged};
 
@@ -13,7 +13,43 @@ use parser::parse;
 use sharing_check::{Checked, check_sharing};
 use std::alloc::Global;
 use std::io::{BufRead, Write};
-use types::check_types;
+use syntax::Description;
+use system::System;
+use types::{Typed, check_types};
+
+/// The trees of the source. Its tokens are gone when the next pass begins.
+fn described(alloc: Global, source: &[u8]) -> Result<Description, Fault>
+    ensures description { IfOk result (λ description. Describes source.now description) }
+    ensures fault { (stimulus : List ℕ) → IfErr result (λ fault. IsRefused source.now stimulus fault) }
+{
+    let tokens = lex(alloc, source)?;
+    Ok(parse(alloc, tokens.as_slice())?)
+}
+
+/// The source with its names settled.
+fn typed(alloc: Global, source: &[u8]) -> Result<Typed, Fault>
+    ensures typed { IfOk result (λ typed. IsTyped source.now typed) }
+    ensures fault { (stimulus : List ℕ) → IfErr result (λ fault. IsRefused source.now stimulus fault) }
+{
+    match described(alloc, source) {
+        Ok(description) => Ok(check_types(alloc, &description)?),
+        Err(fault) => Err(fault),
+    }
+}
+
+/// The system that source and stimulus make, whether or not it keeps the rule on sharing.
+fn made(alloc: Global, source: &[u8], stimulus: &[u8]) -> Result<System, Fault>
+    ensures system { IfOk result (λ system. Makes source.now stimulus.now system) }
+    ensures fault { IfErr result (λ fault. IsRefused source.now stimulus.now fault) }
+{
+    match typed(alloc, source) {
+        Ok(typed) => {
+            let stimulus = Stimulus::read(alloc, stimulus)?;
+            Ok(elaborate(alloc, &typed, &stimulus)?)
+        }
+        Err(fault) => Err(fault),
+    }
+}
 
 /// The system that the source and the stimulus describe, or the first fault of the first pass that refuses them:
 /// the source is cut, parsed and typed, then the stimulus is read, then the system is
@@ -22,12 +58,10 @@ pub fn accept(alloc: Global, source: &[u8], stimulus: &[u8]) -> Result<Checked, 
     ensures system { IfOk result (λ checked. Gives source.now stimulus.now checked) }
     ensures fault { IfErr result (λ fault. IsRefused source.now stimulus.now fault) }
 {
-    let tokens = lex(alloc, source)?;
-    let description = parse(alloc, tokens.as_slice())?;
-    let typed = check_types(alloc, &description)?;
-    let stimulus = Stimulus::read(alloc, stimulus)?;
-    let system = elaborate(alloc, &typed, &stimulus)?;
-    Ok(check_sharing(alloc, system)?)
+    match made(alloc, source, stimulus) {
+        Ok(system) => Ok(check_sharing(alloc, system)?),
+        Err(fault) => Err(fault),
+    }
 }
 
 /// Answers the lines of `reader` on `writer`, each as soon as it was read, over the system of source and stimulus.

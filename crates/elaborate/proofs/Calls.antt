@@ -1,8 +1,7 @@
 -- What is made of a call, gone along call by call.
-use Rattle.std.proofs.Common.{◌≡◌, ℕ, zero, suc, ◌+◌, ◌<◌, ◌≤◌, List, [], ◌∷◌, ◌++◌, length, get_or, take, map, refl, ap, sym, ◌∙◌, subst, arith, rules, length-append}
+use Rattle.std.proofs.Common.{◌≡◌, ℕ, zero, suc, ◌+◌, ◌<◌, ◌≤◌, List, [], ◌∷◌, ◌++◌, length, get_or, take, refl, ap, sym, ◌∙◌, arith, rules, length-append}
 use Rattle.elaborate.specs.Scopes.{entrance_of}
-use Rattle.elaborate.specs.Making.{locals_onto}
-use Rattle.elaborate.specs.Entering.{scope_of, entered}
+use Rattle.elaborate.specs.Making.{locals_onto, scope_of, entered}
 use Rattle.elaborate.specs.Body.{Makes, Meaning, ProcedureMeaning, command, next_call, after_call, missing, called, action_meaning, arm_meaning, command_meaning, guarded_meaning, labelled_meaning, meaning_of, procedure_meaning, meanings_onto, meanings}
 use Rattle.elaborate.specs.declared.made.Made.{Made}
 use Rattle.elaborate.specs.declared.scope.Scope.{Scope}

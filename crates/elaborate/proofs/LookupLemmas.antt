@@ -1,13 +1,12 @@
 -- What is found by name is at the first place of the name.
-use Rattle.std.proofs.Common.{◌≡◌, ℕ, zero, suc, ◌+◌, ◌≤◌, List, [], ◌∷◌, map, take, slice_get, Bool, true, false, Option, Some, None, is_some, option_map, option_and_then, nat_eq, nat_lt, if◌then◌else◌, refl, ap, sym, ◌∙◌, arith}
+use Rattle.std.proofs.Common.{◌≡◌, ℕ, zero, suc, ◌+◌, List, [], ◌∷◌, map, take, slice_get, Bool, true, false, Option, Some, None, is_some, option_map, option_and_then, nat_eq, nat_lt, refl, ap, sym, ◌∙◌, arith}
 use Rattle.std.proofs.lemmas.Bool.{ltb-true, ltb-false, lt-ltb, le-ltb}
 use Rattle.std.specs.Cmp.Lexicographic.{pointwise}
 use Rattle.elaborate.specs.Fit.{kind_named, entry_named}
-use Rattle.elaborate.specs.Places.{Placed, place_at, places_of}
+use Rattle.elaborate.specs.walking.NamePlaces.{Placed, place_at, places_of}
 use Rattle.stimulus.specs.declared.stimulus.Entry.{Entry}
 use Rattle.elaborate.proofs.PlaceLemmas.{first_from, place_at-places_of}
 use Rattle.typed.specs.declared.tree.Port.{Port}
-use Rattle.typed.specs.declared.tree.PortKind.{PortKind}
 
 -- the place counted from one place earlier
 pub first-shift : (k : ℕ) (ns : List (List ℕ)) (name : List ℕ) → first_from (k + 1) ns name ≡ option_map suc (first_from k ns name)

@@ -4,7 +4,7 @@ use Rattle.std.specs.Cmp.Lexicographic.{pointwise, nat_list_eq_equiv}
 use Rattle.std.specs.Map.{lookup}
 use Rattle.std.specs.Option.{option_or}
 use Rattle.indexmap.specs.IndexMap.{insert_entry}
-use Rattle.elaborate.specs.Places.{Placed, place_at, noted, noted_from, places_of}
+use Rattle.elaborate.specs.walking.NamePlaces.{Placed, place_at, noted, noted_from, places_of}
 
 module _ {K : Type 0} (bytes : K → List ℕ) where
   -- the entry with the bytes of its key

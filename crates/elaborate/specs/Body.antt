@@ -1,8 +1,7 @@
 -- The body of a procedure with its calls replaced: each command means a tree and what is made for it.
-use Rattle.std.specs.Prelude.{ℕ, ◌+◌, ◌-◌, min, List, [], ◌∷◌, ◌++◌, Option, Some, None, length, slice_index_or}
+use Rattle.std.specs.Prelude.{ℕ, ◌+◌, min, List, [], ◌∷◌, ◌++◌, Option, Some, None, slice_index_or}
 use Rattle.elaborate.specs.Scopes.{channel_use, variable_use, expression_in, entrance_of}
-use Rattle.elaborate.specs.Making.{locals_onto}
-use Rattle.elaborate.specs.Entering.{scope_of, entered}
+use Rattle.elaborate.specs.Making.{locals_onto, scope_of, entered}
 use Rattle.elaborate.specs.declared.made.Made.{Made}
 use Rattle.elaborate.specs.declared.scope.Scope.{Scope}
 use Rattle.elaborate.specs.declared.scope.Entrance.{Entrance}

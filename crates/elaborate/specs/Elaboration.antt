@@ -1,10 +1,9 @@
 -- The one system that a description and a stimulus give, and when they are refused.
-use Rattle.std.specs.Prelude.{◌≡◌, ℕ, ◌-◌, List, [], Some, None, length}
+use Rattle.std.specs.Prelude.{◌≡◌, ◌-◌, List, [], Some, None, length, Option, slice_get}
 use Rattle.elaborate.specs.Body.{Makes, after_call, called, meanings}
 use Rattle.elaborate.specs.Environment.{branches_from}
 use Rattle.elaborate.specs.Fit.{first_misfit, values_given}
 use Rattle.elaborate.specs.Making.{nothing_made, ports_onto, Numbered}
-use Rattle.elaborate.specs.Root.{root_ports}
 use Rattle.elaborate.specs.Size.{whole, system_size, IsSmall}
 use Rattle.elaborate.specs.declared.count.Size.{Size}
 use Rattle.system.specs.declared.command.Command as tree_command
@@ -13,6 +12,16 @@ use Rattle.refusals.specs.declared.elaborate.Fault.TheVariants.{Memory, TooManyN
 use Rattle.stimulus.specs.declared.stimulus.Entry.{Entry}
 use Rattle.system.specs.declared.system.System.{System}
 use Rattle.typed.specs.declared.tree.Procedure.{Procedure}
+use Rattle.typed.specs.declared.tree.Port.{Port}
+
+-- the ports of a procedure, none where there is none
+abbrev pub ports_of : Option Procedure → List Port
+ports_of None = []
+ports_of (Some p) = p.ports
+
+-- the ports of the last procedure
+abbrev pub root_ports : List Procedure → List Port
+root_ports ps = ports_of (slice_get ps (length ps - 1))
 
 -- the channels of the root's ports, made first
 abbrev pub root_channels : List Procedure → Numbered

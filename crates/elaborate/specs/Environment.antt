@@ -1,5 +1,5 @@
 -- What the environment does on the ports of the root.
-use Rattle.std.specs.Prelude.{ℕ, suc, ◌+◌, min, List, [], ◌∷◌, Option, Some, None, map}
+use Rattle.std.specs.Prelude.{ℕ, ◌+◌, min, List, [], ◌∷◌, Option, Some, None}
 use Rattle.value.specs.Word.{Word, resized}
 use Rattle.system.specs.Expression.{word}
 use Rattle.elaborate.specs.Fit.{entry_named}

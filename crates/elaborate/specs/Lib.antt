@@ -1,16 +1,8 @@
 pub mod Fit
 pub mod Size
-pub mod Parts
 pub mod Environment
 pub mod Scopes
 pub mod Making
 pub mod Body
-pub mod Operators
-pub mod Numbers
-pub mod PortKinds
-pub mod Entering
-pub mod BodyParts
-pub mod Leaf
-pub mod Root
 pub mod Elaboration
-pub mod Places
+pub mod walking

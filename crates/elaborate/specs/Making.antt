@@ -1,16 +1,23 @@
 -- The variables and channels of a system as they are made.
-use Rattle.std.specs.Prelude.{ℕ, ◌+◌, List, [], ◌∷◌, ◌++◌, false, length}
+use Rattle.std.specs.Prelude.{ℕ, List, [], ◌∷◌, ◌++◌, false, length}
 use Rattle.typed.specs.declared.tree.Local.{Local}
 use Rattle.typed.specs.declared.tree.LocalKind.{LocalKind}
 use Rattle.typed.specs.declared.tree.LocalKind.TheVariants as local
 use Rattle.typed.specs.declared.tree.Port.{Port}
 use Rattle.elaborate.specs.Environment.{number_of}
-use Rattle.elaborate.specs.PortKinds.{kind_of_port}
 use Rattle.elaborate.specs.declared.made.Made.{Made}
-use Rattle.system.specs.declared.system.Variable.{Variable}
-use Rattle.system.specs.declared.system.Channel.{Channel}
 use Rattle.system.specs.declared.system.ChannelKind.{ChannelKind}
 use Rattle.system.specs.declared.system.ChannelKind.TheVariants as kind
+use Rattle.typed.specs.declared.tree.PortKind.{PortKind}
+use Rattle.typed.specs.declared.tree.PortKind.TheVariants as port
+use Rattle.elaborate.specs.declared.scope.Scope.{Scope}
+use Rattle.elaborate.specs.declared.scope.Entrance.{Entrance}
+
+-- values of the port's width, or nothing
+abbrev pub kind_of_port : PortKind → ChannelKind
+kind_of_port (port.Input width) = kind.Data width
+kind_of_port (port.Output width) = kind.Data width
+kind_of_port port.Sync = kind.Sync
 
 -- numbers that were given, and what is made then
 pub record Numbered : Type 0 where
@@ -54,3 +61,11 @@ ports_onto numbers made (p ∷ ps) =
 -- before anything is made
 abbrev pub nothing_made : Made
 nothing_made = record { variables = []; channels = []; calls = 0 }
+
+-- what its names stand for
+abbrev pub scope_of : Entrance → Numbered → Scope
+scope_of entrance locals = record { ports = entrance.ports; locals = locals.numbers; prefix = entrance.prefix }
+
+-- what is made
+abbrev pub entered : Numbered → Made
+entered locals = record locals.made { calls = 0 }

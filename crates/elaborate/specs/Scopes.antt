@@ -1,8 +1,6 @@
 -- What the names of a procedure stand for where it is called.
-use Rattle.std.specs.Prelude.{ℕ, List, map}
-use Rattle.elaborate.specs.Numbers.{number_at}
-use Rattle.elaborate.specs.Operators.{operator_of}
-use Rattle.system.specs.Prefix.{prefix_of_call}
+use Rattle.std.specs.Prelude.{ℕ, List, map, slice_index_or}
+use Rattle.system.specs.Named.{prefix_of_call}
 use Rattle.typed.specs.declared.tree.Place.{Place}
 use Rattle.typed.specs.declared.tree.Place.TheVariants as place
 use Rattle.typed.specs.declared.tree.ChannelUse.{ChannelUse}
@@ -15,6 +13,29 @@ use Rattle.elaborate.specs.declared.scope.Entrance.{Entrance}
 use Rattle.system.specs.declared.expression.Use.{Use}
 use Rattle.system.specs.declared.expression.Expression as named
 use Rattle.system.specs.declared.expression.Expression.TheViews as expression
+use Rattle.value.specs.declared.Comparison.TheVariants as comparison
+use Rattle.syntax.specs.declared.expression.Operator.{Operator}
+use Rattle.syntax.specs.declared.expression.Operator.TheVariants as written
+use Rattle.system.specs.declared.expression.Operator as elaborated
+use Rattle.system.specs.declared.expression.Operator.TheVariants as operator
+
+-- the operator that is written so
+abbrev pub operator_of : Operator → elaborated.Operator
+operator_of written.Add = operator.Add
+operator_of written.Subtract = operator.Subtract
+operator_of written.And = operator.And
+operator_of written.Or = operator.Or
+operator_of written.Xor = operator.Xor
+operator_of written.Equal = operator.Compare comparison.Equal
+operator_of written.NotEqual = operator.Compare comparison.NotEqual
+operator_of written.Less = operator.Compare comparison.Less
+operator_of written.Greater = operator.Compare comparison.Greater
+operator_of written.LessOrEqual = operator.Compare comparison.LessOrEqual
+operator_of written.GreaterOrEqual = operator.Compare comparison.GreaterOrEqual
+
+-- the number at a place, 0 where there are not so many
+abbrev pub number_at : List ℕ → ℕ → ℕ
+number_at numbers place = slice_index_or numbers place 0
 
 -- the channel that a place stands for
 abbrev pub channel_at : Scope → Place → ℕ

@@ -18,9 +18,17 @@ Cut = Size → Size
 abbrev pub whole : Cut
 whole s = s
 
+-- the most nodes of a system
+abbrev pub most_nodes : ℕ
+most_nodes = 16384
+
+-- the most commands one inside the other: one and the 1,024 around it
+abbrev pub most_nested : ℕ
+most_nested = 1025
+
 -- each number is cut to one more than its limit
 abbrev pub limited : Cut
-limited s = record { nodes = min s.nodes 16385; levels = min s.levels 1026 }
+limited s = record { nodes = min s.nodes (most_nodes + 1); levels = min s.levels (most_nested + 1) }
 
 -- no nodes and no commands
 abbrev pub nothing : Size
@@ -119,4 +127,4 @@ system_size cut ps ports values =
 
 -- at most 16,384 nodes, and no command inside more than 1,024 others
 abbrev pub IsSmall : Size → Type 0
-IsSmall s = (s.nodes ≤ 16384) × (s.levels ≤ 1025)
+IsSmall s = (s.nodes ≤ most_nodes) × (s.levels ≤ most_nested)

@@ -2,10 +2,11 @@
 ghost use Rattle.std.specs.Prelude.{◌≡◌, [], map, IfOk, OnOk};
 ghost use Rattle.std.specs.Option.{option_map};
 ghost use Rattle.elaborate.specs.Body as body;
-ghost use Rattle.elaborate.specs.BodyParts.{meaning_of_guarded, meaning_of_labelled, meaning_of_arm};
+ghost use Rattle.elaborate.specs.walking.BodyParts.{meaning_of_guarded, meaning_of_labelled, meaning_of_arm};
 
 use crate::forms::{
-    arbitrate_command, if_command, loop_command, parallel_command, select_command, sequence_command,
+    arbitrate_command, continue_command, halt_command, if_command, loop_command, parallel_command,
+    select_command, sequence_command,
 };
 use crate::made::Made;
 use crate::scope::{Entrance, Scope};
@@ -73,7 +74,18 @@ fn command_of(
             let children = commands_of(alloc, children.as_slice(), scope, earlier, made)?;
             parallel_command(alloc, line, children)
         }
-        leaf => scope.leaf_command(alloc, line, leaf),
+        typed::Action::Continue => continue_command(alloc, line),
+        typed::Action::Halt => halt_command(alloc, line),
+        typed::Action::Assign(variable, width, value) => {
+            scope.assign_command(alloc, line, *variable, *width, value)
+        }
+        typed::Action::Send(channel, width, value) => {
+            scope.send_command(alloc, line, *channel, *width, value)
+        }
+        typed::Action::Receive(channel, variable) => {
+            scope.receive_command(alloc, line, *channel, *variable)
+        }
+        typed::Action::Sync(channel) => scope.sync_command(alloc, line, *channel),
     }
 }
 

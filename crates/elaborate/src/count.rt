@@ -2,10 +2,16 @@
 ghost use Rattle.std.specs.Prelude.{◌≡◌, ◌↔◌, IsTrue, map, IfOk, length, List, [], slice_index_or, ◌-◌};
 ghost use Rattle.std.specs.Option.{option_map};
 ghost use Rattle.elaborate.specs.Size as model;
-ghost use Rattle.elaborate.specs.Parts.{size_of_guarded, size_of_labelled, size_of_arm};
+ghost use Rattle.elaborate.specs.walking.SizeParts.{size_of_guarded, size_of_labelled, size_of_arm};
 
 use std::alloc::{AllocError, Global};
 use typed::{Action, Arm, Command, Expression, Guarded, Labelled, Procedure};
+
+/// The most nodes of a system.
+const MOST_NODES: u32 = 16384;
+
+/// The most commands one inside the other: one and the 1,024 around it.
+const MOST_NESTED: u32 = 1025;
 
 /// How large a part of a system is, its calls replaced. Each number is at most one more than its limit.
 #[derive(Clone, Copy, Debug)]
@@ -28,7 +34,7 @@ fn plain_nodes(nodes: usize) -> Size
     ensures { result ≡ model.plain_nodes model.limited nodes }
 {
     Size {
-        nodes: nodes.min(16385) as u32,
+        nodes: nodes.min(MOST_NODES as usize + 1) as u32,
         levels: 0,
     }
 }
@@ -38,8 +44,8 @@ fn beside(first: Size, second: Size) -> Size
     ensures { result ≡ model.beside model.limited first second }
 {
     Size {
-        nodes: first.nodes.saturating_add(second.nodes).min(16385),
-        levels: first.levels.max(second.levels).min(1026),
+        nodes: first.nodes.saturating_add(second.nodes).min(MOST_NODES + 1),
+        levels: first.levels.max(second.levels).min(MOST_NESTED + 1),
     }
 }
 
@@ -48,8 +54,8 @@ fn around(parts: Size) -> Size
     ensures { result ≡ model.around model.limited parts }
 {
     Size {
-        nodes: parts.nodes.saturating_add(1).min(16385),
-        levels: parts.levels.saturating_add(1).min(1026),
+        nodes: parts.nodes.saturating_add(1).min(MOST_NODES + 1),
+        levels: parts.levels.saturating_add(1).min(MOST_NESTED + 1),
     }
 }
 
@@ -240,5 +246,5 @@ pub fn is_small(
 fn within_limits(size: Size) -> bool
     ensures { IsTrue result ↔ model.IsSmall size }
 {
-    size.nodes <= 16384 && size.levels <= 1025
+    size.nodes <= MOST_NODES && size.levels <= MOST_NESTED
 }

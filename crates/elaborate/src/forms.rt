@@ -5,7 +5,22 @@ use crate::scope::Scope;
 use std::alloc::{AllocError, Global};
 use syntax::Items;
 use system::{Action, Arm, Command, Guarded, Labelled};
-use typed::ChannelUse;
+use typed::{ChannelUse, VariableUse};
+use value::Width;
+
+#[inline(never)]
+pub fn continue_command(alloc: Global, line: u64) -> Result<Command, AllocError>
+    ensures { IfOk result (λ made. made ≡ record { line = line; action = Action.Continue }) }
+{
+    Command::new(alloc, line, Action::Continue)
+}
+
+#[inline(never)]
+pub fn halt_command(alloc: Global, line: u64) -> Result<Command, AllocError>
+    ensures { IfOk result (λ made. made ≡ record { line = line; action = Action.Halt }) }
+{
+    Command::new(alloc, line, Action::Halt)
+}
 
 #[inline(never)]
 pub fn loop_command(alloc: Global, line: u64, body: Command) -> Result<Command, AllocError>
@@ -64,7 +79,6 @@ pub fn parallel_command(
 
 impl Scope {
     ghost use Rattle.elaborate.specs.Scopes as scopes;
-    ghost use Rattle.elaborate.specs.Leaf.{leaf_in};
 
     #[inline(never)]
     pub fn while_command(
@@ -108,33 +122,70 @@ impl Scope {
         Command::new(alloc, line, Action::Input(self.channel_use(channel), body))
     }
 
-    /// A command without commands in it. Any other is taken for `continue`.
     #[inline(never)]
-    pub fn leaf_command(
+    pub fn assign_command(
         &self,
         alloc: Global,
         line: u64,
-        action: &typed::Action,
+        variable: VariableUse,
+        width: Width,
+        value: &typed::Expression,
     ) -> Result<Command, AllocError>
-        ensures { IfOk result (λ made. made ≡ record { line = line; action = leaf_in self.now action.now }) }
+        ensures { IfOk result (λ made. made ≡ record { line = line; action = Action.Assign (scopes.variable_use self.now variable) width (scopes.expression_in self.now value.now) }) }
     {
-        let action = match action {
-            typed::Action::Halt => Action::Halt,
-            typed::Action::Assign(variable, width, value) => {
-                let value = self.expression(alloc, value)?;
-                Action::Assign(self.variable_use(*variable), *width, value)
-            }
-            typed::Action::Send(channel, width, value) => {
-                let value = self.expression(alloc, value)?;
-                Action::Send(self.channel_use(*channel), *width, value)
-            }
-            typed::Action::Receive(channel, variable) => Action::Receive(
-                self.channel_use(*channel),
-                self.variable_use(*variable),
-            ),
-            typed::Action::Sync(channel) => Action::Sync(self.channel_use(*channel)),
-            _ => Action::Continue,
-        };
-        Command::new(alloc, line, action)
+        let value = self.expression(alloc, value)?;
+        Command::new(
+            alloc,
+            line,
+            Action::Assign(self.variable_use(variable), width, value),
+        )
+    }
+
+    #[inline(never)]
+    pub fn send_command(
+        &self,
+        alloc: Global,
+        line: u64,
+        channel: ChannelUse,
+        width: Width,
+        value: &typed::Expression,
+    ) -> Result<Command, AllocError>
+        ensures { IfOk result (λ made. made ≡ record { line = line; action = Action.Send (scopes.channel_use self.now channel) width (scopes.expression_in self.now value.now) }) }
+    {
+        let value = self.expression(alloc, value)?;
+        Command::new(
+            alloc,
+            line,
+            Action::Send(self.channel_use(channel), width, value),
+        )
+    }
+
+    #[inline(never)]
+    pub fn receive_command(
+        &self,
+        alloc: Global,
+        line: u64,
+        channel: ChannelUse,
+        variable: VariableUse,
+    ) -> Result<Command, AllocError>
+        ensures { IfOk result (λ made. made ≡ record { line = line; action = Action.Receive (scopes.channel_use self.now channel) (scopes.variable_use self.now variable) }) }
+    {
+        Command::new(
+            alloc,
+            line,
+            Action::Receive(self.channel_use(channel), self.variable_use(variable)),
+        )
+    }
+
+    #[inline(never)]
+    pub fn sync_command(
+        &self,
+        alloc: Global,
+        line: u64,
+        channel: ChannelUse,
+    ) -> Result<Command, AllocError>
+        ensures { IfOk result (λ made. made ≡ record { line = line; action = Action.Sync (scopes.channel_use self.now channel) }) }
+    {
+        Command::new(alloc, line, Action::Sync(self.channel_use(channel)))
     }
 }

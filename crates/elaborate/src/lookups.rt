@@ -22,7 +22,7 @@ impl<'a> Model for NamedPorts<'a> {
 
     ghost Value = { List Port };
 
-    ghost use Rattle.elaborate.specs.Places.{places_of};
+    ghost use Rattle.elaborate.specs.walking.NamePlaces.{places_of};
 
     ghost view = { λ named. named.ports.now };
 
@@ -75,7 +75,7 @@ impl<'a> Model for NamedEntries<'a> {
 
     ghost Value = { List Entry };
 
-    ghost use Rattle.elaborate.specs.Places.{places_of};
+    ghost use Rattle.elaborate.specs.walking.NamePlaces.{places_of};
 
     ghost view = { λ named. named.entries.now };
 

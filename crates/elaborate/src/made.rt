@@ -1,7 +1,7 @@
 // The variables and channels of a system as they are made.
 ghost use Rattle.std.specs.Prelude.{◌≡◌, [], length, IfOk, OnOk};
 ghost use Rattle.elaborate.specs.Environment.{number_of};
-ghost use Rattle.elaborate.specs.PortKinds.{kind_of_port};
+ghost use Rattle.elaborate.specs.Making.{kind_of_port};
 
 use crate::scope::{Entrance, Scope};
 use std::alloc::{AllocError, Global};
@@ -37,7 +37,7 @@ fn kind_of_port(kind: PortKind) -> ChannelKind
 
 impl Made {
     ghost use Rattle.elaborate.specs.Making as making;
-    ghost use Rattle.elaborate.specs.Entering.{scope_of, entered};
+    ghost use Rattle.elaborate.specs.Making.{scope_of, entered};
 
     /// Nothing.
     pub fn nothing(alloc: Global) -> Made

@@ -1,7 +1,7 @@
 // Places by name.
 ghost use Rattle.std.specs.Prelude.{◌≡◌, [], OnOk};
-ghost use Rattle.system.specs.Hashing as hashing;
-ghost use Rattle.elaborate.specs.Places as model;
+ghost use Rattle.system.specs.walking.Hashing as hashing;
+ghost use Rattle.elaborate.specs.walking.NamePlaces as model;
 
 use indexmap::IndexMap;
 use std::alloc::{AllocError, Global};

@@ -1,5 +1,4 @@
 ghost use Rattle.std.specs.Prelude.{◌≡◌, ◌⊎◌, ◌↔◌, IsTrue, IfOk, IfErr, OnOk};
-ghost use Rattle.elaborate.specs.Root as root;
 ghost use Rattle.elaborate.specs.Elaboration as model;
 ghost use Rattle.elaborate.specs.Size.{IsSmall};
 ghost use Rattle.refusals.specs.declared.elaborate.Fault.TheVariants.{Memory};
@@ -54,7 +53,7 @@ fn system_by_names(
     ports: &NamedPorts<'_>,
     entries: &NamedEntries<'_>,
 ) -> Result<System, Fault>
-    requires { ports.now ≡ root.root_ports procedures.now }
+    requires { ports.now ≡ model.root_ports procedures.now }
     ensures system { IfOk result (λ system. system ≡ model.system_of procedures.now entries.now) }
     ensures accepted { OnOk result (model.IsAccepted procedures.now entries.now) }
     ensures fault { IfErr result (λ fault. (fault ≡ Memory) ⊎ model.IsRefused procedures.now entries.now fault) }
@@ -84,7 +83,7 @@ fn is_within_limits(
 
 /// The ports of the root.
 fn root_ports(procedures: &[Procedure]) -> &[Port]
-    ensures { result.now ≡ root.root_ports procedures.entry.now }
+    ensures { result.now ≡ model.root_ports procedures.entry.now }
 {
     match procedures.get(procedures.len().saturating_sub(1)) {
         Some(root) => root.ports.as_slice(),

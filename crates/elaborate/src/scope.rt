@@ -1,7 +1,6 @@
 // What the names of a procedure stand for where it is called.
 ghost use Rattle.std.specs.Prelude.{◌≡◌, IfOk};
-ghost use Rattle.elaborate.specs.Operators.{operator_of};
-ghost use Rattle.elaborate.specs.Numbers.{number_at};
+ghost use Rattle.elaborate.specs.Scopes.{operator_of, number_at};
 
 use std::alloc::{AllocError, Global};
 use syntax::{Boxed, Items};

@@ -5,7 +5,7 @@ use Rattle.std.proofs.lemmas.Bool.Decides.{Decides-eqb}
 use Rattle.address.specs.contracts.EntryPartialEq.TheImpl.{eq-value}
 use Rattle.address.specs.declared.Entry.{Entry}
 use Rattle.address.specs.declared.Entry.TheVariants.{Ordered, Branch}
-use Rattle.calculus.specs.EventLaws.{same_entry-decides, same_place-decides}
+use Rattle.calculus.specs.walking.EventLaws.{same_entry-decides, same_place-decides}
 use Rattle.calculus.specs.Moves.{Place}
 use Rattle.calculus.specs.Tests.{same_place}
 

@@ -3,7 +3,7 @@ use Rattle.std.proofs.Common.{◌≡◌, List, [], ◌∷◌, Bool, true, false,
 use Rattle.system.specs.Lists.{In}
 use Rattle.calculus.specs.Dependence.{Earlier}
 use Rattle.calculus.specs.Events.{acting}
-use Rattle.calculus.specs.EventLaws.{same_place-decides}
+use Rattle.calculus.specs.walking.EventLaws.{same_place-decides}
 use Rattle.calculus.specs.Laws.{ActingOnce}
 use Rattle.calculus.specs.Moves.{Place}
 use Rattle.calculus.specs.Tests.{same_place}

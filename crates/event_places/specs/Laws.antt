@@ -4,9 +4,7 @@ use Rattle.system.specs.Lists.{In}
 use Rattle.system.specs.declared.system.System.{System}
 use Rattle.calculus.specs.Events.{acting}
 use Rattle.calculus.specs.Moves.{Place}
-use Rattle.calculus.specs.Opening.{opening}
-use Rattle.calculus.specs.Runs.{Run}
-use Rattle.calculus.specs.Steps.{State}
+use Rattle.calculus.specs.Steps.{opening, Run, State}
 use Rattle.calculus.specs.declared.event.Event.{Event}
 use Rattle.event_places.specs.EventPlaces.{at_choice, taken_by}
 

@@ -24,8 +24,8 @@ use Rattle.calculus.proofs.ReadyLists.{ready-list, sooner-asymmetric}
 use Rattle.calculus.proofs.SortedLists.{same-elements}
 use Rattle.calculus.proofs.OneReplies.{one-reply}
 use Rattle.machine.specs.Held.{Held, object}
-use Rattle.machine.specs.Branching.{in_branch, is_free, line_of_first, moves, FirstFree, AllKeptBack, Branched, StepsBranch}
-use Rattle.machine.specs.Taking.{FirstAt, Takes}
+use Rattle.machine.specs.Branching.{in_branch, is_free, FirstFree, AllKeptBack, Branched, StepsBranch}
+use Rattle.machine.specs.walking.Choosing.{line_of_first, moves, FirstAt, Takes}
 use Rattle.machine.specs.declared.branching.BranchReply.{BranchReply}
 use Rattle.machine.specs.declared.branching.BranchReply.TheVariants.{Stepped, Stopped, Idle, Refused}
 use Rattle.machine.proofs.Branches.{moving-chosen, taken-branched, back-branched}

@@ -3,7 +3,7 @@ use Rattle.std.proofs.Common.{◌≡◌, inl, inr, ℕ, Bool, true, false, lengt
 use Rattle.std.proofs.lemmas.Bool.{cases_lt}
 use Rattle.system.specs.Expression.{is_in}
 use Rattle.system_places.specs.LinesBegun.{begins}
-use Rattle.calculus.specs.Opening.{opening}
+use Rattle.calculus.specs.Steps.{opening}
 use Rattle.calculus.specs.Object.{Object}
 use Rattle.calculus.specs.Does.{Does}
 use Rattle.calculus.specs.Sound.{Sound}

@@ -25,10 +25,9 @@ use Rattle.calculus.proofs.Options.{some-injective}
 use Rattle.calculus.proofs.Lists.{every-in, every-of, in-parts}
 use Rattle.calculus.proofs.Effects.{stays-sound}
 use Rattle.machine.specs.Held.{Held, object}
-use Rattle.machine.specs.Histories.{held, execution}
-use Rattle.machine.specs.Choosing.{NotTaken}
-use Rattle.machine.specs.Taking.{FirstAt, Takes}
-use Rattle.machine.specs.Branching.{is_branch, acts_in, in_branch, is_passed, line_of, is_free, moves, line_of_first, FirstFree, Branched, StepsBranch, AnswersBranch, SteppedIsStep, OthersLeave}
+use Rattle.machine.specs.walking.Histories.{held, execution}
+use Rattle.machine.specs.walking.Choosing.{NotTaken, FirstAt, Takes, moves, line_of_first}
+use Rattle.machine.specs.Branching.{is_branch, acts_in, in_branch, has_no_break, line_of, is_free, FirstFree, Branched, StepsBranch, AnswersBranch, SteppedIsStep, OthersLeave}
 use Rattle.machine.specs.declared.history.History.{History}
 use Rattle.machine.specs.declared.branching.BranchReply.{BranchReply}
 use Rattle.machine.specs.declared.branching.BranchReply.TheVariants.{Stepped, Stopped, Idle, Refused}
@@ -102,7 +101,7 @@ first-chosen test same T es i e ready at on before =
 -- whether an event moves is told by its acting address
 same-moves : (h : Held) (k : ℕ) (breaks : List ℕ) (x y : Event) → acting x ≡ acting y → moves h k breaks x ≡ moves h k breaks y
 same-moves h k breaks x y e =
-    ap (λ (p : Place). cond (is_branch k (branch_at h.checked p)) (is_passed breaks (line_after (events h.live) h.checked p)) false) e
+    ap (λ (p : Place). cond (is_branch k (branch_at h.checked p)) (has_no_break breaks (line_after (events h.live) h.checked p)) false) e
 
 pub moving-chosen : (h : Held) (k : ℕ) (breaks : List ℕ) (T : State) (es : List Event) (i : ℕ) → ReadyList T es → (first : FirstAt (moves h k breaks) es i) →
     Chosen T (choice_of first.0) first.0
@@ -140,7 +139,7 @@ all-back : (h : Held) (breaks : List ℕ) (es : List Event) (reply : BranchReply
 all-back h breaks [] reply none told = subst (λ (r : BranchReply). Branched h breaks [] r h) (sym told) (refl, refl)
 all-back h breaks (e ∷ es) reply none told = by-line (line_of h e) refl none.0 told
   where
-    by-line : (line : Option ℕ) → line_of h e ≡ line → is_passed breaks line ≡ false → MatchOption line (reply ≡ Idle) (λ n. reply ≡ Stopped n) →
+    by-line : (line : Option ℕ) → line_of h e ≡ line → has_no_break breaks line ≡ false → MatchOption line (reply ≡ Idle) (λ n. reply ≡ Stopped n) →
         Branched h breaks (e ∷ es) reply h
     by-line None is off said = cc
     by-line (Some n) is off said = subst (λ (r : BranchReply). Branched h breaks (e ∷ es) r h) (sym said) ((is, none), refl)

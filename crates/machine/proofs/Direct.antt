@@ -1,11 +1,11 @@
 -- The first live event that depends directly on another is the first that depends on it.
 use Rattle.std.proofs.Common.{◌≡◌, ◌⊎◌, inl, inr, ℕ, suc, ◌<◌, ◌≤◌, [], ◌∷◌, ◌++◌, refl, sym, ap, subst, arith}
-use Rattle.calculus.specs.Dependence.{Directly}
-use Rattle.calculus.specs.Live.{Live, Rising, LiveAt, Follows, same, later, Without, ended, stays, leaves, FirstDependent, NoDependent}
+use Rattle.calculus.specs.Dependence.{Directly, ended, stays, leaves}
+use Rattle.calculus.specs.Live.{Live, Rising, LiveAt, Follows, same, later, WithoutTickets, FirstDependent, NoDependent}
 use Rattle.calculus.specs.declared.event.Event.{Event}
 use Rattle.calculus.proofs.Lists.{every-in, in-right, in-parts}
 use Rattle.calculus.proofs.Tickets.{rising-in, rising-one, rising-parts}
-use Rattle.machine.specs.Dependents.{NoneDirectly, FirstDirectly}
+use Rattle.machine.specs.walking.Dependents.{NoneDirectly, FirstDirectly}
 
 -- an event that depends directly on e, at v or before
 record Linked (l : Live) (t : ℕ) (e : Event) (v : ℕ) : Type 0 where
@@ -98,14 +98,14 @@ first-depends low next before after t u e r first =
     }
 
 -- a list without a ticket that is not in it
-all-stay : (low next : ℕ) (l : Live) (t : ℕ) → Rising low l next → t < low → Without (λ v. v ≡ t) l l
+all-stay : (low next : ℕ) (l : Live) (t : ℕ) → Rising low l next → t < low → WithoutTickets (λ v. v ≡ t) l l
 all-stay low next [] t r h = ended
 all-stay low next (x ∷ l) t r h =
     let first : low ≤ x.0 = r.0 in
     stays (λ (is : x.0 ≡ t). omega arith) (all-stay (suc x.0) next l t r.1 (omega arith))
 
 pub without-entry : (low next : ℕ) (before after : Live) (t : ℕ) (e : Event) → Rising low (before ++ (t, e) ∷ after) next →
-    Without (λ v. v ≡ t) (before ++ (t, e) ∷ after) (before ++ after)
+    WithoutTickets (λ v. v ≡ t) (before ++ (t, e) ∷ after) (before ++ after)
 without-entry low next [] after t e r = leaves refl (all-stay (suc t) next after t r.1 (omega arith))
 without-entry low next (x ∷ before) after t e r =
     let above : suc x.0 ≤ t = (rising-in (suc x.0) next (before ++ (t, e) ∷ after) t e r.1 (in-right (t, e) before ((t, e) ∷ after) (inl refl))).0 in

@@ -17,9 +17,9 @@ use Rattle.calculus.specs.declared.event.Event.{Event}
 use Rattle.calculus.specs.declared.event.Choice.{Choice}
 use Rattle.calculus.proofs.Options.{some-injective}
 use Rattle.calculus.proofs.Lists.{in-parts, every-in, every-of}
-use Rattle.machine.specs.Choosing.{HasNone}
-use Rattle.machine.specs.Dependents.{StandsAt, NoneDirectly, FirstDirectly}
-use Rattle.machine.specs.Sorting.{sooner_by, is_sooner}
+use Rattle.machine.specs.walking.Choosing.{HasNone}
+use Rattle.machine.specs.walking.Dependents.{StandsAt, NoneDirectly, FirstDirectly}
+use Rattle.machine.specs.walking.Sorting.{sooner_by, is_sooner}
 use Rattle.machine.proofs.Entries.{parts-at, item-at, take-next, drop-next}
 
 -- the test of elements

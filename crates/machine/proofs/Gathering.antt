@@ -9,7 +9,7 @@ use Rattle.calculus.specs.Live.{Live, Rising, LiveAt, Follows, same, later, Foll
 use Rattle.calculus.specs.declared.event.Event.{Event}
 use Rattle.calculus.proofs.Lists.{in-left, in-right, in-parts, every-in, every-of}
 use Rattle.calculus.proofs.Tickets.{rising-in, rising-one, rising-parts}
-use Rattle.machine.specs.Following.{Leads, DependsOnSome, Gathered, WritesLast}
+use Rattle.machine.specs.walking.Following.{Leads, DependsOnSome, Gathered, WritesLast}
 use Rattle.machine.proofs.Entries.{parts-at, item-at, take-next}
 use Rattle.machine.proofs.Found.{is-in, in-is}
 

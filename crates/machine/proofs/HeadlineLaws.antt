@@ -1,7 +1,7 @@
 -- What a designer may rely on holds of every sound execution.
 use Rattle.std.proofs.Common.{◌≡◌, [], sym, subst}
 use Rattle.calculus.specs.Sound.{Sound}
-use Rattle.calculus.specs.Opening.{opening}
+use Rattle.calculus.specs.Steps.{opening}
 use Rattle.calculus.specs.Live.{Live}
 use Rattle.system.specs.declared.system.System.{System}
 use Rattle.calculus.proofs.ObjectLaws.{begins-sound, state-in-every-order, step-then-undo, undoes-exactly, needed-exactly, rolls-exactly, rolls-value-exactly, tickets-grow}

@@ -4,15 +4,14 @@ use Rattle.std.specs.Prelude.{IfOk}
 use Rattle.std.specs.Option.{option_map, IfSome}
 use Rattle.std.proofs.lemmas.Result.{IfOk-weaker}
 use Rattle.sharing_check.specs.declared.checked.Checked.{Checked}
-use Rattle.calculus.specs.StepOf.{step_of}
+use Rattle.calculus.specs.walking.StepOf.{step_of}
 use Rattle.calculus.specs.Object.{Object, Reaches, with_event}
-use Rattle.calculus.specs.Plain.{state_of}
+use Rattle.calculus.specs.Left.{state_of}
 use Rattle.calculus.specs.declared.event.Event.{Event}
 use Rattle.calculus.specs.declared.plain.Plain.{Plain}
 use Rattle.calculus.proofs.StepOf.{step-only}
 use Rattle.calculus.proofs.Effects.{reaches-more}
-use Rattle.machine.specs.Histories.{execution}
-use Rattle.machine.specs.KeptState.{KeepsState}
+use Rattle.machine.specs.walking.Histories.{execution, KeepsState}
 use Rattle.machine.specs.declared.history.History.{History}
 
 -- the live events lead to the one that is kept

@@ -9,8 +9,7 @@ use Rattle.calculus.proofs.Lists.{every-in, every-map, in-right}
 use Rattle.calculus.proofs.ReadyLists.{sooner-transitive}
 use Rattle.machine.proofs.Entries.{parts-at, item-at, drop-next}
 use Rattle.machine.proofs.Sooner.{sooner-true, sooner-tested}
-use Rattle.machine.specs.Sorting.{is_sooner, sooner_count}
-use Rattle.machine.specs.Insertion.{inserted}
+use Rattle.machine.specs.walking.Sorting.{is_sooner, sooner_count, inserted}
 
 -- they are no more than there are
 pub count-within : (e : Event) (l : List Event) → sooner_count e l ≤ length l

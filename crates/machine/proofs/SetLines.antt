@@ -7,7 +7,8 @@ use Rattle.system.specs.Lists.{Every}
 use Rattle.system.specs.Expression.{is_in}
 use Rattle.calculus.specs.InOrder.{InOrder}
 use Rattle.calculus.proofs.Lists.{every-in, every-map}
-use Rattle.machine.specs.Breakpoints.{with_line, lesser_count}
+use Rattle.machine.specs.Breakpoints.{with_line}
+use Rattle.machine.specs.walking.Sorting.{lesser_count}
 use Rattle.machine.proofs.Found.{is-in}
 
 -- a line that is set is set once

@@ -13,11 +13,11 @@ use Rattle.calculus.specs.Events.{acting}
 use Rattle.calculus.specs.Steps.{State, Allowed}
 use Rattle.calculus.specs.Choices.{choice_of}
 use Rattle.calculus.specs.InOrder.{InOrder}
-use Rattle.calculus.specs.AllowedEvents.{allowed_events}
+use Rattle.calculus.specs.walking.AllowedEvents.{allowed_events}
 use Rattle.calculus.specs.Ready.{other, Sooner, ReadyList}
 use Rattle.calculus.specs.Moves.{Place}
 use Rattle.calculus.specs.Tests.{same_event}
-use Rattle.calculus.specs.EventLaws.{same_event-decides}
+use Rattle.calculus.specs.walking.EventLaws.{same_event-decides}
 use Rattle.calculus.specs.WellFormed.{WellFormed}
 use Rattle.calculus.specs.declared.event.Event.{Event}
 use Rattle.calculus.proofs.Lists.{every-in, every-of, in-left, in-right, in-parts}
@@ -27,8 +27,7 @@ use Rattle.std.specs.List.{Contains}
 use Rattle.std.specs.List.Sorted.{IsPermutation}
 use Rattle.std.proofs.lemmas.List.Sorted.{IsPermutation-sym, Contains-permutation}
 use Rattle.machine.proofs.Gathering.{in-item}
-use Rattle.machine.specs.Sorting.{sooner_by, is_sooner}
-use Rattle.machine.specs.Insertion.{inserted}
+use Rattle.machine.specs.walking.Sorting.{sooner_by, is_sooner, inserted}
 
 arms-true : (m n : ℕ) (q : Ordering) → cond (nat_lt m n) true (cond (m == n) (is_lt q) false) ≡ true → (m < n) ⊎ ((m ≡ n) × (is_lt q ≡ true))
 arms-true m n q h = pick (nat_lt m n) refl h

@@ -3,7 +3,7 @@ use Rattle.std.proofs.Common.{◌≡◌, inl, inr, ℕ, suc, ◌<◌, ◌≤◌,
 use Rattle.std.specs.Prelude.{IfOk, OnErr, MatchOption, MatchResult}
 use Rattle.std.proofs.lemmas.Result.{IfOk-weaker}
 use Rattle.calculus.specs.Steps.{State}
-use Rattle.calculus.specs.StepOf.{run_of}
+use Rattle.calculus.specs.walking.StepOf.{run_of}
 use Rattle.std.specs.Option.{option_map}
 use Rattle.calculus.specs.Live.{Live, events}
 use Rattle.calculus.specs.Choices.{choice_of}
@@ -11,7 +11,7 @@ use Rattle.calculus.specs.Ready.{ReadyList, Possible, Chosen}
 use Rattle.calculus.specs.Object.{Object, Reaches, most_live, last_ticket, with_event}
 use Rattle.calculus.specs.Does.{Does, Answers, MayWantMemory, RefusesStep}
 use Rattle.calculus.specs.Sound.{Sound}
-use Rattle.calculus.specs.Plain.{state_of}
+use Rattle.calculus.specs.Left.{state_of}
 use Rattle.calculus.specs.WellFormed.{WellFormed}
 use Rattle.calculus.specs.declared.event.Event.{Event}
 use Rattle.calculus.specs.declared.event.Choice.{Choice}
@@ -25,7 +25,7 @@ use Rattle.calculus.proofs.StepOf.{run-found, run-only}
 use Rattle.calculus.proofs.Orders.{run-formed}
 use Rattle.calculus.proofs.Effects.{sound-formed}
 use Rattle.calculus.proofs.ReadyLists.{first-chosen}
-use Rattle.machine.specs.Choosing.{HasNone, FirstWith, NotTaken}
+use Rattle.machine.specs.walking.Choosing.{HasNone, FirstWith, NotTaken}
 use Rattle.machine.proofs.Entries.{parts-at, got-at}
 
 -- the live events run

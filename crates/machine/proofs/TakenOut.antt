@@ -3,7 +3,8 @@ use Rattle.std.proofs.Common.{◌≡◌, inl, inr, ℕ, ◌-◌, ◌≤◌, List
 use Rattle.std.specs.Prelude.{IfOk}
 use Rattle.system.specs.Lists.{In}
 use Rattle.system.specs.Expression.{is_in}
-use Rattle.calculus.specs.Live.{Live, LiveAt, Follows, Without, ended, stays, leaves, FollowersList, LastWriter}
+use Rattle.calculus.specs.Dependence.{ended, stays, leaves}
+use Rattle.calculus.specs.Live.{Live, LiveAt, Follows, WithoutTickets, FollowersList, LastWriter}
 use Rattle.calculus.specs.Object.{Object, with_live}
 use Rattle.calculus.specs.Does.{Does, TakesOut, RefusesTicket}
 use Rattle.calculus.specs.declared.event.Event.{Event}
@@ -12,7 +13,7 @@ use Rattle.calculus.specs.declared.command.Reply.{Reply}
 use Rattle.calculus.specs.declared.command.Refusal.{Refusal}
 use Rattle.calculus.specs.declared.command.Refusal.TheVariants.{NoSuchEvent}
 use Rattle.machine.proofs.Found.{is-in, in-is}
-use Rattle.machine.specs.Dependents.{StandsAt}
+use Rattle.machine.specs.walking.Dependents.{StandsAt}
 use Rattle.machine.proofs.Undone.{live-at}
 
 -- the entries of other tickets
@@ -20,12 +21,12 @@ abbrev pub others : List ℕ → Live → Live
 others ts l = filter (λ (x : ℕ × Event). not (is_in x.0 ts)) l
 
 without-others : (D : ℕ → Type 0) (ts : List ℕ) (l : Live) → ((u : ℕ) (f : Event) → LiveAt l u f → In u ts → D u) →
-    ((u : ℕ) (f : Event) → LiveAt l u f → D u → In u ts) → Without D l (others ts l)
+    ((u : ℕ) (f : Event) → LiveAt l u f → D u → In u ts) → WithoutTickets D l (others ts l)
 without-others D ts [] of to = ended
 without-others D ts (x ∷ l) of to = pick (is_in x.0 ts) refl (without-others D ts l (λ u f j. of u f (inr j)) (λ u f j. to u f (inr j))) (of x.0 x.1 (inl refl)) (to x.0 x.1 (inl refl))
   where
-    pick : (b : Bool) → is_in x.0 ts ≡ b → Without D l (others ts l) → (In x.0 ts → D x.0) → (D x.0 → In x.0 ts) →
-        Without D (x ∷ l) (cond (not b) (x ∷ others ts l) (others ts l))
+    pick : (b : Bool) → is_in x.0 ts ≡ b → WithoutTickets D l (others ts l) → (In x.0 ts → D x.0) → (D x.0 → In x.0 ts) →
+        WithoutTickets D (x ∷ l) (cond (not b) (x ∷ others ts l) (others ts l))
     pick true is rest here there = leaves (here (is-in x.0 ts is)) rest
     pick false is rest here there = stays (λ d. let on : is_in x.0 ts ≡ true = in-is x.0 ts (there d) in cc) rest
 
@@ -33,7 +34,7 @@ pub takes-out : (o o' : Object) (t n before after old new : ℕ) (ts : List ℕ)
     before ≡ old → after ≡ new → old ≡ length o.live → new ≡ length k → new ≤ old → n ≡ before - after → o' ≡ with_live o k → TakesOut o t n o'
 takes-out o o' t n before after old new ts k all kept eb ea eo en less number is = (
   k,
-  subst (λ (m : Live). Without (Follows o.live t) o.live m) (sym kept)
+  subst (λ (m : Live). WithoutTickets (Follows o.live t) o.live m) (sym kept)
       (without-others (Follows o.live t) ts o.live (λ u f j i. ((all.exactly u).0 i).2) (λ u f j d. (all.exactly u).1 (f, j, d))),
   omega arith,
   is,

@@ -1,6 +1,6 @@
 -- What an undo answers, from what was found in the list.
 use Rattle.std.proofs.Common.{◌≡◌, inl, ℕ, suc, ◌∷◌, ◌++◌, take, drop, get_or, Some, refl, sym, ◌∙◌, ap, subst, slice_get}
-use Rattle.calculus.specs.Live.{Live, Rising, LiveAt, Without, NoneAt, NoDependent, FirstDependent}
+use Rattle.calculus.specs.Live.{Live, Rising, LiveAt, WithoutTickets, NoneAt, NoDependent, FirstDependent}
 use Rattle.calculus.specs.Object.{Object, with_live}
 use Rattle.calculus.specs.Does.{Undoes}
 use Rattle.calculus.specs.Sound.{Sound}
@@ -8,7 +8,7 @@ use Rattle.calculus.specs.declared.event.Event.{Event}
 use Rattle.calculus.specs.declared.command.Reply.{Reply}
 use Rattle.calculus.specs.declared.command.Refusal.TheVariants.{NoSuchEvent, NeededBy}
 use Rattle.calculus.proofs.Lists.{in-right}
-use Rattle.machine.specs.Dependents.{StandsAt, NoneDirectly, FirstDirectly}
+use Rattle.machine.specs.walking.Dependents.{StandsAt, NoneDirectly, FirstDirectly}
 use Rattle.machine.proofs.Entries.{parts-at, got-at}
 use Rattle.machine.proofs.Direct.{none-depends, first-depends, without-entry}
 
@@ -37,7 +37,7 @@ undo-done o o' t i e s at none is =
       refl,
       live-at o.live t i e at,
       subst (λ (l : Live). NoDependent l t) (sym parts) alone,
-      (take i o.live ++ drop (suc i) o.live, subst (λ (l : Live). Without (λ v. v ≡ t) l (take i o.live ++ drop (suc i) o.live)) (sym parts) rest, is),
+      (take i o.live ++ drop (suc i) o.live, subst (λ (l : Live). WithoutTickets (λ v. v ≡ t) l (take i o.live ++ drop (suc i) o.live)) (sym parts) rest, is),
     )
 
 -- the same, of a list that is the live one

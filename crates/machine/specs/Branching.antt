@@ -1,5 +1,5 @@
 -- What a branch does: the first of its events that no breakpoint keeps back is taken.
-use Rattle.std.specs.Prelude.{◌≡◌, ◌⊎◌, ℕ, ◌==◌, List, [], ◌∷◌, ◌++◌, Bool, true, false, cond, not, Option, Some, None, filter}
+use Rattle.std.specs.Prelude.{◌≡◌, ◌⊎◌, ℕ, ◌==◌, List, [], ◌∷◌, ◌++◌, Bool, true, false, not, Option, Some, None, filter}
 use Rattle.system.specs.Lists.{Every}
 use Rattle.system.specs.Expression.{is_in}
 use Rattle.system_places.specs.SystemBranches.{branch_at}
@@ -37,22 +37,13 @@ abbrev pub in_branch : Held → ℕ → List Event → List Event
 in_branch h k es = filter (acts_in h k) es
 
 -- whether a line has no breakpoint
-abbrev pub is_passed : List ℕ → Option ℕ → Bool
-is_passed breaks None = true
-is_passed breaks (Some line) = not (is_in line breaks)
+abbrev pub has_no_break : List ℕ → Option ℕ → Bool
+has_no_break breaks None = true
+has_no_break breaks (Some line) = not (is_in line breaks)
 
 -- whether no breakpoint keeps an event back
 abbrev pub is_free : Held → List ℕ → Event → Bool
-is_free h breaks e = is_passed breaks (line_of h e)
-
--- whether an event acts in branch k and no breakpoint keeps it back
-abbrev pub moves : Held → ℕ → List ℕ → Event → Bool
-moves h k breaks e = cond (acts_in h k e) (is_free h breaks e) false
-
--- the line of the first event of the list
-abbrev pub line_of_first : Held → List Event → Option ℕ
-line_of_first h [] = None
-line_of_first h (e ∷ es) = line_of h e
+is_free h breaks e = has_no_break breaks (line_of h e)
 
 -- e is the first event of the list that is free
 pub record FirstFree (free : Event → Bool) (es : List Event) (e : Event) : Type 0 where

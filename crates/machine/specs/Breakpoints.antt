@@ -1,5 +1,5 @@
 -- The lines of a session that have a breakpoint: a list of lines, ascending.
-use Rattle.std.specs.Prelude.{◌≡◌, ◌⊎◌, ℕ, suc, ◌==◌, ◌<◌, ◌≤◌, List, [], ◌∷◌, true, false, not, cond, nat_lt, filter, length, Result, Ok, Err}
+use Rattle.std.specs.Prelude.{◌≡◌, ◌⊎◌, ℕ, ◌==◌, ◌<◌, ◌≤◌, List, [], ◌∷◌, true, false, not, cond, nat_lt, filter, length, Result, Ok, Err}
 use Rattle.system.specs.Expression.{is_in}
 use Rattle.calculus.specs.declared.command.Refusal.{Refusal}
 use Rattle.calculus.specs.declared.command.Refusal.TheVariants.{BreaksFull}
@@ -21,8 +21,3 @@ without_line line lines = filter (λ held. not (held == line)) lines
 abbrev pub SetsBreak : {U : Type 0} → ℕ → List ℕ → Result U Refusal → List ℕ → Type 0
 SetsBreak line lines (Ok _) after = ((is_in line lines ≡ true) ⊎ (length lines < most_breaks)) × (after ≡ with_line line lines)
 SetsBreak line lines (Err why) after = (why ≡ BreaksFull) × (is_in line lines ≡ false) × (most_breaks ≤ length lines) × (after ≡ lines)
-
--- how many of the first lines are less than this one
-abbrev pub lesser_count : ℕ → List ℕ → ℕ
-lesser_count line [] = 0
-lesser_count line (held ∷ lines) = cond (nat_lt held line) (suc (lesser_count line lines)) 0

@@ -2,7 +2,7 @@
 use Rattle.std.specs.Prelude.{◌≡◌, ◌⊎◌, ◌↔◌, ℕ, ◌+◌, ◌<◌, ◌≤◌, List, length, Some}
 use Rattle.system.specs.Lists.{In}
 use Rattle.calculus.specs.Steps.{State}
-use Rattle.calculus.specs.Dependence.{Causes, Kept}
+use Rattle.calculus.specs.Dependence.{Causes, Without}
 use Rattle.calculus.specs.Live.{events, LiveAt, LastWriter}
 use Rattle.calculus.specs.Object.{Object, Reaches, most_live, last_ticket}
 use Rattle.calculus.specs.Does.{CanStep, Does}
@@ -40,7 +40,7 @@ pub record Headline (o : Object) : Type 0 where
       ((n : ℕ) × (o' : Object) × Does o (Command.Roll t) (Reply.Rolled n) o') ↔ ((e : Event) × LiveAt o.live t e)
   -- that leaves exactly the events that do not depend on it, and they run
   pub rolls : (o' : Object) (t n : ℕ) → Does o (Command.Roll t) (Reply.Rolled n) o' →
-      (e : Event) × LiveAt o.live t e × Kept (Causes (events o.live) e) (events o.live) (events o'.live)
+      (e : Event) × LiveAt o.live t e × Without (Causes (events o.live) e) (events o.live) (events o'.live)
       × ((u : ℕ) (f : Event) → LiveAt o'.live u f ↔ (LiveAt o.live u f × (Causes (events o.live) e f → ⊥)))
       × (n + length o'.live ≡ length o.live) × ((T : State) × Reaches o' T)
   -- a variable is rolled back exactly where a live event wrote it

@@ -1,7 +1,7 @@
 -- What a machine holds, and the execution that it stands for.
 use Rattle.std.specs.Prelude.{ℕ}
 use Rattle.sharing_check.specs.declared.checked.Checked.{Checked}
-use Rattle.calculus.specs.Opening.{opening}
+use Rattle.calculus.specs.Steps.{opening}
 use Rattle.calculus.specs.Live.{Live}
 use Rattle.calculus.specs.Object.{Object}
 

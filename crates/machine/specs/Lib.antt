@@ -1,12 +1,5 @@
 pub mod Branching
 pub mod Breakpoints
-pub mod Choosing
-pub mod Dependents
-pub mod Following
 pub mod Headline
 pub mod Held
-pub mod Histories
-pub mod Insertion
-pub mod KeptState
-pub mod Sorting
-pub mod Taking
+pub mod walking

@@ -1,11 +1,10 @@
 // Questions, which change nothing.
 ghost use Rattle.std.specs.Prelude.{◌≡◌, IfOk};
 ghost use Rattle.calculus.specs.Object.{Object, Reaches};
-ghost use Rattle.calculus.specs.Plain.{state_of};
+ghost use Rattle.calculus.specs.Left.{state_of};
 ghost use Rattle.calculus.specs.Does.{Does};
 ghost use Rattle.calculus.specs.Sound.{Sound};
-ghost use Rattle.machine.specs.Histories.{execution};
-ghost use Rattle.machine.specs.KeptState.{KeepsState};
+ghost use Rattle.machine.specs.walking.Histories.{execution, KeepsState};
 
 use crate::history::History;
 use calculus::{Command, Event, Plain, Refusal, Reply};

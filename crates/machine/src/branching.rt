@@ -8,10 +8,9 @@ ghost use Rattle.calculus.specs.Steps.{State};
 ghost use Rattle.calculus.specs.Ready.{Chosen};
 ghost use Rattle.calculus.specs.Object.{Reaches};
 ghost use Rattle.calculus.specs.Sound.{Sound};
-ghost use Rattle.machine.specs.Branching.{is_branch, acts_in, in_branch, is_free, moves, line_of_first, StepsBranch};
-ghost use Rattle.machine.specs.Taking.{FirstAt, Takes};
-ghost use Rattle.machine.specs.Histories.{held, execution};
-ghost use Rattle.machine.specs.KeptState.{KeepsState};
+ghost use Rattle.machine.specs.Branching.{is_branch, acts_in, in_branch, is_free, StepsBranch};
+ghost use Rattle.machine.specs.walking.Choosing.{moves, line_of_first, FirstAt, Takes};
+ghost use Rattle.machine.specs.walking.Histories.{held, execution, KeepsState};
 
 use crate::following::is_among;
 use crate::history::History;

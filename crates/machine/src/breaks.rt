@@ -1,7 +1,8 @@
 ghost use Rattle.std.specs.Prelude.{◌≡◌, ◌<◌, ◌≤◌, [], length};
 ghost use Rattle.system.specs.Expression.{is_in};
 ghost use Rattle.calculus.specs.InOrder.{InOrder};
-ghost use Rattle.machine.specs.Breakpoints.{most_breaks, with_line, without_line, SetsBreak, lesser_count};
+ghost use Rattle.machine.specs.Breakpoints.{most_breaks, with_line, without_line, SetsBreak};
+ghost use Rattle.machine.specs.walking.Sorting.{lesser_count};
 
 use crate::following::is_among;
 use arrayvec::ArrayVec;

@@ -2,7 +2,7 @@
 ghost use Rattle.std.specs.Prelude.{◌≡◌, ◌⊎◌, ◌↔◌, ℕ, [], ◌∷◌, ◌++◌, cond, Some, IsTrue, IfOk, MatchOption};
 ghost use Rattle.system.specs.Expression.{is_in};
 ghost use Rattle.calculus.specs.Live.{Rising, FollowersList, NoWriter};
-ghost use Rattle.machine.specs.Following.{Leads, DependsOnSome, WritesLast};
+ghost use Rattle.machine.specs.walking.Following.{Leads, DependsOnSome, WritesLast};
 
 use crate::dependence::{depends_directly, writes};
 use calculus::Event;

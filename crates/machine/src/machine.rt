@@ -42,8 +42,8 @@ impl Model for Machine {
 
     ghost use Rattle.calculus.specs.Sound.{Sound};
     ghost use Rattle.machine.specs.Held.{object};
-    ghost use Rattle.machine.specs.Histories.{held, execution};
-    ghost use Rattle.machine.specs.KeptState.{KeepsState};
+    ghost use Rattle.machine.specs.walking.Histories.{held, execution};
+    ghost use Rattle.machine.specs.walking.Histories.{KeepsState};
 
     ghost view = { λ machine. held machine.system machine.history };
 

@@ -4,7 +4,7 @@ ghost use Rattle.address.specs.Order.{order_of};
 ghost use Rattle.calculus.specs.InOrder.{InOrder};
 ghost use Rattle.calculus.specs.Ready.{other, Sooner};
 ghost use Rattle.calculus.specs.Choices.{choice_of};
-ghost use Rattle.machine.specs.Sorting.{is_sooner, sooner_count};
+ghost use Rattle.machine.specs.walking.Sorting.{is_sooner, sooner_count};
 
 use address::{Entry, compare};
 use calculus::{Choice, Event, Kind};

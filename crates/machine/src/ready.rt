@@ -1,13 +1,13 @@
 // The events that may be taken, in order.
 ghost use Rattle.std.specs.Prelude.{◌≡◌, IfOk, IsTrue, MatchOption, Some, true, false, slice_get};
-ghost use Rattle.calculus.specs.Plain.{state_of};
+ghost use Rattle.calculus.specs.Left.{state_of};
 ghost use Rattle.calculus.specs.Tests.{same_event};
 ghost use Rattle.calculus.specs.Steps.{State};
 ghost use Rattle.calculus.specs.InOrder.{InOrder};
 ghost use Rattle.calculus.specs.Ready.{Sooner, ReadyList, Possible, Chosen};
 ghost use Rattle.calculus.specs.WellFormed.{WellFormed};
-ghost use Rattle.machine.specs.Choosing.{HasNone, FirstWith};
-ghost use Rattle.machine.specs.Insertion.{inserted};
+ghost use Rattle.machine.specs.walking.Choosing.{HasNone, FirstWith};
+ghost use Rattle.machine.specs.walking.Sorting.{inserted};
 
 use crate::order::{has_choice, latest_first, sooner_count};
 use calculus::{Choice, Event, Plain};

@@ -5,8 +5,7 @@ ghost use Rattle.system.specs.Expression.{is_in};
 ghost use Rattle.calculus.specs.Live.{LiveAt, LastWriter, FollowersList};
 ghost use Rattle.calculus.specs.Sound.{Sound};
 ghost use Rattle.calculus.specs.Does.{Does, TakesOut};
-ghost use Rattle.machine.specs.Histories.{execution};
-ghost use Rattle.machine.specs.KeptState.{KeepsState};
+ghost use Rattle.machine.specs.walking.Histories.{execution, KeepsState};
 
 use crate::following::{followers, is_among, last_writer};
 use crate::history::History;

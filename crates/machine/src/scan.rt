@@ -1,7 +1,7 @@
 // Looking for an entry of the live events.
 ghost use Rattle.std.specs.Prelude.{◌≡◌, ◌<◌, ℕ, suc, length, drop, Some, slice_get, MatchOption};
 ghost use Rattle.calculus.specs.Live.{NoneAt};
-ghost use Rattle.machine.specs.Dependents.{StandsAt, NoneDirectly, FirstDirectly};
+ghost use Rattle.machine.specs.walking.Dependents.{StandsAt, NoneDirectly, FirstDirectly};
 
 use crate::dependence::depends_directly;
 use calculus::Event;

@@ -4,13 +4,12 @@ ghost use Rattle.std.specs.Option.{IfSome};
 ghost use Rattle.sharing_check.specs.declared.checked.Checked.{Checked};
 ghost use Rattle.calculus.specs.Steps.{State};
 ghost use Rattle.calculus.specs.Object.{Reaches, most_live, last_ticket, with_event};
-ghost use Rattle.calculus.specs.Plain.{state_of};
+ghost use Rattle.calculus.specs.Left.{state_of};
 ghost use Rattle.calculus.specs.Ready.{ReadyList};
 ghost use Rattle.calculus.specs.Does.{Does};
 ghost use Rattle.calculus.specs.Sound.{Sound};
-ghost use Rattle.machine.specs.Choosing.{NotTaken};
-ghost use Rattle.machine.specs.Histories.{execution};
-ghost use Rattle.machine.specs.KeptState.{KeepsState};
+ghost use Rattle.machine.specs.walking.Choosing.{NotTaken};
+ghost use Rattle.machine.specs.walking.Histories.{execution, KeepsState};
 
 use crate::history::History;
 use crate::ready::{chosen, ready_events};

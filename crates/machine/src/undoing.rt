@@ -2,9 +2,8 @@
 ghost use Rattle.sharing_check.specs.declared.checked.Checked.{Checked};
 ghost use Rattle.calculus.specs.Sound.{Sound};
 ghost use Rattle.calculus.specs.Does.{Undoes};
-ghost use Rattle.machine.specs.Dependents.{StandsAt};
-ghost use Rattle.machine.specs.Histories.{execution};
-ghost use Rattle.machine.specs.KeptState.{KeepsState};
+ghost use Rattle.machine.specs.walking.Dependents.{StandsAt};
+ghost use Rattle.machine.specs.walking.Histories.{execution, KeepsState};
 
 use crate::history::History;
 use crate::scan::{dependent_of, place_of};

@@ -62,7 +62,7 @@ module _ (depth : ℕ) {f f' : Reader Expression} {h h' : Rule Expression} (fact
   sum_full = declared (grouped_full depth factor sum_signs refl refl refl refl) refl refl
 
   comparison_full : Full (r.comparison_of depth f) (r.comparison_of (suc depth) f') (g.comparison_of depth h) (g.comparison_of (suc depth) h') expression_start false comparison_follow
-  unfolding r.comparison_of g.comparison_of same_kind
+  unfolding r.comparison_of r.compared g.comparison_of same_kind
   comparison_full = declared (bind_full sum_full (λ left. branch_full _ (operation_laws depth sum_full comparison_signs refl left) (pure_full _) refl refl) refl) refl refl
 
   conjunct_full : Full (r.conjunct_of depth f) (r.conjunct_of (suc depth) f') (g.conjunct_of depth h) (g.conjunct_of (suc depth) h') expression_start false conjunct_follow

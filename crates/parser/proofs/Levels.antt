@@ -1,10 +1,8 @@
 -- What is read inside a level, one level at a time.
-use Rattle.std.proofs.Common.{◌≡◌, ℕ, zero, suc, ◌+◌, ◌-◌, ◌<◌, refl, ap, sym, ◌∙◌, arith}
-use Rattle.syntax.specs.declared.expression.Expression.{Expression}
-use Rattle.syntax.specs.declared.command.Command.{Command}
+use Rattle.std.proofs.Common.{◌≡◌, ℕ, zero, suc, ◌+◌, ◌-◌, ◌<◌, refl, ap, ◌∙◌, arith}
 use Rattle.parser.specs.Input.{Input}
-use Rattle.parser.specs.Readers.{Reader, unexpected, nothing, inside, bind, branch}
-use Rattle.parser.specs.Reading.{factor, factor_of, expression, expression_of, grouped, conjunct_of, comparison_of, sum_of, simple, simple_of, command_of, parallel_of, alone_or_joined}
+use Rattle.parser.specs.Readers.{Reader, unexpected, nothing, inside, bind}
+use Rattle.parser.specs.Reading.{factor, factor_of, expression, expression_of, grouped, conjunct_of, comparison_of, compared, sum_of, simple, simple_of, command_of, parallel_of, alone_or_joined}
 use Rattle.parser.specs.Nests.{inner, factor_in, expression_in, simple_in, command_in}
 
 -- inside the last level there is nothing
@@ -14,7 +12,7 @@ none_inside reader zero i last = refl
 none_inside reader (suc depth) i last = absurd (omega (arith, last))
 
 factor_at : (depth : ℕ) → factor depth ≡ factor_of depth (factor_in depth) (expression_in depth)
-unfolding nothing expression_of inside grouped conjunct_of comparison_of sum_of bind
+unfolding nothing expression_of inside grouped conjunct_of comparison_of compared sum_of bind
 factor_at zero = refl
 factor_at (suc depth) = refl
 
@@ -31,7 +29,7 @@ unfolding expression
 next_expression depth = let same : suc depth ≡ depth + 1 = omega arith in ap expression_in same
 
 simple_with : (depth : ℕ) → simple depth ≡ simple_of depth (expression depth) (command_in depth) (expression_in depth)
-unfolding nothing expression expression_of inside grouped conjunct_of comparison_of sum_of bind command_of parallel_of alone_or_joined
+unfolding nothing expression expression_of inside grouped conjunct_of comparison_of compared sum_of bind command_of parallel_of alone_or_joined
 simple_with zero = refl
 simple_with (suc depth) = refl
 

@@ -1,6 +1,7 @@
 pub mod Answered
 pub mod BindLaws
 pub mod ChoiceLaws
+pub mod Closed
 pub mod CommandLaws
 pub mod DeclarationLaws
 pub mod ExpressionLaws

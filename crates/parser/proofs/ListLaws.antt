@@ -4,8 +4,8 @@ use Rattle.lexer.specs.declared.token.Kind.{Kind}
 use Rattle.lexer.specs.declared.token.Kind.TheVariants as kind
 use Rattle.lexer.specs.declared.token.Kind.TheVariants.{EndOfSource}
 use Rattle.parser.specs.Input.{is_one_of, same_kind}
-use Rattle.parser.specs.Rules.{Rule, bind as bind_rule, take as take_rule}
-use Rattle.parser.specs.Readers.{Reader, bind, take}
+use Rattle.parser.specs.Rules.{Rule}
+use Rattle.parser.specs.Readers.{Reader}
 use Rattle.parser.specs.Grammar as g
 use Rattle.parser.specs.Reading as r
 use Rattle.parser.proofs.Laws.{HasSentence, Full}

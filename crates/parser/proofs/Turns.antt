@@ -1,12 +1,12 @@
 -- A repetition that is read, beside a loop that counts its turns up.
-use Rattle.std.proofs.Common.{◌≡◌, ℕ, zero, suc, ◌+◌, ◌-◌, ◌<◌, ◌≤◌, Bool, true, false, if◌then◌else◌, List, length, Result, Ok, Err, ap, sym, ◌∙◌, refl, arith}
+use Rattle.std.proofs.Common.{◌≡◌, ℕ, suc, ◌+◌, ◌-◌, ◌<◌, ◌≤◌, true, false, if◌then◌else◌, List, length, ap, ◌∙◌, arith}
 use Rattle.lexer.specs.declared.token.Kind.{Kind}
 use Rattle.lexer.specs.declared.token.Token.{Token}
 use Rattle.syntax.specs.declared.expression.Expression.{Expression}
 use Rattle.parser.specs.declared.halt.Halt.{Halt}
 use Rattle.parser.specs.declared.halt.Halt.TheVariants.{Memory, Unexpected, TooDeep}
 use Rattle.parser.specs.Input.{Input, next, is_one_of}
-use Rattle.parser.specs.Readers.{Outcome, Reader, read, unexpected, too_deep, and_then, bind, pure, branch, repeat, repeat_from}
+use Rattle.parser.specs.Readers.{Outcome, Reader, read, and_then, bind, pure, branch, repeat, repeat_from}
 use Rattle.parser.specs.Reads.{Halts}
 
 -- one turn fewer is left

@@ -2,7 +2,6 @@
 use Rattle.std.specs.Prelude.{ℕ, zero, suc, List, [], ◌∷◌, ◌++◌, Option, Some, None}
 use Rattle.lexer.specs.declared.token.Kind.{Kind}
 use Rattle.lexer.specs.declared.token.Kind.TheVariants as kind
-use Rattle.lexer.specs.declared.token.Token.{Token}
 use Rattle.syntax.specs.declared.span.Span.{Span}
 use Rattle.syntax.specs.declared.name.Identifier.{Identifier}
 use Rattle.syntax.specs.declared.expression.Width.{Width}
@@ -26,7 +25,7 @@ use Rattle.syntax.specs.declared.declaration.Local.{Local}
 use Rattle.syntax.specs.declared.declaration.LocalKind.TheVariants as local
 use Rattle.syntax.specs.declared.declaration.Procedure.{Procedure}
 use Rattle.syntax.specs.declared.declaration.Description.{Description}
-use Rattle.parser.specs.Trees.{through, identifier_of, width_of, number_label, name_label, span_of, expression_at, in_parentheses, binary, command_span, command_at, over}
+use Rattle.parser.specs.Trees.{through, identifier_of, width_of, number_label, name_label, span_of, expression_at, in_parentheses, binary, command_span, command_at, over, given_by, typed_port, typed_local}
 use Rattle.parser.specs.Readers.{Reader, ◌>>=◌, ◌>>◌, pure, take, take_open, branch, repeat, inside, nothing}
 use Rattle.parser.specs.Grammar.{sum_signs, comparison_signs, conjunct_words, expression_words}
 
@@ -44,11 +43,15 @@ several kinds item = repeat kinds (one_more item)
 unfoldable pub behind : {A : Type 0} → Kind → Reader A → Reader A
 behind sign item = take (sign ∷ []) >> item
 
+-- item { another }, where another begins with one of these kinds
+abbrev pub one_or_more : {A : Type 0} → List Kind → Reader A → Reader A → Reader (List A)
+one_or_more kinds item another = do
+  first ← item
+  several kinds another (first ∷ [])
+
 -- item { sign item }
 unfoldable pub separated : {A : Type 0} → Kind → Reader A → Reader (List A)
-separated sign item = do
-  first ← item
-  several (sign ∷ []) (behind sign item) (first ∷ [])
+separated sign item = one_or_more (sign ∷ []) item (behind sign item)
 
 -- ---- names and types
 
@@ -129,6 +132,12 @@ grouped depth signs operand = do
   first ← operand
   repeat signs (operation depth signs operand) first
 
+-- operand [ sign operand ], with a sign that compares
+unfoldable pub compared : ℕ → Reader Expression → Reader Expression
+compared depth operand = do
+  left ← operand
+  branch comparison_signs (operation depth comparison_signs operand left) (pure left)
+
 -- What is written inside a level of this depth, over what a factor is there.
 module _ (depth : ℕ) (factor : Reader Expression) where
   -- factor { ( "+" | "-" ) factor }
@@ -137,9 +146,7 @@ module _ (depth : ℕ) (factor : Reader Expression) where
 
   -- sum [ ( "=" | "/=" | "<" | ">" | "<=" | ">=" ) sum ]
   unfoldable pub comparison_of : Reader Expression
-  comparison_of = do
-    left ← sum_of
-    branch comparison_signs (operation depth comparison_signs sum_of left) (pure left)
+  comparison_of = compared depth sum_of
 
   -- comparison { "and" comparison }
   unfoldable pub conjunct_of : Reader Expression
@@ -208,19 +215,20 @@ synchronisation = do
   channel ← identifier
   pure (command_at (through start.span channel.span) (action.Sync channel))
 
+-- sign expression, behind a name
+abbrev pub giving : Kind → (Identifier → Expression → Action) → Reader Expression → Identifier → Reader Command
+giving sign make expression name = do
+  take (sign ∷ [])
+  value ← expression
+  pure (command_at (through name.span (span_of value)) (make name value))
+
 -- ":=" expression, behind the name of a variable
 unfoldable pub assignment : Reader Expression → Identifier → Reader Command
-assignment expression variable = do
-  take (kind.AssignSign ∷ [])
-  value ← expression
-  pure (command_at (through variable.span (span_of value)) (action.Assign variable value))
+assignment = giving kind.AssignSign (given_by kind.AssignSign)
 
 -- "<-" expression, behind the name of a channel
 unfoldable pub sending : Reader Expression → Identifier → Reader Command
-sending expression channel = do
-  take (kind.SendSign ∷ [])
-  value ← expression
-  pure (command_at (through channel.span (span_of value)) (action.Send channel value))
+sending = giving kind.SendSign (given_by kind.SendSign)
 
 -- name, behind the name of a channel and "->"
 unfoldable pub receiving : Identifier → Reader Command
@@ -261,6 +269,12 @@ parallel_of simple = alone_or_joined kind.DoubleBar action.Parallel simple
 unfoldable pub command_of : Reader Command → Reader Command
 command_of simple = alone_or_joined kind.Semicolon action.Sequence (parallel_of simple)
 
+-- "end", behind what begins there
+abbrev pub ended : Span → Action → Reader Command
+ended start given = do
+  stop ← take (kind.EndWord ∷ [])
+  pure (command_at (through start stop.span) given)
+
 -- The parts of what opens a level, over what is a command and an expression there.
 module _ (command : Reader Command) (expression : Reader Expression) where
   -- "then" command
@@ -284,15 +298,13 @@ module _ (command : Reader Command) (expression : Reader Expression) where
     take (kind.WhileWord ∷ [])
     guard ← expression
     repeated ← body
-    stop ← take (kind.EndWord ∷ [])
-    pure (command_at (through start stop.span) (action.While guard repeated))
+    ended start (action.While guard repeated)
 
   -- command "end"
   unfoldable pub endless : Span → Reader Command
   endless start = do
     repeated ← command
-    stop ← take (kind.EndWord ∷ [])
-    pure (command_at (through start stop.span) (action.Loop repeated))
+    ended start (action.Loop repeated)
 
   -- expression "then" command
   unfoldable pub guarded : Reader Guarded
@@ -314,6 +326,21 @@ module _ (command : Reader Command) (expression : Reader Expression) where
     channel ← identifier
     chosen ← body
     pure (roll-Arm (record { channel = channel; body = chosen }))
+
+  -- "of" labels "then" command { "|" labels "then" command } [ "else" command ] "end", behind "case" and the value
+  abbrev pub cases : Span → Expression → Reader Command
+  cases start value = do
+    take (kind.OfWord ∷ [])
+    arms ← separated kind.Bar case_arm
+    last ← otherwise
+    ended start (action.Case value arms last)
+
+  -- "|" name "then" command "end", behind "arbitrate" and the first arm
+  abbrev pub against : Span → Arm → Reader Command
+  against start first = do
+    take (kind.Bar ∷ [])
+    second ← arm_of
+    ended start (action.Arbitrate first second)
 
 -- What a command begins with, over what an expression is beside it, and a command and an expression in the level that it opens.
 module _ (depth : ℕ) (expression : Reader Expression) (inner_command : Reader Command) (inner_expression : Reader Expression) where
@@ -337,45 +364,35 @@ module _ (depth : ℕ) (expression : Reader Expression) (inner_command : Reader 
     start ← take_open depth (kind.IfWord ∷ [])
     arms ← separated kind.Bar (guarded inner_command inner_expression)
     last ← otherwise inner_command inner_expression
-    stop ← take (kind.EndWord ∷ [])
-    pure (command_at (through start.span stop.span) (action.If arms last))
+    ended start.span (action.If arms last)
 
   -- "case" expression "of" labels "then" command { "|" labels "then" command } [ "else" command ] "end"
   unfoldable pub casing : Reader Command
   casing = do
     start ← take_open depth (kind.CaseWord ∷ [])
     value ← inner_expression
-    take (kind.OfWord ∷ [])
-    arms ← separated kind.Bar (case_arm inner_command inner_expression)
-    last ← otherwise inner_command inner_expression
-    stop ← take (kind.EndWord ∷ [])
-    pure (command_at (through start.span stop.span) (action.Case value arms last))
+    cases inner_command inner_expression start.span value
 
   -- "select" name "then" command { "|" name "then" command } "end"
   unfoldable pub selecting : Reader Command
   selecting = do
     start ← take_open depth (kind.SelectWord ∷ [])
     arms ← separated kind.Bar (arm_of inner_command inner_expression)
-    stop ← take (kind.EndWord ∷ [])
-    pure (command_at (through start.span stop.span) (action.Select arms))
+    ended start.span (action.Select arms)
 
   -- "arbitrate" name "then" command "|" name "then" command "end"
   unfoldable pub arbitrating : Reader Command
   arbitrating = do
     start ← take_open depth (kind.ArbitrateWord ∷ [])
     first ← arm_of inner_command inner_expression
-    take (kind.Bar ∷ [])
-    second ← arm_of inner_command inner_expression
-    stop ← take (kind.EndWord ∷ [])
-    pure (command_at (through start.span stop.span) (action.Arbitrate first second))
+    against inner_command inner_expression start.span first
 
   -- "then" command "end", behind the name of a channel and "->"
   unfoldable pub enclosing : Identifier → Reader Command
   enclosing channel = do
     take_open depth (kind.ThenWord ∷ [])
     held ← inner_command
-    stop ← take (kind.EndWord ∷ [])
-    pure (command_at (through channel.span stop.span) (action.Input channel held))
+    ended channel.span (action.Input channel held)
 
   -- "->" name | "->" "then" command "end"
   unfoldable pub incoming : Identifier → Reader Command
@@ -431,28 +448,32 @@ type_declaration = do
   given ← type_definition
   pure (record { name = name; definition = given })
 
--- "input" names ":" type
-unfoldable pub input_port : Reader Port
-input_port = do
-  take (kind.InputWord ∷ [])
+-- word names ":" type
+abbrev pub typed : {A : Type 0} → Kind → (List Identifier → TypeName → A) → Reader A
+typed word make = do
+  take (word ∷ [])
   declared ← names
   type ← type_behind
-  pure (record { names = declared; kind = port.Input type })
+  pure (make declared type)
+
+-- "sync" names
+abbrev pub synced : {A : Type 0} → (List Identifier → A) → Reader A
+synced make = do
+  take (kind.SyncWord ∷ [])
+  declared ← names
+  pure (make declared)
+
+-- "input" names ":" type
+unfoldable pub input_port : Reader Port
+input_port = typed kind.InputWord (typed_port kind.InputWord)
 
 -- "output" names ":" type
 unfoldable pub output_port : Reader Port
-output_port = do
-  take (kind.OutputWord ∷ [])
-  declared ← names
-  type ← type_behind
-  pure (record { names = declared; kind = port.Output type })
+output_port = typed kind.OutputWord (typed_port kind.OutputWord)
 
 -- "sync" names
 unfoldable pub sync_port : Reader Port
-sync_port = do
-  take (kind.SyncWord ∷ [])
-  declared ← names
-  pure (record { names = declared; kind = port.Sync })
+sync_port = synced (λ declared. record { names = declared; kind = port.Sync })
 
 unfoldable pub port_of : Reader Port
 port_of = branch (kind.InputWord ∷ []) input_port (branch (kind.OutputWord ∷ []) output_port sync_port)
@@ -470,26 +491,15 @@ ports = branch (kind.LeftParenthesis ∷ []) port_list (pure [])
 
 -- "variable" names ":" type
 unfoldable pub variables : Reader Local
-variables = do
-  take (kind.VariableWord ∷ [])
-  declared ← names
-  type ← type_behind
-  pure (record { names = declared; kind = local.Variable type })
+variables = typed kind.VariableWord (typed_local kind.VariableWord)
 
 -- "channel" names ":" type
 unfoldable pub channels : Reader Local
-channels = do
-  take (kind.ChannelWord ∷ [])
-  declared ← names
-  type ← type_behind
-  pure (record { names = declared; kind = local.Channel type })
+channels = typed kind.ChannelWord (typed_local kind.ChannelWord)
 
 -- "sync" names
 unfoldable pub syncs : Reader Local
-syncs = do
-  take (kind.SyncWord ∷ [])
-  declared ← names
-  pure (record { names = declared; kind = local.Sync })
+syncs = synced (λ declared. record { names = declared; kind = local.Sync })
 
 unfoldable pub local_of : Reader Local
 local_of = branch (kind.VariableWord ∷ []) variables (branch (kind.ChannelWord ∷ []) channels syncs)
@@ -519,9 +529,7 @@ procedure depth = do
 
 -- procedure { procedure }
 unfoldable pub procedures : ℕ → Reader (List Procedure)
-procedures depth = do
-  first ← procedure depth
-  several (kind.ProcedureWord ∷ []) (procedure depth) (first ∷ [])
+procedures depth = one_or_more (kind.ProcedureWord ∷ []) (procedure depth) (procedure depth)
 
 -- { typedecl } procedure { procedure }
 unfoldable pub description : ℕ → Reader Description

@@ -1,6 +1,6 @@
 -- What a function that reads says: its answer and its cursor are those of a reader, unless memory fails.
-use Rattle.std.specs.Prelude.{◌≡◌, ℕ, List, Result, Ok, Err}
-use denote.Ref.{Bor, MutBor}
+use Rattle.std.specs.Prelude.{◌≡◌, List, Result, Ok, Err}
+use denote.Ref.{Bor}
 use Rattle.lexer.specs.declared.token.Token.{Token}
 use Rattle.parser.specs.declared.cursor.Cursor.{Cursor}
 use Rattle.parser.specs.declared.halt.Halt.{Halt}

@@ -1,35 +1,40 @@
-//! Commands. What a command holds is read by a function value, so that each function but one is
-//! proved by itself.
+//! Commands. What a command holds is read by a rule, and behind all of them stands a function value,
+//! so that each function but one is proved by itself.
 
-ghost use Rattle.std.specs.Prelude.{◌≡◌, ◌+◌, ◌^◌, ◌<◌, [], ◌∷◌};
+ghost use Rattle.std.specs.Prelude.{◌≡◌, ◌+◌, ◌^◌, ◌<◌};
 ghost use Rattle.parser.specs.Nests.{ReadsAt, simple_in, command_in, expression_in};
 ghost use Rattle.parser.specs.Readers.{read};
 ghost use Rattle.parser.specs.Reading as reading;
-ghost use Rattle.parser.specs.Reads.{place, Builds, Reads};
+ghost use Rattle.parser.specs.Reading.{command_of};
+ghost use Rattle.parser.specs.Reads.{place, Reads};
 ghost use Rattle.parser.specs.Trees as trees;
 
 use crate::cursor::Cursor;
 use crate::expression::expression;
 use crate::halt::Halt;
-use crate::list::{add, one};
+use crate::list::{Behind, next, one, separated, several};
 use crate::name::{labels, names};
+use crate::rule::Rule;
 use lexer::Kind;
-use syntax::{Action, Arm, CaseArm, Command, Guarded, Identifier, Items, Span};
-
-/// Reads what is made of simple commands, which `simple` reads.
-#[derive(Drop)]
-struct Parts<F> {
-    /// How many levels may be written inside one another, the one that a command opens included.
-    depth: usize,
-    simple: F,
-    ghost has_next: { depth + 1 < 2 ^ 64 },
-}
+use syntax::{Action, Arm, CaseArm, Command, Expression, Guarded, Identifier, Items, Span};
 
 /// A command, unless memory is out. It reads no token.
 fn new_command(cursor: &Cursor<'_>, span: Span, action: Action) -> Result<Command, Halt>
     ensures { Reads (read (trees.command_at span action) (place cursor.now)) result (place cursor.now) }
 {
     Ok(Command::new(cursor.alloc(), span, action)?)
+}
+
+/// `end`, behind what begins at `start`. The command is made first, since an action that is dropped
+/// at the `?` would be dropped form by form.
+#[tactic(auto, unfolding(crate::specs::Readers::bind, crate::specs::Readers::pure))]
+fn ended(cursor: &mut Cursor<'_>, start: Span, action: Action) -> Result<Command, Halt>
+    ensures { Reads (reading.ended start action (place cursor.old)) result (place cursor.new) }
+{
+    let mut command = new_command(cursor, start, action)?;
+    let end = cursor.take(Kind::EndWord)?;
+    command.span = start.through(end.span);
+    Ok(command)
 }
 
 /// `continue`
@@ -61,28 +66,30 @@ fn sync(cursor: &mut Cursor<'_>) -> Result<Command, Halt>
     new_command(cursor, span, Action::Sync(channel))
 }
 
-/// `:= expression`, behind `target`.
-#[tactic(auto, unfolding(crate::specs::Reading::assignment, crate::specs::Readers::bind, crate::specs::Readers::pure))]
-fn assign(cursor: &mut Cursor<'_>, depth: usize, target: Identifier) -> Result<Command, Halt>
-    ensures { Reads (reading.assignment (expression_in depth) target (place cursor.old)) result (place cursor.new) }
+/// What an expression behind `sign` does with the name before it.
+fn given_by(sign: Kind, name: Identifier, value: Expression) -> Action
+    ensures { result ≡ trees.given_by sign name value }
 {
-    cursor.take(Kind::AssignSign)?;
-    let value = expression(cursor, depth)?;
-    let span = target.span.through(value.span);
-    let action = Action::Assign(target, value);
-    new_command(cursor, span, action)
+    match sign {
+        Kind::AssignSign => Action::Assign(name, value),
+        _ => Action::Send(name, value),
+    }
 }
 
-/// `<- expression`, behind `channel`.
-#[tactic(auto, unfolding(crate::specs::Reading::sending, crate::specs::Readers::bind, crate::specs::Readers::pure))]
-fn send(cursor: &mut Cursor<'_>, depth: usize, channel: Identifier) -> Result<Command, Halt>
-    ensures { Reads (reading.sending (expression_in depth) channel (place cursor.old)) result (place cursor.new) }
+/// `:= expression` or `<- expression`, behind `name`.
+#[tactic(auto, unfolding(crate::specs::Readers::bind, crate::specs::Readers::pure))]
+fn give(
+    cursor: &mut Cursor<'_>,
+    sign: Kind,
+    depth: usize,
+    name: Identifier,
+) -> Result<Command, Halt>
+    ensures { Reads (reading.giving sign (trees.given_by sign) (expression_in depth) name (place cursor.old)) result (place cursor.new) }
 {
-    cursor.take(Kind::SendSign)?;
+    cursor.take(sign)?;
     let value = expression(cursor, depth)?;
-    let span = channel.span.through(value.span);
-    let action = Action::Send(channel, value);
-    new_command(cursor, span, action)
+    let span = name.span.through(value.span);
+    new_command(cursor, span, given_by(sign, name, value))
 }
 
 /// A variable's name, behind `channel ->`.
@@ -131,142 +138,93 @@ fn span_over(start: Span, children: &Items<Command>) -> Span
     }
 }
 
-impl<F: Fn(&mut Cursor<'_>, usize) -> Result<Command, Halt>> Parts<F> {
-    /// A simple command.
-    fn part(&self, cursor: &mut Cursor<'_>) -> Result<Command, Halt>
-        requires { ReadsAt self.now.depth (simple_in self.now.depth) (F.pre self.now.simple) (F.post self.now.simple) }
-        ensures { Reads (simple_in self.now.depth (place cursor.old)) result (place cursor.new) }
-    {
-        (self.simple)(cursor, self.depth)
+/// What commands with `sign` between them make.
+fn made_of(sign: Kind, children: Items<Command>) -> Action
+    ensures { result ≡ trees.made_of sign children }
+{
+    match sign {
+        Kind::DoubleBar => Action::Parallel(children),
+        _ => Action::Sequence(children),
     }
+}
 
-    /// `||` and the command behind it.
-    #[tactic(auto, unfolding(crate::specs::Reading::one_more, crate::specs::Reading::behind, crate::specs::Readers::bind, crate::specs::Readers::pure))]
-    fn next_beside(
-        &self,
-        cursor: &mut Cursor<'_>,
-        children: &mut Items<Command>,
-    ) -> Result<(), Halt>
-        requires { ReadsAt self.now.depth (simple_in self.now.depth) (F.pre self.now.simple) (F.post self.now.simple) }
-        ensures { Builds (reading.one_more (reading.behind Kind.DoubleBar (simple_in self.now.depth)) children.old (place cursor.old)) children.new result (place cursor.new) }
-    {
-        cursor.take(Kind::DoubleBar)?;
-        let child = self.part(cursor)?;
-        add(children, child)
-    }
+/// Commands with `sign` between them, which make one. One alone is itself.
+#[derive(Drop)]
+struct Joined<'r, R> {
+    sign: Kind,
+    item: &'r R,
+}
 
-    /// Each `||` that follows and the command behind it.
-    fn more_beside(
-        &self,
-        cursor: &mut Cursor<'_>,
-        children: &mut Items<Command>,
-    ) -> Result<(), Halt>
-        requires { ReadsAt self.now.depth (simple_in self.now.depth) (F.pre self.now.simple) (F.post self.now.simple) }
-        ensures { Builds (reading.several (Kind.DoubleBar ∷ []) (reading.behind Kind.DoubleBar (simple_in self.now.depth)) children.old (place cursor.old)) children.new result (place cursor.new) }
-    {
-        for _turn in 0..cursor.rest().len() {
-            if !cursor.sees(Kind::DoubleBar) {
-                return Ok(());
-            }
-            self.next_beside(cursor, children)?;
-        }
-        Ok(())
-    }
-
-    /// The parallel that `first` begins.
-    #[tactic(auto, unfolding(crate::specs::Reading::joined, crate::specs::Reading::one_more, crate::specs::Reading::behind, crate::specs::Readers::bind, crate::specs::Readers::pure))]
-    fn beside(&self, cursor: &mut Cursor<'_>, first: Command) -> Result<Command, Halt>
-        requires { ReadsAt self.now.depth (simple_in self.now.depth) (F.pre self.now.simple) (F.post self.now.simple) }
-        ensures { Reads (reading.joined Kind.DoubleBar Action.Parallel (simple_in self.now.depth) first (place cursor.old)) result (place cursor.new) }
+impl<R: Rule<Tree = Command>> Joined<'_, R> {
+    /// The command that `first` begins.
+    #[tactic(auto, unfolding(crate::specs::Reading::joined, crate::specs::Reading::one_more, crate::specs::Readers::bind, crate::specs::Readers::pure))]
+    fn joined(&self, cursor: &mut Cursor<'_>, first: Command) -> Result<Command, Halt>
+        requires { R.can_read self.now.item.now }
+        ensures { Reads (reading.joined self.now.sign (trees.made_of self.now.sign) (R.reader self.now.item.now) first (place cursor.old)) result (place cursor.new) }
     {
         let start = first.span;
         let mut children = one(cursor.alloc(), first)?;
-        self.next_beside(cursor, &mut children)?;
-        self.more_beside(cursor, &mut children)?;
+        let behind = Behind {
+            sign: self.sign,
+            item: self.item,
+        };
+        next(&behind, cursor, &mut children)?;
+        several(&behind, cursor, &[self.sign], &mut children)?;
         let span = span_over(start, &children);
-        new_command(cursor, span, Action::Parallel(children))
+        new_command(cursor, span, made_of(self.sign, children))
     }
+}
 
-    /// A simple command, or a parallel of several.
-    #[tactic(auto, unfolding(crate::specs::Reading::parallel_of, crate::specs::Reading::alone_or_joined, crate::specs::Readers::branch, crate::specs::Readers::bind, crate::specs::Readers::pure))]
-    fn parallel(&self, cursor: &mut Cursor<'_>) -> Result<Command, Halt>
-        requires { ReadsAt self.now.depth (simple_in self.now.depth) (F.pre self.now.simple) (F.post self.now.simple) }
-        ensures { Reads (reading.parallel_of (simple_in self.now.depth) (place cursor.old)) result (place cursor.new) }
-    {
-        let first = self.part(cursor)?;
-        if cursor.sees(Kind::DoubleBar) {
-            self.beside(cursor, first)
+impl<R: Rule<Tree = Command>> Rule for Joined<'_, R> {
+    type Tree = Command;
+
+    ghost can_read = { λ joined. R.can_read joined.item.now };
+
+    ghost reader = { λ joined. reading.alone_or_joined joined.sign (trees.made_of joined.sign) (R.reader joined.item.now) };
+
+    #[tactic(auto, unfolding(crate::specs::Reading::alone_or_joined, crate::specs::Readers::branch, crate::specs::Readers::bind, crate::specs::Readers::pure))]
+    fn read(&self, cursor: &mut Cursor<'_>) -> Result<Command, Halt> {
+        let first = self.item.read(cursor)?;
+        if cursor.sees(self.sign) {
+            self.joined(cursor, first)
         } else {
             Ok(first)
         }
     }
+}
 
-    /// `;` and the command behind it.
-    #[tactic(auto, unfolding(crate::specs::Reading::one_more, crate::specs::Reading::behind, crate::specs::Readers::bind, crate::specs::Readers::pure))]
-    fn next_behind(
-        &self,
-        cursor: &mut Cursor<'_>,
-        children: &mut Items<Command>,
-    ) -> Result<(), Halt>
-        requires { ReadsAt self.now.depth (simple_in self.now.depth) (F.pre self.now.simple) (F.post self.now.simple) }
-        ensures { Builds (reading.one_more (reading.behind Kind.Semicolon (reading.parallel_of (simple_in self.now.depth))) children.old (place cursor.old)) children.new result (place cursor.new) }
-    {
-        cursor.take(Kind::Semicolon)?;
-        let child = self.parallel(cursor)?;
-        add(children, child)
-    }
+/// Reads what is made of simple commands, which `simple` reads.
+#[derive(Drop)]
+struct Parts<R> {
+    /// How many levels may be written inside one another, the one that a command opens included.
+    depth: usize,
+    simple: R,
+    ghost has_next: { depth + 1 < 2 ^ 64 },
+}
 
-    /// Each `;` that follows and the command behind it.
-    fn more_behind(
-        &self,
-        cursor: &mut Cursor<'_>,
-        children: &mut Items<Command>,
-    ) -> Result<(), Halt>
-        requires { ReadsAt self.now.depth (simple_in self.now.depth) (F.pre self.now.simple) (F.post self.now.simple) }
-        ensures { Builds (reading.several (Kind.Semicolon ∷ []) (reading.behind Kind.Semicolon (reading.parallel_of (simple_in self.now.depth))) children.old (place cursor.old)) children.new result (place cursor.new) }
-    {
-        for _turn in 0..cursor.rest().len() {
-            if !cursor.sees(Kind::Semicolon) {
-                return Ok(());
-            }
-            self.next_behind(cursor, children)?;
-        }
-        Ok(())
-    }
-
-    /// The sequence that `first` begins.
-    #[tactic(auto, unfolding(crate::specs::Reading::joined, crate::specs::Reading::one_more, crate::specs::Reading::behind, crate::specs::Readers::bind, crate::specs::Readers::pure))]
-    fn behind(&self, cursor: &mut Cursor<'_>, first: Command) -> Result<Command, Halt>
-        requires { ReadsAt self.now.depth (simple_in self.now.depth) (F.pre self.now.simple) (F.post self.now.simple) }
-        ensures { Reads (reading.joined Kind.Semicolon Action.Sequence (reading.parallel_of (simple_in self.now.depth)) first (place cursor.old)) result (place cursor.new) }
-    {
-        let start = first.span;
-        let mut children = one(cursor.alloc(), first)?;
-        self.next_behind(cursor, &mut children)?;
-        self.more_behind(cursor, &mut children)?;
-        let span = span_over(start, &children);
-        new_command(cursor, span, Action::Sequence(children))
-    }
-
-    /// Any command.
-    #[tactic(auto, unfolding(crate::specs::Reading::command_of, crate::specs::Reading::alone_or_joined, crate::specs::Readers::branch, crate::specs::Readers::bind, crate::specs::Readers::pure))]
+impl<R: Rule<Tree = Command>> Parts<R> {
+    /// Any command: parallels with `;` between them, of simple commands with `||` between them.
+    #[tactic(auto, unfolding(crate::specs::Reading::command_of, crate::specs::Reading::parallel_of))]
     fn command(&self, cursor: &mut Cursor<'_>) -> Result<Command, Halt>
-        requires { ReadsAt self.now.depth (simple_in self.now.depth) (F.pre self.now.simple) (F.post self.now.simple) }
-        ensures { Reads (command_in self.now.depth (place cursor.old)) result (place cursor.new) }
+        requires { R.can_read self.now.simple }
+        ensures { Reads (command_of (R.reader self.now.simple) (place cursor.old)) result (place cursor.new) }
     {
-        let first = self.parallel(cursor)?;
-        if cursor.sees(Kind::Semicolon) {
-            self.behind(cursor, first)
-        } else {
-            Ok(first)
-        }
+        let parallel = Joined {
+            sign: Kind::DoubleBar,
+            item: &self.simple,
+        };
+        let sequence = Joined {
+            sign: Kind::Semicolon,
+            item: &parallel,
+        };
+        sequence.read(cursor)
     }
 
     /// `[ command ]`
     #[tactic(auto, unfolding(crate::specs::Reading::bracketed, crate::specs::Readers::bind, crate::specs::Readers::pure))]
     fn bracketed(&self, cursor: &mut Cursor<'_>) -> Result<Command, Halt>
-        requires { ReadsAt self.now.depth (simple_in self.now.depth) (F.pre self.now.simple) (F.post self.now.simple) }
-        ensures { Reads (reading.bracketed self.now.depth (expression_in (self.now.depth + 1)) (command_in self.now.depth) (expression_in self.now.depth) (place cursor.old)) result (place cursor.new) }
+        requires { R.can_read self.now.simple }
+        ensures { Reads (reading.bracketed self.now.depth (expression_in (self.now.depth + 1)) (command_of (R.reader self.now.simple)) (expression_in self.now.depth) (place cursor.old)) result (place cursor.new) }
     {
         cursor.open(self.depth, Kind::LeftBracket)?;
         let inner = self.command(cursor)?;
@@ -277,8 +235,8 @@ impl<F: Fn(&mut Cursor<'_>, usize) -> Result<Command, Halt>> Parts<F> {
     /// `then command`
     #[tactic(auto, unfolding(crate::specs::Reading::body, crate::specs::Readers::bind, crate::specs::Readers::pure))]
     fn body(&self, cursor: &mut Cursor<'_>) -> Result<Command, Halt>
-        requires { ReadsAt self.now.depth (simple_in self.now.depth) (F.pre self.now.simple) (F.post self.now.simple) }
-        ensures { Reads (reading.body (command_in self.now.depth) (expression_in self.now.depth) (place cursor.old)) result (place cursor.new) }
+        requires { R.can_read self.now.simple }
+        ensures { Reads (reading.body (command_of (R.reader self.now.simple)) (expression_in self.now.depth) (place cursor.old)) result (place cursor.new) }
     {
         cursor.take(Kind::ThenWord)?;
         self.command(cursor)
@@ -287,34 +245,30 @@ impl<F: Fn(&mut Cursor<'_>, usize) -> Result<Command, Halt>> Parts<F> {
     /// `while expression then command end`, behind the `loop` at `start`.
     #[tactic(auto, unfolding(crate::specs::Reading::while_loop, crate::specs::Readers::bind, crate::specs::Readers::pure))]
     fn while_loop(&self, cursor: &mut Cursor<'_>, start: Span) -> Result<Command, Halt>
-        requires { ReadsAt self.now.depth (simple_in self.now.depth) (F.pre self.now.simple) (F.post self.now.simple) }
-        ensures { Reads (reading.while_loop (command_in self.now.depth) (expression_in self.now.depth) start (place cursor.old)) result (place cursor.new) }
+        requires { R.can_read self.now.simple }
+        ensures { Reads (reading.while_loop (command_of (R.reader self.now.simple)) (expression_in self.now.depth) start (place cursor.old)) result (place cursor.new) }
     {
         cursor.take(Kind::WhileWord)?;
         let guard = expression(cursor, self.depth)?;
         let body = self.body(cursor)?;
-        let end = cursor.take(Kind::EndWord)?;
-        let action = Action::While(guard, body);
-        new_command(cursor, start.through(end.span), action)
+        ended(cursor, start, Action::While(guard, body))
     }
 
     /// `command end`, behind the `loop` at `start`.
     #[tactic(auto, unfolding(crate::specs::Reading::endless, crate::specs::Readers::bind, crate::specs::Readers::pure))]
     fn endless(&self, cursor: &mut Cursor<'_>, start: Span) -> Result<Command, Halt>
-        requires { ReadsAt self.now.depth (simple_in self.now.depth) (F.pre self.now.simple) (F.post self.now.simple) }
-        ensures { Reads (reading.endless (command_in self.now.depth) (expression_in self.now.depth) start (place cursor.old)) result (place cursor.new) }
+        requires { R.can_read self.now.simple }
+        ensures { Reads (reading.endless (command_of (R.reader self.now.simple)) (expression_in self.now.depth) start (place cursor.old)) result (place cursor.new) }
     {
         let body = self.command(cursor)?;
-        let end = cursor.take(Kind::EndWord)?;
-        let action = Action::Loop(body);
-        new_command(cursor, start.through(end.span), action)
+        ended(cursor, start, Action::Loop(body))
     }
 
     /// `loop .. end`
     #[tactic(auto, unfolding(crate::specs::Reading::looping, crate::specs::Readers::branch, crate::specs::Readers::bind, crate::specs::Readers::pure))]
     fn repeated(&self, cursor: &mut Cursor<'_>) -> Result<Command, Halt>
-        requires { ReadsAt self.now.depth (simple_in self.now.depth) (F.pre self.now.simple) (F.post self.now.simple) }
-        ensures { Reads (reading.looping self.now.depth (expression_in (self.now.depth + 1)) (command_in self.now.depth) (expression_in self.now.depth) (place cursor.old)) result (place cursor.new) }
+        requires { R.can_read self.now.simple }
+        ensures { Reads (reading.looping self.now.depth (expression_in (self.now.depth + 1)) (command_of (R.reader self.now.simple)) (expression_in self.now.depth) (place cursor.old)) result (place cursor.new) }
     {
         let start = cursor.open(self.depth, Kind::LoopWord)?;
         if cursor.sees(Kind::WhileWord) {
@@ -324,254 +278,112 @@ impl<F: Fn(&mut Cursor<'_>, usize) -> Result<Command, Halt>> Parts<F> {
         }
     }
 
-    /// `else command`
-    #[tactic(auto, unfolding(crate::specs::Reading::last_body, crate::specs::Readers::bind, crate::specs::Readers::pure))]
-    fn last_body(&self, cursor: &mut Cursor<'_>) -> Result<Option<Command>, Halt>
-        requires { ReadsAt self.now.depth (simple_in self.now.depth) (F.pre self.now.simple) (F.post self.now.simple) }
-        ensures { Reads (reading.last_body (command_in self.now.depth) (expression_in self.now.depth) (place cursor.old)) result (place cursor.new) }
-    {
-        cursor.take(Kind::ElseWord)?;
-        let last = self.command(cursor)?;
-        Ok(Some(last))
-    }
-
     /// `else command`, or nothing.
-    #[tactic(auto, unfolding(crate::specs::Reading::otherwise, crate::specs::Readers::branch, crate::specs::Readers::pure))]
+    #[tactic(auto, unfolding(crate::specs::Reading::otherwise, crate::specs::Reading::last_body, crate::specs::Readers::branch, crate::specs::Readers::bind, crate::specs::Readers::pure))]
     fn otherwise(&self, cursor: &mut Cursor<'_>) -> Result<Option<Command>, Halt>
-        requires { ReadsAt self.now.depth (simple_in self.now.depth) (F.pre self.now.simple) (F.post self.now.simple) }
-        ensures { Reads (reading.otherwise (command_in self.now.depth) (expression_in self.now.depth) (place cursor.old)) result (place cursor.new) }
+        requires { R.can_read self.now.simple }
+        ensures { Reads (reading.otherwise (command_of (R.reader self.now.simple)) (expression_in self.now.depth) (place cursor.old)) result (place cursor.new) }
     {
         if cursor.sees(Kind::ElseWord) {
-            self.last_body(cursor)
+            cursor.take(Kind::ElseWord)?;
+            let last = self.command(cursor)?;
+            Ok(Some(last))
         } else {
             Ok(None)
         }
     }
 
-    /// `expression then command`
-    #[tactic(auto, unfolding(crate::specs::Reading::guarded, crate::specs::Readers::bind, crate::specs::Readers::pure))]
-    fn guarded(&self, cursor: &mut Cursor<'_>) -> Result<Guarded, Halt>
-        requires { ReadsAt self.now.depth (simple_in self.now.depth) (F.pre self.now.simple) (F.post self.now.simple) }
-        ensures { Reads (reading.guarded (command_in self.now.depth) (expression_in self.now.depth) (place cursor.old)) result (place cursor.new) }
-    {
-        let guard = expression(cursor, self.depth)?;
-        let body = self.body(cursor)?;
-        Ok(Guarded { guard, body })
-    }
-
-    /// `|` and the guarded command behind it.
-    #[tactic(auto, unfolding(crate::specs::Reading::one_more, crate::specs::Reading::behind, crate::specs::Readers::bind, crate::specs::Readers::pure))]
-    fn next_guarded(&self, cursor: &mut Cursor<'_>, arms: &mut Items<Guarded>) -> Result<(), Halt>
-        requires { ReadsAt self.now.depth (simple_in self.now.depth) (F.pre self.now.simple) (F.post self.now.simple) }
-        ensures { Builds (reading.one_more (reading.behind Kind.Bar (reading.guarded (command_in self.now.depth) (expression_in self.now.depth))) arms.old (place cursor.old)) arms.new result (place cursor.new) }
-    {
-        cursor.take(Kind::Bar)?;
-        let arm = self.guarded(cursor)?;
-        add(arms, arm)
-    }
-
-    /// Each `|` that follows and the guarded command behind it.
-    fn more_guarded(&self, cursor: &mut Cursor<'_>, arms: &mut Items<Guarded>) -> Result<(), Halt>
-        requires { ReadsAt self.now.depth (simple_in self.now.depth) (F.pre self.now.simple) (F.post self.now.simple) }
-        ensures { Builds (reading.several (Kind.Bar ∷ []) (reading.behind Kind.Bar (reading.guarded (command_in self.now.depth) (expression_in self.now.depth))) arms.old (place cursor.old)) arms.new result (place cursor.new) }
-    {
-        for _turn in 0..cursor.rest().len() {
-            if !cursor.sees(Kind::Bar) {
-                return Ok(());
-            }
-            self.next_guarded(cursor, arms)?;
-        }
-        Ok(())
-    }
-
-    /// The guarded commands of an `if`, one or more.
-    #[tactic(auto, unfolding(crate::specs::Reading::separated, crate::specs::Readers::bind, crate::specs::Readers::pure))]
-    fn all_guarded(&self, cursor: &mut Cursor<'_>) -> Result<Items<Guarded>, Halt>
-        requires { ReadsAt self.now.depth (simple_in self.now.depth) (F.pre self.now.simple) (F.post self.now.simple) }
-        ensures { Reads (reading.separated Kind.Bar (reading.guarded (command_in self.now.depth) (expression_in self.now.depth)) (place cursor.old)) result (place cursor.new) }
-    {
-        let first = self.guarded(cursor)?;
-        let mut arms = one(cursor.alloc(), first)?;
-        self.more_guarded(cursor, &mut arms)?;
-        Ok(arms)
-    }
-
     /// `if .. end`
     #[tactic(auto, unfolding(crate::specs::Reading::branching, crate::specs::Readers::bind, crate::specs::Readers::pure))]
     fn branching(&self, cursor: &mut Cursor<'_>) -> Result<Command, Halt>
-        requires { ReadsAt self.now.depth (simple_in self.now.depth) (F.pre self.now.simple) (F.post self.now.simple) }
-        ensures { Reads (reading.branching self.now.depth (expression_in (self.now.depth + 1)) (command_in self.now.depth) (expression_in self.now.depth) (place cursor.old)) result (place cursor.new) }
+        requires { R.can_read self.now.simple }
+        ensures { Reads (reading.branching self.now.depth (expression_in (self.now.depth + 1)) (command_of (R.reader self.now.simple)) (expression_in self.now.depth) (place cursor.old)) result (place cursor.new) }
     {
         let start = cursor.open(self.depth, Kind::IfWord)?;
-        let arms = self.all_guarded(cursor)?;
+        let arms = separated(&GuardedRule { parts: self }, cursor, Kind::Bar)?;
         let otherwise = self.otherwise(cursor)?;
-        let end = cursor.take(Kind::EndWord)?;
-        let span = start.span.through(end.span);
         let action = Action::If(arms, otherwise);
-        new_command(cursor, span, action)
+        ended(cursor, start.span, action)
     }
 
-    /// `labels then command`
-    #[tactic(auto, unfolding(crate::specs::Reading::case_arm, crate::specs::Readers::bind, crate::specs::Readers::pure))]
-    fn case_arm(&self, cursor: &mut Cursor<'_>) -> Result<CaseArm, Halt>
-        requires { ReadsAt self.now.depth (simple_in self.now.depth) (F.pre self.now.simple) (F.post self.now.simple) }
-        ensures { Reads (reading.case_arm (command_in self.now.depth) (expression_in self.now.depth) (place cursor.old)) result (place cursor.new) }
+    /// `of .. end`, behind the `case` at `start` and `value`.
+    #[tactic(auto, unfolding(crate::specs::Readers::bind, crate::specs::Readers::pure))]
+    fn cases(
+        &self,
+        cursor: &mut Cursor<'_>,
+        start: Span,
+        value: Expression,
+    ) -> Result<Command, Halt>
+        requires { R.can_read self.now.simple }
+        ensures { Reads (reading.cases (command_of (R.reader self.now.simple)) (expression_in self.now.depth) start value (place cursor.old)) result (place cursor.new) }
     {
-        let labels = labels(cursor)?;
-        let body = self.body(cursor)?;
-        Ok(CaseArm { labels, body })
-    }
-
-    /// `|` and the arm behind it.
-    #[tactic(auto, unfolding(crate::specs::Reading::one_more, crate::specs::Reading::behind, crate::specs::Readers::bind, crate::specs::Readers::pure))]
-    fn next_case_arm(&self, cursor: &mut Cursor<'_>, arms: &mut Items<CaseArm>) -> Result<(), Halt>
-        requires { ReadsAt self.now.depth (simple_in self.now.depth) (F.pre self.now.simple) (F.post self.now.simple) }
-        ensures { Builds (reading.one_more (reading.behind Kind.Bar (reading.case_arm (command_in self.now.depth) (expression_in self.now.depth))) arms.old (place cursor.old)) arms.new result (place cursor.new) }
-    {
-        cursor.take(Kind::Bar)?;
-        let arm = self.case_arm(cursor)?;
-        add(arms, arm)
-    }
-
-    /// Each `|` that follows and the arm behind it.
-    fn more_case_arms(&self, cursor: &mut Cursor<'_>, arms: &mut Items<CaseArm>) -> Result<(), Halt>
-        requires { ReadsAt self.now.depth (simple_in self.now.depth) (F.pre self.now.simple) (F.post self.now.simple) }
-        ensures { Builds (reading.several (Kind.Bar ∷ []) (reading.behind Kind.Bar (reading.case_arm (command_in self.now.depth) (expression_in self.now.depth))) arms.old (place cursor.old)) arms.new result (place cursor.new) }
-    {
-        for _turn in 0..cursor.rest().len() {
-            if !cursor.sees(Kind::Bar) {
-                return Ok(());
-            }
-            self.next_case_arm(cursor, arms)?;
-        }
-        Ok(())
-    }
-
-    /// The arms of a `case`, one or more.
-    #[tactic(auto, unfolding(crate::specs::Reading::separated, crate::specs::Readers::bind, crate::specs::Readers::pure))]
-    fn case_arms(&self, cursor: &mut Cursor<'_>) -> Result<Items<CaseArm>, Halt>
-        requires { ReadsAt self.now.depth (simple_in self.now.depth) (F.pre self.now.simple) (F.post self.now.simple) }
-        ensures { Reads (reading.separated Kind.Bar (reading.case_arm (command_in self.now.depth) (expression_in self.now.depth)) (place cursor.old)) result (place cursor.new) }
-    {
-        let first = self.case_arm(cursor)?;
-        let mut arms = one(cursor.alloc(), first)?;
-        self.more_case_arms(cursor, &mut arms)?;
-        Ok(arms)
+        cursor.take(Kind::OfWord)?;
+        let arms = separated(&CaseArmRule { parts: self }, cursor, Kind::Bar)?;
+        let otherwise = self.otherwise(cursor)?;
+        let action = Action::Case(value, arms, otherwise);
+        ended(cursor, start, action)
     }
 
     /// `case .. end`
     #[tactic(auto, unfolding(crate::specs::Reading::casing, crate::specs::Readers::bind, crate::specs::Readers::pure))]
     fn case(&self, cursor: &mut Cursor<'_>) -> Result<Command, Halt>
-        requires { ReadsAt self.now.depth (simple_in self.now.depth) (F.pre self.now.simple) (F.post self.now.simple) }
-        ensures { Reads (reading.casing self.now.depth (expression_in (self.now.depth + 1)) (command_in self.now.depth) (expression_in self.now.depth) (place cursor.old)) result (place cursor.new) }
+        requires { R.can_read self.now.simple }
+        ensures { Reads (reading.casing self.now.depth (expression_in (self.now.depth + 1)) (command_of (R.reader self.now.simple)) (expression_in self.now.depth) (place cursor.old)) result (place cursor.new) }
     {
         let start = cursor.open(self.depth, Kind::CaseWord)?;
         let value = expression(cursor, self.depth)?;
-        cursor.take(Kind::OfWord)?;
-        let arms = self.case_arms(cursor)?;
-        let otherwise = self.otherwise(cursor)?;
-        let end = cursor.take(Kind::EndWord)?;
-        let span = start.span.through(end.span);
-        let action = Action::Case(value, arms, otherwise);
-        new_command(cursor, span, action)
-    }
-
-    /// `name then command`
-    #[tactic(auto, unfolding(crate::specs::Reading::arm_of, crate::specs::Readers::bind, crate::specs::Readers::pure))]
-    fn arm(&self, cursor: &mut Cursor<'_>) -> Result<Arm, Halt>
-        requires { ReadsAt self.now.depth (simple_in self.now.depth) (F.pre self.now.simple) (F.post self.now.simple) }
-        ensures { Reads (reading.arm_of (command_in self.now.depth) (expression_in self.now.depth) (place cursor.old)) result (place cursor.new) }
-    {
-        let channel = cursor.identifier()?;
-        let body = self.body(cursor)?;
-        Ok(Arm { channel, body })
-    }
-
-    /// `|` and the arm behind it.
-    #[tactic(auto, unfolding(crate::specs::Reading::one_more, crate::specs::Reading::behind, crate::specs::Readers::bind, crate::specs::Readers::pure))]
-    fn next_arm(&self, cursor: &mut Cursor<'_>, arms: &mut Items<Arm>) -> Result<(), Halt>
-        requires { ReadsAt self.now.depth (simple_in self.now.depth) (F.pre self.now.simple) (F.post self.now.simple) }
-        ensures { Builds (reading.one_more (reading.behind Kind.Bar (reading.arm_of (command_in self.now.depth) (expression_in self.now.depth))) arms.old (place cursor.old)) arms.new result (place cursor.new) }
-    {
-        cursor.take(Kind::Bar)?;
-        let arm = self.arm(cursor)?;
-        add(arms, arm)
-    }
-
-    /// Each `|` that follows and the arm behind it.
-    fn more_arms(&self, cursor: &mut Cursor<'_>, arms: &mut Items<Arm>) -> Result<(), Halt>
-        requires { ReadsAt self.now.depth (simple_in self.now.depth) (F.pre self.now.simple) (F.post self.now.simple) }
-        ensures { Builds (reading.several (Kind.Bar ∷ []) (reading.behind Kind.Bar (reading.arm_of (command_in self.now.depth) (expression_in self.now.depth))) arms.old (place cursor.old)) arms.new result (place cursor.new) }
-    {
-        for _turn in 0..cursor.rest().len() {
-            if !cursor.sees(Kind::Bar) {
-                return Ok(());
-            }
-            self.next_arm(cursor, arms)?;
-        }
-        Ok(())
-    }
-
-    /// The arms of a `select`, one or more.
-    #[tactic(auto, unfolding(crate::specs::Reading::separated, crate::specs::Readers::bind, crate::specs::Readers::pure))]
-    fn arms(&self, cursor: &mut Cursor<'_>) -> Result<Items<Arm>, Halt>
-        requires { ReadsAt self.now.depth (simple_in self.now.depth) (F.pre self.now.simple) (F.post self.now.simple) }
-        ensures { Reads (reading.separated Kind.Bar (reading.arm_of (command_in self.now.depth) (expression_in self.now.depth)) (place cursor.old)) result (place cursor.new) }
-    {
-        let first = self.arm(cursor)?;
-        let mut arms = one(cursor.alloc(), first)?;
-        self.more_arms(cursor, &mut arms)?;
-        Ok(arms)
+        self.cases(cursor, start.span, value)
     }
 
     /// `select .. end`
     #[tactic(auto, unfolding(crate::specs::Reading::selecting, crate::specs::Readers::bind, crate::specs::Readers::pure))]
     fn select(&self, cursor: &mut Cursor<'_>) -> Result<Command, Halt>
-        requires { ReadsAt self.now.depth (simple_in self.now.depth) (F.pre self.now.simple) (F.post self.now.simple) }
-        ensures { Reads (reading.selecting self.now.depth (expression_in (self.now.depth + 1)) (command_in self.now.depth) (expression_in self.now.depth) (place cursor.old)) result (place cursor.new) }
+        requires { R.can_read self.now.simple }
+        ensures { Reads (reading.selecting self.now.depth (expression_in (self.now.depth + 1)) (command_of (R.reader self.now.simple)) (expression_in self.now.depth) (place cursor.old)) result (place cursor.new) }
     {
         let start = cursor.open(self.depth, Kind::SelectWord)?;
-        let arms = self.arms(cursor)?;
-        let end = cursor.take(Kind::EndWord)?;
-        let span = start.span.through(end.span);
-        new_command(cursor, span, Action::Select(arms))
+        let arms = separated(&ArmRule { parts: self }, cursor, Kind::Bar)?;
+        ended(cursor, start.span, Action::Select(arms))
+    }
+
+    /// `| name then command end`, behind the `arbitrate` at `start` and its first arm.
+    #[tactic(auto, unfolding(crate::specs::Readers::bind, crate::specs::Readers::pure))]
+    fn against(&self, cursor: &mut Cursor<'_>, start: Span, first: Arm) -> Result<Command, Halt>
+        requires { R.can_read self.now.simple }
+        ensures { Reads (reading.against (command_of (R.reader self.now.simple)) (expression_in self.now.depth) start first (place cursor.old)) result (place cursor.new) }
+    {
+        cursor.take(Kind::Bar)?;
+        let second = ArmRule { parts: self }.read(cursor)?;
+        ended(cursor, start, Action::Arbitrate(first, second))
     }
 
     /// `arbitrate .. end`
     #[tactic(auto, unfolding(crate::specs::Reading::arbitrating, crate::specs::Readers::bind, crate::specs::Readers::pure))]
     fn arbitrate(&self, cursor: &mut Cursor<'_>) -> Result<Command, Halt>
-        requires { ReadsAt self.now.depth (simple_in self.now.depth) (F.pre self.now.simple) (F.post self.now.simple) }
-        ensures { Reads (reading.arbitrating self.now.depth (expression_in (self.now.depth + 1)) (command_in self.now.depth) (expression_in self.now.depth) (place cursor.old)) result (place cursor.new) }
+        requires { R.can_read self.now.simple }
+        ensures { Reads (reading.arbitrating self.now.depth (expression_in (self.now.depth + 1)) (command_of (R.reader self.now.simple)) (expression_in self.now.depth) (place cursor.old)) result (place cursor.new) }
     {
         let start = cursor.open(self.depth, Kind::ArbitrateWord)?;
-        let first = self.arm(cursor)?;
-        cursor.take(Kind::Bar)?;
-        let second = self.arm(cursor)?;
-        let end = cursor.take(Kind::EndWord)?;
-        let span = start.span.through(end.span);
-        let action = Action::Arbitrate(first, second);
-        new_command(cursor, span, action)
+        let first = ArmRule { parts: self }.read(cursor)?;
+        self.against(cursor, start.span, first)
     }
 
     /// `then command end`, behind `channel ->`.
     #[tactic(auto, unfolding(crate::specs::Reading::enclosing, crate::specs::Readers::bind, crate::specs::Readers::pure))]
     fn input(&self, cursor: &mut Cursor<'_>, channel: Identifier) -> Result<Command, Halt>
-        requires { ReadsAt self.now.depth (simple_in self.now.depth) (F.pre self.now.simple) (F.post self.now.simple) }
-        ensures { Reads (reading.enclosing self.now.depth (expression_in (self.now.depth + 1)) (command_in self.now.depth) (expression_in self.now.depth) channel (place cursor.old)) result (place cursor.new) }
+        requires { R.can_read self.now.simple }
+        ensures { Reads (reading.enclosing self.now.depth (expression_in (self.now.depth + 1)) (command_of (R.reader self.now.simple)) (expression_in self.now.depth) channel (place cursor.old)) result (place cursor.new) }
     {
         cursor.open(self.depth, Kind::ThenWord)?;
         let body = self.command(cursor)?;
-        let end = cursor.take(Kind::EndWord)?;
-        let span = channel.span.through(end.span);
-        let action = Action::Input(channel, body);
-        new_command(cursor, span, action)
+        ended(cursor, channel.span, Action::Input(channel, body))
     }
 
     /// `->` and what stands behind it, behind `channel`.
     #[tactic(auto, unfolding(crate::specs::Reading::incoming, crate::specs::Readers::branch, crate::specs::Readers::bind, crate::specs::Readers::pure))]
     fn incoming(&self, cursor: &mut Cursor<'_>, channel: Identifier) -> Result<Command, Halt>
-        requires { ReadsAt self.now.depth (simple_in self.now.depth) (F.pre self.now.simple) (F.post self.now.simple) }
-        ensures { Reads (reading.incoming self.now.depth (expression_in (self.now.depth + 1)) (command_in self.now.depth) (expression_in self.now.depth) channel (place cursor.old)) result (place cursor.new) }
+        requires { R.can_read self.now.simple }
+        ensures { Reads (reading.incoming self.now.depth (expression_in (self.now.depth + 1)) (command_of (R.reader self.now.simple)) (expression_in self.now.depth) channel (place cursor.old)) result (place cursor.new) }
     {
         cursor.take(Kind::ReceiveSign)?;
         if cursor.sees(Kind::ThenWord) {
@@ -582,16 +394,16 @@ impl<F: Fn(&mut Cursor<'_>, usize) -> Result<Command, Halt>> Parts<F> {
     }
 
     /// What begins with a name.
-    #[tactic(auto, unfolding(crate::specs::Reading::named, crate::specs::Readers::branch, crate::specs::Readers::bind, crate::specs::Readers::pure))]
+    #[tactic(auto, unfolding(crate::specs::Reading::named, crate::specs::Reading::assignment, crate::specs::Reading::sending, crate::specs::Readers::branch, crate::specs::Readers::bind, crate::specs::Readers::pure))]
     fn named(&self, cursor: &mut Cursor<'_>) -> Result<Command, Halt>
-        requires { ReadsAt self.now.depth (simple_in self.now.depth) (F.pre self.now.simple) (F.post self.now.simple) }
-        ensures { Reads (reading.named self.now.depth (expression_in (self.now.depth + 1)) (command_in self.now.depth) (expression_in self.now.depth) (place cursor.old)) result (place cursor.new) }
+        requires { R.can_read self.now.simple }
+        ensures { Reads (reading.named self.now.depth (expression_in (self.now.depth + 1)) (command_of (R.reader self.now.simple)) (expression_in self.now.depth) (place cursor.old)) result (place cursor.new) }
     {
         let name = cursor.identifier()?;
         if cursor.sees(Kind::AssignSign) {
-            assign(cursor, self.depth + 1, name)
+            give(cursor, Kind::AssignSign, self.depth + 1, name)
         } else if cursor.sees(Kind::SendSign) {
-            send(cursor, self.depth + 1, name)
+            give(cursor, Kind::SendSign, self.depth + 1, name)
         } else if cursor.sees(Kind::ReceiveSign) {
             self.incoming(cursor, name)
         } else {
@@ -602,8 +414,8 @@ impl<F: Fn(&mut Cursor<'_>, usize) -> Result<Command, Halt>> Parts<F> {
     /// A command that is no sequence and no parallel, unless in brackets.
     #[tactic(auto, unfolding(crate::specs::Reading::any_simple, crate::specs::Readers::branch))]
     fn choice(&self, cursor: &mut Cursor<'_>) -> Result<Command, Halt>
-        requires { ReadsAt self.now.depth (simple_in self.now.depth) (F.pre self.now.simple) (F.post self.now.simple) }
-        ensures { Reads (reading.any_simple self.now.depth (expression_in (self.now.depth + 1)) (command_in self.now.depth) (expression_in self.now.depth) (place cursor.old)) result (place cursor.new) }
+        requires { R.can_read self.now.simple }
+        ensures { Reads (reading.any_simple self.now.depth (expression_in (self.now.depth + 1)) (command_of (R.reader self.now.simple)) (expression_in self.now.depth) (place cursor.old)) result (place cursor.new) }
     {
         if cursor.sees(Kind::LeftBracket) {
             self.bracketed(cursor)
@@ -629,15 +441,97 @@ impl<F: Fn(&mut Cursor<'_>, usize) -> Result<Command, Halt>> Parts<F> {
     }
 
     /// The same, and closes the levels that it opened.
-    #[tactic(auto, unfolding(crate::specs::Reading::simple_of, crate::specs::Readers::inside))]
+    #[tactic(auto, using(crate::proofs::Closed::closes), unfolding(crate::specs::Reading::simple_of, crate::specs::Readers::inside))]
     fn whole(&self, cursor: &mut Cursor<'_>) -> Result<Command, Halt>
-        requires { ReadsAt self.now.depth (simple_in self.now.depth) (F.pre self.now.simple) (F.post self.now.simple) }
-        ensures { Reads (reading.simple_of self.now.depth (expression_in (self.now.depth + 1)) (command_in self.now.depth) (expression_in self.now.depth) (place cursor.old)) result (place cursor.new) }
+        requires { R.can_read self.now.simple }
+        ensures { Reads (reading.simple_of self.now.depth (expression_in (self.now.depth + 1)) (command_of (R.reader self.now.simple)) (expression_in self.now.depth) (place cursor.old)) result (place cursor.new) }
     {
         let levels = cursor.levels();
-        let whole = self.choice(cursor)?;
+        let whole = self.choice(cursor);
         cursor.close_to(levels);
-        Ok(whole)
+        whole
+    }
+}
+
+/// `expression then command`
+#[derive(Drop)]
+struct GuardedRule<'p, R> {
+    parts: &'p Parts<R>,
+}
+
+impl<R: Rule<Tree = Command>> Rule for GuardedRule<'_, R> {
+    type Tree = Guarded;
+
+    ghost can_read = { λ arm. R.can_read arm.parts.now.simple };
+
+    ghost reader = { λ arm. reading.guarded (command_of (R.reader arm.parts.now.simple)) (expression_in arm.parts.now.depth) };
+
+    #[tactic(auto, unfolding(crate::specs::Reading::guarded, crate::specs::Readers::bind, crate::specs::Readers::pure))]
+    fn read(&self, cursor: &mut Cursor<'_>) -> Result<Guarded, Halt> {
+        let guard = expression(cursor, self.parts.depth)?;
+        let body = self.parts.body(cursor)?;
+        Ok(Guarded { guard, body })
+    }
+}
+
+/// `labels then command`
+#[derive(Drop)]
+struct CaseArmRule<'p, R> {
+    parts: &'p Parts<R>,
+}
+
+impl<R: Rule<Tree = Command>> Rule for CaseArmRule<'_, R> {
+    type Tree = CaseArm;
+
+    ghost can_read = { λ arm. R.can_read arm.parts.now.simple };
+
+    ghost reader = { λ arm. reading.case_arm (command_of (R.reader arm.parts.now.simple)) (expression_in arm.parts.now.depth) };
+
+    #[tactic(auto, unfolding(crate::specs::Reading::case_arm, crate::specs::Readers::bind, crate::specs::Readers::pure))]
+    fn read(&self, cursor: &mut Cursor<'_>) -> Result<CaseArm, Halt> {
+        let labels = labels(cursor)?;
+        let body = self.parts.body(cursor)?;
+        Ok(CaseArm { labels, body })
+    }
+}
+
+/// `name then command`
+#[derive(Drop)]
+struct ArmRule<'p, R> {
+    parts: &'p Parts<R>,
+}
+
+impl<R: Rule<Tree = Command>> Rule for ArmRule<'_, R> {
+    type Tree = Arm;
+
+    ghost can_read = { λ arm. R.can_read arm.parts.now.simple };
+
+    ghost reader = { λ arm. reading.arm_of (command_of (R.reader arm.parts.now.simple)) (expression_in arm.parts.now.depth) };
+
+    #[tactic(auto, unfolding(crate::specs::Reading::arm_of, crate::specs::Readers::bind, crate::specs::Readers::pure))]
+    fn read(&self, cursor: &mut Cursor<'_>) -> Result<Arm, Halt> {
+        let channel = cursor.identifier()?;
+        let body = self.parts.body(cursor)?;
+        Ok(Arm { channel, body })
+    }
+}
+
+/// A simple command in a level, which a function value reads.
+#[derive(Drop)]
+struct Inside<F> {
+    depth: usize,
+    simple: F,
+}
+
+impl<F: Fn(&mut Cursor<'_>, usize) -> Result<Command, Halt>> Rule for Inside<F> {
+    type Tree = Command;
+
+    ghost can_read = { λ inside. ReadsAt inside.depth (simple_in inside.depth) (F.pre inside.simple) (F.post inside.simple) };
+
+    ghost reader = { λ inside. simple_in inside.depth };
+
+    fn read(&self, cursor: &mut Cursor<'_>) -> Result<Command, Halt> {
+        (self.simple)(cursor, self.depth)
     }
 }
 
@@ -649,9 +543,10 @@ fn simple(cursor: &mut Cursor<'_>, depth: usize) -> Result<Command, Halt>
     if depth == 0 {
         return Err(Halt::Unexpected);
     }
+    let depth = depth - 1;
     Parts {
-        depth: depth - 1,
-        simple,
+        depth,
+        simple: Inside { depth, simple },
     }
     .whole(cursor)
 }
@@ -661,5 +556,9 @@ pub fn command(cursor: &mut Cursor<'_>, depth: usize) -> Result<Command, Halt>
     requires { depth + 1 < 2 ^ 64 }
     ensures { Reads (command_in depth (place cursor.old)) result (place cursor.new) }
 {
-    Parts { depth, simple }.command(cursor)
+    Parts {
+        depth,
+        simple: Inside { depth, simple },
+    }
+    .command(cursor)
 }

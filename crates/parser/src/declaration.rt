@@ -1,256 +1,202 @@
 //! Declarations and the whole description.
 
-ghost use Rattle.std.specs.Prelude.{[], ◌∷◌};
+ghost use Rattle.std.specs.Prelude.{◌≡◌, List, [], ◌∷◌};
 ghost use Rattle.parser.specs.Readers as readers;
 ghost use Rattle.parser.specs.Reading as reading;
-ghost use Rattle.parser.specs.Reads.{place, Builds, Reads};
+ghost use Rattle.parser.specs.Reads.{place, Reads};
+ghost use Rattle.parser.specs.Trees as trees;
+ghost use Rattle.lexer.specs.declared.token.Kind.{Kind};
+ghost use Rattle.syntax.specs.declared.expression.TypeName.{TypeName};
+ghost use Rattle.syntax.specs.declared.name.Identifier.{Identifier};
 
 use crate::command::command;
 use crate::cursor::{Cursor, LEVELS};
 use crate::halt::Halt;
-use crate::list::{Item, add, one, separated};
+use crate::list::{all, one_or_more, separated};
 use crate::name::{names, type_behind, width};
+use crate::rule::Rule;
 use lexer::Kind;
 use syntax::{
     Command, Description, Identifier, Items, Local, LocalKind, Port, PortKind, Procedure,
-    TypeDeclaration, TypeDefinition,
+    TypeDeclaration, TypeDefinition, TypeName,
 };
 
-/// `number bits`
-#[tactic(auto, unfolding(crate::specs::Reading::bits, crate::specs::Readers::bind, crate::specs::Readers::pure))]
-fn bits(cursor: &mut Cursor<'_>) -> Result<TypeDefinition, Halt>
-    ensures { Reads (reading.bits (place cursor.old)) result (place cursor.new) }
-{
-    let bits = width(cursor)?;
-    Ok(TypeDefinition::Bits(bits))
-}
-
-/// `enumeration names end`
-#[tactic(auto, unfolding(crate::specs::Reading::enumeration, crate::specs::Readers::bind, crate::specs::Readers::pure))]
-fn enumeration(cursor: &mut Cursor<'_>) -> Result<TypeDefinition, Halt>
-    ensures { Reads (reading.enumeration (place cursor.old)) result (place cursor.new) }
-{
-    cursor.take(Kind::EnumerationWord)?;
-    let elements = names(cursor)?;
-    cursor.take(Kind::EndWord)?;
-    Ok(TypeDefinition::Enumeration(elements))
-}
-
 /// `number bits` or `enumeration names end`
-#[tactic(auto, unfolding(crate::specs::Reading::type_definition, crate::specs::Readers::branch))]
+#[tactic(auto, unfolding(crate::specs::Reading::type_definition, crate::specs::Reading::bits, crate::specs::Reading::enumeration, crate::specs::Readers::branch, crate::specs::Readers::bind, crate::specs::Readers::pure))]
 fn definition(cursor: &mut Cursor<'_>) -> Result<TypeDefinition, Halt>
     ensures { Reads (reading.type_definition (place cursor.old)) result (place cursor.new) }
 {
     if cursor.sees(Kind::Number) {
-        bits(cursor)
+        let bits = width(cursor)?;
+        Ok(TypeDefinition::Bits(bits))
     } else {
-        enumeration(cursor)
+        cursor.take(Kind::EnumerationWord)?;
+        let elements = names(cursor)?;
+        cursor.take(Kind::EndWord)?;
+        Ok(TypeDefinition::Enumeration(elements))
     }
 }
 
 /// `type name is definition`
-#[tactic(auto, unfolding(crate::specs::Reading::type_declaration, crate::specs::Readers::bind, crate::specs::Readers::pure))]
-fn type_declaration(cursor: &mut Cursor<'_>) -> Result<TypeDeclaration, Halt>
-    ensures { Reads (reading.type_declaration (place cursor.old)) result (place cursor.new) }
-{
-    cursor.take(Kind::TypeWord)?;
-    let name = cursor.identifier()?;
-    cursor.take(Kind::IsWord)?;
-    let definition = definition(cursor)?;
-    Ok(TypeDeclaration { name, definition })
-}
+#[derive(Drop)]
+struct TypeRule;
 
-/// A declaration of a type, behind those before it.
-#[tactic(auto, unfolding(crate::specs::Reading::one_more, crate::specs::Readers::bind, crate::specs::Readers::pure))]
-fn next_type(cursor: &mut Cursor<'_>, types: &mut Items<TypeDeclaration>) -> Result<(), Halt>
-    ensures { Builds (reading.one_more reading.type_declaration types.old (place cursor.old)) types.new result (place cursor.new) }
-{
-    let declared = type_declaration(cursor)?;
-    add(types, declared)
-}
+impl Rule for TypeRule {
+    type Tree = TypeDeclaration;
 
-/// The declarations of types that follow.
-fn more_types(cursor: &mut Cursor<'_>, types: &mut Items<TypeDeclaration>) -> Result<(), Halt>
-    ensures { Builds (reading.several (Kind.TypeWord ∷ []) reading.type_declaration types.old (place cursor.old)) types.new result (place cursor.new) }
-{
-    for _turn in 0..cursor.rest().len() {
-        if !cursor.sees(Kind::TypeWord) {
-            return Ok(());
-        }
-        next_type(cursor, types)?;
+    ghost can_read = { λ _. Unit {0} };
+
+    ghost reader = { λ _. reading.type_declaration };
+
+    #[tactic(auto, unfolding(crate::specs::Reading::type_declaration, crate::specs::Readers::bind, crate::specs::Readers::pure))]
+    fn read(&self, cursor: &mut Cursor<'_>) -> Result<TypeDeclaration, Halt> {
+        cursor.take(Kind::TypeWord)?;
+        let name = cursor.identifier()?;
+        cursor.take(Kind::IsWord)?;
+        let definition = definition(cursor)?;
+        Ok(TypeDeclaration { name, definition })
     }
-    Ok(())
 }
 
-/// The declarations of types, none or more.
-fn types(cursor: &mut Cursor<'_>) -> Result<Items<TypeDeclaration>, Halt>
-    ensures { Reads (reading.several (Kind.TypeWord ∷ []) reading.type_declaration [] (place cursor.old)) result (place cursor.new) }
-{
-    let mut types = Items::new(cursor.alloc());
-    more_types(cursor, &mut types)?;
-    Ok(types)
+/// What is declared by names behind a word: ports and locals.
+trait Declared: Drop {
+    ghost typed: { Kind → List Identifier → TypeName → Self };
+
+    ghost sync: { List Identifier → Self };
+
+    /// What names and a type declare behind `word`.
+    fn typed(word: Kind, names: Items<Identifier>, given: TypeName) -> Self
+        ensures { result ≡ typed word names given };
+
+    /// What names alone declare.
+    fn sync(names: Items<Identifier>) -> Self
+        ensures { result ≡ sync names };
 }
 
-/// `input names : type`
-#[tactic(auto, unfolding(crate::specs::Reading::input_port, crate::specs::Readers::bind, crate::specs::Readers::pure))]
-fn input_port(cursor: &mut Cursor<'_>) -> Result<Port, Halt>
-    ensures { Reads (reading.input_port (place cursor.old)) result (place cursor.new) }
+/// `word names : type`
+#[tactic(auto, unfolding(crate::specs::Readers::bind, crate::specs::Readers::pure))]
+fn typed<D: Declared>(cursor: &mut Cursor<'_>, word: Kind) -> Result<D, Halt>
+    ensures { Reads (reading.typed word (D.typed word) (place cursor.old)) result (place cursor.new) }
 {
-    cursor.take(Kind::InputWord)?;
+    cursor.take(word)?;
     let names = names(cursor)?;
     let given = type_behind(cursor)?;
-    let kind = PortKind::Input(given);
-    Ok(Port { names, kind })
-}
-
-/// `output names : type`
-#[tactic(auto, unfolding(crate::specs::Reading::output_port, crate::specs::Readers::bind, crate::specs::Readers::pure))]
-fn output_port(cursor: &mut Cursor<'_>) -> Result<Port, Halt>
-    ensures { Reads (reading.output_port (place cursor.old)) result (place cursor.new) }
-{
-    cursor.take(Kind::OutputWord)?;
-    let names = names(cursor)?;
-    let given = type_behind(cursor)?;
-    let kind = PortKind::Output(given);
-    Ok(Port { names, kind })
+    Ok(D::typed(word, names, given))
 }
 
 /// `sync names`
-#[tactic(auto, unfolding(crate::specs::Reading::sync_port, crate::specs::Readers::bind, crate::specs::Readers::pure))]
-fn sync_port(cursor: &mut Cursor<'_>) -> Result<Port, Halt>
-    ensures { Reads (reading.sync_port (place cursor.old)) result (place cursor.new) }
+#[tactic(auto, unfolding(crate::specs::Readers::bind, crate::specs::Readers::pure))]
+fn synced<D: Declared>(cursor: &mut Cursor<'_>) -> Result<D, Halt>
+    ensures { Reads (reading.synced D.sync (place cursor.old)) result (place cursor.new) }
 {
     cursor.take(Kind::SyncWord)?;
     let names = names(cursor)?;
-    let kind = PortKind::Sync;
-    Ok(Port { names, kind })
+    Ok(D::sync(names))
 }
 
-#[tactic(auto, unfolding(crate::specs::Reading::port_of, crate::specs::Readers::branch))]
-fn port(cursor: &mut Cursor<'_>) -> Result<Port, Halt>
-    ensures { Reads (reading.port_of (place cursor.old)) result (place cursor.new) }
-{
-    if cursor.sees(Kind::InputWord) {
-        input_port(cursor)
-    } else if cursor.sees(Kind::OutputWord) {
-        output_port(cursor)
-    } else {
-        sync_port(cursor)
+impl Declared for Port {
+    ghost typed = { trees.typed_port };
+
+    ghost sync = { trees.sync_port };
+
+    fn typed(word: Kind, names: Items<Identifier>, given: TypeName) -> Port {
+        let kind = match word {
+            Kind::InputWord => PortKind::Input(given),
+            _ => PortKind::Output(given),
+        };
+        Port { names, kind }
+    }
+
+    fn sync(names: Items<Identifier>) -> Port {
+        Port {
+            names,
+            kind: PortKind::Sync,
+        }
     }
 }
 
-impl Item for Port {
-    ghost reader = { reading.port_of };
+#[derive(Drop)]
+struct PortRule;
 
-    fn item(cursor: &mut Cursor<'_>) -> Result<Port, Halt> {
-        port(cursor)
+impl Rule for PortRule {
+    type Tree = Port;
+
+    ghost can_read = { λ _. Unit {0} };
+
+    ghost reader = { λ _. reading.port_of };
+
+    #[tactic(auto, unfolding(crate::specs::Reading::port_of, crate::specs::Reading::input_port, crate::specs::Reading::output_port, crate::specs::Reading::sync_port, crate::specs::Readers::branch))]
+    fn read(&self, cursor: &mut Cursor<'_>) -> Result<Port, Halt> {
+        if cursor.sees(Kind::InputWord) {
+            typed(cursor, Kind::InputWord)
+        } else if cursor.sees(Kind::OutputWord) {
+            typed(cursor, Kind::OutputWord)
+        } else {
+            synced(cursor)
+        }
     }
-}
-
-/// `( port ; .. ; port )`
-#[tactic(auto, unfolding(crate::specs::Reading::port_list, crate::specs::Readers::bind, crate::specs::Readers::pure))]
-fn port_list(cursor: &mut Cursor<'_>) -> Result<Items<Port>, Halt>
-    ensures { Reads (reading.port_list (place cursor.old)) result (place cursor.new) }
-{
-    cursor.take(Kind::LeftParenthesis)?;
-    let ports = separated(cursor, Kind::Semicolon)?;
-    cursor.take(Kind::RightParenthesis)?;
-    Ok(ports)
 }
 
 /// `( port ; .. ; port )`, or nothing.
-#[tactic(auto, unfolding(crate::specs::Reading::ports, crate::specs::Readers::branch, crate::specs::Readers::pure))]
+#[tactic(auto, unfolding(crate::specs::Reading::ports, crate::specs::Reading::port_list, crate::specs::Readers::branch, crate::specs::Readers::bind, crate::specs::Readers::pure))]
 fn ports(cursor: &mut Cursor<'_>) -> Result<Items<Port>, Halt>
     ensures { Reads (reading.ports (place cursor.old)) result (place cursor.new) }
 {
     if cursor.sees(Kind::LeftParenthesis) {
-        port_list(cursor)
+        cursor.take(Kind::LeftParenthesis)?;
+        let ports = separated(&PortRule, cursor, Kind::Semicolon)?;
+        cursor.take(Kind::RightParenthesis)?;
+        Ok(ports)
     } else {
         Ok(Items::new(cursor.alloc()))
     }
 }
 
-/// `variable names : type`
-#[tactic(auto, unfolding(crate::specs::Reading::variables, crate::specs::Readers::bind, crate::specs::Readers::pure))]
-fn variable(cursor: &mut Cursor<'_>) -> Result<Local, Halt>
-    ensures { Reads (reading.variables (place cursor.old)) result (place cursor.new) }
-{
-    cursor.take(Kind::VariableWord)?;
-    let names = names(cursor)?;
-    let given = type_behind(cursor)?;
-    let kind = LocalKind::Variable(given);
-    Ok(Local { names, kind })
+impl Declared for Local {
+    ghost typed = { trees.typed_local };
+
+    ghost sync = { trees.sync_local };
+
+    fn typed(word: Kind, names: Items<Identifier>, given: TypeName) -> Local {
+        let kind = match word {
+            Kind::VariableWord => LocalKind::Variable(given),
+            _ => LocalKind::Channel(given),
+        };
+        Local { names, kind }
+    }
+
+    fn sync(names: Items<Identifier>) -> Local {
+        Local {
+            names,
+            kind: LocalKind::Sync,
+        }
+    }
 }
 
-/// `channel names : type`
-#[tactic(auto, unfolding(crate::specs::Reading::channels, crate::specs::Readers::bind, crate::specs::Readers::pure))]
-fn channel(cursor: &mut Cursor<'_>) -> Result<Local, Halt>
-    ensures { Reads (reading.channels (place cursor.old)) result (place cursor.new) }
-{
-    cursor.take(Kind::ChannelWord)?;
-    let names = names(cursor)?;
-    let given = type_behind(cursor)?;
-    let kind = LocalKind::Channel(given);
-    Ok(Local { names, kind })
-}
+#[derive(Drop)]
+struct LocalRule;
 
-/// `sync names`
-#[tactic(auto, unfolding(crate::specs::Reading::syncs, crate::specs::Readers::bind, crate::specs::Readers::pure))]
-fn sync_local(cursor: &mut Cursor<'_>) -> Result<Local, Halt>
-    ensures { Reads (reading.syncs (place cursor.old)) result (place cursor.new) }
-{
-    cursor.take(Kind::SyncWord)?;
-    let names = names(cursor)?;
-    let kind = LocalKind::Sync;
-    Ok(Local { names, kind })
-}
+impl Rule for LocalRule {
+    type Tree = Local;
 
-#[tactic(auto, unfolding(crate::specs::Reading::local_of, crate::specs::Readers::branch))]
-fn local(cursor: &mut Cursor<'_>) -> Result<Local, Halt>
-    ensures { Reads (reading.local_of (place cursor.old)) result (place cursor.new) }
-{
-    if cursor.sees(Kind::VariableWord) {
-        variable(cursor)
-    } else if cursor.sees(Kind::ChannelWord) {
-        channel(cursor)
-    } else {
-        sync_local(cursor)
+    ghost can_read = { λ _. Unit {0} };
+
+    ghost reader = { λ _. reading.local_of };
+
+    #[tactic(auto, unfolding(crate::specs::Reading::local_of, crate::specs::Reading::variables, crate::specs::Reading::channels, crate::specs::Reading::syncs, crate::specs::Readers::branch))]
+    fn read(&self, cursor: &mut Cursor<'_>) -> Result<Local, Halt> {
+        if cursor.sees(Kind::VariableWord) {
+            typed(cursor, Kind::VariableWord)
+        } else if cursor.sees(Kind::ChannelWord) {
+            typed(cursor, Kind::ChannelWord)
+        } else {
+            synced(cursor)
+        }
     }
 }
 
 /// What begins a declaration of locals.
 const LOCAL_WORDS: [Kind; 3] = [Kind::VariableWord, Kind::ChannelWord, Kind::SyncWord];
-
-/// A declaration of locals, behind those before it.
-#[tactic(auto, unfolding(crate::specs::Reading::one_more, crate::specs::Readers::bind, crate::specs::Readers::pure))]
-fn next_local(cursor: &mut Cursor<'_>, locals: &mut Items<Local>) -> Result<(), Halt>
-    ensures { Builds (reading.one_more reading.local_of locals.old (place cursor.old)) locals.new result (place cursor.new) }
-{
-    let declared = local(cursor)?;
-    add(locals, declared)
-}
-
-/// The declarations of locals that follow.
-fn more_locals(cursor: &mut Cursor<'_>, locals: &mut Items<Local>) -> Result<(), Halt>
-    ensures { Builds (reading.several (Kind.VariableWord ∷ Kind.ChannelWord ∷ Kind.SyncWord ∷ []) reading.local_of locals.old (place cursor.old)) locals.new result (place cursor.new) }
-{
-    for _turn in 0..cursor.rest().len() {
-        if !cursor.sees_any(&LOCAL_WORDS) {
-            return Ok(());
-        }
-        next_local(cursor, locals)?;
-    }
-    Ok(())
-}
-
-/// The declarations of locals, none or more.
-fn locals(cursor: &mut Cursor<'_>) -> Result<Items<Local>, Halt>
-    ensures { Reads (reading.several (Kind.VariableWord ∷ Kind.ChannelWord ∷ Kind.SyncWord ∷ []) reading.local_of [] (place cursor.old)) result (place cursor.new) }
-{
-    let mut locals = Items::new(cursor.alloc());
-    more_locals(cursor, &mut locals)?;
-    Ok(locals)
-}
 
 /// `begin command end`
 #[tactic(auto, unfolding(crate::specs::Reading::block, crate::specs::Reading::command, crate::specs::Readers::bind, crate::specs::Readers::pure))]
@@ -270,7 +216,7 @@ fn procedure_of(cursor: &mut Cursor<'_>, name: Identifier) -> Result<Procedure, 
 {
     let ports = ports(cursor)?;
     cursor.take(Kind::IsWord)?;
-    let locals = locals(cursor)?;
+    let locals = all(&LocalRule, cursor, &LOCAL_WORDS)?;
     let body = block(cursor)?;
     Ok(Procedure {
         name,
@@ -280,55 +226,32 @@ fn procedure_of(cursor: &mut Cursor<'_>, name: Identifier) -> Result<Procedure, 
     })
 }
 
-#[tactic(auto, unfolding(crate::specs::Reading::procedure, crate::specs::Readers::bind, crate::specs::Readers::pure))]
-fn procedure(cursor: &mut Cursor<'_>) -> Result<Procedure, Halt>
-    ensures { Reads (reading.procedure 64 (place cursor.old)) result (place cursor.new) }
-{
-    cursor.take(Kind::ProcedureWord)?;
-    let name = cursor.identifier()?;
-    procedure_of(cursor, name)
-}
+#[derive(Drop)]
+struct ProcedureRule;
 
-/// A procedure, behind those before it.
-#[tactic(auto, unfolding(crate::specs::Reading::one_more, crate::specs::Readers::bind, crate::specs::Readers::pure))]
-fn next_procedure(cursor: &mut Cursor<'_>, procedures: &mut Items<Procedure>) -> Result<(), Halt>
-    ensures { Builds (reading.one_more (reading.procedure 64) procedures.old (place cursor.old)) procedures.new result (place cursor.new) }
-{
-    let declared = procedure(cursor)?;
-    add(procedures, declared)
-}
+impl Rule for ProcedureRule {
+    type Tree = Procedure;
 
-/// The procedures that follow.
-fn more_procedures(cursor: &mut Cursor<'_>, procedures: &mut Items<Procedure>) -> Result<(), Halt>
-    ensures { Builds (reading.several (Kind.ProcedureWord ∷ []) (reading.procedure 64) procedures.old (place cursor.old)) procedures.new result (place cursor.new) }
-{
-    for _turn in 0..cursor.rest().len() {
-        if !cursor.sees(Kind::ProcedureWord) {
-            return Ok(());
-        }
-        next_procedure(cursor, procedures)?;
+    ghost can_read = { λ _. Unit {0} };
+
+    ghost reader = { λ _. reading.procedure 64 };
+
+    #[tactic(auto, unfolding(crate::specs::Reading::procedure, crate::specs::Readers::bind, crate::specs::Readers::pure))]
+    fn read(&self, cursor: &mut Cursor<'_>) -> Result<Procedure, Halt> {
+        cursor.take(Kind::ProcedureWord)?;
+        let name = cursor.identifier()?;
+        procedure_of(cursor, name)
     }
-    Ok(())
-}
-
-/// One procedure or more.
-#[tactic(auto, unfolding(crate::specs::Reading::procedures, crate::specs::Readers::bind, crate::specs::Readers::pure))]
-fn procedures(cursor: &mut Cursor<'_>) -> Result<Items<Procedure>, Halt>
-    ensures { Reads (reading.procedures 64 (place cursor.old)) result (place cursor.new) }
-{
-    let first = procedure(cursor)?;
-    let mut procedures = one(cursor.alloc(), first)?;
-    more_procedures(cursor, &mut procedures)?;
-    Ok(procedures)
 }
 
 /// Declarations of types, and one procedure or more.
-#[tactic(auto, unfolding(crate::specs::Reading::description, crate::specs::Readers::bind, crate::specs::Readers::pure))]
+#[tactic(auto, unfolding(crate::specs::Reading::description, crate::specs::Reading::procedures, crate::specs::Readers::bind, crate::specs::Readers::pure))]
 fn description(cursor: &mut Cursor<'_>) -> Result<Description, Halt>
     ensures { Reads (reading.description 64 (place cursor.old)) result (place cursor.new) }
 {
-    let types = types(cursor)?;
-    let procedures = procedures(cursor)?;
+    let types = all(&TypeRule, cursor, &[Kind::TypeWord])?;
+    let rule = ProcedureRule;
+    let procedures = one_or_more(&rule, &rule, cursor, &[Kind::ProcedureWord])?;
     Ok(Description { types, procedures })
 }
 

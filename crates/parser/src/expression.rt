@@ -1,8 +1,8 @@
-//! Expressions, a function for each rank of operators. What an operand holds is read by a function
-//! value, so that each function but one is proved by itself.
+//! Expressions, a rule for each rank of operators. Behind all of them stands a function value that
+//! reads what an operand holds, so that each function but one is proved by itself.
 
 ghost use Rattle.std.specs.Prelude.{◌≡◌};
-ghost use Rattle.parser.specs.Grammar.{sum_signs, comparison_signs, conjunct_words, expression_words};
+ghost use Rattle.parser.specs.Grammar.{expression_words};
 ghost use Rattle.parser.specs.Nests.{ReadsAt, factor_in, expression_in};
 ghost use Rattle.parser.specs.Readers.{read};
 ghost use Rattle.parser.specs.Reading as reading;
@@ -12,6 +12,7 @@ ghost use Rattle.parser.specs.Trees as trees;
 use crate::cursor::Cursor;
 use crate::halt::Halt;
 use crate::name::type_name;
+use crate::rule::Rule;
 use lexer::{Kind, Token};
 use syntax::{Expression, Operator, Shape, Span};
 
@@ -30,14 +31,6 @@ const COMPARISON_SIGNS: [Kind; 6] = [
 const CONJUNCT_WORDS: [Kind; 1] = [Kind::AndWord];
 
 const EXPRESSION_WORDS: [Kind; 2] = [Kind::OrWord, Kind::XorWord];
-
-/// Reads what is made of operands, which `factor` reads.
-#[derive(Drop)]
-struct Operands<F> {
-    /// How many levels may be written inside one another, the one that this stands in included.
-    depth: usize,
-    factor: F,
-}
 
 /// The operator that `sign` stands for. What is no other is taken for `>=`.
 fn operator_of(sign: Kind) -> Operator
@@ -97,138 +90,125 @@ fn binary(
     new_expression(cursor, span, shape)
 }
 
-impl<F: Fn(&mut Cursor<'_>, usize) -> Result<Expression, Halt>> Operands<F> {
-    /// An operand.
-    fn operand(&self, cursor: &mut Cursor<'_>) -> Result<Expression, Halt>
-        requires { ReadsAt self.now.depth (factor_in self.now.depth) (F.pre self.now.factor) (F.post self.now.factor) }
-        ensures { Reads (factor_in self.now.depth (place cursor.old)) result (place cursor.new) }
-    {
-        (self.factor)(cursor, self.depth)
-    }
+/// One of `signs` and the operand behind it, behind `left`.
+#[tactic(auto, unfolding(crate::specs::Reading::operation, crate::specs::Readers::bind, crate::specs::Readers::pure))]
+fn operation<R: Rule<Tree = Expression>>(
+    operand: &R,
+    cursor: &mut Cursor<'_>,
+    depth: usize,
+    signs: &[Kind],
+    left: Expression,
+) -> Result<Expression, Halt>
+    requires { R.can_read operand.now }
+    ensures { Reads (reading.operation depth signs.now (R.reader operand.now) left (place cursor.old)) result (place cursor.new) }
+{
+    let sign = cursor.open_any(depth, signs)?;
+    let right = operand.read(cursor)?;
+    binary(cursor, sign, left, right)
+}
 
-    /// `+` or `-` and the operand behind it.
-    #[tactic(auto, unfolding(crate::specs::Reading::operation, crate::specs::Readers::bind, crate::specs::Readers::pure))]
-    fn added(&self, cursor: &mut Cursor<'_>, left: Expression) -> Result<Expression, Halt>
-        requires { ReadsAt self.now.depth (factor_in self.now.depth) (F.pre self.now.factor) (F.post self.now.factor) }
-        ensures { Reads (reading.operation self.now.depth sum_signs (factor_in self.now.depth) left (place cursor.old)) result (place cursor.new) }
-    {
-        let sign = cursor.open_any(self.depth, &SUM_SIGNS)?;
-        let right = self.operand(cursor)?;
-        binary(cursor, sign, left, right)
-    }
+/// Operands with one of `signs` between them, grouped to the left.
+#[derive(Drop)]
+struct Grouped<'r, R> {
+    depth: usize,
+    signs: &'r [Kind],
+    operand: &'r R,
+}
 
-    #[tactic(auto, unfolding(crate::specs::Reading::sum_of, crate::specs::Reading::grouped, crate::specs::Readers::bind))]
-    fn sum(&self, cursor: &mut Cursor<'_>) -> Result<Expression, Halt>
-        requires { ReadsAt self.now.depth (factor_in self.now.depth) (F.pre self.now.factor) (F.post self.now.factor) }
-        ensures { Reads (reading.sum_of self.now.depth (factor_in self.now.depth) (place cursor.old)) result (place cursor.new) }
-    {
-        let mut left = self.operand(cursor)?;
+impl<R: Rule<Tree = Expression>> Rule for Grouped<'_, R> {
+    type Tree = Expression;
+
+    ghost can_read = { λ grouped. R.can_read grouped.operand.now };
+
+    ghost reader = { λ grouped. reading.grouped grouped.depth grouped.signs.now (R.reader grouped.operand.now) };
+
+    #[tactic(auto, unfolding(crate::specs::Reading::grouped, crate::specs::Readers::bind))]
+    fn read(&self, cursor: &mut Cursor<'_>) -> Result<Expression, Halt> {
+        let mut left = self.operand.read(cursor)?;
         for _turn in 0..cursor.rest().len() {
-            if !cursor.sees_any(&SUM_SIGNS) {
+            if !cursor.sees_any(self.signs) {
                 return Ok(left);
             }
-            left = self.added(cursor, left)?;
+            left = operation(self.operand, cursor, self.depth, self.signs, left)?;
         }
         Ok(left)
     }
+}
 
-    /// A sign that compares and the sum behind it.
-    #[tactic(auto, unfolding(crate::specs::Reading::operation, crate::specs::Readers::bind, crate::specs::Readers::pure))]
-    fn compared(&self, cursor: &mut Cursor<'_>, left: Expression) -> Result<Expression, Halt>
-        requires { ReadsAt self.now.depth (factor_in self.now.depth) (F.pre self.now.factor) (F.post self.now.factor) }
-        ensures { Reads (reading.operation self.now.depth comparison_signs (reading.sum_of self.now.depth (factor_in self.now.depth)) left (place cursor.old)) result (place cursor.new) }
-    {
-        let sign = cursor.open_any(self.depth, &COMPARISON_SIGNS)?;
-        let right = self.sum(cursor)?;
-        binary(cursor, sign, left, right)
-    }
+/// One operand, or two with a sign between them that compares.
+#[derive(Drop)]
+struct Compared<'r, R> {
+    depth: usize,
+    operand: &'r R,
+}
 
-    #[tactic(auto, unfolding(crate::specs::Reading::comparison_of, crate::specs::Readers::branch, crate::specs::Readers::bind, crate::specs::Readers::pure))]
-    fn comparison(&self, cursor: &mut Cursor<'_>) -> Result<Expression, Halt>
-        requires { ReadsAt self.now.depth (factor_in self.now.depth) (F.pre self.now.factor) (F.post self.now.factor) }
-        ensures { Reads (reading.comparison_of self.now.depth (factor_in self.now.depth) (place cursor.old)) result (place cursor.new) }
-    {
-        let left = self.sum(cursor)?;
+impl<R: Rule<Tree = Expression>> Rule for Compared<'_, R> {
+    type Tree = Expression;
+
+    ghost can_read = { λ compared. R.can_read compared.operand.now };
+
+    ghost reader = { λ compared. reading.compared compared.depth (R.reader compared.operand.now) };
+
+    #[tactic(auto, unfolding(crate::specs::Reading::compared, crate::specs::Readers::branch, crate::specs::Readers::bind, crate::specs::Readers::pure))]
+    fn read(&self, cursor: &mut Cursor<'_>) -> Result<Expression, Halt> {
+        let left = self.operand.read(cursor)?;
         if cursor.sees_any(&COMPARISON_SIGNS) {
-            self.compared(cursor, left)
+            operation(self.operand, cursor, self.depth, &COMPARISON_SIGNS, left)
         } else {
             Ok(left)
         }
     }
+}
 
-    /// `and` and the comparison behind it.
-    #[tactic(auto, unfolding(crate::specs::Reading::operation, crate::specs::Readers::bind, crate::specs::Readers::pure))]
-    fn conjoined(&self, cursor: &mut Cursor<'_>, left: Expression) -> Result<Expression, Halt>
-        requires { ReadsAt self.now.depth (factor_in self.now.depth) (F.pre self.now.factor) (F.post self.now.factor) }
-        ensures { Reads (reading.operation self.now.depth conjunct_words (reading.comparison_of self.now.depth (factor_in self.now.depth)) left (place cursor.old)) result (place cursor.new) }
-    {
-        let sign = cursor.open_any(self.depth, &CONJUNCT_WORDS)?;
-        let right = self.comparison(cursor)?;
-        binary(cursor, sign, left, right)
-    }
+/// Reads what is made of operands, which `factor` reads.
+#[derive(Drop)]
+struct Operands<R> {
+    /// How many levels may be written inside one another, the one that this stands in included.
+    depth: usize,
+    factor: R,
+}
 
-    #[tactic(auto, unfolding(crate::specs::Reading::conjunct_of, crate::specs::Reading::grouped, crate::specs::Readers::bind))]
-    fn conjunct(&self, cursor: &mut Cursor<'_>) -> Result<Expression, Halt>
-        requires { ReadsAt self.now.depth (factor_in self.now.depth) (F.pre self.now.factor) (F.post self.now.factor) }
-        ensures { Reads (reading.conjunct_of self.now.depth (factor_in self.now.depth) (place cursor.old)) result (place cursor.new) }
-    {
-        let mut left = self.comparison(cursor)?;
-        for _turn in 0..cursor.rest().len() {
-            if !cursor.sees_any(&CONJUNCT_WORDS) {
-                return Ok(left);
-            }
-            left = self.conjoined(cursor, left)?;
-        }
-        Ok(left)
-    }
-
-    /// `or` or `xor` and the conjunct behind it.
-    #[tactic(auto, unfolding(crate::specs::Reading::operation, crate::specs::Readers::bind, crate::specs::Readers::pure))]
-    fn joined(&self, cursor: &mut Cursor<'_>, left: Expression) -> Result<Expression, Halt>
-        requires { ReadsAt self.now.depth (factor_in self.now.depth) (F.pre self.now.factor) (F.post self.now.factor) }
-        ensures { Reads (reading.operation self.now.depth expression_words (reading.conjunct_of self.now.depth (factor_in self.now.depth)) left (place cursor.old)) result (place cursor.new) }
-    {
-        let sign = cursor.open_any(self.depth, &EXPRESSION_WORDS)?;
-        let right = self.conjunct(cursor)?;
-        binary(cursor, sign, left, right)
-    }
-
-    /// Conjuncts with operators between them.
-    #[tactic(auto, unfolding(crate::specs::Reading::grouped, crate::specs::Readers::bind))]
-    fn chain(&self, cursor: &mut Cursor<'_>) -> Result<Expression, Halt>
-        requires { ReadsAt self.now.depth (factor_in self.now.depth) (F.pre self.now.factor) (F.post self.now.factor) }
-        ensures { Reads (reading.grouped self.now.depth expression_words (reading.conjunct_of self.now.depth (factor_in self.now.depth)) (place cursor.old)) result (place cursor.new) }
-    {
-        let mut left = self.conjunct(cursor)?;
-        for _turn in 0..cursor.rest().len() {
-            if !cursor.sees_any(&EXPRESSION_WORDS) {
-                return Ok(left);
-            }
-            left = self.joined(cursor, left)?;
-        }
-        Ok(left)
-    }
-
-    /// A whole expression, which closes the levels of its operators.
-    #[tactic(auto, unfolding(crate::specs::Reading::expression_of, crate::specs::Readers::inside))]
+impl<R: Rule<Tree = Expression>> Operands<R> {
+    /// Factors with operators between them, a rule for each rank. It closes the levels of its operators.
+    #[tactic(auto, using(crate::proofs::Closed::closes), unfolding(crate::specs::Reading::expression_of, crate::specs::Reading::sum_of, crate::specs::Reading::comparison_of, crate::specs::Reading::conjunct_of, crate::specs::Readers::inside))]
     fn expression(&self, cursor: &mut Cursor<'_>) -> Result<Expression, Halt>
-        requires { ReadsAt self.now.depth (factor_in self.now.depth) (F.pre self.now.factor) (F.post self.now.factor) }
-        ensures { Reads (expression_in self.now.depth (place cursor.old)) result (place cursor.new) }
+        requires { R.can_read self.now.factor }
+        ensures { Reads (reading.expression_of self.now.depth (R.reader self.now.factor) (place cursor.old)) result (place cursor.new) }
     {
+        let depth = self.depth;
+        let sum = Grouped {
+            depth,
+            signs: &SUM_SIGNS,
+            operand: &self.factor,
+        };
+        let comparison = Compared {
+            depth,
+            operand: &sum,
+        };
+        let conjunct = Grouped {
+            depth,
+            signs: &CONJUNCT_WORDS,
+            operand: &comparison,
+        };
+        let chain = Grouped {
+            depth,
+            signs: &EXPRESSION_WORDS,
+            operand: &conjunct,
+        };
         let levels = cursor.levels();
-        let whole = self.chain(cursor)?;
+        let whole = chain.read(cursor);
         cursor.close_to(levels);
-        Ok(whole)
+        whole
     }
 
     /// `not factor`
     #[tactic(auto, unfolding(crate::specs::Reading::negation, crate::specs::Readers::bind, crate::specs::Readers::pure))]
     fn negated(&self, cursor: &mut Cursor<'_>) -> Result<Expression, Halt>
-        requires { ReadsAt self.now.depth (factor_in self.now.depth) (F.pre self.now.factor) (F.post self.now.factor) }
-        ensures { Reads (reading.negation self.now.depth (factor_in self.now.depth) (expression_in self.now.depth) (place cursor.old)) result (place cursor.new) }
+        requires { R.can_read self.now.factor }
+        ensures { Reads (reading.negation self.now.depth (R.reader self.now.factor) (reading.expression_of self.now.depth (R.reader self.now.factor)) (place cursor.old)) result (place cursor.new) }
     {
         let start = cursor.open(self.depth, Kind::NotWord)?;
-        let operand = self.operand(cursor)?;
+        let operand = self.factor.read(cursor)?;
         let span = start.span.through(operand.span);
         new_expression(cursor, span, Shape::Not(operand))
     }
@@ -236,8 +216,8 @@ impl<F: Fn(&mut Cursor<'_>, usize) -> Result<Expression, Halt>> Operands<F> {
     /// `( expression )` or `( expression as type )`
     #[tactic(auto, unfolding(crate::specs::Reading::parenthesised, crate::specs::Readers::branch, crate::specs::Readers::bind, crate::specs::Readers::pure))]
     fn parenthesised(&self, cursor: &mut Cursor<'_>) -> Result<Expression, Halt>
-        requires { ReadsAt self.now.depth (factor_in self.now.depth) (F.pre self.now.factor) (F.post self.now.factor) }
-        ensures { Reads (reading.parenthesised self.now.depth (factor_in self.now.depth) (expression_in self.now.depth) (place cursor.old)) result (place cursor.new) }
+        requires { R.can_read self.now.factor }
+        ensures { Reads (reading.parenthesised self.now.depth (R.reader self.now.factor) (reading.expression_of self.now.depth (R.reader self.now.factor)) (place cursor.old)) result (place cursor.new) }
     {
         let start = cursor.open(self.depth, Kind::LeftParenthesis)?;
         let inner = self.expression(cursor)?;
@@ -251,8 +231,8 @@ impl<F: Fn(&mut Cursor<'_>, usize) -> Result<Expression, Halt>> Operands<F> {
     /// What stands between operators.
     #[tactic(auto, unfolding(crate::specs::Reading::any_factor, crate::specs::Readers::branch))]
     fn choice(&self, cursor: &mut Cursor<'_>) -> Result<Expression, Halt>
-        requires { ReadsAt self.now.depth (factor_in self.now.depth) (F.pre self.now.factor) (F.post self.now.factor) }
-        ensures { Reads (reading.any_factor self.now.depth (factor_in self.now.depth) (expression_in self.now.depth) (place cursor.old)) result (place cursor.new) }
+        requires { R.can_read self.now.factor }
+        ensures { Reads (reading.any_factor self.now.depth (R.reader self.now.factor) (reading.expression_of self.now.depth (R.reader self.now.factor)) (place cursor.old)) result (place cursor.new) }
     {
         if cursor.sees(Kind::NotWord) {
             self.negated(cursor)
@@ -266,28 +246,27 @@ impl<F: Fn(&mut Cursor<'_>, usize) -> Result<Expression, Halt>> Operands<F> {
     }
 
     /// The same, and closes the levels that it opened.
-    #[tactic(auto, unfolding(crate::specs::Reading::factor_of, crate::specs::Readers::inside))]
+    #[tactic(auto, using(crate::proofs::Closed::closes), unfolding(crate::specs::Reading::factor_of, crate::specs::Readers::inside))]
     fn whole(&self, cursor: &mut Cursor<'_>) -> Result<Expression, Halt>
-        requires { ReadsAt self.now.depth (factor_in self.now.depth) (F.pre self.now.factor) (F.post self.now.factor) }
-        ensures { Reads (reading.factor_of self.now.depth (factor_in self.now.depth) (expression_in self.now.depth) (place cursor.old)) result (place cursor.new) }
+        requires { R.can_read self.now.factor }
+        ensures { Reads (reading.factor_of self.now.depth (R.reader self.now.factor) (reading.expression_of self.now.depth (R.reader self.now.factor)) (place cursor.old)) result (place cursor.new) }
     {
         let levels = cursor.levels();
-        let whole = self.choice(cursor)?;
+        let whole = self.choice(cursor);
         cursor.close_to(levels);
-        Ok(whole)
+        whole
     }
 }
 
 /// `as type )`, behind what begins at `start`.
-#[tactic(auto, unfolding(crate::specs::Reading::cast, crate::specs::Readers::bind, crate::specs::Readers::pure))]
+#[tactic(auto, unfolding(crate::specs::Reading::cast, crate::specs::Reading::closing, crate::specs::Readers::bind, crate::specs::Readers::pure))]
 fn cast(cursor: &mut Cursor<'_>, start: Span, operand: Expression) -> Result<Expression, Halt>
     ensures { Reads (reading.cast start operand (place cursor.old)) result (place cursor.new) }
 {
     cursor.take(Kind::AsWord)?;
     let to = type_name(cursor)?;
-    let end = cursor.take(Kind::RightParenthesis)?;
-    let span = start.through(end.span);
-    new_expression(cursor, span, Shape::Cast(operand, to))
+    let whole = new_expression(cursor, start, Shape::Cast(operand, to))?;
+    closing(cursor, start, whole)
 }
 
 /// `)`, behind what begins at `start`.
@@ -299,6 +278,25 @@ fn closing(cursor: &mut Cursor<'_>, start: Span, operand: Expression) -> Result<
     Ok(operand.parenthesised(start.through(end.span)))
 }
 
+/// What stands between operators in a level, which a function value reads.
+#[derive(Drop)]
+struct Inside<F> {
+    depth: usize,
+    factor: F,
+}
+
+impl<F: Fn(&mut Cursor<'_>, usize) -> Result<Expression, Halt>> Rule for Inside<F> {
+    type Tree = Expression;
+
+    ghost can_read = { λ inside. ReadsAt inside.depth (factor_in inside.depth) (F.pre inside.factor) (F.post inside.factor) };
+
+    ghost reader = { λ inside. factor_in inside.depth };
+
+    fn read(&self, cursor: &mut Cursor<'_>) -> Result<Expression, Halt> {
+        (self.factor)(cursor, self.depth)
+    }
+}
+
 /// What stands between operators in a level, inside which so many may be written, this one included.
 fn factor(cursor: &mut Cursor<'_>, depth: usize) -> Result<Expression, Halt>
     ensures { Reads (factor_in depth (place cursor.old)) result (place cursor.new) }
@@ -306,9 +304,10 @@ fn factor(cursor: &mut Cursor<'_>, depth: usize) -> Result<Expression, Halt>
     if depth == 0 {
         return Err(Halt::Unexpected);
     }
+    let depth = depth - 1;
     Operands {
-        depth: depth - 1,
-        factor,
+        depth,
+        factor: Inside { depth, factor },
     }
     .whole(cursor)
 }
@@ -317,5 +316,9 @@ fn factor(cursor: &mut Cursor<'_>, depth: usize) -> Result<Expression, Halt>
 pub fn expression(cursor: &mut Cursor<'_>, depth: usize) -> Result<Expression, Halt>
     ensures { Reads (expression_in depth (place cursor.old)) result (place cursor.new) }
 {
-    Operands { depth, factor }.expression(cursor)
+    Operands {
+        depth,
+        factor: Inside { depth, factor },
+    }
+    .expression(cursor)
 }

@@ -6,7 +6,7 @@ use crate::Fault;
 use std::alloc::{AllocError, AllocFailed};
 
 /// Why a part could not be read. The cursor stands at the token that is to blame.
-#[derive(Clone, Copy, Debug, PartialEq, Eq)]
+#[derive(Clone, Copy)]
 pub enum Halt {
     Memory,
     Unexpected,

@@ -19,6 +19,7 @@ mod expression;
 mod halt;
 mod list;
 mod name;
+mod rule;
 
 use cursor::{Cursor, LEVELS};
 use declaration::whole;

@@ -2,24 +2,17 @@
 
 ghost use Rattle.std.specs.Prelude.{◌≡◌, ◌++◌, [], ◌∷◌, IfOk, IfErr};
 ghost use Rattle.parser.specs.Input.{Input};
-ghost use Rattle.parser.specs.Readers.{Reader, read};
+ghost use Rattle.parser.specs.Readers.{read};
 ghost use Rattle.parser.specs.Reading as reading;
 ghost use Rattle.parser.specs.Reads.{place, Builds, Reads};
 ghost use Rattle.parser.specs.declared.halt.Halt.TheVariants.{Memory};
 
 use crate::cursor::Cursor;
 use crate::halt::Halt;
+use crate::rule::Rule;
 use lexer::Kind;
 use std::alloc::Global;
 use syntax::Items;
-
-/// Puts `item` behind `items`, unless memory is out.
-pub fn add<T: Drop>(items: &mut Items<T>, item: T) -> Result<(), Halt>
-    ensures { (left : Input) → Builds (read (items.old ++ item ∷ []) left) items.new result left }
-{
-    items.push(item)?;
-    Ok(())
-}
 
 /// A list of one item, unless memory is out.
 pub fn one<T: Drop>(alloc: Global, item: T) -> Result<Items<T>, Halt>
@@ -31,45 +24,102 @@ pub fn one<T: Drop>(alloc: Global, item: T) -> Result<Items<T>, Halt>
     Ok(items)
 }
 
-/// What lists are made of.
-pub trait Item: Drop {
-    ghost reader: { Reader Self };
-
-    /// The next one.
-    fn item(cursor: &mut Cursor<'_>) -> Result<Self, Halt>
-        ensures { Reads (reader (place cursor.old)) result (place cursor.new) };
-}
-
 /// `sign` and the item behind it.
-#[tactic(auto, unfolding(crate::specs::Reading::one_more, crate::specs::Reading::behind, crate::specs::Readers::bind, crate::specs::Readers::pure))]
-fn next<T: Item>(cursor: &mut Cursor<'_>, sign: Kind, items: &mut Items<T>) -> Result<(), Halt>
-    ensures { Builds (reading.one_more (reading.behind sign T.reader) items.old (place cursor.old)) items.new result (place cursor.new) }
-{
-    cursor.take(sign)?;
-    let item = T::item(cursor)?;
-    add(items, item)
+#[derive(Drop)]
+pub struct Behind<'r, R> {
+    pub sign: Kind,
+    pub item: &'r R,
 }
 
-/// Each `sign` that follows and the item behind it.
-fn more<T: Item>(cursor: &mut Cursor<'_>, sign: Kind, items: &mut Items<T>) -> Result<(), Halt>
-    ensures { Builds (reading.several (sign ∷ []) (reading.behind sign T.reader) items.old (place cursor.old)) items.new result (place cursor.new) }
+impl<R: Rule> Rule for Behind<'_, R> {
+    type Tree = R::Tree;
+
+    ghost can_read = { λ behind. R.can_read behind.item.now };
+
+    ghost reader = { λ behind. reading.behind behind.sign (R.reader behind.item.now) };
+
+    #[tactic(auto, unfolding(crate::specs::Reading::behind, crate::specs::Readers::bind))]
+    fn read(&self, cursor: &mut Cursor<'_>) -> Result<R::Tree, Halt> {
+        cursor.take(self.sign)?;
+        self.item.read(cursor)
+    }
+}
+
+/// One more, behind `items`.
+#[tactic(auto, unfolding(crate::specs::Reading::one_more, crate::specs::Readers::bind, crate::specs::Readers::pure))]
+pub fn next<R: Rule>(
+    rule: &R,
+    cursor: &mut Cursor<'_>,
+    items: &mut Items<R::Tree>,
+) -> Result<(), Halt>
+    requires { R.can_read rule.now }
+    ensures { Builds (reading.one_more (R.reader rule.now) items.old (place cursor.old)) items.new result (place cursor.new) }
+{
+    let item = rule.read(cursor)?;
+    items.push(item)?;
+    Ok(())
+}
+
+/// Each that follows, behind `items`. One begins with one of these kinds.
+pub fn several<R: Rule>(
+    rule: &R,
+    cursor: &mut Cursor<'_>,
+    kinds: &[Kind],
+    items: &mut Items<R::Tree>,
+) -> Result<(), Halt>
+    requires { R.can_read rule.now }
+    ensures { Builds (reading.several kinds.now (R.reader rule.now) items.old (place cursor.old)) items.new result (place cursor.new) }
 {
     for _turn in 0..cursor.rest().len() {
-        if !cursor.sees(sign) {
+        if !cursor.sees_any(kinds) {
             return Ok(());
         }
-        next(cursor, sign, items)?;
+        next(rule, cursor, items)?;
     }
     Ok(())
 }
 
-/// `item sign .. sign item`
-#[tactic(auto, unfolding(crate::specs::Reading::separated, crate::specs::Readers::bind, crate::specs::Readers::pure))]
-pub fn separated<T: Item>(cursor: &mut Cursor<'_>, sign: Kind) -> Result<Items<T>, Halt>
-    ensures { Reads (reading.separated sign T.reader (place cursor.old)) result (place cursor.new) }
+/// None or more.
+pub fn all<R: Rule>(
+    rule: &R,
+    cursor: &mut Cursor<'_>,
+    kinds: &[Kind],
+) -> Result<Items<R::Tree>, Halt>
+    requires { R.can_read rule.now }
+    ensures { Reads (reading.several kinds.now (R.reader rule.now) [] (place cursor.old)) result (place cursor.new) }
 {
-    let first = T::item(cursor)?;
-    let mut items = one(cursor.alloc(), first)?;
-    more(cursor, sign, &mut items)?;
+    let mut items = Items::new(cursor.alloc());
+    several(rule, cursor, kinds, &mut items)?;
     Ok(items)
+}
+
+/// One as `first` reads it, and each that follows as `more` does.
+#[tactic(auto, unfolding(crate::specs::Readers::bind, crate::specs::Readers::pure))]
+pub fn one_or_more<A: Rule, B: Rule<Tree = A::Tree>>(
+    first: &A,
+    more: &B,
+    cursor: &mut Cursor<'_>,
+    kinds: &[Kind],
+) -> Result<Items<A::Tree>, Halt>
+    requires first { A.can_read first.now }
+    requires more { B.can_read more.now }
+    ensures { Reads (reading.one_or_more kinds.now (A.reader first.now) (B.reader more.now) (place cursor.old)) result (place cursor.new) }
+{
+    let item = first.read(cursor)?;
+    let mut items = one(cursor.alloc(), item)?;
+    several(more, cursor, kinds, &mut items)?;
+    Ok(items)
+}
+
+/// `item sign .. sign item`
+#[tactic(auto, unfolding(crate::specs::Reading::separated))]
+pub fn separated<R: Rule>(
+    item: &R,
+    cursor: &mut Cursor<'_>,
+    sign: Kind,
+) -> Result<Items<R::Tree>, Halt>
+    requires { R.can_read item.now }
+    ensures { Reads (reading.separated sign (R.reader item.now) (place cursor.old)) result (place cursor.new) }
+{
+    one_or_more(item, &Behind { sign, item }, cursor, &[sign])
 }

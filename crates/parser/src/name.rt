@@ -3,14 +3,22 @@ ghost use Rattle.parser.specs.Reads.{place, Reads};
 
 use crate::cursor::Cursor;
 use crate::halt::Halt;
-use crate::list::{Item, separated};
+use crate::list::separated;
+use crate::rule::Rule;
 use lexer::Kind;
 use syntax::{Identifier, Items, Label, LabelValue, TypeName, Width};
 
-impl Item for Identifier {
-    ghost reader = { reading.identifier };
+#[derive(Drop)]
+struct NameRule;
 
-    fn item(cursor: &mut Cursor<'_>) -> Result<Identifier, Halt> {
+impl Rule for NameRule {
+    type Tree = Identifier;
+
+    ghost can_read = { λ _. Unit {0} };
+
+    ghost reader = { λ _. reading.identifier };
+
+    fn read(&self, cursor: &mut Cursor<'_>) -> Result<Identifier, Halt> {
         cursor.identifier()
     }
 }
@@ -20,8 +28,7 @@ impl Item for Identifier {
 pub fn names(cursor: &mut Cursor<'_>) -> Result<Items<Identifier>, Halt>
     ensures { Reads (reading.names (place cursor.old)) result (place cursor.new) }
 {
-    let names = separated(cursor, Kind::Comma)?;
-    Ok(names)
+    separated(&NameRule, cursor, Kind::Comma)
 }
 
 /// `number bits`
@@ -37,33 +44,17 @@ pub fn width(cursor: &mut Cursor<'_>) -> Result<Width, Halt>
     })
 }
 
-/// `number bits`, as a type
-#[tactic(auto, unfolding(crate::specs::Reading::type_by_width, crate::specs::Readers::bind, crate::specs::Readers::pure))]
-fn type_by_width(cursor: &mut Cursor<'_>) -> Result<TypeName, Halt>
-    ensures { Reads (reading.type_by_width (place cursor.old)) result (place cursor.new) }
-{
-    let bits = width(cursor)?;
-    Ok(TypeName::Bits(bits))
-}
-
-/// A type's name
-#[tactic(auto, unfolding(crate::specs::Reading::type_by_name, crate::specs::Readers::bind, crate::specs::Readers::pure))]
-fn type_by_name(cursor: &mut Cursor<'_>) -> Result<TypeName, Halt>
-    ensures { Reads (reading.type_by_name (place cursor.old)) result (place cursor.new) }
-{
-    let name = cursor.identifier()?;
-    Ok(TypeName::Named(name))
-}
-
-/// A type's name or `number bits`
-#[tactic(auto, unfolding(crate::specs::Reading::type_name_of, crate::specs::Readers::branch))]
+/// `number bits` or a type's name
+#[tactic(auto, unfolding(crate::specs::Reading::type_name_of, crate::specs::Reading::type_by_width, crate::specs::Reading::type_by_name, crate::specs::Readers::branch, crate::specs::Readers::bind, crate::specs::Readers::pure))]
 pub fn type_name(cursor: &mut Cursor<'_>) -> Result<TypeName, Halt>
     ensures { Reads (reading.type_name_of (place cursor.old)) result (place cursor.new) }
 {
     if cursor.sees(Kind::Number) {
-        type_by_width(cursor)
+        let bits = width(cursor)?;
+        Ok(TypeName::Bits(bits))
     } else {
-        type_by_name(cursor)
+        let name = cursor.identifier()?;
+        Ok(TypeName::Named(name))
     }
 }
 
@@ -76,47 +67,32 @@ pub fn type_behind(cursor: &mut Cursor<'_>) -> Result<TypeName, Halt>
     type_name(cursor)
 }
 
-/// A number, as a label
-#[tactic(auto, unfolding(crate::specs::Reading::label_by_number, crate::specs::Readers::bind, crate::specs::Readers::pure))]
-fn label_by_number(cursor: &mut Cursor<'_>) -> Result<Label, Halt>
-    ensures { Reads (reading.label_by_number (place cursor.old)) result (place cursor.new) }
-{
-    let number = cursor.take(Kind::Number)?;
-    Ok(Label {
-        span: number.span,
-        value: LabelValue::Number(number.number),
-    })
-}
-
-/// A name, as a label
-#[tactic(auto, unfolding(crate::specs::Reading::label_by_name, crate::specs::Readers::bind, crate::specs::Readers::pure))]
-fn label_by_name(cursor: &mut Cursor<'_>) -> Result<Label, Halt>
-    ensures { Reads (reading.label_by_name (place cursor.old)) result (place cursor.new) }
-{
-    let name = cursor.identifier()?;
-    Ok(Label {
-        span: name.span,
-        value: LabelValue::Name(name.name),
-    })
-}
-
 /// A number or a name
-#[tactic(auto, unfolding(crate::specs::Reading::label_of, crate::specs::Readers::branch))]
-fn label(cursor: &mut Cursor<'_>) -> Result<Label, Halt>
-    ensures { Reads (reading.label_of (place cursor.old)) result (place cursor.new) }
-{
-    if cursor.sees(Kind::Number) {
-        label_by_number(cursor)
-    } else {
-        label_by_name(cursor)
-    }
-}
+#[derive(Drop)]
+struct LabelRule;
 
-impl Item for Label {
-    ghost reader = { reading.label_of };
+impl Rule for LabelRule {
+    type Tree = Label;
 
-    fn item(cursor: &mut Cursor<'_>) -> Result<Label, Halt> {
-        label(cursor)
+    ghost can_read = { λ _. Unit {0} };
+
+    ghost reader = { λ _. reading.label_of };
+
+    #[tactic(auto, unfolding(crate::specs::Reading::label_of, crate::specs::Reading::label_by_number, crate::specs::Reading::label_by_name, crate::specs::Readers::branch, crate::specs::Readers::bind, crate::specs::Readers::pure))]
+    fn read(&self, cursor: &mut Cursor<'_>) -> Result<Label, Halt> {
+        if cursor.sees(Kind::Number) {
+            let number = cursor.take(Kind::Number)?;
+            Ok(Label {
+                span: number.span,
+                value: LabelValue::Number(number.number),
+            })
+        } else {
+            let name = cursor.identifier()?;
+            Ok(Label {
+                span: name.span,
+                value: LabelValue::Name(name.name),
+            })
+        }
     }
 }
 
@@ -125,5 +101,5 @@ impl Item for Label {
 pub fn labels(cursor: &mut Cursor<'_>) -> Result<Items<Label>, Halt>
     ensures { Reads (reading.labels (place cursor.old)) result (place cursor.new) }
 {
-    separated(cursor, Kind::Comma)
+    separated(&LabelRule, cursor, Kind::Comma)
 }

@@ -4,8 +4,8 @@ use Rattle.address.specs.declared.Entry.{Entry}
 use Rattle.address.specs.declared.Entry.TheVariants.{Ordered, Branch}
 use Rattle.address.specs.Places.{Apart}
 use Rattle.system.specs.Lists.{In}
-use Rattle.sharing_check.specs.Crossing.{Table, touched_here, noted}
-use Rattle.sharing_check.specs.Gathering.{Gathered, gathered, Gathers}
+use Rattle.sharing_check.specs.walking.Crossing.{Table, touched_here, noted}
+use Rattle.sharing_check.specs.walking.Gathering.{Gathered, gathered, Gathers}
 use Rattle.sharing_check.specs.Uses.{VariableUse, farther, behind}
 use Rattle.sharing_check.proofs.FitsParts.{in_left, in_right, in_either, in_behind, from_behind, apart_behind}
 use Rattle.sharing_check.proofs.LeastOffsets.{Reaches}

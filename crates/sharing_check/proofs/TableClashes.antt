@@ -3,8 +3,8 @@ use Rattle.std.proofs.Common.{◌≡◌, ◌⊎◌, inl, inr, ⊎_elim, ℕ, Lis
 use Rattle.system.specs.Lists.{In}
 use Rattle.system.specs.declared.system.Variable.{Variable}
 use Rattle.sharing_check.specs.declared.touched.Touched.{Touched}
-use Rattle.sharing_check.specs.Crossing.{Table, lesser, together, clashing, clash, touched_at, noted, least_after, least_with}
-use Rattle.sharing_check.specs.Gathering.{Gathered, joined}
+use Rattle.sharing_check.specs.walking.Crossing.{Table, lesser, together, clashing, clash, touched_at, noted, least_after, least_with}
+use Rattle.sharing_check.specs.walking.Gathering.{Gathered, joined}
 use Rattle.sharing_check.specs.Rule.{is_shared_variable}
 use Rattle.sharing_check.proofs.LeastOffsets.{Reaches, lesser_left, lesser_right, lesser_either}
 use Rattle.sharing_check.proofs.TouchTables.{Distinct, side, entry_in, touched_entry, touched_noted}

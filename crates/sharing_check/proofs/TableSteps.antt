@@ -6,7 +6,7 @@ use Rattle.std.specs.Map.{lookup}
 use Rattle.indexmap.specs.IndexMap.{insert_entry}
 use Rattle.system.specs.declared.system.Variable.{Variable}
 use Rattle.sharing_check.specs.declared.touched.Touched.{Touched}
-use Rattle.sharing_check.specs.Crossing.{Table, together, nowhere, touched_at, noted, noted_all, clash, with_clash, least_with}
+use Rattle.sharing_check.specs.walking.Crossing.{Table, together, nowhere, touched_at, noted, noted_all, clash, with_clash, least_with}
 
 -- an entry that was put there twice stands as it did the second time
 inserted_twice : (k : ℕ) (v w : Touched) (t : Table) → insert_entry nat_eq (insert_entry nat_eq t k v) k w ≡ insert_entry nat_eq t k w

@@ -4,8 +4,8 @@ use Rattle.std.specs.Map.{lookup}
 use Rattle.indexmap.specs.IndexMap.{insert_entry}
 use Rattle.system.specs.Lists.{In}
 use Rattle.sharing_check.specs.declared.touched.Touched.{Touched}
-use Rattle.sharing_check.specs.Crossing.{Table, lesser, nowhere, together, touched_at, noted, noted_all}
-use Rattle.sharing_check.specs.Gathering.{in_one}
+use Rattle.sharing_check.specs.walking.Crossing.{Table, lesser, nowhere, together, touched_at, noted, noted_all}
+use Rattle.sharing_check.specs.walking.Gathering.{in_one}
 use Rattle.sharing_check.proofs.LeastOffsets.{Reaches, lesser_left, lesser_right, lesser_either}
 
 -- the value at a key after an insertion

@@ -6,7 +6,7 @@ use Rattle.system.specs.declared.system.System.{System}
 use Rattle.sharing_check.specs.Sharing.{OneBranchWrites}
 use Rattle.sharing_check.specs.Rule.{is_shared}
 use Rattle.sharing_check.specs.Uses.{VariableUse, uses_of}
-use Rattle.sharing_check.specs.Refused.{Clash}
+use Rattle.sharing_check.specs.Refusal.{Clash}
 
 -- in a system in which no two uses clash, a variable that is not shared, and written in one branch, is neither read
 -- nor written in another

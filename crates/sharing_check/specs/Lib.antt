@@ -1,11 +1,7 @@
-pub mod Counting
-pub mod CountingParts
-pub mod Crossing
-pub mod Gathering
 pub mod Laws
 pub mod Measure
 pub mod Refusal
-pub mod Refused
 pub mod Rule
 pub mod Sharing
 pub mod Uses
+pub mod walking

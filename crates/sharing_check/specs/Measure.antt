@@ -1,5 +1,5 @@
 -- How many uses of a channel or a variable a residual has at places apart: the width.
-use Rattle.std.specs.Prelude.{ℕ, zero, suc, ◌+◌, max, List, [], ◌∷◌, cond, ◌==◌}
+use Rattle.std.specs.Prelude.{ℕ, ◌+◌, max, List, [], ◌∷◌, cond, ◌==◌}
 use Rattle.system.specs.Expression.{variables, decision_variables}
 use Rattle.system.specs.Residual.{Residual, done, halted, inside, beside, assign, send, receive, sync, held, loop, while, test, choose, closing, drain, Arms, no_arms, arm}
 
@@ -71,15 +71,3 @@ receiving c = record { together = sum_together; reads = nothing; writes = nothin
 -- all uses of a channel without data
 abbrev pub syncing : ℕ → Measure
 syncing c = record { together = sum_together; reads = nothing; writes = nothing; sends = only 1 c; holds = only 1 c; receives = only 1 c; opens = only 1 c; closes = only 1 c; syncs = only 1 c }
-
--- readers beside readers count 1, one branch alone counts as it is, and a writer beside another branch that uses the variable counts at least 3
-abbrev pub variable_together : ℕ → ℕ → ℕ
-variable_together zero b = b
-variable_together (suc a) zero = suc a
-variable_together (suc zero) (suc zero) = 1
-variable_together (suc zero) (suc (suc b)) = max 3 (suc (suc b))
-variable_together (suc (suc a)) (suc b) = max 3 (max (suc (suc a)) (suc b))
-
--- a variable: a read counts 1, a write 2, a clash 3 or more
-abbrev pub on_variable : ℕ → Measure
-on_variable x = record { together = variable_together; reads = only 1 x; writes = only 2 x; sends = nothing; holds = nothing; receives = nothing; opens = nothing; closes = nothing; syncs = nothing }

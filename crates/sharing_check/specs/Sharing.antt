@@ -1,24 +1,8 @@
--- The rule on sharing, as limits of the widths of a residual.
-use Rattle.std.specs.Prelude.{◌≡◌, ◌⊎◌, ℕ, ◌≤◌, Bool, true, false}
+-- That a variable which one branch writes is neither read nor written in another.
+use Rattle.std.specs.Prelude.{◌≡◌, ◌⊎◌, ℕ}
 use Rattle.system.specs.Lists.{In}
 use Rattle.system.specs.Expression.{variables, decision_variables}
 use Rattle.system.specs.Residual.{Residual, inside, beside, assign, send, receive, loop, while, test, choose, Arms, no_arms, arm}
-use Rattle.sharing_check.specs.Measure.{amount, sending, receiving, syncing, on_variable}
-
--- a data channel has at most one sender and one receiver at a time
-pub record SharesChannel (c : ℕ) (r : Residual) : Type 0 where
-  pub one_sender : amount (sending c) r ≤ 1
-  pub one_receiver : amount (receiving c) r ≤ 1
-
--- No channel and no variable is used by more branches at one time than may use it.
-pub record KeepsSharing (is_sync : ℕ → Bool) (is_shared : ℕ → Bool) (r : Residual) : Type 0 where
-  -- a channel with data has one sender and one receiver
-  pub data_channels : (c : ℕ) → is_sync c ≡ false → SharesChannel c r
-  -- a channel without data has two users
-  pub sync_channels : (c : ℕ) → is_sync c ≡ true → amount (syncing c) r ≤ 2
-  -- a variable that is not shared has readers alone, or is used in one branch: a read counts 1, a write 2,
-  -- and a write beside another use 3
-  pub variables : (x : ℕ) → is_shared x ≡ false → amount (on_variable x) r ≤ 2
 
 abbrev mutual
   -- r may yet write the variable x

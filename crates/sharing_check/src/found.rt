@@ -1,5 +1,5 @@
 ghost use Rattle.std.specs.Prelude.{◌≡◌, [], None, IfOk};
-ghost use Rattle.sharing_check.specs.Gathering as model;
+ghost use Rattle.sharing_check.specs.walking.Gathering as model;
 
 use crate::touched::Touched;
 use crate::touches::{Touches, put_larger_first};
@@ -17,7 +17,7 @@ pub struct Found {
 }
 
 impl Model for Found {
-    ghost use Rattle.sharing_check.specs.Gathering.{Gathered, gathered};
+    ghost use Rattle.sharing_check.specs.walking.Gathering.{Gathered, gathered};
 
     ghost Value = { Gathered };
 

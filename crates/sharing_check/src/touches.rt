@@ -1,5 +1,5 @@
 ghost use Rattle.std.specs.Prelude.{◌≡◌, [], length, IfOk, OnOk, slice_get};
-ghost use Rattle.sharing_check.specs.Crossing as model;
+ghost use Rattle.sharing_check.specs.walking.Crossing as model;
 ghost use Rattle.sharing_check.specs.Rule.{is_shared_variable};
 
 use crate::touched::{Touched, lesser};
@@ -16,7 +16,7 @@ pub struct Touches {
 }
 
 impl Model for Touches {
-    ghost use Rattle.sharing_check.specs.Crossing.{Table};
+    ghost use Rattle.sharing_check.specs.walking.Crossing.{Table};
 
     ghost Value = { Table };
 

@@ -5,11 +5,10 @@
 ghost use Rattle.std.specs.Prelude.{◌≡◌, ℕ, None, nat_eq, map, IfOk, OnOk, MatchOption};
 ghost use Rattle.std.specs.Option.{option_map};
 ghost use Rattle.indexmap.specs.IndexMap.{IsUnique};
-ghost use Rattle.system.specs.Translation.{residual_of};
-ghost use Rattle.sharing_check.specs.Counting as model;
-ghost use Rattle.sharing_check.specs.CountingParts.{of_guarded, of_labelled, of_arm};
+ghost use Rattle.system.specs.Translation.{residual_of, guarded_of, labelled_of, arm_of};
+ghost use Rattle.sharing_check.specs.walking.Counting as model;
 ghost use Rattle.sharing_check.specs.Rule.{is_sync};
-ghost use Rattle.sharing_check.specs.Refused.{PassesAt, Least};
+ghost use Rattle.sharing_check.specs.Refusal.{PassesAt, Least};
 
 use indexmap::IndexMap;
 use std::alloc::{AllocError, Global};
@@ -195,7 +194,7 @@ fn add_commands(alloc: Global, commands: &[Command], widths: &mut Widths) -> Res
 /// Adds the uses of the arms of an `if`.
 #[cycle(widths)]
 fn add_guarded(alloc: Global, arms: &[Guarded], widths: &mut Widths) -> Result<(), AllocError>
-    ensures { OnOk result (model.noted widths.new ≡ model.in_turn (model.noted widths.old) (map (λ a. a.body) (map of_guarded arms.now))) }
+    ensures { OnOk result (model.noted widths.new ≡ model.in_turn (model.noted widths.old) (map (λ a. a.body) (map guarded_of arms.now))) }
 {
     for arm in arms {
         add_command(alloc, &arm.body, widths)?;
@@ -206,7 +205,7 @@ fn add_guarded(alloc: Global, arms: &[Guarded], widths: &mut Widths) -> Result<(
 /// Adds the uses of the arms of a `case`.
 #[cycle(widths)]
 fn add_labelled(alloc: Global, arms: &[Labelled], widths: &mut Widths) -> Result<(), AllocError>
-    ensures { OnOk result (model.noted widths.new ≡ model.in_turn (model.noted widths.old) (map (λ a. a.body) (map of_labelled arms.now))) }
+    ensures { OnOk result (model.noted widths.new ≡ model.in_turn (model.noted widths.old) (map (λ a. a.body) (map labelled_of arms.now))) }
 {
     for arm in arms {
         add_command(alloc, &arm.body, widths)?;
@@ -217,7 +216,7 @@ fn add_labelled(alloc: Global, arms: &[Labelled], widths: &mut Widths) -> Result
 /// Adds the uses of the arms of a `select` or an `arbitrate`, each with the input that opens it.
 #[cycle(widths)]
 fn add_arms(alloc: Global, arms: &[Arm], widths: &mut Widths) -> Result<(), AllocError>
-    ensures { OnOk result (model.noted widths.new ≡ model.arms_in_turn (model.noted widths.old) (map of_arm arms.now)) }
+    ensures { OnOk result (model.noted widths.new ≡ model.arms_in_turn (model.noted widths.old) (map arm_of arms.now)) }
 {
     for arm in arms {
         widths.add(Together::InOneBranch, arm.channel.number, Width::RECEIVE)?;

@@ -10,7 +10,7 @@ use Rattle.address.proofs.Total.{order-antisymmetric}
 use Rattle.system.specs.Lists.{In}
 use Rattle.calculus.specs.Choices.{choice_of}
 use Rattle.calculus.specs.Events.{acting}
-use Rattle.calculus.specs.EventLaws.{same_place-decides}
+use Rattle.calculus.specs.walking.EventLaws.{same_place-decides}
 use Rattle.calculus.specs.InOrder.{InOrder}
 use Rattle.calculus.specs.Live.{events}
 use Rattle.calculus.specs.Moves.{Place}

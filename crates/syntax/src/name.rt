@@ -3,15 +3,16 @@ ghost use Rattle.std.specs.Cmp.{partial_equiv_from_equiv};
 ghost use Rattle.std.specs.Cmp.Lexicographic.{pointwise, nat_list_eq_equiv};
 
 use crate::Span;
+use smallvec::SmallVec;
 use std::alloc::{AllocError, Global};
 use std::marker::Model;
 
 /// A name as it is written, which contracts see as the list of its bytes.
 ///
-/// The lexer says which bytes spell a name; this type takes any.
+/// The lexer says which bytes spell a name; this type takes any. One of up to 16 bytes takes no memory of its own.
 #[derive(Debug, Drop)]
 pub struct Name {
-    bytes: Vec<u8>,
+    bytes: SmallVec<u8, 16>,
 }
 
 impl Model for Name {
@@ -26,15 +27,8 @@ impl Name {
         ensures { IfOk result (λ name. name ≡ text.now) }
     {
         Ok(Name {
-            bytes: Vec::from_slice(alloc, text)?,
+            bytes: SmallVec::from_slice(alloc, text)?,
         })
-    }
-
-    /// The name with these bytes, in the same memory.
-    pub fn from_vec(bytes: Vec<u8>) -> Name
-        ensures { result ≡ bytes.items }
-    {
-        Name { bytes }
     }
 
     /// Its bytes.
@@ -49,9 +43,7 @@ impl Clone for Name {
     ghost is_clone = { λ name copy. copy ≡ name };
 
     fn clone(&self) -> Result<Name, AllocError> {
-        Ok(Name {
-            bytes: self.bytes.clone()?,
-        })
+        Name::new(*self.bytes.allocator(), self.text())
     }
 }
 

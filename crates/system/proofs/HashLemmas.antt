@@ -5,7 +5,7 @@ use Rattle.std.specs.Cmp.Lexicographic.{pointwise, bytes_decides}
 use Rattle.std.specs.Map.{lookup}
 use Rattle.std.specs.Option.{option_or}
 use Rattle.indexmap.specs.IndexMap.{insert_entry}
-use Rattle.system.specs.Hashing.{Hashed, mixed, hash_onto, hash_of, place_of_hash, hash_noted, hashes_noted_from, places_of_hashes}
+use Rattle.system.specs.walking.Hashing.{Hashed, mixed, hash_onto, hash_of, place_of_hash, hash_noted, hashes_noted_from, places_of_hashes}
 use Rattle.system.specs.Named.{variable_from}
 use Rattle.system.specs.declared.system.Variable.{Variable}
 

@@ -1,10 +1,6 @@
 pub use Rattle.syntax.specs.Lists
 pub mod Expression
-pub mod Variables
 pub mod Residual
 pub mod Translation
-pub mod Decisions
 pub mod Named
-pub mod Prefix
-pub mod Hashing
-pub mod SharedPrefix
+pub mod walking

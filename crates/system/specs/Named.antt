@@ -1,9 +1,10 @@
--- Variables and channels by name and by number.
-use Rattle.std.specs.Prelude.{ℕ, ◌+◌, nat_eq, nat_le, if◌then◌else◌, List, [], ◌∷◌, Option, Some, None, slice_get}
+-- Variables and channels by name and by number, and the names that are made for a call.
+use Rattle.std.specs.Prelude.{ℕ, ◌+◌, nat_eq, nat_le, if◌then◌else◌, List, [], ◌∷◌, Option, Some, None, slice_get, ◌++◌}
 use Rattle.std.specs.Option.{option_map}
 use Rattle.std.specs.Cmp.Lexicographic.{pointwise}
 use Rattle.system.specs.declared.system.Variable.{Variable}
 use Rattle.system.specs.declared.system.Channel.{Channel}
+use Rattle.std.specs.Fmt.{decimal}
 
 -- a place as a number of 32 bits, where it has so many
 abbrev pub as_number : ℕ → Option ℕ
@@ -21,3 +22,7 @@ variable_name_at variables number = option_map (λ v. v.name) (slice_get variabl
 -- the name of the channel of this number
 abbrev pub channel_name_at : List Channel → ℕ → Option (List ℕ)
 channel_name_at channels number = option_map (λ c. c.name) (slice_get channels number)
+
+-- what stands before the names that are made for the call of this number: `k:` behind what stands there already
+abbrev pub prefix_of_call : List ℕ → ℕ → List ℕ
+prefix_of_call prefix call = prefix ++ decimal call ++ 58 ∷ []

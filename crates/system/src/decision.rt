@@ -1,7 +1,6 @@
 ghost use Rattle.std.specs.Prelude.{◌≡◌, [], IfOk, map};
 ghost use Rattle.system.specs.Expression as model;
-ghost use Rattle.system.specs.Translation.{expression_of};
-ghost use Rattle.system.specs.Decisions.{decision_of};
+ghost use Rattle.system.specs.Translation.{expression_of, decision_of};
 
 use crate::{Expression, Variables};
 use std::alloc::{AllocError, Global};

@@ -1,6 +1,6 @@
 // Places by the hash of a name.
 ghost use Rattle.std.specs.Prelude.{◌≡◌, [], OnOk};
-ghost use Rattle.system.specs.Hashing as hashing;
+ghost use Rattle.system.specs.walking.Hashing as hashing;
 
 use indexmap::IndexMap;
 use std::alloc::{AllocError, Global};

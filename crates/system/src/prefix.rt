@@ -2,8 +2,8 @@
 // around it, so that a chain of calls takes memory for each call once.
 ghost use Rattle.std.specs.Prelude.{◌≡◌, ◌++◌, [], nat_eq, reverse, IfOk, OnOk};
 ghost use Rattle.std.specs.Cmp.Lexicographic.{pointwise};
-ghost use Rattle.system.specs.Hashing.{hash_of};
-ghost use Rattle.system.specs.Prefix.{prefix_of_call};
+ghost use Rattle.system.specs.walking.Hashing.{hash_of};
+ghost use Rattle.system.specs.Named.{prefix_of_call};
 
 use crate::hash::hash_onto;
 use std::alloc::{AllocError, Global};
@@ -33,7 +33,7 @@ impl Model for Prefix {
 
     ghost Value = { List ℕ };
 
-    ghost use Rattle.system.specs.SharedPrefix.{shown, IsHashed};
+    ghost use Rattle.system.specs.walking.SharedPrefix.{shown, IsHashed};
 
     ghost view = { λ prefix. shown prefix.innermost };
 
@@ -105,7 +105,7 @@ impl Prefix {
     }
 
     /// The hash of its bytes.
-    pub fn hash(&self) -> u64
+    pub(crate) fn hash(&self) -> u64
         ensures { result ≡ hash_of self.now }
     {
         match &self.innermost {
@@ -115,7 +115,7 @@ impl Prefix {
     }
 
     /// Whether these are its bytes.
-    pub fn is(&self, text: &[u8]) -> bool
+    pub(crate) fn is(&self, text: &[u8]) -> bool
         ensures { result ≡ pointwise nat_eq self.now text.now }
     {
         let mut prefix = self;
@@ -133,7 +133,7 @@ impl Prefix {
     }
 
     /// Adds its bytes, the last one first.
-    pub fn write_backwards(&self, out: &mut Vec<u8>) -> Result<(), AllocError>
+    pub(crate) fn write_backwards(&self, out: &mut Vec<u8>) -> Result<(), AllocError>
         ensures { OnOk result (reverse out.new.items ≡ self.now ++ reverse out.old.items) }
     {
         let mut prefix = self;
@@ -146,7 +146,7 @@ impl Prefix {
 }
 
 /// Adds the bytes, the last one first.
-pub fn push_backwards(out: &mut Vec<u8>, bytes: &[u8]) -> Result<(), AllocError>
+pub(crate) fn push_backwards(out: &mut Vec<u8>, bytes: &[u8]) -> Result<(), AllocError>
     ensures { OnOk result (reverse out.new.items ≡ bytes.now ++ reverse out.old.items) }
 {
     let mut left = bytes;

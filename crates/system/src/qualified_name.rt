@@ -1,6 +1,6 @@
 ghost use Rattle.std.specs.Prelude.{◌≡◌, ◌++◌, nat_eq, OnOk};
 ghost use Rattle.std.specs.Cmp.Lexicographic.{pointwise};
-ghost use Rattle.system.specs.Hashing.{hash_of};
+ghost use Rattle.system.specs.walking.Hashing.{hash_of};
 
 use crate::hash::hash_onto;
 use crate::prefix::{Prefix, push_backwards};

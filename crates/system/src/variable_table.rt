@@ -1,7 +1,7 @@
 // The variables of a system by number and by name.
 ghost use Rattle.std.specs.Prelude.{◌≡◌, ◌<◌, length, drop, slice_get, map, IfOk, OnSome};
 ghost use Rattle.std.specs.Option.{option_copied};
-ghost use Rattle.system.specs.Hashing.{hash_of, places_of_hashes};
+ghost use Rattle.system.specs.walking.Hashing.{hash_of, places_of_hashes};
 ghost use Rattle.system.specs.Named as named;
 
 use crate::Variable;
@@ -26,7 +26,7 @@ impl Model for VariableTable {
 
     ghost Value = { List Variable };
 
-    ghost use Rattle.system.specs.Hashing.{hash_of, places_of_hashes};
+    ghost use Rattle.system.specs.walking.Hashing.{hash_of, places_of_hashes};
 
     ghost view = { λ table. table.variables };
 

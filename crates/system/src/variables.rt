@@ -2,7 +2,7 @@ ghost use Rattle.std.specs.Prelude.{◌≡◌, ◌≤◌, ◌↔◌, List, [], l
 ghost use Rattle.std.specs.List.{insert};
 ghost use Rattle.system.specs.Expression as model;
 ghost use Rattle.system.specs.Translation.{expression_of};
-ghost use Rattle.system.specs.Variables.{inserted_all};
+ghost use Rattle.system.specs.walking.Variables.{inserted_all};
 
 use crate::Expression;
 use std::alloc::{AllocError, Global};

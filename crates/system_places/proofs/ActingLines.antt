@@ -15,8 +15,9 @@ use Rattle.system.specs.declared.command.Labelled.{Labelled, out-Labelled}
 use Rattle.system.specs.declared.system.System.{System}
 use Rattle.system_places.specs.CommandPlaces.{is_body_number}
 use Rattle.system_places.specs.declared.command_places.Form.TheVariants.{Turns, Test, Choice}
-use Rattle.system_places.specs.LinesBegun.{any_onto, last_of, begun_layer, begun_arm, begun_command, begun_guarded, begun_labelled, begins, arm_begins, guarded_begins, labelled_begins}
-use Rattle.system_places.specs.TakenArms.{Taken, Doing, doing, line_of, is_place, else_at, guarded_at, labelled_at, arm_at, body_at, part_at, branch_at, part, acting_in, acting_command}
+use Rattle.system_places.specs.LinesBegun.{any_onto, last_of, begun_layer, begun_arm, begun_command, begun_guarded, begun_labelled, begins}
+use Rattle.system_places.specs.walking.Parts.{arm_begins, guarded_begins, labelled_begins}
+use Rattle.system_places.specs.TakenArms.{Taken, Doing, doing, line_of_command, is_place, else_at, guarded_at, labelled_at, channel_arm_at, body_at, part_at, child_at, part, acting_in, acting_command}
 use Rattle.system_places.specs.Laws.{LinesAreBegun}
 
 -- what is held
@@ -51,14 +52,14 @@ parts_begin line d =
     (action_begins line) (arm_begins line) (begins line) (guarded_begins line) (labelled_begins line) d)
 
 -- a command begins on its own line, and on those of its parts
-opened : (line : ℕ) (c : Command) → begins line c ≡ ((line_of c == line) || parts_begin line (doing c))
+opened : (line : ℕ) (c : Command) → begins line c ≡ ((line_of_command c == line) || parts_begin line (doing c))
 opened line c =
     fold_out-Command Bool Bool Bool Bool Bool begun_layer begun_arm (begun_command line) begun_guarded begun_labelled c
-    ∙ ap (λ b. (line_of c == line) || b)
+    ∙ ap (λ b. (line_of_command c == line) || b)
     (fold_out-Action Bool Bool Bool Bool Bool begun_layer begun_arm (begun_command line) begun_guarded begun_labelled (out-Command c).action)
 
-on-own-line : (c : Command) → begins (line_of c) c ≡ true
-on-own-line c = opened (line_of c) c ∙ or_left (line_of c == line_of c) (parts_begin (line_of c) (doing c)) (eq-eqb (line_of c) (line_of c) refl)
+on-own-line : (c : Command) → begins (line_of_command c) c ≡ true
+on-own-line c = opened (line_of_command c) c ∙ or_left (line_of_command c == line_of_command c) (parts_begin (line_of_command c) (doing c)) (eq-eqb (line_of_command c) (line_of_command c) refl)
 
 arm-opened : (line : ℕ) (a : Arm) → arm_begins line a ≡ begins line (out-Arm a).body
 arm-opened line a = fold_out-Arm Bool Bool Bool Bool Bool begun_layer begun_arm (begun_command line) begun_guarded begun_labelled a
@@ -99,7 +100,7 @@ in-arms line f body same arms last k e is h = pick (slice_get arms k) refl is
         or_right (any_onto false (map f arms)) (last_of (option_map (begins line) last)) (behind (k == length arms) last found)
 
 -- the body of an arm on a channel
-in-waiting : (line : ℕ) (arms : List Arm) (k : ℕ) (e : Command) → arm_at arms k ≡ Some e → begins line e ≡ true → any_onto false (map (arm_begins line) arms) ≡ true
+in-waiting : (line : ℕ) (arms : List Arm) (k : ℕ) (e : Command) → channel_arm_at arms k ≡ Some e → begins line e ≡ true → any_onto false (map (arm_begins line) arms) ≡ true
 in-waiting line arms k e is h = pick (slice_get arms k) refl is
   where
     pick : (o : Option Arm) → slice_get arms k ≡ o → option_map (λ a. (out-Arm a).body) o ≡ Some e → any_onto false (map (arm_begins line) arms) ≡ true
@@ -129,16 +130,16 @@ ordered-begins line arm (Action-F.Case g arms (Some body)) n e is h =
     let at = taken-there (labelled_at arms (Some body)) arm e (body-there (is_body_number Test n) (option_and_then (labelled_at arms (Some body)) arm) e is) in
     in-arms line (labelled_begins line) (λ a. (out-Labelled a).body) (labelled-opened line) arms (Some body) at.0 e at.1 h
 ordered-begins line arm (Action-F.Select arms) n e is h =
-    let at = taken-there (arm_at arms) arm e (body-there (is_body_number Choice n) (option_and_then (arm_at arms) arm) e is) in
+    let at = taken-there (channel_arm_at arms) arm e (body-there (is_body_number Choice n) (option_and_then (channel_arm_at arms) arm) e is) in
     in-waiting line arms at.0 e at.1 h
 ordered-begins line arm (Action-F.Arbitrate arms) n e is h =
-    let at = taken-there (arm_at arms) arm e (body-there (is_body_number Choice n) (option_and_then (arm_at arms) arm) e is) in
+    let at = taken-there (channel_arm_at arms) arm e (body-there (is_body_number Choice n) (option_and_then (channel_arm_at arms) arm) e is) in
     in-waiting line arms at.0 e at.1 h
 ordered-begins line arm (Action-F.Sequence children) n e is h = any-at false (begins line) children n e is h
 ordered-begins line arm _ n e is h = cc
 
 -- a part at p/n
-branch-begins : (line : ℕ) (d : Doing) (n : ℕ) (e : Command) → branch_at d n ≡ Some e → begins line e ≡ true → parts_begin line d ≡ true
+branch-begins : (line : ℕ) (d : Doing) (n : ℕ) (e : Command) → child_at d n ≡ Some e → begins line e ≡ true → parts_begin line d ≡ true
 branch-begins line (Action-F.Parallel children) n e is h = any-at false (begins line) children n e is h
 branch-begins line _ n e is h = cc
 
@@ -148,44 +149,44 @@ part-begins line arm d (Branch n) e is h = branch-begins line d n e is h
 
 -- what begins in a part begins in the command
 part-within : (line : ℕ) (arm : Option ℕ) (c : Command) (x : Entry) (e : Command) → part arm (doing c) x ≡ Some e → begins line e ≡ true → begins line c ≡ true
-part-within line arm c x e is h = opened line c ∙ or_right (line_of c == line) (parts_begin line (doing c)) (part-begins line arm (doing c) x e is h)
+part-within line arm c x e is h = opened line c ∙ or_right (line_of_command c == line) (parts_begin line (doing c)) (part-begins line arm (doing c) x e is h)
 
 -- the command of a way is the one where the way begins, or lies within it
-same-line : (c e : Command) → Some c ≡ Some e → begins (line_of e) c ≡ true
-same-line c e is = subst (λ d. begins (line_of d) c ≡ true) (some-same c e is) (on-own-line c)
+same-line : (c e : Command) → Some c ≡ Some e → begins (line_of_command e) c ≡ true
+same-line c e is = subst (λ d. begins (line_of_command d) c ≡ true) (some-same c e is) (on-own-line c)
 
-acting-begins : (taken : Taken) (before : List Entry) (c : Command) (way : List Entry) (e : Command) → acting_in taken before c way ≡ Some e → begins (line_of e) c ≡ true
+acting-begins : (taken : Taken) (before : List Entry) (c : Command) (way : List Entry) (e : Command) → acting_in taken before c way ≡ Some e → begins (line_of_command e) c ≡ true
 acting-begins taken before c [] e is = pick (is_place (doing c) []) is
   where
-    pick : (b : Bool) → (if b then Some c else None) ≡ Some e → begins (line_of e) c ≡ true
+    pick : (b : Bool) → (if b then Some c else None) ≡ Some e → begins (line_of_command e) c ≡ true
     pick true at = same-line c e at
     pick false at = cc
 acting-begins taken before c (x ∷ way) e is =
     pick (is_place (doing c) (x ∷ way)) (λ d at. acting-begins taken (before ++ x ∷ []) d way e at) is
   where
-    below : (o : Option Command) → part (taken before) (doing c) x ≡ o → ((d : Command) → acting_in taken (before ++ x ∷ []) d way ≡ Some e → begins (line_of e) d ≡ true) →
-        option_and_then (λ d. acting_in taken (before ++ x ∷ []) d way) o ≡ Some e → begins (line_of e) c ≡ true
+    below : (o : Option Command) → part (taken before) (doing c) x ≡ o → ((d : Command) → acting_in taken (before ++ x ∷ []) d way ≡ Some e → begins (line_of_command e) d ≡ true) →
+        option_and_then (λ d. acting_in taken (before ++ x ∷ []) d way) o ≡ Some e → begins (line_of_command e) c ≡ true
     below None there more at = cc
-    below (Some d) there more at = part-within (line_of e) (taken before) c x d there (more d at)
+    below (Some d) there more at = part-within (line_of_command e) (taken before) c x d there (more d at)
 
-    pick : (b : Bool) → ((d : Command) → acting_in taken (before ++ x ∷ []) d way ≡ Some e → begins (line_of e) d ≡ true) →
-        (if b then Some c else option_and_then (λ d. acting_in taken (before ++ x ∷ []) d way) (part (taken before) (doing c) x)) ≡ Some e → begins (line_of e) c ≡ true
+    pick : (b : Bool) → ((d : Command) → acting_in taken (before ++ x ∷ []) d way ≡ Some e → begins (line_of_command e) d ≡ true) →
+        (if b then Some c else option_and_then (λ d. acting_in taken (before ++ x ∷ []) d way) (part (taken before) (doing c) x)) ≡ Some e → begins (line_of_command e) c ≡ true
     pick true more at = same-line c e at
     pick false more at = below (part (taken before) (doing c) x) refl more at
 
-command-begins : (taken : Taken) (system : System) (place : List Entry) (e : Command) → acting_command taken system place ≡ Some e → begins (line_of e) system.main ≡ true
+command-begins : (taken : Taken) (system : System) (place : List Entry) (e : Command) → acting_command taken system place ≡ Some e → begins (line_of_command e) system.main ≡ true
 command-begins taken system [] e is = cc
 command-begins taken system (Ordered n ∷ way) e is = cc
 command-begins taken system (Branch n ∷ way) e is = pick (n == 0) is
   where
-    pick : (b : Bool) → (if b then acting_in taken (Branch n ∷ []) system.main way else None) ≡ Some e → begins (line_of e) system.main ≡ true
+    pick : (b : Bool) → (if b then acting_in taken (Branch n ∷ []) system.main way else None) ≡ Some e → begins (line_of_command e) system.main ≡ true
     pick true at = acting-begins taken (Branch n ∷ []) system.main way e at
     pick false at = cc
 
 pub lines-are-begun : LinesAreBegun
 lines-are-begun taken system place line is = pick (acting_command taken system place) refl is
   where
-    pick : (o : Option Command) → acting_command taken system place ≡ o → option_map line_of o ≡ Some line → begins line system.main ≡ true
+    pick : (o : Option Command) → acting_command taken system place ≡ o → option_map line_of_command o ≡ Some line → begins line system.main ≡ true
     pick None there at = cc
     pick (Some e) there at =
-        subst (λ n. begins n system.main ≡ true) (some-same (line_of e) line at) (command-begins taken system place e there)
+        subst (λ n. begins n system.main ≡ true) (some-same (line_of_command e) line at) (command-begins taken system place e there)

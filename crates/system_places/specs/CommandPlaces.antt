@@ -9,12 +9,9 @@ use Rattle.std.specs.Prelude.{ℕ, ◌%◌, ◌==◌, ◌&&◌, ◌||◌, not, i
 use Rattle.std.specs.Option.{option_or}
 use Rattle.address.specs.declared.Entry.{Entry}
 use Rattle.address.specs.declared.Entry.TheVariants.{Ordered, Branch}
-use Rattle.system.specs.declared.command.Arm.{Arm}
 use Rattle.system.specs.declared.command.Command.{Command}
-use Rattle.system.specs.declared.command.Guarded.{Guarded}
-use Rattle.system.specs.declared.command.Labelled.{Labelled}
 use Rattle.system.specs.declared.command.Action.TheOpen.{Action-F, Arm-F, Command-F, Guarded-F, Labelled-F}
-use Rattle.system.specs.declared.command.Action.TheFolds.{fold-Command, fold-Arm, fold-Guarded, fold-Labelled}
+use Rattle.system.specs.declared.command.Action.TheFolds.{fold-Command}
 use Rattle.system.specs.declared.system.System.{System}
 use Rattle.system_places.specs.declared.command_places.Form.{Form}
 use Rattle.system_places.specs.declared.command_places.Form.TheVariants.{Held, Turns, Test, Choice}
@@ -65,8 +62,8 @@ found_below body None = None
 found_below body (Some way) = body way
 
 -- a place of the command itself, else one in its body
-abbrev pub around : Bool → Form → ℕ → Found → Found
-around counts form line body way = option_or (own counts form line way) (found_below body (below form way))
+abbrev pub found_around : Bool → Form → ℕ → Found → Found
+found_around counts form line body way = option_or (own counts form line way) (found_below body (below form way))
 
 -- what is found before, else the first that is found in one of them, in order
 abbrev pub first_onto : Option ℕ → List Found → Found
@@ -74,30 +71,30 @@ first_onto found [] way = found
 first_onto found (f ∷ fs) way = first_onto (option_or found (f way)) fs way
 
 -- what stands behind an `else`
-abbrev pub in_last : Option Found → Found
-in_last None way = None
-in_last (Some f) way = f way
+abbrev pub found_in_last : Option Found → Found
+found_in_last None way = None
+found_in_last (Some f) way = f way
 
 -- a place of an `if` or `case` itself, else one in an arm, else one behind `else`
 abbrev pub tested : Bool → ℕ → List Found → Option Found → Found
 tested counts line arms last way =
-    option_or (around counts Test line (first_onto None arms) way) (found_below (in_last last) (below Test way))
+    option_or (found_around counts Test line (first_onto None arms) way) (found_below (found_in_last last) (below Test way))
 
 -- in the child of this number, if there is one
-abbrev pub in_child : List Found → ℕ → Found
-in_child fs n way = in_last (slice_get fs n) way
+abbrev pub found_in_child : List Found → ℕ → Found
+found_in_child fs n way = found_in_last (slice_get fs n) way
 
 -- in a child of a sequence
-abbrev pub in_sequence : List Found → Found
-in_sequence fs [] = None
-in_sequence fs (Ordered n ∷ way) = in_child fs n way
-in_sequence fs (Branch n ∷ way) = None
+abbrev pub found_in_sequence : List Found → Found
+found_in_sequence fs [] = None
+found_in_sequence fs (Ordered n ∷ way) = found_in_child fs n way
+found_in_sequence fs (Branch n ∷ way) = None
 
 -- in a child of a parallel
-abbrev pub in_parallel : List Found → Found
-in_parallel fs [] = None
-in_parallel fs (Ordered n ∷ way) = None
-in_parallel fs (Branch n ∷ way) = in_child fs n way
+abbrev pub found_in_parallel : List Found → Found
+found_in_parallel fs [] = None
+found_in_parallel fs (Ordered n ∷ way) = None
+found_in_parallel fs (Branch n ∷ way) = found_in_child fs n way
 
 -- what is found in an action, where this is the line of its command
 abbrev pub FoundOn : Type 0
@@ -115,15 +112,15 @@ found_layer all (Action-F.Assign x w e) line way = here all line way
 found_layer all (Action-F.Send c w e) line way = own all Held line way
 found_layer all (Action-F.Receive c x) line way = here all line way
 found_layer all (Action-F.Sync c) line way = own all Held line way
-found_layer all (Action-F.Loop body) line way = around all Turns line body way
-found_layer all (Action-F.While e body) line way = around all Turns line body way
+found_layer all (Action-F.Loop body) line way = found_around all Turns line body way
+found_layer all (Action-F.While e body) line way = found_around all Turns line body way
 found_layer all (Action-F.If arms last) line way = tested all line arms last way
 found_layer all (Action-F.Case e arms last) line way = tested all line arms last way
-found_layer all (Action-F.Input c body) line way = around all Choice line body way
-found_layer all (Action-F.Select arms) line way = around true (select_form all) line (first_onto None arms) way
-found_layer all (Action-F.Arbitrate arms) line way = around all Choice line (first_onto None arms) way
-found_layer all (Action-F.Sequence children) line way = in_sequence children way
-found_layer all (Action-F.Parallel children) line way = in_parallel children way
+found_layer all (Action-F.Input c body) line way = found_around all Choice line body way
+found_layer all (Action-F.Select arms) line way = found_around true (select_form all) line (first_onto None arms) way
+found_layer all (Action-F.Arbitrate arms) line way = found_around all Choice line (first_onto None arms) way
+found_layer all (Action-F.Sequence children) line way = found_in_sequence children way
+found_layer all (Action-F.Parallel children) line way = found_in_parallel children way
 
 abbrev pub found_arm : Arm-F FoundOn Found Found Found Found → Found
 found_arm a = a.body
@@ -141,18 +138,6 @@ found_labelled a = a.body
 -- the line of the command, at or within this one, that has the place to which the way leads
 abbrev pub found_in : Bool → Command → Found
 found_in all = fold-Command FoundOn Found Found Found Found (found_layer all) found_arm found_command found_guarded found_labelled
-
--- the same in an arm of `select` or `arbitrate`
-abbrev pub in_arm : Bool → Arm → Found
-in_arm all = fold-Arm FoundOn Found Found Found Found (found_layer all) found_arm found_command found_guarded found_labelled
-
--- the same in an arm of `if`
-abbrev pub in_guarded : Bool → Guarded → Found
-in_guarded all = fold-Guarded FoundOn Found Found Found Found (found_layer all) found_arm found_command found_guarded found_labelled
-
--- the same in an arm of `case`
-abbrev pub in_labelled : Bool → Labelled → Found
-in_labelled all = fold-Labelled FoundOn Found Found Found Found (found_layer all) found_arm found_command found_guarded found_labelled
 
 -- the same in a system, whose body stands at /0
 abbrev pub found_at : Bool → System → List Entry → Option ℕ

@@ -3,3 +3,4 @@ pub mod Laws
 pub mod LinesBegun
 pub mod SystemBranches
 pub mod TakenArms
+pub mod walking

@@ -1,11 +1,8 @@
 -- The lines on which commands begin.
 use Rattle.std.specs.Prelude.{ℕ, ◌==◌, ◌||◌, List, [], ◌∷◌, Bool, false, Option, None, Some}
-use Rattle.system.specs.declared.command.Arm.{Arm}
 use Rattle.system.specs.declared.command.Command.{Command}
-use Rattle.system.specs.declared.command.Guarded.{Guarded}
-use Rattle.system.specs.declared.command.Labelled.{Labelled}
 use Rattle.system.specs.declared.command.Action.TheOpen.{Action-F, Arm-F, Command-F, Guarded-F, Labelled-F}
-use Rattle.system.specs.declared.command.Action.TheFolds.{fold-Command, fold-Arm, fold-Guarded, fold-Labelled}
+use Rattle.system.specs.declared.command.Action.TheFolds.{fold-Command}
 
 -- whether one of them does, or one before them
 abbrev pub any_onto : Bool → List Bool → Bool
@@ -51,15 +48,3 @@ begun_labelled a = a.body
 -- whether a command, or one within it, has the line
 abbrev pub begins : ℕ → Command → Bool
 begins line = fold-Command Bool Bool Bool Bool Bool begun_layer begun_arm (begun_command line) begun_guarded begun_labelled
-
--- the same of an arm of `select` or `arbitrate`
-abbrev pub arm_begins : ℕ → Arm → Bool
-arm_begins line = fold-Arm Bool Bool Bool Bool Bool begun_layer begun_arm (begun_command line) begun_guarded begun_labelled
-
--- the same of an arm of `if`
-abbrev pub guarded_begins : ℕ → Guarded → Bool
-guarded_begins line = fold-Guarded Bool Bool Bool Bool Bool begun_layer begun_arm (begun_command line) begun_guarded begun_labelled
-
--- the same of an arm of `case`
-abbrev pub labelled_begins : ℕ → Labelled → Bool
-labelled_begins line = fold-Labelled Bool Bool Bool Bool Bool begun_layer begun_arm (begun_command line) begun_guarded begun_labelled

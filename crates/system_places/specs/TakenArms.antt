@@ -27,8 +27,8 @@ Doing = Action-F Action Arm Command Guarded Labelled
 abbrev pub doing : Command → Doing
 doing c = out-Action (out-Command c).action
 
-abbrev pub line_of : Command → ℕ
-line_of c = (out-Command c).line
+abbrev pub line_of_command : Command → ℕ
+line_of_command c = (out-Command c).line
 
 -- whether the way is empty
 abbrev pub is_here : List Entry → Bool
@@ -66,8 +66,8 @@ abbrev pub labelled_at : List Labelled → Option Command → ℕ → Option Com
 labelled_at arms last k = option_or (option_map (λ a. (out-Labelled a).body) (slice_get arms k)) (else_at (length arms) last k)
 
 -- arm k of a `select` or an `arbitrate`
-abbrev pub arm_at : List Arm → ℕ → Option Command
-arm_at arms k = option_map (λ a. (out-Arm a).body) (slice_get arms k)
+abbrev pub channel_arm_at : List Arm → ℕ → Option Command
+channel_arm_at arms k = option_map (λ a. (out-Arm a).body) (slice_get arms k)
 
 -- what stands where a body stands
 abbrev pub body_at : Bool → Option Command → Option Command
@@ -80,20 +80,20 @@ part_at arm (Action-F.While e body) n = body_at (is_body_number Turns n) (Some b
 part_at arm (Action-F.If arms last) n = body_at (is_body_number Test n) (option_and_then (guarded_at arms last) arm)
 part_at arm (Action-F.Case e arms last) n = body_at (is_body_number Test n) (option_and_then (labelled_at arms last) arm)
 part_at arm (Action-F.Input c body) n = body_at (is_body_number Choice n) (Some body)
-part_at arm (Action-F.Select arms) n = body_at (is_body_number Choice n) (option_and_then (arm_at arms) arm)
-part_at arm (Action-F.Arbitrate arms) n = body_at (is_body_number Choice n) (option_and_then (arm_at arms) arm)
+part_at arm (Action-F.Select arms) n = body_at (is_body_number Choice n) (option_and_then (channel_arm_at arms) arm)
+part_at arm (Action-F.Arbitrate arms) n = body_at (is_body_number Choice n) (option_and_then (channel_arm_at arms) arm)
 part_at arm (Action-F.Sequence children) n = slice_get children n
 part_at arm _ n = None
 
 -- the part of a command that stands at p/n
-abbrev pub branch_at : Doing → ℕ → Option Command
-branch_at (Action-F.Parallel children) n = slice_get children n
-branch_at _ n = None
+abbrev pub child_at : Doing → ℕ → Option Command
+child_at (Action-F.Parallel children) n = slice_get children n
+child_at _ n = None
 
 -- the part that stands at this entry behind the place of the command
 abbrev pub part : Option ℕ → Doing → Entry → Option Command
 part arm d (Ordered n) = part_at arm d n
-part arm d (Branch n) = branch_at d n
+part arm d (Branch n) = child_at d n
 
 -- the command, at or within the one at `before`, that has the place to which the way leads on from there
 abbrev pub acting_in : Taken → List Entry → Command → List Entry → Option Command
@@ -110,7 +110,7 @@ acting_command taken system (Branch n ∷ way) = if n == 0 then acting_in taken 
 
 -- the line of the command of a place
 abbrev pub line_under : Taken → System → List Entry → Option ℕ
-line_under taken system place = option_map line_of (acting_command taken system place)
+line_under taken system place = option_map line_of_command (acting_command taken system place)
 
 abbrev pub is_select : Doing → Bool
 is_select (Action-F.Select arms) = true

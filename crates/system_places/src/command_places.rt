@@ -5,6 +5,7 @@
 ghost use Rattle.std.specs.Prelude.{◌≡◌, None, map};
 ghost use Rattle.std.specs.Option.{option_map, option_copied, option_or};
 ghost use Rattle.system_places.specs.CommandPlaces as model;
+ghost use Rattle.system_places.specs.walking.Parts as parts;
 
 use address::{Address, Entry};
 use syntax::Items;
@@ -155,7 +156,7 @@ fn in_body(all: bool, form: Form, body: &Command, way: &[Entry]) -> Option<u64>
 /// What is found in the arms of an `if`, where the way leads into them.
 #[cycle(places)]
 fn in_guarded(all: bool, arms: &[Guarded], way: &[Entry]) -> Option<u64>
-    ensures { result ≡ model.found_below (model.first_onto None (map (model.in_guarded all) arms.now)) (model.below Form.Test way.now) }
+    ensures { result ≡ model.found_below (model.first_onto None (map (parts.found_in_guarded all) arms.now)) (model.below Form.Test way.now) }
 {
     let rest = Form::Test.below(way)?;
     first_guarded(all, arms, rest)
@@ -164,7 +165,7 @@ fn in_guarded(all: bool, arms: &[Guarded], way: &[Entry]) -> Option<u64>
 /// What is found in the arms of a `case`, where the way leads into them.
 #[cycle(places)]
 fn in_labelled(all: bool, arms: &[Labelled], way: &[Entry]) -> Option<u64>
-    ensures { result ≡ model.found_below (model.first_onto None (map (model.in_labelled all) arms.now)) (model.below Form.Test way.now) }
+    ensures { result ≡ model.found_below (model.first_onto None (map (parts.found_in_labelled all) arms.now)) (model.below Form.Test way.now) }
 {
     let rest = Form::Test.below(way)?;
     first_labelled(all, arms, rest)
@@ -173,7 +174,7 @@ fn in_labelled(all: bool, arms: &[Labelled], way: &[Entry]) -> Option<u64>
 /// What is found in the arms of a `select` or an `arbitrate`, where the way leads into them.
 #[cycle(places)]
 fn in_arms(all: bool, form: Form, arms: &[Arm], way: &[Entry]) -> Option<u64>
-    ensures { result ≡ model.found_below (model.first_onto None (map (model.in_arm all) arms.now)) (model.below form way.now) }
+    ensures { result ≡ model.found_below (model.first_onto None (map (parts.found_in_arm all) arms.now)) (model.below form way.now) }
 {
     let rest = form.below(way)?;
     first_arm(all, arms, rest)
@@ -182,7 +183,7 @@ fn in_arms(all: bool, form: Form, arms: &[Arm], way: &[Entry]) -> Option<u64>
 /// The first that is found in an arm of an `if`.
 #[cycle(places)]
 fn first_guarded(all: bool, arms: &[Guarded], way: &[Entry]) -> Option<u64>
-    ensures { result ≡ model.first_onto None (map (model.in_guarded all) arms.now) way.now }
+    ensures { result ≡ model.first_onto None (map (parts.found_in_guarded all) arms.now) way.now }
 {
     let mut found = None;
     for arm in arms {
@@ -194,7 +195,7 @@ fn first_guarded(all: bool, arms: &[Guarded], way: &[Entry]) -> Option<u64>
 /// The first that is found in an arm of a `case`.
 #[cycle(places)]
 fn first_labelled(all: bool, arms: &[Labelled], way: &[Entry]) -> Option<u64>
-    ensures { result ≡ model.first_onto None (map (model.in_labelled all) arms.now) way.now }
+    ensures { result ≡ model.first_onto None (map (parts.found_in_labelled all) arms.now) way.now }
 {
     let mut found = None;
     for arm in arms {
@@ -206,7 +207,7 @@ fn first_labelled(all: bool, arms: &[Labelled], way: &[Entry]) -> Option<u64>
 /// The first that is found in an arm of a `select` or an `arbitrate`.
 #[cycle(places)]
 fn first_arm(all: bool, arms: &[Arm], way: &[Entry]) -> Option<u64>
-    ensures { result ≡ model.first_onto None (map (model.in_arm all) arms.now) way.now }
+    ensures { result ≡ model.first_onto None (map (parts.found_in_arm all) arms.now) way.now }
 {
     let mut found = None;
     for arm in arms {
@@ -218,7 +219,7 @@ fn first_arm(all: bool, arms: &[Arm], way: &[Entry]) -> Option<u64>
 /// What is found behind an `else`, where the way leads there.
 #[cycle(places)]
 fn in_last(all: bool, last: &Option<Command>, way: &[Entry]) -> Option<u64>
-    ensures { result ≡ model.found_below (model.in_last (option_map (model.found_in all) last.now)) (model.below Form.Test way.now) }
+    ensures { result ≡ model.found_below (model.found_in_last (option_map (model.found_in all) last.now)) (model.below Form.Test way.now) }
 {
     let rest = Form::Test.below(way)?;
     match last {
@@ -230,7 +231,7 @@ fn in_last(all: bool, last: &Option<Command>, way: &[Entry]) -> Option<u64>
 /// What is found in the child of this number.
 #[cycle(places)]
 fn in_child(all: bool, children: &Items<Command>, number: u32, way: &[Entry]) -> Option<u64>
-    ensures { result ≡ model.in_child (map (model.found_in all) children.now) number way.now }
+    ensures { result ≡ model.found_in_child (map (model.found_in all) children.now) number way.now }
 {
     match children.get(number as usize) {
         Some(child) => found_in(all, child, way),
@@ -241,7 +242,7 @@ fn in_child(all: bool, children: &Items<Command>, number: u32, way: &[Entry]) ->
 /// What is found in a child of a sequence.
 #[cycle(places)]
 fn in_sequence(all: bool, children: &Items<Command>, way: &[Entry]) -> Option<u64>
-    ensures { result ≡ model.in_sequence (map (model.found_in all) children.now) way.now }
+    ensures { result ≡ model.found_in_sequence (map (model.found_in all) children.now) way.now }
 {
     match way {
         [Entry::Ordered(number), rest @ ..] => in_child(all, children, *number, rest),
@@ -252,7 +253,7 @@ fn in_sequence(all: bool, children: &Items<Command>, way: &[Entry]) -> Option<u6
 /// What is found in a child of a parallel.
 #[cycle(places)]
 fn in_parallel(all: bool, children: &Items<Command>, way: &[Entry]) -> Option<u64>
-    ensures { result ≡ model.in_parallel (map (model.found_in all) children.now) way.now }
+    ensures { result ≡ model.found_in_parallel (map (model.found_in all) children.now) way.now }
 {
     match way {
         [Entry::Branch(number), rest @ ..] => in_child(all, children, *number, rest),

@@ -2,6 +2,7 @@
 ghost use Rattle.std.specs.Prelude.{◌≡◌, false, map};
 ghost use Rattle.std.specs.Option.{option_map};
 ghost use Rattle.system_places.specs.LinesBegun as model;
+ghost use Rattle.system_places.specs.walking.Parts as parts;
 
 use system::{Action, Arm, Command, Guarded, Labelled, System};
 
@@ -47,7 +48,7 @@ fn commands_begin(commands: &[Command], line: u64) -> bool
 /// Whether an arm of an `if` has the line.
 #[cycle(begun)]
 fn guarded_begin(arms: &[Guarded], line: u64) -> bool
-    ensures { result ≡ model.any_onto false (map (model.guarded_begins line) arms.now) }
+    ensures { result ≡ model.any_onto false (map (parts.guarded_begins line) arms.now) }
 {
     let mut found = false;
     for arm in arms {
@@ -59,7 +60,7 @@ fn guarded_begin(arms: &[Guarded], line: u64) -> bool
 /// Whether an arm of a `case` has the line.
 #[cycle(begun)]
 fn labelled_begin(arms: &[Labelled], line: u64) -> bool
-    ensures { result ≡ model.any_onto false (map (model.labelled_begins line) arms.now) }
+    ensures { result ≡ model.any_onto false (map (parts.labelled_begins line) arms.now) }
 {
     let mut found = false;
     for arm in arms {
@@ -71,7 +72,7 @@ fn labelled_begin(arms: &[Labelled], line: u64) -> bool
 /// Whether an arm of a `select` or an `arbitrate` has the line.
 #[cycle(begun)]
 fn arms_begin(arms: &[Arm], line: u64) -> bool
-    ensures { result ≡ model.any_onto false (map (model.arm_begins line) arms.now) }
+    ensures { result ≡ model.any_onto false (map (parts.arm_begins line) arms.now) }
 {
     let mut found = false;
     for arm in arms {

@@ -79,7 +79,7 @@ fn labelled_at<'a>(
 
 /// The arm of this number of a `select` or an `arbitrate`.
 fn arm_at(arms: &Items<Arm>, arm: Option<u32>) -> Option<&Command>
-    ensures { option_copied result ≡ option_and_then (model.arm_at arms.now) arm }
+    ensures { option_copied result ≡ option_and_then (model.channel_arm_at arms.now) arm }
 {
     match arms.get(arm? as usize) {
         Some(opened) => Some(&opened.body),
@@ -117,7 +117,7 @@ fn part_at<'a, T: TakenArms>(
 
 /// The part that stands at `/number` behind the place of the command.
 fn branch_at(command: &Command, number: u32) -> Option<&Command>
-    ensures { option_copied result ≡ model.branch_at (model.doing command.now) number }
+    ensures { option_copied result ≡ model.child_at (model.doing command.now) number }
 {
     match command.action.get() {
         Action::Parallel(children) => children.get(number as usize),

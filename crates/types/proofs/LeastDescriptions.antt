@@ -1,16 +1,13 @@
 -- What is answered of a description is the least of all its faults.
-use Rattle.std.proofs.Common.{◌≡◌, ℕ, suc, List, [], ◌∷◌, length, Ok, Err, IfOk, IfErr, ◌⊎◌, inr, refl, sym, ◌∙◌}
-use Rattle.types.specs.CommandFaults.{found_command}
-use Rattle.types.specs.Commands.{Visible}
-use Rattle.types.specs.DeclarationFaults.{element_faults, definition_faults, type_faults, port_faults, local_faults, all_port_faults, all_local_faults, port_type_faults, local_type_faults, declaration_faults, found_procedure, found_procedures, found_description}
-use Rattle.types.specs.Declarations.{SoFar, with_name, with_elements, with_definition, with_types, enumeration_width, demanded, Declared, with_one, with_ports, with_locals, all_ports, all_locals, one_port, one_local, port_kind, local_kind, port_type, local_type, port_types, local_types, behind, ports_of, inside, after_procedure, types_of, declarations_right, judged_procedure, with_procedures, judged_description}
+use Rattle.std.proofs.Common.{◌≡◌, ℕ, suc, List, [], ◌∷◌, length, Ok, Err, IfOk, IfErr, ◌⊎◌, inr, refl, ap, sym, ◌∙◌}
+use Rattle.types.specs.Commands.{Visible, judged_command}
+use Rattle.types.specs.Declarations.{SoFar, with_name, with_elements, with_definition, with_demand, with_types, enumeration_width, width_or_one, demanded, Declared, with_one, with_ports, with_locals, all_ports, all_locals, one_port, one_local, port_kind, local_kind, port_type, local_type, port_types, local_types, behind, ports_of, locals_of, inside, after_procedure, types_of, declarations_right, judged_procedure, with_procedures, judged_description, found_description}
 use Rattle.types.specs.Expressions.{declared_width}
-use Rattle.types.specs.Findings as j
-use Rattle.types.specs.Findings.{Findings, found, IsRefused}
+use Rattle.types.specs.Findings.{Verdict, Findings, becomes, both, and, with_next, found, every, IsRefused}
+use Rattle.types.specs.Names.{VisibleNames, declared, is_fresh, port_meaning, local_meaning}
+use Rattle.types.specs.Walking.{least}
 use Rattle.refusals.specs.declared.types.Fault.TheVariants.{Memory}
-use Rattle.types.specs.Names.{VisibleNames, is_fresh, port_meaning, local_meaning}
-use Rattle.types.specs.Verdict as v
-use Rattle.types.specs.Verdict.{Verdict}
+use Rattle.types.specs.declared.scope.Meaning.{Meaning}
 use Rattle.types.specs.declared.scope.Meaning.TheVariants as meaning
 use Rattle.typed.specs.declared.tree.Local.{Local}
 use Rattle.typed.specs.declared.tree.LocalKind.{LocalKind}
@@ -29,105 +26,159 @@ use Rattle.types.proofs.Least.{answer, answer-found, joined_is, and_is, with_nex
 use Rattle.types.proofs.LeastCommands.{command_agrees}
 
 -- one more demand
-more_is : (x : Findings (Unit {0})) (a demand : Verdict (Unit {0})) → answer x ≡ a → answer (j.and x (found demand)) ≡ v.and a demand
-more_is x a demand e = and_is x (found demand) a demand e (answer-found demand)
+more_is : (x : Findings every (Unit {0})) (demand : Verdict (Unit {0})) → answer (and every x (found demand)) ≡ and least (answer x) demand
+more_is x demand = and_is x (found demand) (answer x) demand refl (answer-found demand)
 
-elements_are : (width k : ℕ) (s : SoFar) (before : Findings (Unit {0})) (elements : List Identifier) → answer before ≡ s.right
-    → answer (element_faults width k s before elements) ≡ (with_elements width k s elements).right
-elements_are width k s before [] e = e
-elements_are width k s before (element ∷ rest) e =
-    elements_are width (suc k) (with_name s element (meaning.Element (record { bits = k; width = width })))
-    (j.and before (found (is_fresh s.names element.name element.span.start))) rest (more_is before s.right _ e)
+-- ---- types
 
-definition_is : (s : SoFar) (before : Findings (Unit {0})) (name : Identifier) (d : TypeDefinition) → answer before ≡ s.right
-    → answer (definition_faults s before name d) ≡ (with_definition s name d).right
-definition_is s before name (Bits width) e = more_is _ _ (demanded (declared_width width)) (more_is before s.right _ e)
-definition_is s before name (Enumeration elements) e =
-    elements_are (enumeration_width (length elements)) 0 (with_name s name (meaning.TypeName (enumeration_width (length elements))))
-    (j.and before (found (is_fresh s.names name.name name.span.start))) elements (more_is before s.right _ e)
+-- the same names, and what is answered of the faults
+abbrev answered : SoFar every → SoFar least
+answered s = record { names = s.names; right = answer s.right }
 
-types_are : (s : SoFar) (before : Findings (Unit {0})) (types : List TypeDeclaration) → answer before ≡ s.right
-    → answer (type_faults s before types) ≡ (with_types s types).right
-types_are s before [] e = e
-types_are s before (t ∷ rest) e =
-    types_are (with_definition s t.name t.definition) (definition_faults s before t.name t.definition) rest (definition_is s before t.name t.definition e)
+name_is : (s : SoFar every) (name : Identifier) (m : Meaning) → answered (with_name every s name m) ≡ with_name least (answered s) name m
+name_is s name m =
+    ap (λ (r : Verdict (Unit {0})). record { names = declared s.names name.name m; right = r }) (more_is s.right (is_fresh s.names name.name name.span.start))
 
-ports_are : (kind : PortKind) (s : Declared Port) (before : Findings (Unit {0})) (names : List Identifier) → answer before ≡ s.right
-    → answer (port_faults kind s before names) ≡ (with_ports kind s names).right
-ports_are kind s before [] e = e
-ports_are kind s before (name ∷ rest) e =
-    ports_are kind (with_one s name (port_meaning (length s.made) kind) (one_port kind name))
-    (j.and before (found (is_fresh s.names name.name name.span.start))) rest (more_is before s.right _ e)
+elements_are : (width n : ℕ) (s : SoFar every) (elements : List Identifier)
+    → answered (with_elements every width n s elements) ≡ with_elements least width n (answered s) elements
+elements_are width n s [] = refl
+elements_are width n s (element ∷ rest) =
+    elements_are width (suc n) (with_name every s element (meaning.Element (record { bits = n; width = width }))) rest
+    ∙ ap (λ z. with_elements least width (suc n) z rest) (name_is s element _)
 
-locals_are : (kind : LocalKind) (s : Declared Local) (before : Findings (Unit {0})) (names : List Identifier) → answer before ≡ s.right
-    → answer (local_faults kind s before names) ≡ (with_locals kind s names).right
-locals_are kind s before [] e = e
-locals_are kind s before (name ∷ rest) e =
-    locals_are kind (with_one s name (local_meaning (length s.made) kind) (one_local kind name))
-    (j.and before (found (is_fresh s.names name.name name.span.start))) rest (more_is before s.right _ e)
+definition_is : (s : SoFar every) (name : Identifier) (d : TypeDefinition)
+    → answered (with_definition every s name d) ≡ with_definition least (answered s) name d
+definition_is s name (Bits width) =
+    let named = with_name every s name (meaning.TypeName (width_or_one (declared_width width))) in
+    ap (λ (r : Verdict (Unit {0})). record { names = named.names; right = r }) (more_is named.right (demanded (declared_width width)))
+    ∙ ap (λ z. with_demand least z (demanded (declared_width width))) (name_is s name _)
+definition_is s name (Enumeration elements) =
+    elements_are (enumeration_width (length elements)) 0 (with_name every s name (meaning.TypeName (enumeration_width (length elements)))) elements
+    ∙ ap (λ z. with_elements least (enumeration_width (length elements)) 0 z elements) (name_is s name _)
 
-all_ports_are : (s : Declared Port) (before : Findings (Unit {0})) (ds : List tree_port.Port) → answer before ≡ s.right
-    → answer (all_port_faults s before ds) ≡ (all_ports s ds).right
-all_ports_are s before [] e = e
-all_ports_are s before (d ∷ rest) e =
-    all_ports_are (with_ports (port_kind s.names d.kind) s d.names) (port_faults (port_kind s.names d.kind) s before d.names) rest
-    (ports_are (port_kind s.names d.kind) s before d.names e)
+types_are : (s : SoFar every) (types : List TypeDeclaration) → answered (with_types every s types) ≡ with_types least (answered s) types
+types_are s [] = refl
+types_are s (t ∷ rest) =
+    types_are (with_definition every s t.name t.definition) rest ∙ ap (λ z. with_types least z rest) (definition_is s t.name t.definition)
 
-all_locals_are : (s : Declared Local) (before : Findings (Unit {0})) (ds : List tree_local.Local) → answer before ≡ s.right
-    → answer (all_local_faults s before ds) ≡ (all_locals s ds).right
-all_locals_are s before [] e = e
-all_locals_are s before (d ∷ rest) e =
-    all_locals_are (with_locals (local_kind s.names d.kind) s d.names) (local_faults (local_kind s.names d.kind) s before d.names) rest
-    (locals_are (local_kind s.names d.kind) s before d.names e)
+-- ---- ports and locals
 
-port_types_are : (names : VisibleNames) (before : Findings (Unit {0})) (a : Verdict (Unit {0})) (ds : List tree_port.Port) → answer before ≡ a
-    → answer (port_type_faults names before ds) ≡ port_types names a ds
-port_types_are names before a [] e = e
-port_types_are names before a (d ∷ rest) e =
-    port_types_are names (j.and before (found (port_type names d.kind))) (v.and a (port_type names d.kind)) rest (more_is before a _ e)
+abbrev made_of : {A : Type 0} → Declared every A → Declared least A
+made_of s = record { names = s.names; made = s.made; right = answer s.right }
 
-local_types_are : (names : VisibleNames) (before : Findings (Unit {0})) (a : Verdict (Unit {0})) (ds : List tree_local.Local) → answer before ≡ a
-    → answer (local_type_faults names before ds) ≡ local_types names a ds
-local_types_are names before a [] e = e
-local_types_are names before a (d ∷ rest) e =
-    local_types_are names (j.and before (found (local_type names d.kind))) (v.and a (local_type names d.kind)) rest (more_is before a _ e)
+one_is : {A : Type 0} (s : Declared every A) (name : Identifier) (m : Meaning) (one : A)
+    → made_of (with_one every s name m one) ≡ with_one least (made_of s) name m one
+one_is s name m one =
+    ap (λ (r : Verdict (Unit {0})). record { names = declared s.names name.name m; made = (with_one every s name m one).made; right = r })
+    (more_is s.right (is_fresh s.names name.name name.span.start))
 
-declarations_are : (scope : Visible) (p : tree_procedure.Procedure) → answer (declaration_faults scope p) ≡ declarations_right scope p
+ports_are : (kind : PortKind) (s : Declared every Port) (names : List Identifier)
+    → made_of (with_ports every kind s names) ≡ with_ports least kind (made_of s) names
+ports_are kind s [] = refl
+ports_are kind s (name ∷ rest) =
+    ports_are kind (with_one every s name (port_meaning (length s.made) kind) (one_port kind name)) rest
+    ∙ ap (λ z. with_ports least kind z rest) (one_is s name _ _)
+
+locals_are : (kind : LocalKind) (s : Declared every Local) (names : List Identifier)
+    → made_of (with_locals every kind s names) ≡ with_locals least kind (made_of s) names
+locals_are kind s [] = refl
+locals_are kind s (name ∷ rest) =
+    locals_are kind (with_one every s name (local_meaning (length s.made) kind) (one_local kind name)) rest
+    ∙ ap (λ z. with_locals least kind z rest) (one_is s name _ _)
+
+all_ports_are : (s : Declared every Port) (ds : List tree_port.Port) → made_of (all_ports every s ds) ≡ all_ports least (made_of s) ds
+all_ports_are s [] = refl
+all_ports_are s (d ∷ rest) =
+    all_ports_are (with_ports every (port_kind s.names d.kind) s d.names) rest
+    ∙ ap (λ z. all_ports least z rest) (ports_are (port_kind s.names d.kind) s d.names)
+
+all_locals_are : (s : Declared every Local) (ds : List tree_local.Local) → made_of (all_locals every s ds) ≡ all_locals least (made_of s) ds
+all_locals_are s [] = refl
+all_locals_are s (d ∷ rest) =
+    all_locals_are (with_locals every (local_kind s.names d.kind) s d.names) rest
+    ∙ ap (λ z. all_locals least z rest) (locals_are (local_kind s.names d.kind) s d.names)
+
+port_types_are : (names : VisibleNames) (before : Findings every (Unit {0})) (ds : List tree_port.Port)
+    → answer (port_types every names before ds) ≡ port_types least names (answer before) ds
+port_types_are names before [] = refl
+port_types_are names before (d ∷ rest) =
+    port_types_are names (and every before (found (port_type names d.kind))) rest
+    ∙ ap (λ z. port_types least names z rest) (more_is before (port_type names d.kind))
+
+local_types_are : (names : VisibleNames) (before : Findings every (Unit {0})) (ds : List tree_local.Local)
+    → answer (local_types every names before ds) ≡ local_types least names (answer before) ds
+local_types_are names before [] = refl
+local_types_are names before (d ∷ rest) =
+    local_types_are names (and every before (found (local_type names d.kind))) rest
+    ∙ ap (λ z. local_types least names z rest) (more_is before (local_type names d.kind))
+
+-- ---- procedures
+
+ports_of_is : (names : VisibleNames) (p : tree_procedure.Procedure) → made_of (ports_of every names p) ≡ ports_of least names p
+ports_of_is names p = all_ports_are (behind every names) p.ports
+
+locals_of_is : (names : VisibleNames) (p : tree_procedure.Procedure) → made_of (locals_of every names p) ≡ locals_of least names p
+locals_of_is names p =
+    all_locals_are (behind every (ports_of every names p).names) p.locals
+    ∙ ap (λ (z : Declared least Port). all_locals least (behind least z.names) p.locals) (ports_of_is names p)
+
+inside_is : (scope : Visible) (p : tree_procedure.Procedure) → inside every scope p ≡ inside least scope p
+inside_is scope p = ap (λ (z : Declared least Local). record { names = z.names; procedures = scope.procedures }) (locals_of_is scope.names p)
+
+after_is : (scope : Visible) (p : tree_procedure.Procedure) → after_procedure every scope p ≡ after_procedure least scope p
+after_is scope p = rw (← ports_of_is scope.names p) refl
+
+declarations_are : (scope : Visible) (p : tree_procedure.Procedure) → answer (declarations_right every scope p) ≡ declarations_right least scope p
 unfolding declarations_right
 declarations_are scope p =
     and_is _ _ _ _ (answer-found _)
     (and_is _ _ _ _
-    (and_is _ _ _ _ (all_ports_are (behind scope.names) (Ok tt) p.ports refl)
-    (all_locals_are (behind (ports_of scope.names p).names) (Ok tt) p.locals refl))
-    (and_is _ _ _ _ (port_types_are (inside scope p).names (Ok tt) (Ok tt) p.ports refl)
-    (local_types_are (inside scope p).names (Ok tt) (Ok tt) p.locals refl)))
+    (and_is _ _ _ _ (ap (λ (z : Declared least Port). z.right) (ports_of_is scope.names p)) (ap (λ (z : Declared least Local). z.right) (locals_of_is scope.names p)))
+    (and_is _ _ _ _
+    (port_types_are (inside every scope p).names (Ok tt) p.ports ∙ ap (λ (z : Visible). port_types least z.names (Ok tt) p.ports) (inside_is scope p))
+    (local_types_are (inside every scope p).names (Ok tt) p.locals ∙ ap (λ (z : Visible). local_types least z.names (Ok tt) p.locals) (inside_is scope p))))
 
-procedure_is : (scope : Visible) (p : tree_procedure.Procedure) → answer (found_procedure scope p) ≡ judged_procedure scope p
+-- the procedure with these ports and these locals
+abbrev procedure_with : Visible → tree_procedure.Procedure → List Port → VisibleNames → List Local → Verdict Procedure
+procedure_with scope p ports names locals =
+    becomes (λ q. record { name = p.name.name; ports = ports; locals = locals; body = q.1 })
+    (both least (declarations_right least scope p) (judged_command least p.body (record { names = names; procedures = scope.procedures }) []))
+
+procedure_is : (scope : Visible) (p : tree_procedure.Procedure) → answer (judged_procedure every scope p) ≡ judged_procedure least scope p
 unfolding judged_procedure
 procedure_is scope p =
-    joined_is _ (declaration_faults scope p) (found_command p.body (inside scope p) []) _ _ (declarations_are scope p)
-    (command_agrees p.body (inside scope p) [])
+    joined_is _ (declarations_right every scope p) (judged_command every p.body (inside every scope p) []) _ _ (declarations_are scope p)
+    (command_agrees p.body (inside every scope p) [])
+    ∙ ap (λ (z : Declared least Port). procedure_with scope p z.made (locals_of every scope.names p).names (locals_of every scope.names p).made)
+    (ports_of_is scope.names p)
+    ∙ ap (λ (z : Declared least Local). procedure_with scope p (ports_of least scope.names p).made z.names z.made) (locals_of_is scope.names p)
 
-procedures_are : (scope : Visible) (done : Findings (List Procedure)) (a : Verdict (List Procedure)) (ps : List tree_procedure.Procedure) → answer done ≡ a
-    → answer (found_procedures scope done ps) ≡ with_procedures scope a ps
-procedures_are scope done a [] e = e
-procedures_are scope done a (p ∷ rest) e =
-    procedures_are (after_procedure scope p) (j.with_next done (found_procedure scope p)) (v.with_next a (judged_procedure scope p)) rest
-    (with_next_is done (found_procedure scope p) a (judged_procedure scope p) e (procedure_is scope p))
+procedures_are : (scope : Visible) (done : Findings every (List Procedure)) (ps : List tree_procedure.Procedure)
+    → answer (with_procedures every scope done ps) ≡ with_procedures least scope (answer done) ps
+procedures_are scope done [] = refl
+procedures_are scope done (p ∷ rest) =
+    procedures_are (after_procedure every scope p) (with_next every done (judged_procedure every scope p)) rest
+    ∙ ap (λ z. with_procedures least z (answer (with_next every done (judged_procedure every scope p))) rest) (after_is scope p)
+    ∙ ap (λ z. with_procedures least (after_procedure least scope p) z rest)
+    (with_next_is done (judged_procedure every scope p) (answer done) (judged_procedure least scope p) refl (procedure_is scope p))
 
-pub description_agrees : (d : Description) → answer (found_description d) ≡ judged_description d
+types_of_is : (d : Description) → answered (types_of every d) ≡ types_of least d
+types_of_is d = types_are (record { names = []; right = Ok tt }) d.types
+
+pub description_agrees : (d : Description) → answer (found_description d) ≡ judged_description least d
 unfolding found_description judged_description
 description_agrees d =
-    joined_is _ _ _ _ _ (types_are (record { names = []; right = Ok tt }) (Ok tt) d.types refl)
-    (procedures_are (record { names = (types_of d).names; procedures = [] }) (Ok []) (Ok []) d.procedures refl)
+    joined_is _ _ _ _ _ (ap (λ (s : SoFar least). s.right) (types_of_is d))
+    (procedures_are (record { names = (types_of every d).names; procedures = [] }) (Ok []) d.procedures
+    ∙ ap (λ (s : SoFar least). with_procedures least (record { names = s.names; procedures = [] }) (Ok []) d.procedures) (types_of_is d))
 
 -- a description is typed where nothing is found
-pub typed_from : (d : Description) (made : Verdict (List Procedure)) → made ≡ judged_description d → IfOk made (λ typed. found_description d ≡ Ok typed)
+pub typed_from : (d : Description) (made : Verdict (List Procedure)) → made ≡ judged_description least d → IfOk made (λ typed. found_description d ≡ Ok typed)
 typed_from d (Ok typed) e = right_from (found_description d) typed (description_agrees d ∙ sym e)
 typed_from d (Err fault) e = tt
 
 -- else the answer is the least fault
-pub refused_with : (d : Description) (made : Verdict (List Procedure)) → made ≡ judged_description d
+pub refused_with : (d : Description) (made : Verdict (List Procedure)) → made ≡ judged_description least d
     → IfErr made (λ fault. (fault ≡ Memory) ⊎ IsRefused (found_description d) fault)
 refused_with d (Ok typed) e = tt
 refused_with d (Err fault) e = inr (refused_from (found_description d) fault (description_agrees d ∙ sym e))

@@ -1,15 +1,15 @@
 -- Calls: the arguments against the ports of the procedure.
 use Rattle.std.specs.Prelude.{ℕ, List, [], ◌∷◌, map, Option, Some, None, Bool, true, false, ◌&&◌, not, nat_eq, slice_get, if◌then◌else◌, Ok, Err}
-use Rattle.types.specs.Arms.{made, with_channel}
+use Rattle.types.specs.Arms.{with_channel}
+use Rattle.types.specs.Findings.{Verdict, Keeping, Findings, if_right, both, all}
 use Rattle.types.specs.Names.{VisibleNames, look_up, find, is_among}
 use Rattle.types.specs.Uses.{procedure_use, argument_use}
-use Rattle.types.specs.Verdict.{Verdict, if_right, both, all}
 use Rattle.refusals.specs.declared.types.Fault.TheVariants.{PortMismatch}
 use Rattle.types.specs.declared.scope.Meaning.{Meaning}
 use Rattle.types.specs.declared.scope.Meaning.TheVariants as meaning
+use Rattle.typed.specs.declared.tree.Action.{Action}
 use Rattle.typed.specs.declared.tree.Action.TheVariants as action
 use Rattle.typed.specs.declared.tree.ChannelUse.{ChannelUse}
-use Rattle.typed.specs.declared.tree.Command.{Command}
 use Rattle.typed.specs.declared.tree.Place.{Place}
 use Rattle.typed.specs.declared.tree.PortKind.{PortKind}
 use Rattle.typed.specs.declared.tree.PortKind.TheVariants as port
@@ -59,15 +59,18 @@ abbrev pub fits : VisibleNames → Option (List PortKind) → List Identifier �
 fits names None arguments channels = false
 fits names (Some kinds) arguments channels = all_fit names kinds arguments && all_differ [] channels
 
--- the arguments of a call
+-- an argument of a call
 abbrev pub judged_argument : VisibleNames → List Place → Identifier → Verdict ChannelUse
 judged_argument names opened argument = argument_use (find names opened argument.name) argument.span.start
 
-abbrev pub judged_arguments : VisibleNames → List Place → List Identifier → Verdict (List ChannelUse)
-judged_arguments names opened arguments = all (map (judged_argument names opened) arguments)
+module _ (k : Keeping) where
+  abbrev pub judged_arguments : VisibleNames → List Place → List Identifier → Findings k (List ChannelUse)
+  judged_arguments names opened arguments = all k (map (λ a. k.alone (judged_argument names opened a)) arguments)
 
--- a call of a procedure, where these are the ports of the visible procedures
-unfoldable pub called : VisibleNames → List (List PortKind) → List Place → ℕ → Identifier → List Identifier → Verdict Command
-called names procedures opened line procedure arguments =
-    if_right (both (procedure_use (find names opened procedure.name) procedure.span.start) (judged_arguments names opened arguments)) (λ p.
-    if fits names (slice_get procedures p.0) arguments p.1 then Ok (made line (action.Call p.0 p.1)) else Err (PortMismatch procedure.span.start))
+  -- a call of a procedure, where these are the ports of the visible procedures
+  unfoldable pub called : VisibleNames → List (List PortKind) → List Place → Identifier → List Identifier → Findings k Action
+  called names procedures opened procedure arguments =
+      if_right
+      (both k (k.alone (procedure_use (find names opened procedure.name) procedure.span.start)) (judged_arguments names opened arguments))
+      (λ p.
+      k.alone (if fits names (slice_get procedures p.0) arguments p.1 then Ok (action.Call p.0 p.1) else Err (PortMismatch procedure.span.start)))

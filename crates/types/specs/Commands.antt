@@ -1,27 +1,28 @@
 -- Commands: what they become where names are visible and channels are open.
 use Rattle.std.specs.Prelude.{ℕ, List, [], ◌∷◌, ◌++◌, map, Option, Some, None, nat_le, nat_eq, if◌then◌else◌, Ok, Err}
-use Rattle.types.specs.Arms.{made, guarded, one_bit, conditional, judged_labels, labelled, labels_own, width_of, cased, arm_of, chosen, arbitrated}
+use Rattle.types.specs.Arms.{guarded, one_bit, conditional, judged_labels, labelled, labels_own, width_of, cased, arm_of, distinct}
 use Rattle.types.specs.Calls.{called}
 use Rattle.types.specs.Expressions.{judged_expression}
-use Rattle.types.specs.Names.{VisibleNames, find, entries}
+use Rattle.types.specs.Findings.{Verdict, Keeping, Findings, becomes, if_right, both, all, and_all}
+use Rattle.types.specs.Names.{VisibleNames, find}
 use Rattle.types.specs.Uses.{target_use, sending_use, receiving_use, sync_use, arm_use}
-use Rattle.types.specs.Verdict.{Verdict, becomes, if_right, both, all, and_all}
 use Rattle.types.specs.declared.arms.LabelUse.{LabelUse}
 use Rattle.types.specs.declared.expression.Valued.{Valued}
 use Rattle.refusals.specs.declared.types.Fault.TheVariants.{TooWide, GuardNotOneBit}
-use Rattle.types.specs.declared.scope.Scope.{Scope}
+use Rattle.typed.specs.declared.tree.Action.{Action}
 use Rattle.typed.specs.declared.tree.Action.TheVariants as typed
 use Rattle.typed.specs.declared.tree.Arm.{Arm}
 use Rattle.typed.specs.declared.tree.ChannelUse.{ChannelUse}
-use Rattle.typed.specs.declared.tree.Command.{Command}
+use Rattle.typed.specs.declared.tree.Command.{Command, roll-Command}
 use Rattle.typed.specs.declared.tree.Guarded.{Guarded}
 use Rattle.typed.specs.declared.tree.Labelled.{Labelled}
 use Rattle.typed.specs.declared.tree.Place.{Place}
 use Rattle.typed.specs.declared.tree.PortKind.{PortKind}
 use Rattle.typed.specs.declared.tree.VariableUse.{VariableUse}
-use Rattle.syntax.specs.declared.command.Action.TheFolds.{fold-Arm, fold-CaseArm, fold-Command, fold-Guarded}
+use Rattle.syntax.specs.declared.command.Action as syntax_action
+use Rattle.syntax.specs.declared.command.Action.TheFolds.{fold-Action, fold-Arm, fold-CaseArm, fold-Command, fold-Guarded}
 use Rattle.syntax.specs.declared.command.Action.TheOpen.{Action-F, Arm-F, CaseArm-F, Command-F, Guarded-F}
-use Rattle.syntax.specs.declared.command.Arm as opened_arm
+use Rattle.syntax.specs.declared.command.Arm as arm_of_select
 use Rattle.syntax.specs.declared.command.CaseArm as arm_of_case
 use Rattle.syntax.specs.declared.command.Command as syntax
 use Rattle.syntax.specs.declared.command.Guarded as arm_of_if
@@ -33,49 +34,20 @@ pub record Visible : Type 0 where
   pub names : VisibleNames
   pub procedures : List (List PortKind)
 
--- what a scope holds
-abbrev pub visible_in : Scope → Visible
-visible_in scope = record { names = entries scope.names; procedures = scope.signatures }
-
--- what a command is where this is visible and these channels are open
-abbrev pub Judged : Type 0 → Type 0
-Judged A = Visible → List Place → Verdict A
-
 -- the first byte of an expression
 abbrev pub start_of : Expression → ℕ
 start_of e = (out-Expression e).span.start
 
-abbrev pub value : Expression → Judged Valued
-value e scope opened = judged_expression e scope.names opened
+-- ---- names
 
-abbrev pub target : Identifier → Judged (VariableUse × ℕ)
+abbrev pub target : Identifier → Visible → List Place → Verdict (VariableUse × ℕ)
 target name scope opened = target_use (find scope.names opened name.name) name.span.start
 
-abbrev pub sender : Identifier → Judged (ChannelUse × ℕ)
+abbrev pub sender : Identifier → Visible → List Place → Verdict (ChannelUse × ℕ)
 sender name scope opened = sending_use (find scope.names opened name.name) name.span.start
 
-abbrev pub receiver : Identifier → Judged (ChannelUse × ℕ)
+abbrev pub receiver : Identifier → Visible → List Place → Verdict (ChannelUse × ℕ)
 receiver name scope opened = receiving_use (find scope.names opened name.name) name.span.start
-
--- a value is no wider than the variable that it is assigned to
-unfoldable pub assignment : ℕ → Verdict (VariableUse × ℕ) → Verdict Valued → ℕ → Verdict Command
-assignment line target value start = if_right (both target value) (λ p.
-    if nat_le p.1.width p.0.1 then Ok (made line (typed.Assign p.0.0 p.0.1 p.1.expression)) else Err (TooWide start))
-
--- a value is no wider than the channel that it is sent on
-unfoldable pub sending : ℕ → Verdict (ChannelUse × ℕ) → Verdict Valued → ℕ → Verdict Command
-sending line channel value start = if_right (both channel value) (λ p.
-    if nat_le p.1.width p.0.1 then Ok (made line (typed.Send p.0.0 p.0.1 p.1.expression)) else Err (TooWide start))
-
--- a channel is no wider than the variable that it is received into
-unfoldable pub receiving : ℕ → Verdict (ChannelUse × ℕ) → Verdict (VariableUse × ℕ) → Verdict Command
-receiving line channel target = if_right (both channel target) (λ p.
-    if nat_le p.0.1 p.1.1 then Ok (made line (typed.Receive p.0.0 p.1.0)) else Err (TooWide p.1.0.offset))
-
--- the guard of a loop is one bit wide
-unfoldable pub guarded_loop : ℕ → Verdict Valued → ℕ → Verdict Command → Verdict Command
-guarded_loop line guard start body = if_right (both guard body) (λ p.
-    if nat_eq p.0.width 1 then Ok (made line (typed.While p.0.expression p.1)) else Err (GuardNotOneBit start))
 
 -- the channels that are open inside an arm on the channel; what is no such channel opens none
 abbrev pub opened_by : List Place → Verdict ChannelUse → List Place
@@ -85,104 +57,139 @@ opened_by opened (Err fault) = opened
 abbrev pub channel_alone : Verdict (ChannelUse × ℕ) → Verdict ChannelUse
 channel_alone channel = becomes (λ p. p.0) channel
 
-unfoldable pub enclosing : ℕ → Verdict (ChannelUse × ℕ) → Verdict Command → Verdict Command
-enclosing line channel body = becomes (λ p. made line (typed.Input p.0.0 p.1)) (both channel body)
+-- the command on the line that does the action
+abbrev pub made : ℕ → Action → Command
+made line action = roll-Command (record { line = line; action = action })
 
--- an arm of `if`, and what it owes where its guard is right
-pub record GuardedArm : Type 0 where
-  pub arm : Judged Guarded
-  pub own : Judged (Unit {0})
+-- ---- what a command is, whatever way its faults are kept
 
--- an arm of `case`, and its labels
-pub record LabelledArm : Type 0 where
-  pub arm : Judged Labelled
-  pub labels : Judged (List LabelUse)
+module _ (k : Keeping) where
+  -- what a command is where this is visible and these channels are open
+  abbrev pub Judged : Type 0 → Type 0
+  Judged A = Visible → List Place → Findings k A
 
-abbrev pub last_of : Option (Judged Command) → Judged (Option Command)
-last_of None scope opened = Ok None
-last_of (Some body) scope opened = becomes (λ c. Some c) (body scope opened)
+  abbrev pub value : Expression → Judged Valued
+  value e scope opened = judged_expression k e scope.names opened
 
--- each of the commands
-abbrev pub each : {A : Type 0} → List (Judged A) → Judged (List A)
-each children scope opened = all (map (λ child. child scope opened) children)
+  -- a value is no wider than the variable that it is assigned to
+  unfoldable pub assignment : Verdict (VariableUse × ℕ) → Findings k Valued → ℕ → Findings k Action
+  assignment target value start = if_right (both k (k.alone target) value) (λ p.
+      k.alone (if nat_le p.1.width p.0.1 then Ok (typed.Assign p.0.0 p.0.1 p.1.expression) else Err (TooWide start)))
 
-abbrev pub guarded_arms : List GuardedArm → Judged (List Guarded)
-guarded_arms arms scope opened = all (map (λ a. a.arm scope opened) arms)
+  -- a value is no wider than the channel that it is sent on
+  unfoldable pub sending : Verdict (ChannelUse × ℕ) → Findings k Valued → ℕ → Findings k Action
+  sending channel value start = if_right (both k (k.alone channel) value) (λ p.
+      k.alone (if nat_le p.1.width p.0.1 then Ok (typed.Send p.0.0 p.0.1 p.1.expression) else Err (TooWide start)))
 
-abbrev pub guards_own : List GuardedArm → Judged (Unit {0})
-guards_own arms scope opened = and_all (Ok tt) (map (λ a. a.own scope opened) arms)
+  -- a channel is no wider than the variable that it is received into
+  unfoldable pub receiving : Verdict (ChannelUse × ℕ) → Verdict (VariableUse × ℕ) → Findings k Action
+  receiving channel target = if_right (both k (k.alone channel) (k.alone target)) (λ p.
+      k.alone (if nat_le p.0.1 p.1.1 then Ok (typed.Receive p.0.0 p.1.0) else Err (TooWide p.1.0.offset)))
 
-abbrev pub labelled_arms : List LabelledArm → Judged (List Labelled)
-labelled_arms arms scope opened = all (map (λ a. a.arm scope opened) arms)
+  -- the guard of a loop is one bit wide
+  unfoldable pub guarded_loop : Findings k Valued → ℕ → Findings k Command → Findings k Action
+  guarded_loop guard start body = if_right (both k guard body) (λ p.
+      k.alone (if nat_eq p.0.width 1 then Ok (typed.While p.0.expression p.1) else Err (GuardNotOneBit start)))
 
-abbrev pub case_own : ℕ → List LabelledArm → Judged (Unit {0})
-case_own width arms scope opened = labels_own width [] (Ok tt) (map (λ a. a.labels scope opened) arms)
+  unfoldable pub enclosing : Verdict (ChannelUse × ℕ) → Findings k Command → Findings k Action
+  enclosing channel body = becomes (λ p. typed.Input p.0.0 p.1) (both k (k.alone channel) body)
 
--- one layer of a command on a line, one line a form
-abbrev pub action_layer : Action-F (ℕ → Judged Command) (Judged Arm) LabelledArm (Judged Command) GuardedArm → ℕ → Judged Command
-action_layer Action-F.Continue line scope opened = Ok (made line typed.Continue)
-action_layer Action-F.Halt line scope opened = Ok (made line typed.Halt)
-action_layer (Action-F.Sync c) line scope opened =
-    becomes (λ u. made line (typed.Sync u)) (sync_use (find scope.names opened c.name) c.span.start)
-action_layer (Action-F.Loop body) line scope opened = becomes (λ b. made line (typed.Loop b)) (body scope opened)
-action_layer (Action-F.While guard body) line scope opened =
-    guarded_loop line (value guard scope opened) (start_of guard) (body scope opened)
-action_layer (Action-F.If arms last) line scope opened =
-    conditional line (guarded_arms arms scope opened) (guards_own arms scope opened) (last_of last scope opened)
-action_layer (Action-F.Case subject arms last) line scope opened =
-    cased line (value subject scope opened) (labelled_arms arms scope opened)
-    (case_own (width_of (value subject scope opened)) arms scope opened) (last_of last scope opened)
-action_layer (Action-F.Select arms) line scope opened = chosen line (each arms scope opened)
-action_layer (Action-F.Arbitrate first second) line scope opened =
-    arbitrated line (each (first ∷ second ∷ []) scope opened)
-action_layer (Action-F.Assign x e) line scope opened =
-    assignment line (target x scope opened) (value e scope opened) (start_of e)
-action_layer (Action-F.Send c e) line scope opened = sending line (sender c scope opened) (value e scope opened) (start_of e)
-action_layer (Action-F.Receive c x) line scope opened = receiving line (receiver c scope opened) (target x scope opened)
-action_layer (Action-F.Input c body) line scope opened =
-    enclosing line (receiver c scope opened) (body scope (opened_by opened (channel_alone (receiver c scope opened))))
-action_layer (Action-F.Call p arguments) line scope opened = called scope.names scope.procedures opened line p arguments
-action_layer (Action-F.Sequence children) line scope opened =
-    becomes (λ cs. made line (typed.Sequence cs)) (each children scope opened)
-action_layer (Action-F.Parallel children) line scope opened =
-    becomes (λ cs. made line (typed.Parallel cs)) (each children scope opened)
+  -- an arm of `if`, and what it owes where its guard is right
+  pub record GuardedArm : Type 0 where
+    pub arm : Judged Guarded
+    pub own : Judged (Unit {0})
 
-abbrev pub arm_layer : Arm-F (ℕ → Judged Command) (Judged Arm) LabelledArm (Judged Command) GuardedArm → Judged Arm
-arm_layer a scope opened =
-    let channel = arm_use (find scope.names opened a.channel.name) a.channel.span.start in
-    arm_of channel (a.body scope (opened_by opened channel))
+  -- an arm of `case`, and its labels
+  pub record LabelledArm : Type 0 where
+    pub arm : Judged Labelled
+    pub labels : Judged (List LabelUse)
 
-abbrev pub case_arm_layer : CaseArm-F (ℕ → Judged Command) (Judged Arm) LabelledArm (Judged Command) GuardedArm → LabelledArm
-case_arm_layer a = record {
-  arm = λ scope opened. labelled (judged_labels scope.names opened a.labels) (a.body scope opened);
-  labels = λ scope opened. judged_labels scope.names opened a.labels;
-}
+  abbrev pub last_of : Option (Judged Command) → Judged (Option Command)
+  last_of None scope opened = Ok None
+  last_of (Some body) scope opened = becomes (λ c. Some c) (body scope opened)
 
-abbrev pub command_layer : Command-F (ℕ → Judged Command) (Judged Arm) LabelledArm (Judged Command) GuardedArm → Judged Command
-command_layer c = c.action c.span.line
+  -- each of the commands
+  abbrev pub each : {A : Type 0} → List (Judged A) → Judged (List A)
+  each children scope opened = all k (map (λ child. child scope opened) children)
 
-abbrev pub guarded_layer : Guarded-F (ℕ → Judged Command) (Judged Arm) LabelledArm (Judged Command) GuardedArm → GuardedArm
-guarded_layer a = record {
-  arm = λ scope opened. guarded (value a.guard scope opened) (a.body scope opened);
-  own = λ scope opened. one_bit (value a.guard scope opened) (start_of a.guard);
-}
+  abbrev pub guarded_arms : List GuardedArm → Judged (List Guarded)
+  guarded_arms arms scope opened = all k (map (λ a. a.arm scope opened) arms)
 
--- what a command is
-abbrev pub judged_command : syntax.Command → Judged Command
-judged_command =
-    fold-Command (ℕ → Judged Command) (Judged Arm) LabelledArm (Judged Command) GuardedArm action_layer arm_layer case_arm_layer command_layer guarded_layer
+  abbrev pub guards_own : List GuardedArm → Judged (Unit {0})
+  guards_own arms scope opened = and_all k (Ok tt) (map (λ a. a.own scope opened) arms)
 
--- an arm of `if`
-abbrev pub judged_guarded : arm_of_if.Guarded → GuardedArm
-judged_guarded =
-    fold-Guarded (ℕ → Judged Command) (Judged Arm) LabelledArm (Judged Command) GuardedArm action_layer arm_layer case_arm_layer command_layer guarded_layer
+  abbrev pub labelled_arms : List LabelledArm → Judged (List Labelled)
+  labelled_arms arms scope opened = all k (map (λ a. a.arm scope opened) arms)
 
--- an arm of `case`
-abbrev pub judged_labelled : arm_of_case.CaseArm → LabelledArm
-judged_labelled =
-    fold-CaseArm (ℕ → Judged Command) (Judged Arm) LabelledArm (Judged Command) GuardedArm action_layer arm_layer case_arm_layer command_layer guarded_layer
+  abbrev pub case_own : ℕ → List LabelledArm → Judged (Unit {0})
+  case_own width arms scope opened = labels_own k width [] (Ok tt) (map (λ a. a.labels scope opened) arms)
 
--- an arm of `select` or `arbitrate`
-abbrev pub judged_arm : opened_arm.Arm → Judged Arm
-judged_arm =
-    fold-Arm (ℕ → Judged Command) (Judged Arm) LabelledArm (Judged Command) GuardedArm action_layer arm_layer case_arm_layer command_layer guarded_layer
+  -- one layer of what a command does, one line a form
+  abbrev pub action_layer : Action-F (Judged Action) (Judged Arm) LabelledArm (Judged Command) GuardedArm → Judged Action
+  action_layer Action-F.Continue scope opened = Ok typed.Continue
+  action_layer Action-F.Halt scope opened = Ok typed.Halt
+  action_layer (Action-F.Sync c) scope opened =
+      k.alone (becomes (λ u. typed.Sync u) (sync_use (find scope.names opened c.name) c.span.start))
+  action_layer (Action-F.Loop body) scope opened = becomes (λ b. typed.Loop b) (body scope opened)
+  action_layer (Action-F.While guard body) scope opened = guarded_loop (value guard scope opened) (start_of guard) (body scope opened)
+  action_layer (Action-F.If arms last) scope opened =
+      conditional k (guarded_arms arms scope opened) (guards_own arms scope opened) (last_of last scope opened)
+  action_layer (Action-F.Case subject arms last) scope opened =
+      cased k (value subject scope opened) (labelled_arms arms scope opened)
+      (case_own (width_of (value subject scope opened)) arms scope opened) (last_of last scope opened)
+  action_layer (Action-F.Select arms) scope opened = becomes (λ these. typed.Select these) (distinct k (each arms scope opened))
+  action_layer (Action-F.Arbitrate first second) scope opened =
+      becomes (λ these. typed.Arbitrate these) (distinct k (each (first ∷ second ∷ []) scope opened))
+  action_layer (Action-F.Assign x e) scope opened = assignment (target x scope opened) (value e scope opened) (start_of e)
+  action_layer (Action-F.Send c e) scope opened = sending (sender c scope opened) (value e scope opened) (start_of e)
+  action_layer (Action-F.Receive c x) scope opened = receiving (receiver c scope opened) (target x scope opened)
+  action_layer (Action-F.Input c body) scope opened =
+      enclosing (receiver c scope opened) (body scope (opened_by opened (channel_alone (receiver c scope opened))))
+  action_layer (Action-F.Call p arguments) scope opened = called k scope.names scope.procedures opened p arguments
+  action_layer (Action-F.Sequence children) scope opened = becomes (λ cs. typed.Sequence cs) (each children scope opened)
+  action_layer (Action-F.Parallel children) scope opened = becomes (λ cs. typed.Parallel cs) (each children scope opened)
+
+  abbrev pub arm_layer : Arm-F (Judged Action) (Judged Arm) LabelledArm (Judged Command) GuardedArm → Judged Arm
+  arm_layer a scope opened =
+      let channel = arm_use (find scope.names opened a.channel.name) a.channel.span.start in
+      arm_of k channel (a.body scope (opened_by opened channel))
+
+  abbrev pub case_arm_layer : CaseArm-F (Judged Action) (Judged Arm) LabelledArm (Judged Command) GuardedArm → LabelledArm
+  case_arm_layer a = record {
+    arm = λ scope opened. labelled k (judged_labels k scope.names opened a.labels) (a.body scope opened);
+    labels = λ scope opened. judged_labels k scope.names opened a.labels;
+  }
+
+  abbrev pub command_layer : Command-F (Judged Action) (Judged Arm) LabelledArm (Judged Command) GuardedArm → Judged Command
+  command_layer c scope opened = becomes (made c.span.line) (c.action scope opened)
+
+  abbrev pub guarded_layer : Guarded-F (Judged Action) (Judged Arm) LabelledArm (Judged Command) GuardedArm → GuardedArm
+  guarded_layer a = record {
+    arm = λ scope opened. guarded k (value a.guard scope opened) (a.body scope opened);
+    own = λ scope opened. one_bit k (value a.guard scope opened) (start_of a.guard);
+  }
+
+  -- what a command is
+  abbrev pub judged_command : syntax.Command → Judged Command
+  judged_command =
+      fold-Command (Judged Action) (Judged Arm) LabelledArm (Judged Command) GuardedArm action_layer arm_layer case_arm_layer command_layer guarded_layer
+
+  -- what a command does
+  abbrev pub judged_action : syntax_action.Action → Judged Action
+  judged_action =
+      fold-Action (Judged Action) (Judged Arm) LabelledArm (Judged Command) GuardedArm action_layer arm_layer case_arm_layer command_layer guarded_layer
+
+  -- an arm of `if`
+  abbrev pub judged_guarded : arm_of_if.Guarded → GuardedArm
+  judged_guarded =
+      fold-Guarded (Judged Action) (Judged Arm) LabelledArm (Judged Command) GuardedArm action_layer arm_layer case_arm_layer command_layer guarded_layer
+
+  -- an arm of `case`
+  abbrev pub judged_labelled : arm_of_case.CaseArm → LabelledArm
+  judged_labelled =
+      fold-CaseArm (Judged Action) (Judged Arm) LabelledArm (Judged Command) GuardedArm action_layer arm_layer case_arm_layer command_layer guarded_layer
+
+  -- an arm of `select` or `arbitrate`
+  abbrev pub judged_arm : arm_of_select.Arm → Judged Arm
+  judged_arm =
+      fold-Arm (Judged Action) (Judged Arm) LabelledArm (Judged Command) GuardedArm action_layer arm_layer case_arm_layer command_layer guarded_layer

@@ -3,8 +3,8 @@ use Rattle.std.specs.Prelude.{ℕ, suc, ◌-◌, List, [], ◌∷◌, ◌++◌, 
 use Rattle.value.specs.Word.{least_width_of}
 use Rattle.types.specs.Commands.{Visible, judged_command}
 use Rattle.types.specs.Expressions.{declared_width, type_width}
+use Rattle.types.specs.Findings.{Verdict, Keeping, Findings, every, becomes, both, and, with_next}
 use Rattle.types.specs.Names.{VisibleNames, declared, is_fresh, port_meaning, local_meaning}
-use Rattle.types.specs.Verdict.{Verdict, becomes, both, and, with_next}
 use Rattle.types.specs.declared.scope.Meaning.{Meaning}
 use Rattle.types.specs.declared.scope.Meaning.TheVariants as meaning
 use Rattle.typed.specs.declared.tree.Local.{Local}
@@ -37,60 +37,9 @@ abbrev pub width_or_one : Verdict ℕ → ℕ
 width_or_one (Ok width) = width
 width_or_one (Err fault) = 1
 
--- ---- types
-
--- the names that are visible so far, and whether the declarations so far are right
-pub record SoFar : Type 0 where
-  pub names : VisibleNames
-  pub right : Verdict (Unit {0})
-
--- one more name
-abbrev pub with_name : SoFar → Identifier → Meaning → SoFar
-with_name s name m = record {
-  names = declared s.names name.name m;
-  right = and s.right (is_fresh s.names name.name name.span.start);
-}
-
--- elements of an enumeration of this width, the first of them number k
-abbrev pub with_elements : ℕ → ℕ → SoFar → List Identifier → SoFar
-with_elements width k s [] = s
-with_elements width k s (element ∷ rest) =
-    with_elements width (suc k) (with_name s element (meaning.Element (record { bits = k; width = width }))) rest
-
 -- the least width of at least 1 that holds the numbers of so many elements
 abbrev pub enumeration_width : ℕ → ℕ
 enumeration_width count = least_width_of (count - 1)
-
--- a further demand
-abbrev pub with_demand : SoFar → Verdict (Unit {0}) → SoFar
-with_demand s demand = record { names = s.names; right = and s.right demand }
-
-abbrev pub with_definition : SoFar → Identifier → TypeDefinition → SoFar
-with_definition s name (Bits width) =
-    with_demand (with_name s name (meaning.TypeName (width_or_one (declared_width width)))) (demanded (declared_width width))
-with_definition s name (Enumeration elements) =
-    with_elements (enumeration_width (length elements)) 0
-    (with_name s name (meaning.TypeName (enumeration_width (length elements)))) elements
-
--- the types of a description, each visible from its declaration on
-abbrev pub with_types : SoFar → List TypeDeclaration → SoFar
-with_types s [] = s
-with_types s (t ∷ rest) = with_types (with_definition s t.name t.definition) rest
-
--- ---- ports and locals
-
--- the names that are visible so far, the ports or locals so far, and whether their names are new
-pub record Declared (A : Type 0) : Type 0 where
-  pub names : VisibleNames
-  pub made : List A
-  pub right : Verdict (Unit {0})
-
-abbrev pub with_one : {A : Type 0} → Declared A → Identifier → Meaning → A → Declared A
-with_one s name m one = record {
-  names = declared s.names name.name m;
-  made = s.made ++ one ∷ [];
-  right = and s.right (is_fresh s.names name.name name.span.start);
-}
 
 -- the width of a type, or one bit where it has a fault
 abbrev pub visible_width : VisibleNames → TypeName → ℕ
@@ -112,32 +61,6 @@ one_port kind name = record { name = name.name; declared = name.span.start; kind
 abbrev pub one_local : LocalKind → Identifier → Local
 one_local kind name = record { name = name.name; declared = name.span.start; kind = kind }
 
--- ports of one kind
-abbrev pub with_ports : PortKind → Declared Port → List Identifier → Declared Port
-with_ports kind s [] = s
-with_ports kind s (name ∷ rest) =
-    with_ports kind (with_one s name (port_meaning (length s.made) kind) (one_port kind name)) rest
-
--- locals of one kind
-abbrev pub with_locals : LocalKind → Declared Local → List Identifier → Declared Local
-with_locals kind s [] = s
-with_locals kind s (name ∷ rest) =
-    with_locals kind (with_one s name (local_meaning (length s.made) kind) (one_local kind name)) rest
-
--- the ports of a procedure
-abbrev pub all_ports : Declared Port → List tree_port.Port → Declared Port
-all_ports s [] = s
-all_ports s (d ∷ rest) = all_ports (with_ports (port_kind s.names d.kind) s d.names) rest
-
--- the locals of a procedure
-abbrev pub all_locals : Declared Local → List tree_local.Local → Declared Local
-all_locals s [] = s
-all_locals s (d ∷ rest) = all_locals (with_locals (local_kind s.names d.kind) s d.names) rest
-
--- nothing declared yet behind these names
-abbrev pub behind : {A : Type 0} → VisibleNames → Declared A
-behind names = record { names = names; made = []; right = Ok tt }
-
 -- that the type of a port is right where these names are visible
 abbrev pub port_type : VisibleNames → tree_port_kind.PortKind → Verdict (Unit {0})
 port_type names (port_of.Input type) = demanded (type_width names [] type)
@@ -149,62 +72,144 @@ local_type names (local_of.Variable type) = demanded (type_width names [] type)
 local_type names (local_of.Channel type) = demanded (type_width names [] type)
 local_type names local_of.Sync = Ok tt
 
-abbrev pub port_types : VisibleNames → Verdict (Unit {0}) → List tree_port.Port → Verdict (Unit {0})
-port_types names outcome [] = outcome
-port_types names outcome (d ∷ rest) = port_types names (and outcome (port_type names d.kind)) rest
+module _ (k : Keeping) where
+  -- ---- types
 
-abbrev pub local_types : VisibleNames → Verdict (Unit {0}) → List tree_local.Local → Verdict (Unit {0})
-local_types names outcome [] = outcome
-local_types names outcome (d ∷ rest) = local_types names (and outcome (local_type names d.kind)) rest
+  -- the names that are visible so far, and whether the declarations so far are right
+  pub record SoFar : Type 0 where
+    pub names : VisibleNames
+    pub right : Findings k (Unit {0})
 
--- ---- procedures
+  -- one more name
+  abbrev pub with_name : SoFar → Identifier → Meaning → SoFar
+  with_name s name m = record {
+    names = declared s.names name.name m;
+    right = and k s.right (k.alone (is_fresh s.names name.name name.span.start));
+  }
 
-abbrev pub ports_of : VisibleNames → tree_procedure.Procedure → Declared Port
-ports_of names p = all_ports (behind names) p.ports
+  -- elements of an enumeration of this width, the first of them number n
+  abbrev pub with_elements : ℕ → ℕ → SoFar → List Identifier → SoFar
+  with_elements width n s [] = s
+  with_elements width n s (element ∷ rest) =
+      with_elements width (suc n) (with_name s element (meaning.Element (record { bits = n; width = width }))) rest
 
-abbrev pub locals_of : VisibleNames → tree_procedure.Procedure → Declared Local
-locals_of names p = all_locals (behind (ports_of names p).names) p.locals
+  -- a further demand
+  abbrev pub with_demand : SoFar → Verdict (Unit {0}) → SoFar
+  with_demand s demand = record { names = s.names; right = and k s.right (k.alone demand) }
 
--- what is visible in the body: all ports and locals, but not the procedure itself
-abbrev pub inside : Visible → tree_procedure.Procedure → Visible
-inside scope p = record { names = (locals_of scope.names p).names; procedures = scope.procedures }
+  abbrev pub with_definition : SoFar → Identifier → TypeDefinition → SoFar
+  with_definition s name (Bits width) =
+      with_demand (with_name s name (meaning.TypeName (width_or_one (declared_width width)))) (demanded (declared_width width))
+  with_definition s name (Enumeration elements) =
+      with_elements (enumeration_width (length elements)) 0
+      (with_name s name (meaning.TypeName (enumeration_width (length elements)))) elements
 
--- what the types of the ports and locals owe, where all of these are visible
-abbrev pub types_right : VisibleNames → tree_procedure.Procedure → Verdict (Unit {0})
-types_right names p = and (port_types names (Ok tt) p.ports) (local_types names (Ok tt) p.locals)
+  -- the types of a description, each visible from its declaration on
+  abbrev pub with_types : SoFar → List TypeDeclaration → SoFar
+  with_types s [] = s
+  with_types s (t ∷ rest) = with_types (with_definition s t.name t.definition) rest
 
--- what the declarations of a procedure owe
-unfoldable pub declarations_right : Visible → tree_procedure.Procedure → Verdict (Unit {0})
-declarations_right scope p =
-    and (is_fresh scope.names p.name.name p.name.span.start)
-    (and (and (ports_of scope.names p).right (locals_of scope.names p).right) (types_right (inside scope p).names p))
+  -- ---- ports and locals
 
--- a procedure where this is visible before it
-unfoldable pub judged_procedure : Visible → tree_procedure.Procedure → Verdict Procedure
-judged_procedure scope p =
-    becomes
-    (λ q. record { name = p.name.name; ports = (ports_of scope.names p).made; locals = (locals_of scope.names p).made; body = q.1 })
-    (both (declarations_right scope p) (judged_command p.body (inside scope p) []))
+  -- the names that are visible so far, the ports or locals so far, and whether their names are new
+  pub record Declared (A : Type 0) : Type 0 where
+    pub names : VisibleNames
+    pub made : List A
+    pub right : Findings k (Unit {0})
 
--- what is visible behind the end of a procedure: the procedure, and nothing that it declares
-abbrev pub after_procedure : Visible → tree_procedure.Procedure → Visible
-after_procedure scope p = record {
-  names = declared scope.names p.name.name (meaning.Procedure (length scope.procedures));
-  procedures = scope.procedures ++ map (λ q. q.kind) (ports_of scope.names p).made ∷ [];
-}
+  abbrev pub with_one : {A : Type 0} → Declared A → Identifier → Meaning → A → Declared A
+  with_one s name m one = record {
+    names = declared s.names name.name m;
+    made = s.made ++ one ∷ [];
+    right = and k s.right (k.alone (is_fresh s.names name.name name.span.start));
+  }
 
--- procedures one after another, behind those that are judged already
-abbrev pub with_procedures : Visible → Verdict (List Procedure) → List tree_procedure.Procedure → Verdict (List Procedure)
-with_procedures scope done [] = done
-with_procedures scope done (p ∷ rest) = with_procedures (after_procedure scope p) (with_next done (judged_procedure scope p)) rest
+  -- ports of one kind
+  abbrev pub with_ports : PortKind → Declared Port → List Identifier → Declared Port
+  with_ports kind s [] = s
+  with_ports kind s (name ∷ rest) =
+      with_ports kind (with_one s name (port_meaning (length s.made) kind) (one_port kind name)) rest
 
--- ---- the whole
+  -- locals of one kind
+  abbrev pub with_locals : LocalKind → Declared Local → List Identifier → Declared Local
+  with_locals kind s [] = s
+  with_locals kind s (name ∷ rest) =
+      with_locals kind (with_one s name (local_meaning (length s.made) kind) (one_local kind name)) rest
 
-abbrev pub types_of : Description → SoFar
-types_of d = with_types (record { names = []; right = Ok tt }) d.types
+  -- the ports of a procedure
+  abbrev pub all_ports : Declared Port → List tree_port.Port → Declared Port
+  all_ports s [] = s
+  all_ports s (d ∷ rest) = all_ports (with_ports (port_kind s.names d.kind) s d.names) rest
 
--- what a description is: its procedures where it is typed, or the fault that is answered
-unfoldable pub judged_description : Description → Verdict (List Procedure)
-judged_description d =
-    becomes (λ p. p.1)
-    (both (types_of d).right (with_procedures (record { names = (types_of d).names; procedures = [] }) (Ok []) d.procedures))
+  -- the locals of a procedure
+  abbrev pub all_locals : Declared Local → List tree_local.Local → Declared Local
+  all_locals s [] = s
+  all_locals s (d ∷ rest) = all_locals (with_locals (local_kind s.names d.kind) s d.names) rest
+
+  -- nothing declared yet behind these names
+  abbrev pub behind : {A : Type 0} → VisibleNames → Declared A
+  behind names = record { names = names; made = []; right = Ok tt }
+
+  abbrev pub port_types : VisibleNames → Findings k (Unit {0}) → List tree_port.Port → Findings k (Unit {0})
+  port_types names outcome [] = outcome
+  port_types names outcome (d ∷ rest) = port_types names (and k outcome (k.alone (port_type names d.kind))) rest
+
+  abbrev pub local_types : VisibleNames → Findings k (Unit {0}) → List tree_local.Local → Findings k (Unit {0})
+  local_types names outcome [] = outcome
+  local_types names outcome (d ∷ rest) = local_types names (and k outcome (k.alone (local_type names d.kind))) rest
+
+  -- ---- procedures
+
+  abbrev pub ports_of : VisibleNames → tree_procedure.Procedure → Declared Port
+  ports_of names p = all_ports (behind names) p.ports
+
+  abbrev pub locals_of : VisibleNames → tree_procedure.Procedure → Declared Local
+  locals_of names p = all_locals (behind (ports_of names p).names) p.locals
+
+  -- what is visible in the body: all ports and locals, but not the procedure itself
+  abbrev pub inside : Visible → tree_procedure.Procedure → Visible
+  inside scope p = record { names = (locals_of scope.names p).names; procedures = scope.procedures }
+
+  -- what the types of the ports and locals owe, where all of these are visible
+  abbrev pub types_right : VisibleNames → tree_procedure.Procedure → Findings k (Unit {0})
+  types_right names p = and k (port_types names (Ok tt) p.ports) (local_types names (Ok tt) p.locals)
+
+  -- what the declarations of a procedure owe
+  unfoldable pub declarations_right : Visible → tree_procedure.Procedure → Findings k (Unit {0})
+  declarations_right scope p =
+      and k (k.alone (is_fresh scope.names p.name.name p.name.span.start))
+      (and k (and k (ports_of scope.names p).right (locals_of scope.names p).right) (types_right (inside scope p).names p))
+
+  -- a procedure where this is visible before it
+  unfoldable pub judged_procedure : Visible → tree_procedure.Procedure → Findings k Procedure
+  judged_procedure scope p =
+      becomes
+      (λ q. record { name = p.name.name; ports = (ports_of scope.names p).made; locals = (locals_of scope.names p).made; body = q.1 })
+      (both k (declarations_right scope p) (judged_command k p.body (inside scope p) []))
+
+  -- what is visible behind the end of a procedure: the procedure, and nothing that it declares
+  abbrev pub after_procedure : Visible → tree_procedure.Procedure → Visible
+  after_procedure scope p = record {
+    names = declared scope.names p.name.name (meaning.Procedure (length scope.procedures));
+    procedures = scope.procedures ++ map (λ q. q.kind) (ports_of scope.names p).made ∷ [];
+  }
+
+  -- procedures one after another, behind those that are judged already
+  abbrev pub with_procedures : Visible → Findings k (List Procedure) → List tree_procedure.Procedure → Findings k (List Procedure)
+  with_procedures scope done [] = done
+  with_procedures scope done (p ∷ rest) = with_procedures (after_procedure scope p) (with_next k done (judged_procedure scope p)) rest
+
+  -- ---- the whole
+
+  abbrev pub types_of : Description → SoFar
+  types_of d = with_types (record { names = []; right = Ok tt }) d.types
+
+  -- what a description is: its procedures where it is typed, or its faults
+  unfoldable pub judged_description : Description → Findings k (List Procedure)
+  judged_description d =
+      becomes (λ p. p.1)
+      (both k (types_of d).right (with_procedures (record { names = (types_of d).names; procedures = [] }) (Ok []) d.procedures))
+
+-- a description with all its faults
+unfoldable pub found_description : Description → Findings every (List Procedure)
+found_description = judged_description every

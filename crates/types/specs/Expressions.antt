@@ -3,7 +3,7 @@ use Rattle.std.specs.Prelude.{ℕ, ◌+◌, List, ◌&&◌, nat_le, max, if◌th
 use Rattle.value.specs.Word.{Word, least_width_of}
 use Rattle.types.specs.Names.{VisibleNames, find}
 use Rattle.types.specs.Uses.{type_use, value_use}
-use Rattle.types.specs.Verdict.{Verdict, becomes, if_right, both}
+use Rattle.types.specs.Findings.{Verdict, Keeping, Findings, becomes, if_right, both}
 use Rattle.types.specs.declared.expression.Valued.{Valued}
 use Rattle.refusals.specs.declared.types.Fault.TheVariants.{TooWide}
 use Rattle.typed.specs.declared.tree.Expression.TheVariants as typed
@@ -69,26 +69,29 @@ complement operand = record { expression = typed.Not operand.expression; width =
 abbrev pub cast : Valued → ℕ → Valued
 cast operand width = record { expression = typed.Cast operand.expression width; width = width }
 
--- an operator over what its operands are
-unfoldable pub binary : Operator → ℕ → Verdict Valued → Verdict Valued → Verdict Valued
-binary op start left right = if_right (both left right) (λ p.
-    becomes (combined op p.0 p.1) (width_within start (operator_width op p.0.width p.1.width) op))
+-- ---- what an expression is, whatever way its faults are kept
 
--- what an expression is where these names are visible and these channels are open
-abbrev pub Judged : Type 0
-Judged = VisibleNames → List Place → Verdict Valued
+module _ (k : Keeping) where
+  -- an operator over what its operands are
+  unfoldable pub binary : Operator → ℕ → Findings k Valued → Findings k Valued → Findings k Valued
+  binary op start left right = if_right (both k left right) (λ p.
+      k.alone (becomes (combined op p.0 p.1) (width_within start (operator_width op p.0.width p.1.width) op)))
 
--- one layer of an expression whose own first byte is at `start`
-abbrev pub shape_layer : Shape-F (ℕ → Judged) Judged → ℕ → Judged
-shape_layer (Shape-F.Number n) start names opened = Ok (constant (least_word n))
-shape_layer (Shape-F.Name name) start names opened = becomes of_name (value_use (find names opened name) start)
-shape_layer (Shape-F.Binary op left right) start names opened = binary op start (left names opened) (right names opened)
-shape_layer (Shape-F.Not operand) start names opened = becomes complement (operand names opened)
-shape_layer (Shape-F.Cast operand type) start names opened =
-    becomes (λ p. cast p.0 p.1) (both (operand names opened) (type_width names opened type))
+  -- what an expression is where these names are visible and these channels are open
+  abbrev pub JudgedValue : Type 0
+  JudgedValue = VisibleNames → List Place → Findings k Valued
 
-abbrev pub expression_layer : Expression-F (ℕ → Judged) Judged → Judged
-expression_layer e = e.shape e.own_start
+  -- one layer of an expression whose own first byte is at `start`
+  abbrev pub shape_layer : Shape-F (ℕ → JudgedValue) JudgedValue → ℕ → JudgedValue
+  shape_layer (Shape-F.Number n) start names opened = Ok (constant (least_word n))
+  shape_layer (Shape-F.Name name) start names opened = k.alone (becomes of_name (value_use (find names opened name) start))
+  shape_layer (Shape-F.Binary op left right) start names opened = binary op start (left names opened) (right names opened)
+  shape_layer (Shape-F.Not operand) start names opened = becomes complement (operand names opened)
+  shape_layer (Shape-F.Cast operand type) start names opened =
+      becomes (λ p. cast p.0 p.1) (both k (operand names opened) (k.alone (type_width names opened type)))
 
-abbrev pub judged_expression : Expression → Judged
-judged_expression = fold-Expression (ℕ → Judged) Judged shape_layer expression_layer
+  abbrev pub expression_layer : Expression-F (ℕ → JudgedValue) JudgedValue → JudgedValue
+  expression_layer e = e.shape e.own_start
+
+  abbrev pub judged_expression : Expression → JudgedValue
+  judged_expression = fold-Expression (ℕ → JudgedValue) JudgedValue shape_layer expression_layer

@@ -1,5 +1,5 @@
 pub mod Refusal
-pub mod Verdict
+pub mod Findings
 pub mod Names
 pub mod Uses
 pub mod Expressions
@@ -7,6 +7,4 @@ pub mod Arms
 pub mod Calls
 pub mod Commands
 pub mod Declarations
-pub mod Findings
-pub mod CommandFaults
-pub mod DeclarationFaults
+pub mod Walking

@@ -2,7 +2,7 @@
 use Rattle.std.specs.Prelude.{ℕ, List, [], ◌∷◌, ◌++◌, Option, Some, None, Bool, false, nat_eq, map, is_some, if◌then◌else◌, Ok, Err}
 use Rattle.std.specs.Cmp.Lexicographic.{pointwise}
 use Rattle.std.specs.List.{list_any}
-use Rattle.types.specs.Verdict.{Verdict}
+use Rattle.types.specs.Findings.{Verdict}
 use Rattle.refusals.specs.declared.types.Fault.TheVariants.{NameTwice}
 use Rattle.types.specs.declared.scope.Meaning.{Meaning}
 use Rattle.types.specs.declared.scope.Meaning.TheVariants as meaning

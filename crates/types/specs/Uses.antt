@@ -1,7 +1,7 @@
 -- What a name has to be at each place where a name can stand, a table for each place.
 use Rattle.std.specs.Prelude.{ℕ, Option, Some, None, Ok, Err}
 use Rattle.value.specs.Word.{Word}
-use Rattle.types.specs.Verdict.{Verdict, if_right}
+use Rattle.types.specs.Findings.{Verdict, if_right}
 use Rattle.refusals.specs.declared.types.Fault.TheVariants.{UnknownName, WrongKind, EnclosedTwice}
 use Rattle.types.specs.declared.scope.Meaning.{Meaning}
 use Rattle.types.specs.declared.scope.Meaning.TheVariants.{TypeName, Element, Procedure, Input, Output, SyncPort, Variable, Channel, Sync}

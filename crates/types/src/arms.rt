@@ -2,12 +2,11 @@
 ghost use Rattle.std.specs.Prelude.{◌≡◌, [], ◌∷◌, Ok, IfOk, OnOk, map};
 ghost use Rattle.types.specs.Arms as spec;
 ghost use Rattle.types.specs.Names.{entries};
-ghost use Rattle.types.specs.Verdict as verdict;
+ghost use Rattle.types.specs.Walking.{least};
 
-use crate::command::made;
 use crate::expression::{Valued, least_value};
 use crate::scope::{Names, Scope};
-use crate::verdict::{and, both, with_next};
+use crate::verdict::{Settled, Verdict, and, both, with_next};
 use crate::{Fault, uses};
 use indexmap::IndexSet;
 use std::alloc::{AllocError, Global};
@@ -18,50 +17,36 @@ use value::Value;
 /// Arms, and what they owe as a whole where each of them is right.
 #[derive(Drop)]
 pub(crate) struct Arms<T> {
-    pub(crate) arms: Result<Items<T>, Fault>,
-    pub(crate) own: Result<(), Fault>,
+    pub(crate) arms: Verdict<Items<T>>,
+    pub(crate) own: Verdict<()>,
 }
 
 /// An `if` with these arms and what stands after `else`.
 #[tactic(auto, unfolding(crate::specs::Arms::conditional))]
-pub(crate) fn conditional(
-    alloc: Global,
-    line: u64,
-    arms: Arms<Guarded>,
-    last: Result<Option<Command>, Fault>,
-) -> Result<Result<Command, Fault>, AllocError>
-    ensures { IfOk result (λ made. made ≡ spec.conditional line arms.arms arms.own last) }
+pub(crate) fn conditional(arms: Arms<Guarded>, last: Verdict<Option<Command>>) -> Verdict<Action>
+    ensures { result ≡ spec.conditional least arms.arms arms.own last }
 {
     let Arms { arms, own } = arms;
-    match both(arms, last) {
-        Ok((arms, last)) => match own {
-            Ok(()) => made(alloc, line, Action::If(arms, last)),
-            Err(fault) => Ok(Err(fault)),
-        },
-        Err(fault) => Ok(Err(fault)),
-    }
+    let (arms, last) = both(arms, last)?;
+    own?;
+    Ok(Action::If(arms, last))
 }
 
 /// An arm of `if`.
 #[tactic(auto, unfolding(crate::specs::Arms::guarded))]
-pub(crate) fn guarded(
-    guard: Result<Valued, Fault>,
-    body: Result<Command, Fault>,
-) -> Result<Guarded, Fault>
-    ensures { result ≡ spec.guarded guard body }
+pub(crate) fn guarded(guard: Verdict<Valued>, body: Verdict<Command>) -> Verdict<Guarded>
+    ensures { result ≡ spec.guarded least guard body }
 {
-    match both(guard, body) {
-        Ok((guard, body)) => Ok(Guarded {
-            guard: guard.expression.into_inner(),
-            body,
-        }),
-        Err(fault) => Err(fault),
-    }
+    let (guard, body) = both(guard, body)?;
+    Ok(Guarded {
+        guard: guard.expression.into_inner(),
+        body,
+    })
 }
 
 /// That a guard that is right is one bit wide.
-pub(crate) fn one_bit(guard: &Result<Valued, Fault>, start: u64) -> Result<(), Fault>
-    ensures { result ≡ spec.one_bit guard.now start }
+pub(crate) fn one_bit(guard: &Verdict<Valued>, start: u64) -> Verdict<()>
+    ensures { result ≡ spec.one_bit least guard.now start }
 {
     match guard {
         Ok(guard) => {
@@ -78,29 +63,20 @@ pub(crate) fn one_bit(guard: &Result<Valued, Fault>, start: u64) -> Result<(), F
 /// A `case` over the expression with these arms and what stands after `else`.
 #[tactic(auto, unfolding(crate::specs::Arms::cased))]
 pub(crate) fn cased(
-    alloc: Global,
-    line: u64,
-    subject: Result<Valued, Fault>,
+    subject: Verdict<Valued>,
     arms: Arms<Labelled>,
-    last: Result<Option<Command>, Fault>,
-) -> Result<Result<Command, Fault>, AllocError>
-    ensures { IfOk result (λ made. made ≡ spec.cased line subject arms.arms arms.own last) }
+    last: Verdict<Option<Command>>,
+) -> Verdict<Action>
+    ensures { result ≡ spec.cased least subject arms.arms arms.own last }
 {
     let Arms { arms, own } = arms;
-    match both(subject, both(arms, last)) {
-        Ok((subject, (arms, last))) => match own {
-            Ok(()) => {
-                let subject = subject.expression.into_inner();
-                made(alloc, line, Action::Case(subject, arms, last))
-            }
-            Err(fault) => Ok(Err(fault)),
-        },
-        Err(fault) => Ok(Err(fault)),
-    }
+    let (subject, (arms, last)) = both(subject, both(arms, last))?;
+    own?;
+    Ok(Action::Case(subject.expression.into_inner(), arms, last))
 }
 
 /// How wide the expression is, if it is right.
-pub(crate) fn width_of(subject: &Result<Valued, Fault>) -> u8
+pub(crate) fn width_of(subject: &Verdict<Valued>) -> u8
     ensures { result ≡ spec.width_of subject.now }
 {
     match subject {
@@ -122,8 +98,8 @@ pub(crate) fn settled_labels(
     scope: &Scope,
     opened: &[Place],
     labels: &[Label],
-) -> Result<Result<Items<LabelUse>, Fault>, AllocError>
-    ensures { IfOk result (λ made. made ≡ spec.judged_labels (entries scope.now.names) opened.now labels.now) }
+) -> Settled<Items<LabelUse>>
+    ensures { IfOk result (λ made. made ≡ spec.judged_labels least (entries scope.now.names) opened.now labels.now) }
 {
     let mut settled = Ok(Items::new(alloc));
     for label in labels {
@@ -132,29 +108,24 @@ pub(crate) fn settled_labels(
     Ok(settled)
 }
 
-fn settled_label(names: &Names, opened: &[Place], label: &Label) -> Result<LabelUse, Fault>
+fn settled_label(names: &Names, opened: &[Place], label: &Label) -> Verdict<LabelUse>
     ensures { result ≡ spec.judged_label (entries names.now) opened.now label.now }
 {
     let offset = label.span.start;
-    match &label.value {
-        LabelValue::Number(number) => Ok(LabelUse {
-            offset,
-            value: least_value(*number),
-        }),
-        LabelValue::Name(name) => match uses::label_use(names.find(opened, name), offset) {
-            Ok(value) => Ok(LabelUse { offset, value }),
-            Err(fault) => Err(fault),
-        },
-    }
+    let value = match &label.value {
+        LabelValue::Number(number) => least_value(*number),
+        LabelValue::Name(name) => uses::label_use(names.find(opened, name), offset)?,
+    };
+    Ok(LabelUse { offset, value })
 }
 
 /// That the labels, if they are right, are no wider than the expression and have values that were not seen before.
 pub(crate) fn new_labels(
     seen: &mut IndexSet<u64>,
     width: u8,
-    labels: &Result<Items<LabelUse>, Fault>,
-) -> Result<Result<(), Fault>, AllocError>
-    ensures made { IfOk result (λ made. made ≡ spec.new_labels width seen.old.keys labels.now) }
+    labels: &Verdict<Items<LabelUse>>,
+) -> Settled<()>
+    ensures made { IfOk result (λ made. made ≡ spec.new_labels least width seen.old.keys labels.now) }
     ensures seen { OnOk result (seen.new.keys ≡ spec.seen_after seen.old.keys labels.now) }
 {
     match labels {
@@ -163,12 +134,8 @@ pub(crate) fn new_labels(
     }
 }
 
-fn all_new(
-    seen: &mut IndexSet<u64>,
-    width: u8,
-    labels: &[LabelUse],
-) -> Result<Result<(), Fault>, AllocError>
-    ensures made { IfOk result (λ made. made ≡ spec.all_new width seen.old.keys (Ok tt) labels.now) }
+fn all_new(seen: &mut IndexSet<u64>, width: u8, labels: &[LabelUse]) -> Settled<()>
+    ensures made { IfOk result (λ made. made ≡ spec.all_new least width seen.old.keys (Ok tt) labels.now) }
     ensures seen { OnOk result (seen.new.keys ≡ spec.with_all_seen seen.old.keys labels.now) }
 {
     let mut outcome = Ok(());
@@ -178,11 +145,7 @@ fn all_new(
     Ok(outcome)
 }
 
-fn new_label(
-    seen: &mut IndexSet<u64>,
-    width: u8,
-    label: LabelUse,
-) -> Result<Result<(), Fault>, AllocError>
+fn new_label(seen: &mut IndexSet<u64>, width: u8, label: LabelUse) -> Settled<()>
     ensures made { IfOk result (λ made. made ≡ spec.new_label width seen.old.keys label) }
     ensures seen { OnOk result (seen.new.keys ≡ spec.with_seen seen.old.keys label.value.bits) }
 {
@@ -198,10 +161,10 @@ fn new_label(
 #[tactic(auto, unfolding(crate::specs::Arms::labelled))]
 pub(crate) fn labelled(
     alloc: Global,
-    labels: Result<Items<LabelUse>, Fault>,
-    body: Result<Command, Fault>,
-) -> Result<Result<Labelled, Fault>, AllocError>
-    ensures { IfOk result (λ made. made ≡ spec.labelled labels body) }
+    labels: Verdict<Items<LabelUse>>,
+    body: Verdict<Command>,
+) -> Settled<Labelled>
+    ensures { IfOk result (λ made. made ≡ spec.labelled least labels body) }
 {
     match both(labels, body) {
         Ok((labels, body)) => Ok(Ok(Labelled {
@@ -224,50 +187,21 @@ fn values_of(alloc: Global, labels: &[LabelUse]) -> Result<Items<u64>, AllocErro
 
 /// An arm of `select` or `arbitrate`.
 #[tactic(auto, unfolding(crate::specs::Arms::arm_of))]
-pub(crate) fn arm_of(
-    channel: Result<ChannelUse, Fault>,
-    body: Result<Command, Fault>,
-) -> Result<Arm, Fault>
-    ensures { result ≡ spec.arm_of channel body }
+pub(crate) fn arm_of(channel: Verdict<ChannelUse>, body: Verdict<Command>) -> Verdict<Arm>
+    ensures { result ≡ spec.arm_of least channel body }
 {
-    match both(channel, body) {
-        Ok((channel, body)) => Ok(Arm { channel, body }),
-        Err(fault) => Err(fault),
-    }
+    let (channel, body) = both(channel, body)?;
+    Ok(Arm { channel, body })
 }
 
-/// A `select` with these arms.
-#[tactic(auto, unfolding(crate::specs::Arms::chosen))]
-pub(crate) fn chosen(
-    alloc: Global,
-    line: u64,
-    arms: Result<Items<Arm>, Fault>,
-) -> Result<Result<Command, Fault>, AllocError>
-    ensures { IfOk result (λ made. made ≡ spec.chosen line arms) }
+/// The arms, of which no two may be on one channel.
+#[tactic(auto, unfolding(crate::specs::Arms::distinct))]
+pub(crate) fn distinct(alloc: Global, arms: Verdict<Items<Arm>>) -> Settled<Items<Arm>>
+    ensures { IfOk result (λ made. made ≡ spec.distinct least arms) }
 {
     match arms {
         Ok(arms) => match different_channels(alloc, arms.as_slice())? {
-            Ok(()) => made(alloc, line, Action::Select(arms)),
-            Err(fault) => Ok(Err(fault)),
-        },
-        Err(fault) => Ok(Err(fault)),
-    }
-}
-
-/// An `arbitrate` with these arms.
-#[tactic(auto, unfolding(crate::specs::Arms::arbitrated))]
-pub(crate) fn arbitrated(
-    alloc: Global,
-    line: u64,
-    first: Result<Arm, Fault>,
-    second: Result<Arm, Fault>,
-) -> Result<Result<Command, Fault>, AllocError>
-    ensures { IfOk result (λ made. made ≡ spec.arbitrated line (verdict.all (first ∷ second ∷ []))) }
-{
-    let arms = with_next(with_next(Ok(Items::new(alloc)), first)?, second)?;
-    match arms {
-        Ok(arms) => match different_channels(alloc, arms.as_slice())? {
-            Ok(()) => made(alloc, line, Action::Arbitrate(arms)),
+            Ok(()) => Ok(Ok(arms)),
             Err(fault) => Ok(Err(fault)),
         },
         Err(fault) => Ok(Err(fault)),
@@ -275,21 +209,25 @@ pub(crate) fn arbitrated(
 }
 
 /// That no channel stands in two of the arms.
-fn different_channels(alloc: Global, arms: &[Arm]) -> Result<Result<(), Fault>, AllocError>
-    ensures { IfOk result (λ made. made ≡ spec.different_channels arms.now) }
+fn different_channels(alloc: Global, arms: &[Arm]) -> Settled<()>
+    ensures { IfOk result (λ made. made ≡ spec.different_channels least arms.now) }
 {
     let mut seen = IndexSet::new(alloc);
+    different(&mut seen, arms)
+}
+
+/// That no channel stands in two of the arms, nor was seen before.
+fn different(seen: &mut IndexSet<Place>, arms: &[Arm]) -> Settled<()>
+    ensures { IfOk result (λ made. made ≡ spec.different least seen.old.keys (Ok tt) (map spec.channel_of_arm arms.now)) }
+{
     let mut outcome = Ok(());
     for arm in arms {
-        outcome = and(outcome, new_channel(&mut seen, arm.channel)?);
+        outcome = and(outcome, new_channel(seen, arm.channel)?);
     }
     Ok(outcome)
 }
 
-fn new_channel(
-    seen: &mut IndexSet<Place>,
-    channel: ChannelUse,
-) -> Result<Result<(), Fault>, AllocError>
+fn new_channel(seen: &mut IndexSet<Place>, channel: ChannelUse) -> Settled<()>
     ensures made { IfOk result (λ made. made ≡ spec.new_channel seen.old.keys channel) }
     ensures seen { OnOk result (seen.new.keys ≡ spec.with_channel seen.old.keys channel.channel) }
 {

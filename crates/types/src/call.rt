@@ -1,15 +1,15 @@
 ghost use Rattle.std.specs.Prelude.{◌≡◌, [], slice_get, IfOk};
 ghost use Rattle.types.specs.Calls as calls;
 ghost use Rattle.types.specs.Names.{entries, look_up};
+ghost use Rattle.types.specs.Walking.{least};
 
-use crate::command::made;
 use crate::scope::{Meaning, Names, Scope};
-use crate::verdict::{both, with_next};
+use crate::verdict::{Settled, both, with_next};
 use crate::{Fault, uses};
 use indexmap::IndexSet;
 use std::alloc::{AllocError, Global};
 use syntax::{Identifier, Items};
-use typed::{Action, ChannelUse, Command, Place, PortKind};
+use typed::{Action, ChannelUse, Place, PortKind};
 use value::Width;
 
 /// A call of the procedure with the arguments.
@@ -18,11 +18,10 @@ pub(crate) fn called(
     alloc: Global,
     scope: &Scope,
     opened: &[Place],
-    line: u64,
     procedure: &Identifier,
     arguments: &[Identifier],
-) -> Result<Result<Command, Fault>, AllocError>
-    ensures { IfOk result (λ made. made ≡ calls.called (entries scope.now.names) scope.now.signatures opened.now line procedure.now arguments.now) }
+) -> Settled<Action>
+    ensures { IfOk result (λ made. made ≡ calls.called least (entries scope.now.names) scope.now.signatures opened.now procedure.now arguments.now) }
 {
     let offset = procedure.span.start;
     let found = uses::procedure_use(scope.names.find(opened, &procedure.name), offset);
@@ -32,7 +31,7 @@ pub(crate) fn called(
             if !fits(alloc, scope, procedure, arguments, channels.as_slice())? {
                 return Ok(Err(Fault::PortMismatch(offset)));
             }
-            made(alloc, line, Action::Call(procedure, channels))
+            Ok(Ok(Action::Call(procedure, channels)))
         }
         Err(fault) => Ok(Err(fault)),
     }
@@ -44,8 +43,8 @@ fn settled_arguments(
     names: &Names,
     opened: &[Place],
     arguments: &[Identifier],
-) -> Result<Result<Items<ChannelUse>, Fault>, AllocError>
-    ensures { IfOk result (λ made. made ≡ calls.judged_arguments (entries names.now) opened.now arguments.now) }
+) -> Settled<Items<ChannelUse>>
+    ensures { IfOk result (λ made. made ≡ calls.judged_arguments least (entries names.now) opened.now arguments.now) }
 {
     let mut channels = Ok(Items::new(alloc));
     for argument in arguments {
@@ -147,6 +146,13 @@ fn all_differ(alloc: Global, channels: &[ChannelUse]) -> Result<bool, AllocError
     ensures { IfOk result (λ answer. answer ≡ calls.all_differ [] channels.now) }
 {
     let mut seen = IndexSet::new(alloc);
+    differ_from(&mut seen, channels)
+}
+
+/// Whether no channel is passed twice, nor was seen before.
+fn differ_from(seen: &mut IndexSet<Place>, channels: &[ChannelUse]) -> Result<bool, AllocError>
+    ensures { IfOk result (λ answer. answer ≡ calls.all_differ seen.old.keys channels.now) }
+{
     for channel in channels {
         if !seen.insert(channel.channel)? {
             return Ok(false);

@@ -1,27 +1,30 @@
-ghost use Rattle.std.specs.Prelude.{◌≡◌, Ok, IfOk, map};
+ghost use Rattle.std.specs.Prelude.{◌≡◌, [], ◌∷◌, Ok, IfOk, OnOk, map};
 ghost use Rattle.std.specs.Option.{option_map};
-ghost use Rattle.types.specs.Arms as arms;
+ghost use Rattle.types.specs.Arms as arms_of;
 ghost use Rattle.types.specs.Commands as spec;
-ghost use Rattle.types.specs.Commands.{visible_in, judged_command, judged_guarded, judged_labelled, judged_arm};
-ghost use Rattle.types.specs.Names.{entries, find};
-ghost use Rattle.types.specs.Uses as uses;
-ghost use Rattle.types.specs.Verdict as verdict;
+ghost use Rattle.types.specs.Commands.{judged_action, judged_command, judged_guarded, judged_labelled, judged_arm};
+ghost use Rattle.types.specs.Findings as findings;
+ghost use Rattle.types.specs.Walking.{least, visible_in};
+ghost use Rattle.syntax.specs.declared.command.Action.TheVariants as form;
 ghost use Rattle.typed.specs.declared.tree.Action.TheVariants as typed;
 
 use crate::arms::{
-    Arms, arbitrated, arm_of, cased, chosen, conditional, guarded, labelled, new_labels, one_bit,
+    Arms, arm_of, cased, conditional, distinct, guarded, labelled, new_labels, one_bit,
     settled_labels, width_of,
 };
 use crate::call::called;
-use crate::expression::{Valued, settled_expression};
+use crate::expression::settled_expression;
+use crate::forms::{
+    assignment, channel_alone, enclosing, guarded_loop, opened_by, receiver, receiving, sender,
+    sending, sync, target,
+};
 use crate::scope::Scope;
-use crate::verdict::{and, both, with_next};
-use crate::{Fault, uses};
+use crate::uses;
+use crate::verdict::{Settled, Verdict, and, with_next};
 use indexmap::IndexSet;
 use std::alloc::{AllocError, Global};
-use syntax::{Identifier, Items};
-use typed::{Action, Arm, ChannelUse, Command, Guarded, Labelled, Place, VariableUse};
-use value::Width;
+use syntax::{Expression, Identifier, Items};
+use typed::{Action, Arm, Command, Guarded, Labelled, Place};
 
 /// The command with its names settled, at a place around which these channels are open.
 #[cycle(settled_command)]
@@ -30,89 +33,226 @@ pub(crate) fn settled_command(
     scope: &Scope,
     opened: &[Place],
     command: &syntax::Command,
-) -> Result<Result<Command, Fault>, AllocError>
-    ensures { IfOk result (λ made. made ≡ judged_command command.now (visible_in scope.now) opened.now) }
+) -> Settled<Command>
+    ensures { IfOk result (λ made. made ≡ judged_command least command.now (visible_in scope.now) opened.now) }
 {
-    let line = command.span.line;
-    match command.action.get() {
-        syntax::Action::Continue => made(alloc, line, Action::Continue),
-        syntax::Action::Halt => made(alloc, line, Action::Halt),
-        syntax::Action::Sync(channel) => sync(alloc, scope, opened, line, channel),
+    let action = settled_action(alloc, scope, opened, command.action.get())?;
+    made(alloc, command.span.line, action)
+}
+
+/// The command on the line that does the action.
+fn made(alloc: Global, line: u64, action: Verdict<Action>) -> Settled<Command>
+    ensures { IfOk result (λ made. made ≡ findings.becomes (spec.made line) action) }
+{
+    match action {
+        Ok(action) => Ok(Ok(Command::new(alloc, line, action)?)),
+        Err(fault) => Ok(Err(fault)),
+    }
+}
+
+/// What a command does. A function for each form with children, and of those the child first that it recurses on: its
+/// depth is what falls.
+#[cycle(settled_command)]
+fn settled_action(
+    alloc: Global,
+    scope: &Scope,
+    opened: &[Place],
+    action: &syntax::Action,
+) -> Settled<Action>
+    ensures { IfOk result (λ made. made ≡ judged_action least action.now (visible_in scope.now) opened.now) }
+{
+    match action {
+        syntax::Action::Continue => Ok(Ok(Action::Continue)),
+        syntax::Action::Halt => Ok(Ok(Action::Halt)),
+        syntax::Action::Sync(channel) => Ok(sync(scope, opened, channel)),
         syntax::Action::Assign(variable, value) => {
-            let value_start = value.span.start;
-            let value = settled_expression(alloc, &scope.names, opened, value)?;
-            assignment(
-                alloc,
-                line,
-                target(scope, opened, variable),
-                value,
-                value_start,
-            )
+            settled_assign(alloc, scope, opened, variable, value)
         }
-        syntax::Action::Send(channel, value) => {
-            let value_start = value.span.start;
-            let value = settled_expression(alloc, &scope.names, opened, value)?;
-            sending(
-                alloc,
-                line,
-                sender(scope, opened, channel),
-                value,
-                value_start,
-            )
-        }
+        syntax::Action::Send(channel, value) => settled_send(alloc, scope, opened, channel, value),
         syntax::Action::Receive(channel, variable) => {
             let channel = receiver(scope, opened, channel);
-            receiving(alloc, line, channel, target(scope, opened, variable))
+            Ok(receiving(channel, target(scope, opened, variable)))
         }
         syntax::Action::Call(procedure, arguments) => {
-            called(alloc, scope, opened, line, procedure, arguments.as_slice())
+            called(alloc, scope, opened, procedure, arguments.as_slice())
         }
-        syntax::Action::Loop(body) => {
-            let body = settled_command(alloc, scope, opened, body)?;
-            looped(alloc, line, body)
-        }
-        syntax::Action::While(guard, body) => {
-            let guard_start = guard.span.start;
-            let guard = settled_expression(alloc, &scope.names, opened, guard)?;
-            let body = settled_command(alloc, scope, opened, body)?;
-            guarded_loop(alloc, line, guard, guard_start, body)
-        }
+        syntax::Action::Loop(body) => settled_loop(alloc, scope, opened, body),
+        syntax::Action::While(guard, body) => settled_while(alloc, scope, opened, body, guard),
         syntax::Action::If(arms, last) => {
-            let arms = settled_guarded(alloc, scope, opened, arms.as_slice())?;
             let last = settled_last(alloc, scope, opened, last)?;
-            conditional(alloc, line, arms, last)
+            settled_if(alloc, scope, opened, arms.as_slice(), last)
         }
         syntax::Action::Case(subject, arms, last) => {
-            let subject = settled_expression(alloc, &scope.names, opened, subject)?;
-            let width = width_of(&subject);
-            let arms = settled_labelled(alloc, scope, opened, width, arms.as_slice())?;
             let last = settled_last(alloc, scope, opened, last)?;
-            cased(alloc, line, subject, arms, last)
+            settled_case(alloc, scope, opened, arms.as_slice(), last, subject)
         }
-        syntax::Action::Input(channel, body) => {
-            let channel = receiver(scope, opened, channel);
-            let inner = opened_by(alloc, opened, &receiving_channel(&channel))?;
-            let body = settled_command(alloc, scope, inner.as_slice(), body)?;
-            enclosing(alloc, line, channel, body)
-        }
-        syntax::Action::Select(arms) => {
-            let arms = settled_arms(alloc, scope, opened, arms.as_slice())?;
-            chosen(alloc, line, arms)
-        }
+        syntax::Action::Input(channel, body) => settled_input(alloc, scope, opened, body, channel),
+        syntax::Action::Select(arms) => settled_select(alloc, scope, opened, arms.as_slice()),
         syntax::Action::Arbitrate(first, second) => {
             let first = settled_arm(alloc, scope, opened, first)?;
-            let second = settled_arm(alloc, scope, opened, second)?;
-            arbitrated(alloc, line, first, second)
+            settled_arbitrate(alloc, scope, opened, second, first)
         }
         syntax::Action::Sequence(children) => {
-            let children = settled_commands(alloc, scope, opened, children.as_slice())?;
-            sequence(alloc, line, children)
+            settled_sequence(alloc, scope, opened, children.as_slice())
         }
         syntax::Action::Parallel(children) => {
-            let children = settled_commands(alloc, scope, opened, children.as_slice())?;
-            parallel(alloc, line, children)
+            settled_parallel(alloc, scope, opened, children.as_slice())
         }
     }
+}
+
+fn settled_assign(
+    alloc: Global,
+    scope: &Scope,
+    opened: &[Place],
+    variable: &Identifier,
+    value: &Expression,
+) -> Settled<Action>
+    ensures { IfOk result (λ made. made ≡ spec.assignment least (spec.target variable.now (visible_in scope.now) opened.now) (spec.value least value.now (visible_in scope.now) opened.now) (spec.start_of value.now)) }
+{
+    let settled = settled_expression(alloc, &scope.names, opened, value)?;
+    let target = target(scope, opened, variable);
+    Ok(assignment(target, settled, value.span.start))
+}
+
+fn settled_send(
+    alloc: Global,
+    scope: &Scope,
+    opened: &[Place],
+    channel: &Identifier,
+    value: &Expression,
+) -> Settled<Action>
+    ensures { IfOk result (λ made. made ≡ spec.sending least (spec.sender channel.now (visible_in scope.now) opened.now) (spec.value least value.now (visible_in scope.now) opened.now) (spec.start_of value.now)) }
+{
+    let settled = settled_expression(alloc, &scope.names, opened, value)?;
+    let channel = sender(scope, opened, channel);
+    Ok(sending(channel, settled, value.span.start))
+}
+
+#[cycle(settled_command)]
+fn settled_loop(
+    alloc: Global,
+    scope: &Scope,
+    opened: &[Place],
+    body: &syntax::Command,
+) -> Settled<Action>
+    ensures { IfOk result (λ made. made ≡ judged_action least (form.Loop body.now) (visible_in scope.now) opened.now) }
+{
+    Ok(settled_command(alloc, scope, opened, body)?.map(Action::Loop))
+}
+
+#[cycle(settled_command)]
+fn settled_while(
+    alloc: Global,
+    scope: &Scope,
+    opened: &[Place],
+    body: &syntax::Command,
+    guard: &Expression,
+) -> Settled<Action>
+    ensures { IfOk result (λ made. made ≡ judged_action least (form.While guard.now body.now) (visible_in scope.now) opened.now) }
+{
+    let start = guard.span.start;
+    let guard = settled_expression(alloc, &scope.names, opened, guard)?;
+    let body = settled_command(alloc, scope, opened, body)?;
+    Ok(guarded_loop(guard, start, body))
+}
+
+#[cycle(settled_command)]
+fn settled_if(
+    alloc: Global,
+    scope: &Scope,
+    opened: &[Place],
+    arms: &[syntax::Guarded],
+    last: Verdict<Option<Command>>,
+) -> Settled<Action>
+    ensures { IfOk result (λ made. made ≡ arms_of.conditional least (spec.guarded_arms least (map (judged_guarded least) arms.now) (visible_in scope.now) opened.now) (spec.guards_own least (map (judged_guarded least) arms.now) (visible_in scope.now) opened.now) last) }
+{
+    let arms = settled_guarded(alloc, scope, opened, arms)?;
+    Ok(conditional(arms, last))
+}
+
+#[cycle(settled_command)]
+fn settled_case(
+    alloc: Global,
+    scope: &Scope,
+    opened: &[Place],
+    arms: &[syntax::CaseArm],
+    last: Verdict<Option<Command>>,
+    subject: &Expression,
+) -> Settled<Action>
+    ensures { IfOk result (λ made. made ≡ arms_of.cased least (spec.value least subject.now (visible_in scope.now) opened.now) (spec.labelled_arms least (map (judged_labelled least) arms.now) (visible_in scope.now) opened.now) (spec.case_own least (arms_of.width_of (spec.value least subject.now (visible_in scope.now) opened.now)) (map (judged_labelled least) arms.now) (visible_in scope.now) opened.now) last) }
+{
+    let subject = settled_expression(alloc, &scope.names, opened, subject)?;
+    let arms = settled_labelled(alloc, scope, opened, width_of(&subject), arms)?;
+    Ok(cased(subject, arms, last))
+}
+
+#[cycle(settled_command)]
+fn settled_input(
+    alloc: Global,
+    scope: &Scope,
+    opened: &[Place],
+    body: &syntax::Command,
+    channel: &Identifier,
+) -> Settled<Action>
+    ensures { IfOk result (λ made. made ≡ judged_action least (form.Input channel.now body.now) (visible_in scope.now) opened.now) }
+{
+    let channel = receiver(scope, opened, channel);
+    let inner = opened_by(alloc, opened, &channel_alone(&channel))?;
+    let body = settled_command(alloc, scope, inner.as_slice(), body)?;
+    Ok(enclosing(channel, body))
+}
+
+#[cycle(settled_command)]
+fn settled_select(
+    alloc: Global,
+    scope: &Scope,
+    opened: &[Place],
+    arms: &[syntax::Arm],
+) -> Settled<Action>
+    ensures { IfOk result (λ made. made ≡ judged_action least (form.Select arms.now) (visible_in scope.now) opened.now) }
+{
+    let arms = settled_arms(alloc, scope, opened, arms)?;
+    Ok(distinct(alloc, arms)?.map(Action::Select))
+}
+
+#[cycle(settled_command)]
+fn settled_arbitrate(
+    alloc: Global,
+    scope: &Scope,
+    opened: &[Place],
+    second: &syntax::Arm,
+    first: Verdict<Arm>,
+) -> Settled<Action>
+    ensures { IfOk result (λ made. made ≡ findings.becomes (λ these. typed.Arbitrate these) (arms_of.distinct least (findings.all least (first ∷ judged_arm least second.now (visible_in scope.now) opened.now ∷ [])))) }
+{
+    let second = settled_arm(alloc, scope, opened, second)?;
+    let arms = with_next(with_next(Ok(Items::new(alloc)), first)?, second)?;
+    Ok(distinct(alloc, arms)?.map(Action::Arbitrate))
+}
+
+#[cycle(settled_command)]
+fn settled_sequence(
+    alloc: Global,
+    scope: &Scope,
+    opened: &[Place],
+    children: &[syntax::Command],
+) -> Settled<Action>
+    ensures { IfOk result (λ made. made ≡ judged_action least (form.Sequence children.now) (visible_in scope.now) opened.now) }
+{
+    Ok(settled_commands(alloc, scope, opened, children)?.map(Action::Sequence))
+}
+
+#[cycle(settled_command)]
+fn settled_parallel(
+    alloc: Global,
+    scope: &Scope,
+    opened: &[Place],
+    children: &[syntax::Command],
+) -> Settled<Action>
+    ensures { IfOk result (λ made. made ≡ judged_action least (form.Parallel children.now) (visible_in scope.now) opened.now) }
+{
+    Ok(settled_commands(alloc, scope, opened, children)?.map(Action::Parallel))
 }
 
 /// Each of the commands.
@@ -122,8 +262,8 @@ fn settled_commands(
     scope: &Scope,
     opened: &[Place],
     commands: &[syntax::Command],
-) -> Result<Result<Items<Command>, Fault>, AllocError>
-    ensures { IfOk result (λ made. made ≡ spec.each (map judged_command commands.now) (visible_in scope.now) opened.now) }
+) -> Settled<Items<Command>>
+    ensures { IfOk result (λ made. made ≡ spec.each least (map (judged_command least) commands.now) (visible_in scope.now) opened.now) }
 {
     let mut settled = Ok(Items::new(alloc));
     for command in commands {
@@ -140,14 +280,11 @@ fn settled_last(
     scope: &Scope,
     opened: &[Place],
     last: &Option<syntax::Command>,
-) -> Result<Result<Option<Command>, Fault>, AllocError>
-    ensures { IfOk result (λ made. made ≡ spec.last_of (option_map judged_command last.now) (visible_in scope.now) opened.now) }
+) -> Settled<Option<Command>>
+    ensures { IfOk result (λ made. made ≡ spec.last_of least (option_map (judged_command least) last.now) (visible_in scope.now) opened.now) }
 {
     match last {
-        Some(body) => match settled_command(alloc, scope, opened, body)? {
-            Ok(body) => Ok(Ok(Some(body))),
-            Err(fault) => Ok(Err(fault)),
-        },
+        Some(body) => Ok(settled_command(alloc, scope, opened, body)?.map(Some)),
         None => Ok(Ok(None)),
     }
 }
@@ -160,18 +297,34 @@ fn settled_guarded(
     opened: &[Place],
     arms: &[syntax::Guarded],
 ) -> Result<Arms<Guarded>, AllocError>
-    ensures arms { IfOk result (λ made. made.arms ≡ spec.guarded_arms (map judged_guarded arms.now) (visible_in scope.now) opened.now) }
-    ensures own { IfOk result (λ made. made.own ≡ spec.guards_own (map judged_guarded arms.now) (visible_in scope.now) opened.now) }
+    ensures arms { IfOk result (λ made. made.arms ≡ spec.guarded_arms least (map (judged_guarded least) arms.now) (visible_in scope.now) opened.now) }
+    ensures own { IfOk result (λ made. made.own ≡ spec.guards_own least (map (judged_guarded least) arms.now) (visible_in scope.now) opened.now) }
 {
     let mut settled = Ok(Items::new(alloc));
     let mut own = Ok(());
     for arm in arms {
-        let guard = settled_expression(alloc, &scope.names, opened, &arm.guard)?;
-        own = and(own, one_bit(&guard, arm.guard.span.start));
-        let body = settled_command(alloc, scope, opened, &arm.body)?;
-        settled = with_next(settled, guarded(guard, body))?;
+        let (next, owed) = settled_guarded_arm(alloc, scope, opened, arm)?;
+        settled = with_next(settled, next)?;
+        own = and(own, owed);
     }
     Ok(Arms { arms: settled, own })
+}
+
+/// An arm of an `if`, and what it owes where its guard is right.
+#[cycle(settled_command)]
+fn settled_guarded_arm(
+    alloc: Global,
+    scope: &Scope,
+    opened: &[Place],
+    arm: &syntax::Guarded,
+) -> Result<(Verdict<Guarded>, Verdict<()>), AllocError>
+    ensures arm { IfOk result (λ made. made.0 ≡ (judged_guarded least arm.now).arm (visible_in scope.now) opened.now) }
+    ensures own { IfOk result (λ made. made.1 ≡ (judged_guarded least arm.now).own (visible_in scope.now) opened.now) }
+{
+    let guard = settled_expression(alloc, &scope.names, opened, &arm.guard)?;
+    let own = one_bit(&guard, arm.guard.span.start);
+    let body = settled_command(alloc, scope, opened, &arm.body)?;
+    Ok((guarded(guard, body), own))
 }
 
 /// The arms of a `case` over an expression of so many bits.
@@ -183,19 +336,38 @@ fn settled_labelled(
     width: u8,
     arms: &[syntax::CaseArm],
 ) -> Result<Arms<Labelled>, AllocError>
-    ensures arms { IfOk result (λ made. made.arms ≡ spec.labelled_arms (map judged_labelled arms.now) (visible_in scope.now) opened.now) }
-    ensures own { IfOk result (λ made. made.own ≡ spec.case_own width (map judged_labelled arms.now) (visible_in scope.now) opened.now) }
+    ensures arms { IfOk result (λ made. made.arms ≡ spec.labelled_arms least (map (judged_labelled least) arms.now) (visible_in scope.now) opened.now) }
+    ensures own { IfOk result (λ made. made.own ≡ spec.case_own least width (map (judged_labelled least) arms.now) (visible_in scope.now) opened.now) }
 {
     let mut seen = IndexSet::new(alloc);
     let mut settled = Ok(Items::new(alloc));
     let mut own = Ok(());
     for arm in arms {
-        let labels = settled_labels(alloc, scope, opened, arm.labels.as_slice())?;
-        own = and(own, new_labels(&mut seen, width, &labels)?);
-        let body = settled_command(alloc, scope, opened, &arm.body)?;
-        settled = with_next(settled, labelled(alloc, labels, body)?)?;
+        let (next, owed) = settled_labelled_arm(alloc, scope, opened, width, arm, &mut seen)?;
+        settled = with_next(settled, next)?;
+        own = and(own, owed);
     }
     Ok(Arms { arms: settled, own })
+}
+
+/// An arm of a `case`, and what its labels owe where these values were seen before it.
+#[cycle(settled_command)]
+fn settled_labelled_arm(
+    alloc: Global,
+    scope: &Scope,
+    opened: &[Place],
+    width: u8,
+    arm: &syntax::CaseArm,
+    seen: &mut IndexSet<u64>,
+) -> Result<(Verdict<Labelled>, Verdict<()>), AllocError>
+    ensures arm { IfOk result (λ made. made.0 ≡ (judged_labelled least arm.now).arm (visible_in scope.now) opened.now) }
+    ensures own { IfOk result (λ made. made.1 ≡ arms_of.new_labels least width seen.old.keys ((judged_labelled least arm.now).labels (visible_in scope.now) opened.now)) }
+    ensures seen { OnOk result (seen.new.keys ≡ arms_of.seen_after seen.old.keys ((judged_labelled least arm.now).labels (visible_in scope.now) opened.now)) }
+{
+    let labels = settled_labels(alloc, scope, opened, arm.labels.as_slice())?;
+    let own = new_labels(seen, width, &labels)?;
+    let body = settled_command(alloc, scope, opened, &arm.body)?;
+    Ok((labelled(alloc, labels, body)?, own))
 }
 
 /// The arms of a `select`.
@@ -205,8 +377,8 @@ fn settled_arms(
     scope: &Scope,
     opened: &[Place],
     arms: &[syntax::Arm],
-) -> Result<Result<Items<Arm>, Fault>, AllocError>
-    ensures { IfOk result (λ made. made ≡ spec.each (map judged_arm arms.now) (visible_in scope.now) opened.now) }
+) -> Settled<Items<Arm>>
+    ensures { IfOk result (λ made. made ≡ spec.each least (map (judged_arm least) arms.now) (visible_in scope.now) opened.now) }
 {
     let mut settled = Ok(Items::new(alloc));
     for arm in arms {
@@ -218,240 +390,12 @@ fn settled_arms(
 
 /// An arm of a `select` or an `arbitrate`.
 #[cycle(settled_command)]
-fn settled_arm(
-    alloc: Global,
-    scope: &Scope,
-    opened: &[Place],
-    arm: &syntax::Arm,
-) -> Result<Result<Arm, Fault>, AllocError>
-    ensures { IfOk result (λ made. made ≡ judged_arm arm.now (visible_in scope.now) opened.now) }
+fn settled_arm(alloc: Global, scope: &Scope, opened: &[Place], arm: &syntax::Arm) -> Settled<Arm>
+    ensures { IfOk result (λ made. made ≡ judged_arm least arm.now (visible_in scope.now) opened.now) }
 {
     let found = scope.names.find(opened, &arm.channel.name);
     let channel = uses::arm_use(found, arm.channel.span.start);
     let inner = opened_by(alloc, opened, &channel)?;
     let body = settled_command(alloc, scope, inner.as_slice(), &arm.body)?;
     Ok(arm_of(channel, body))
-}
-
-/// The command on the line that does the action.
-pub(crate) fn made(
-    alloc: Global,
-    line: u64,
-    action: Action,
-) -> Result<Result<Command, Fault>, AllocError>
-    ensures { IfOk result (λ made. made ≡ Ok (arms.made line action)) }
-{
-    Ok(Ok(Command::new(alloc, line, action)?))
-}
-
-fn target(
-    scope: &Scope,
-    opened: &[Place],
-    variable: &Identifier,
-) -> Result<(VariableUse, Width), Fault>
-    ensures { result ≡ spec.target variable.now (visible_in scope.now) opened.now }
-{
-    uses::target_use(
-        scope.names.find(opened, &variable.name),
-        variable.span.start,
-    )
-}
-
-fn sender(
-    scope: &Scope,
-    opened: &[Place],
-    channel: &Identifier,
-) -> Result<(ChannelUse, Width), Fault>
-    ensures { result ≡ spec.sender channel.now (visible_in scope.now) opened.now }
-{
-    uses::sending_use(scope.names.find(opened, &channel.name), channel.span.start)
-}
-
-fn receiver(
-    scope: &Scope,
-    opened: &[Place],
-    channel: &Identifier,
-) -> Result<(ChannelUse, Width), Fault>
-    ensures { result ≡ spec.receiver channel.now (visible_in scope.now) opened.now }
-{
-    uses::receiving_use(scope.names.find(opened, &channel.name), channel.span.start)
-}
-
-fn receiving_channel(channel: &Result<(ChannelUse, Width), Fault>) -> Result<ChannelUse, Fault>
-    ensures { result ≡ spec.channel_alone channel.now }
-{
-    match channel {
-        Ok(found) => Ok(found.0),
-        Err(fault) => Err(*fault),
-    }
-}
-
-/// The channels that are open in an arm on the channel. A name that is no such channel opens none.
-pub(crate) fn opened_by(
-    alloc: Global,
-    opened: &[Place],
-    channel: &Result<ChannelUse, Fault>,
-) -> Result<Vec<Place>, AllocError>
-    ensures { IfOk result (λ inner. inner.items ≡ spec.opened_by opened.now channel.now) }
-{
-    let mut inner = Vec::from_slice(alloc, opened)?;
-    if let Ok(channel) = channel {
-        inner.push(channel.channel)?;
-    }
-    Ok(inner)
-}
-
-fn sync(
-    alloc: Global,
-    scope: &Scope,
-    opened: &[Place],
-    line: u64,
-    channel: &Identifier,
-) -> Result<Result<Command, Fault>, AllocError>
-    ensures { IfOk result (λ made. made ≡ verdict.becomes (λ u. arms.made line (typed.Sync u)) (uses.sync_use (find (entries scope.now.names) opened.now channel.now.name) channel.now.span.start)) }
-{
-    match uses::sync_use(scope.names.find(opened, &channel.name), channel.span.start) {
-        Ok(channel) => made(alloc, line, Action::Sync(channel)),
-        Err(fault) => Ok(Err(fault)),
-    }
-}
-
-#[tactic(auto, unfolding(crate::specs::Commands::assignment))]
-fn assignment(
-    alloc: Global,
-    line: u64,
-    target: Result<(VariableUse, Width), Fault>,
-    value: Result<Valued, Fault>,
-    value_start: u64,
-) -> Result<Result<Command, Fault>, AllocError>
-    ensures { IfOk result (λ made. made ≡ spec.assignment line target value value_start) }
-{
-    match both(target, value) {
-        Ok(((variable, width), value)) => {
-            if value.width > width.bits() {
-                return Ok(Err(Fault::TooWide(value_start)));
-            }
-            let value = value.expression.into_inner();
-            made(alloc, line, Action::Assign(variable, width, value))
-        }
-        Err(fault) => Ok(Err(fault)),
-    }
-}
-
-#[tactic(auto, unfolding(crate::specs::Commands::sending))]
-fn sending(
-    alloc: Global,
-    line: u64,
-    channel: Result<(ChannelUse, Width), Fault>,
-    value: Result<Valued, Fault>,
-    value_start: u64,
-) -> Result<Result<Command, Fault>, AllocError>
-    ensures { IfOk result (λ made. made ≡ spec.sending line channel value value_start) }
-{
-    match both(channel, value) {
-        Ok(((channel, width), value)) => {
-            if value.width > width.bits() {
-                return Ok(Err(Fault::TooWide(value_start)));
-            }
-            let value = value.expression.into_inner();
-            made(alloc, line, Action::Send(channel, width, value))
-        }
-        Err(fault) => Ok(Err(fault)),
-    }
-}
-
-#[tactic(auto, unfolding(crate::specs::Commands::receiving))]
-fn receiving(
-    alloc: Global,
-    line: u64,
-    channel: Result<(ChannelUse, Width), Fault>,
-    target: Result<(VariableUse, Width), Fault>,
-) -> Result<Result<Command, Fault>, AllocError>
-    ensures { IfOk result (λ made. made ≡ spec.receiving line channel target) }
-{
-    match both(channel, target) {
-        Ok(((channel, sent), (variable, held))) => {
-            if sent.bits() > held.bits() {
-                return Ok(Err(Fault::TooWide(variable.offset)));
-            }
-            made(alloc, line, Action::Receive(channel, variable))
-        }
-        Err(fault) => Ok(Err(fault)),
-    }
-}
-
-fn looped(
-    alloc: Global,
-    line: u64,
-    body: Result<Command, Fault>,
-) -> Result<Result<Command, Fault>, AllocError>
-    ensures { IfOk result (λ made. made ≡ verdict.becomes (λ b. arms.made line (typed.Loop b)) body) }
-{
-    match body {
-        Ok(body) => made(alloc, line, Action::Loop(body)),
-        Err(fault) => Ok(Err(fault)),
-    }
-}
-
-#[tactic(auto, unfolding(crate::specs::Commands::guarded_loop))]
-fn guarded_loop(
-    alloc: Global,
-    line: u64,
-    guard: Result<Valued, Fault>,
-    guard_start: u64,
-    body: Result<Command, Fault>,
-) -> Result<Result<Command, Fault>, AllocError>
-    ensures { IfOk result (λ made. made ≡ spec.guarded_loop line guard guard_start body) }
-{
-    match both(guard, body) {
-        Ok((guard, body)) => {
-            if guard.width != 1 {
-                return Ok(Err(Fault::GuardNotOneBit(guard_start)));
-            }
-            let guard = guard.expression.into_inner();
-            made(alloc, line, Action::While(guard, body))
-        }
-        Err(fault) => Ok(Err(fault)),
-    }
-}
-
-#[tactic(auto, unfolding(crate::specs::Commands::enclosing))]
-fn enclosing(
-    alloc: Global,
-    line: u64,
-    channel: Result<(ChannelUse, Width), Fault>,
-    body: Result<Command, Fault>,
-) -> Result<Result<Command, Fault>, AllocError>
-    ensures { IfOk result (λ made. made ≡ spec.enclosing line channel body) }
-{
-    match both(channel, body) {
-        Ok(((channel, _), body)) => made(alloc, line, Action::Input(channel, body)),
-        Err(fault) => Ok(Err(fault)),
-    }
-}
-
-fn sequence(
-    alloc: Global,
-    line: u64,
-    children: Result<Items<Command>, Fault>,
-) -> Result<Result<Command, Fault>, AllocError>
-    ensures { IfOk result (λ made. made ≡ verdict.becomes (λ cs. arms.made line (typed.Sequence cs)) children) }
-{
-    match children {
-        Ok(children) => made(alloc, line, Action::Sequence(children)),
-        Err(fault) => Ok(Err(fault)),
-    }
-}
-
-fn parallel(
-    alloc: Global,
-    line: u64,
-    children: Result<Items<Command>, Fault>,
-) -> Result<Result<Command, Fault>, AllocError>
-    ensures { IfOk result (λ made. made ≡ verdict.becomes (λ cs. arms.made line (typed.Parallel cs)) children) }
-{
-    match children {
-        Ok(children) => made(alloc, line, Action::Parallel(children)),
-        Err(fault) => Ok(Err(fault)),
-    }
 }

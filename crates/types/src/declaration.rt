@@ -1,16 +1,16 @@
 // What a description declares: types, and procedures with their ports and locals.
 ghost use Rattle.std.specs.Prelude.{◌≡◌, ◌≤◌, ◌^◌, [], ◌∷◌, ◌++◌, length, map, Ok, IfOk, IfErr, OnOk};
-ghost use Rattle.types.specs.Commands.{visible_in};
 ghost use Rattle.types.specs.Declarations as spec;
+ghost use Rattle.types.specs.Findings as findings;
 ghost use Rattle.types.specs.Names.{entries, declared, is_fresh};
-ghost use Rattle.types.specs.Verdict as verdict;
+ghost use Rattle.types.specs.Walking.{least, visible_in};
 ghost use Rattle.types.specs.declared.scope.Meaning.TheVariants as meaning;
 
 use crate::Fault;
 use crate::command::settled_command;
 use crate::expression::{declared_width, type_width};
 use crate::scope::{Meaning, Names, Scope};
-use crate::verdict::{and, both, with_next};
+use crate::verdict::{Settled, Verdict, and, both, with_next};
 use std::alloc::{AllocError, Global};
 use syntax::{Identifier, Items, Name, TypeDeclaration, TypeDefinition, TypeName};
 use typed::{Command, Local, LocalKind, Port, PortKind, Procedure};
@@ -21,8 +21,8 @@ pub(crate) fn declare_types(
     alloc: Global,
     names: &mut Names,
     types: &[TypeDeclaration],
-) -> Result<Result<(), Fault>, AllocError>
-    ensures { IfOk result (λ right. record { names = entries names.new; right = right } ≡ spec.with_types (record { names = entries names.old; right = Ok tt }) types.now) }
+) -> Settled<()>
+    ensures { IfOk result (λ right. record { names = entries names.new; right = right } ≡ spec.with_types least (record { names = entries names.old; right = Ok tt }) types.now) }
 {
     let mut right = Ok(());
     for declaration in types {
@@ -36,9 +36,9 @@ fn declare_type(
     alloc: Global,
     names: &mut Names,
     declaration: &TypeDeclaration,
-    right: Result<(), Fault>,
-) -> Result<Result<(), Fault>, AllocError>
-    ensures { IfOk result (λ made. record { names = entries names.new; right = made } ≡ spec.with_definition (record { names = entries names.old; right = right }) declaration.now.name declaration.now.definition) }
+    right: Verdict<()>,
+) -> Settled<()>
+    ensures { IfOk result (λ made. record { names = entries names.new; right = made } ≡ spec.with_definition least (record { names = entries names.old; right = right }) declaration.now.name declaration.now.definition) }
 {
     let name = &declaration.name;
     match &declaration.definition {
@@ -58,10 +58,10 @@ fn declare_bits(
     alloc: Global,
     names: &mut Names,
     name: &Identifier,
-    width: Result<Width, Fault>,
-    right: Result<(), Fault>,
-) -> Result<Result<(), Fault>, AllocError>
-    ensures { IfOk result (λ made. record { names = entries names.new; right = made } ≡ spec.with_demand (spec.with_name (record { names = entries names.old; right = right }) name.now (meaning.TypeName (spec.width_or_one width))) (spec.demanded width)) }
+    width: Verdict<Width>,
+    right: Verdict<()>,
+) -> Settled<()>
+    ensures { IfOk result (λ made. record { names = entries names.new; right = made } ≡ spec.with_demand least (spec.with_name least (record { names = entries names.old; right = right }) name.now (meaning.TypeName (spec.width_or_one width))) (spec.demanded width)) }
 {
     let demand = demanded(&width);
     let named = names.declare(alloc, name, Meaning::TypeName(width_or_one(width)))?;
@@ -83,10 +83,10 @@ fn declare_elements(
     names: &mut Names,
     elements: &[Identifier],
     width: Width,
-    right: Result<(), Fault>,
-) -> Result<Result<(), Fault>, AllocError>
+    right: Verdict<()>,
+) -> Settled<()>
     requires { length elements.now ≤ 2 ^ width }
-    ensures { IfOk result (λ made. record { names = entries names.new; right = made } ≡ spec.with_elements width 0 (record { names = entries names.old; right = right }) elements.now) }
+    ensures { IfOk result (λ made. record { names = entries names.new; right = made } ≡ spec.with_elements least width 0 (record { names = entries names.old; right = right }) elements.now) }
 {
     let mut right = right;
     for (number, element) in elements.iter().enumerate() {
@@ -98,7 +98,7 @@ fn declare_elements(
 }
 
 /// That the width is right.
-fn demanded(width: &Result<Width, Fault>) -> Result<(), Fault>
+fn demanded(width: &Verdict<Width>) -> Verdict<()>
     ensures { result ≡ spec.demanded width.now }
 {
     match width {
@@ -108,7 +108,7 @@ fn demanded(width: &Result<Width, Fault>) -> Result<(), Fault>
 }
 
 /// The width, or one bit, so that a name whose type has a fault can be used without a further one.
-fn width_or_one(width: Result<Width, Fault>) -> Width
+fn width_or_one(width: Verdict<Width>) -> Width
     ensures { result ≡ spec.width_or_one width }
 {
     match width {
@@ -122,8 +122,8 @@ pub(crate) fn settled_procedures(
     alloc: Global,
     scope: &mut Scope,
     procedures: &[syntax::Procedure],
-) -> Result<Result<Items<Procedure>, Fault>, AllocError>
-    ensures { IfOk result (λ made. made ≡ spec.with_procedures (visible_in scope.old) (Ok []) procedures.now) }
+) -> Settled<Items<Procedure>>
+    ensures { IfOk result (λ made. made ≡ spec.with_procedures least (visible_in scope.old) (Ok []) procedures.now) }
 {
     let mut settled = Ok(Items::new(alloc));
     for procedure in procedures {
@@ -139,9 +139,9 @@ fn settled_procedure(
     alloc: Global,
     scope: &mut Scope,
     procedure: &syntax::Procedure,
-) -> Result<Result<Procedure, Fault>, AllocError>
-    ensures made { IfOk result (λ made. made ≡ spec.judged_procedure (visible_in scope.old) procedure.now) }
-    ensures visible { OnOk result (visible_in scope.new ≡ spec.after_procedure (visible_in scope.old) procedure.now) }
+) -> Settled<Procedure>
+    ensures made { IfOk result (λ made. made ≡ spec.judged_procedure least (visible_in scope.old) procedure.now) }
+    ensures visible { OnOk result (visible_in scope.new ≡ spec.after_procedure least (visible_in scope.old) procedure.now) }
 {
     let visible = scope.names.len();
     let (ports, new_ports) = declare_ports(alloc, &mut scope.names, procedure.ports.as_slice())?;
@@ -168,20 +168,18 @@ fn whole(
     name: Name,
     ports: Items<Port>,
     locals: Items<Local>,
-    right: Result<(), Fault>,
-    body: Result<Command, Fault>,
-) -> Result<Procedure, Fault>
-    ensures { result ≡ verdict.becomes (λ q. record { name = name; ports = ports; locals = locals; body = q.1 }) (verdict.both right body) }
+    right: Verdict<()>,
+    body: Verdict<Command>,
+) -> Verdict<Procedure>
+    ensures { result ≡ findings.becomes (λ q. record { name = name; ports = ports; locals = locals; body = q.1 }) (findings.both least right body) }
 {
-    match both(right, body) {
-        Ok((_, body)) => Ok(Procedure {
-            name,
-            ports,
-            locals,
-            body,
-        }),
-        Err(fault) => Err(fault),
-    }
+    let (_, body) = both(right, body)?;
+    Ok(Procedure {
+        name,
+        ports,
+        locals,
+        body,
+    })
 }
 
 /// Makes a procedure with these ports visible.
@@ -190,7 +188,7 @@ fn declare_name(
     scope: &mut Scope,
     name: &Identifier,
     signature: Items<PortKind>,
-) -> Result<Result<(), Fault>, AllocError>
+) -> Settled<()>
     ensures made { IfOk result (λ made. made ≡ is_fresh (entries scope.old.names) name.now.name name.now.span.start) }
     ensures names { OnOk result (entries scope.new.names ≡ declared (entries scope.old.names) name.now.name (meaning.Procedure (length scope.old.signatures))) }
     ensures signatures { OnOk result (scope.new.signatures ≡ scope.old.signatures ++ signature ∷ []) }
@@ -227,8 +225,8 @@ fn declare_ports(
     alloc: Global,
     names: &mut Names,
     declarations: &[syntax::Port],
-) -> Result<(Items<Port>, Result<(), Fault>), AllocError>
-    ensures { IfOk result (λ made. record { names = entries names.new; made = made.0; right = made.1 } ≡ spec.all_ports (spec.behind (entries names.old)) declarations.now) }
+) -> Result<(Items<Port>, Verdict<()>), AllocError>
+    ensures { IfOk result (λ made. record { names = entries names.new; made = made.0; right = made.1 } ≡ spec.all_ports least (spec.behind least (entries names.old)) declarations.now) }
 {
     let mut ports = Items::new(alloc);
     let mut right = Ok(());
@@ -253,9 +251,9 @@ fn declare_port(
     declared: &[Identifier],
     kind: PortKind,
     ports: &mut Items<Port>,
-    right: Result<(), Fault>,
-) -> Result<Result<(), Fault>, AllocError>
-    ensures { IfOk result (λ made. record { names = entries names.new; made = ports.new; right = made } ≡ spec.with_ports kind (record { names = entries names.old; made = ports.old; right = right }) declared.now) }
+    right: Verdict<()>,
+) -> Settled<()>
+    ensures { IfOk result (λ made. record { names = entries names.new; made = ports.new; right = made } ≡ spec.with_ports least kind (record { names = entries names.old; made = ports.old; right = right }) declared.now) }
 {
     let mut right = right;
     for name in declared {
@@ -310,8 +308,8 @@ fn declare_locals(
     alloc: Global,
     names: &mut Names,
     declarations: &[syntax::Local],
-) -> Result<(Items<Local>, Result<(), Fault>), AllocError>
-    ensures { IfOk result (λ made. record { names = entries names.new; made = made.0; right = made.1 } ≡ spec.all_locals (spec.behind (entries names.old)) declarations.now) }
+) -> Result<(Items<Local>, Verdict<()>), AllocError>
+    ensures { IfOk result (λ made. record { names = entries names.new; made = made.0; right = made.1 } ≡ spec.all_locals least (spec.behind least (entries names.old)) declarations.now) }
 {
     let mut locals = Items::new(alloc);
     let mut right = Ok(());
@@ -336,9 +334,9 @@ fn declare_local(
     declared: &[Identifier],
     kind: LocalKind,
     locals: &mut Items<Local>,
-    right: Result<(), Fault>,
-) -> Result<Result<(), Fault>, AllocError>
-    ensures { IfOk result (λ made. record { names = entries names.new; made = locals.new; right = made } ≡ spec.with_locals kind (record { names = entries names.old; made = locals.old; right = right }) declared.now) }
+    right: Verdict<()>,
+) -> Settled<()>
+    ensures { IfOk result (λ made. record { names = entries names.new; made = locals.new; right = made } ≡ spec.with_locals least kind (record { names = entries names.old; made = locals.old; right = right }) declared.now) }
 {
     let mut right = right;
     for name in declared {
@@ -356,8 +354,8 @@ fn declare_local(
 }
 
 /// That the types of the ports are right where all names of the procedure are visible.
-fn port_types(names: &Names, declarations: &[syntax::Port]) -> Result<(), Fault>
-    ensures { result ≡ spec.port_types (entries names.now) (Ok tt) declarations.now }
+fn port_types(names: &Names, declarations: &[syntax::Port]) -> Verdict<()>
+    ensures { result ≡ spec.port_types least (entries names.now) (Ok tt) declarations.now }
 {
     let mut outcome = Ok(());
     for declaration in declarations {
@@ -366,7 +364,7 @@ fn port_types(names: &Names, declarations: &[syntax::Port]) -> Result<(), Fault>
     outcome
 }
 
-fn port_type(names: &Names, kind: &syntax::PortKind) -> Result<(), Fault>
+fn port_type(names: &Names, kind: &syntax::PortKind) -> Verdict<()>
     ensures { result ≡ spec.port_type (entries names.now) kind.now }
 {
     match kind {
@@ -378,8 +376,8 @@ fn port_type(names: &Names, kind: &syntax::PortKind) -> Result<(), Fault>
 }
 
 /// That the types of the locals are right where all names of the procedure are visible.
-fn local_types(names: &Names, declarations: &[syntax::Local]) -> Result<(), Fault>
-    ensures { result ≡ spec.local_types (entries names.now) (Ok tt) declarations.now }
+fn local_types(names: &Names, declarations: &[syntax::Local]) -> Verdict<()>
+    ensures { result ≡ spec.local_types least (entries names.now) (Ok tt) declarations.now }
 {
     let mut outcome = Ok(());
     for declaration in declarations {
@@ -388,7 +386,7 @@ fn local_types(names: &Names, declarations: &[syntax::Local]) -> Result<(), Faul
     outcome
 }
 
-fn local_type(names: &Names, kind: &syntax::LocalKind) -> Result<(), Fault>
+fn local_type(names: &Names, kind: &syntax::LocalKind) -> Verdict<()>
     ensures { result ≡ spec.local_type (entries names.now) kind.now }
 {
     match kind {

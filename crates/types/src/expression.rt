@@ -1,14 +1,15 @@
 ghost use Rattle.std.specs.Prelude.{◌≡◌, ◌+◌, ◌≤◌, max, IfOk, Ok};
 ghost use Rattle.types.specs.Expressions as expressions;
+ghost use Rattle.types.specs.Findings as findings;
 ghost use Rattle.types.specs.Names.{entries, find};
 ghost use Rattle.typed.specs.declared.tree.Expression.TheVariants as typed;
 ghost use Rattle.types.specs.Uses as uses;
-ghost use Rattle.types.specs.Verdict as verdict;
+ghost use Rattle.types.specs.Walking.{least};
 
 use crate::Fault;
 use crate::scope::Names;
 use crate::uses::{self, Named};
-use crate::verdict::both;
+use crate::verdict::{Settled, Verdict, both};
 use std::alloc::{AllocError, Global};
 use syntax::{Boxed, Name, Operator, Shape, TypeName};
 use typed::{Expression, Place};
@@ -23,7 +24,7 @@ pub(crate) struct Valued {
 
 /// The declared width, which has to be from 1 to 64.
 #[tactic(auto, unfolding(crate::specs::Expressions::declared_width))]
-pub(crate) fn declared_width(declared: &syntax::Width) -> Result<Width, Fault>
+pub(crate) fn declared_width(declared: &syntax::Width) -> Verdict<Width>
     ensures { result ≡ expressions.declared_width declared.now }
 {
     if declared.bits > 64 {
@@ -36,11 +37,7 @@ pub(crate) fn declared_width(declared: &syntax::Width) -> Result<Width, Fault>
 }
 
 /// The width of the type.
-pub(crate) fn type_width(
-    names: &Names,
-    opened: &[Place],
-    type_name: &TypeName,
-) -> Result<Width, Fault>
+pub(crate) fn type_width(names: &Names, opened: &[Place], type_name: &TypeName) -> Verdict<Width>
     ensures { result ≡ expressions.type_width (entries names.now) opened.now type_name.now }
 {
     match type_name {
@@ -57,8 +54,8 @@ pub(crate) fn settled_expression(
     names: &Names,
     opened: &[Place],
     expression: &syntax::Expression,
-) -> Result<Result<Valued, Fault>, AllocError>
-    ensures { IfOk result (λ made. made ≡ expressions.judged_expression expression.now (entries names.now) opened.now) }
+) -> Settled<Valued>
+    ensures { IfOk result (λ made. made ≡ expressions.judged_expression least expression.now (entries names.now) opened.now) }
 {
     let start = expression.own_start;
     match expression.shape.get() {
@@ -87,7 +84,7 @@ pub(crate) fn least_value(number: u64) -> Value
     Value::make(number, value::least_width(number))
 }
 
-fn constant(alloc: Global, constant: Value) -> Result<Result<Valued, Fault>, AllocError>
+fn constant(alloc: Global, constant: Value) -> Settled<Valued>
     ensures { IfOk result (λ made. made ≡ Ok (expressions.constant constant)) }
 {
     Ok(Ok(Valued {
@@ -102,8 +99,8 @@ fn named(
     opened: &[Place],
     name: &Name,
     offset: u64,
-) -> Result<Result<Valued, Fault>, AllocError>
-    ensures { IfOk result (λ made. made ≡ verdict.becomes expressions.of_name (uses.value_use (find (entries names.now) opened.now name.now) offset)) }
+) -> Settled<Valued>
+    ensures { IfOk result (λ made. made ≡ findings.becomes expressions.of_name (uses.value_use (find (entries names.now) opened.now name.now) offset)) }
 {
     match uses::value_use(names.find(opened, name), offset) {
         Ok(name) => settled_name(alloc, name),
@@ -111,7 +108,7 @@ fn named(
     }
 }
 
-fn settled_name(alloc: Global, name: Named) -> Result<Result<Valued, Fault>, AllocError>
+fn settled_name(alloc: Global, name: Named) -> Settled<Valued>
     ensures { IfOk result (λ made. made ≡ Ok (expressions.of_name name)) }
 {
     match name {
@@ -128,7 +125,7 @@ fn settled_name(alloc: Global, name: Named) -> Result<Result<Valued, Fault>, All
 }
 
 /// How many bits the operator's value has over operands of so many bits, which may be no more than 64.
-fn operator_width(operator: Operator, start: u64, left: u8, right: u8) -> Result<u8, Fault>
+fn operator_width(operator: Operator, start: u64, left: u8, right: u8) -> Verdict<u8>
     ensures { result ≡ expressions.width_within start (expressions.operator_width operator left right) operator }
 {
     match operator {
@@ -149,10 +146,10 @@ fn binary(
     alloc: Global,
     operator: Operator,
     start: u64,
-    left: Result<Valued, Fault>,
-    right: Result<Valued, Fault>,
-) -> Result<Result<Valued, Fault>, AllocError>
-    ensures { IfOk result (λ made. made ≡ expressions.binary operator start left right) }
+    left: Verdict<Valued>,
+    right: Verdict<Valued>,
+) -> Settled<Valued>
+    ensures { IfOk result (λ made. made ≡ expressions.binary least operator start left right) }
 {
     match both(left, right) {
         Ok((left, right)) => match operator_width(operator, start, left.width, right.width) {
@@ -169,7 +166,7 @@ fn combined(
     left: Boxed<Expression>,
     right: Boxed<Expression>,
     width: u8,
-) -> Result<Result<Valued, Fault>, AllocError>
+) -> Settled<Valued>
     ensures { IfOk result (λ made. made ≡ Ok (record { expression = typed.Binary operator left right; width = width })) }
 {
     Ok(Ok(Valued {
@@ -178,11 +175,8 @@ fn combined(
     }))
 }
 
-fn complement(
-    alloc: Global,
-    operand: Result<Valued, Fault>,
-) -> Result<Result<Valued, Fault>, AllocError>
-    ensures { IfOk result (λ made. made ≡ verdict.becomes expressions.complement operand) }
+fn complement(alloc: Global, operand: Verdict<Valued>) -> Settled<Valued>
+    ensures { IfOk result (λ made. made ≡ findings.becomes expressions.complement operand) }
 {
     match operand {
         Ok(operand) => Ok(Ok(Valued {
@@ -193,12 +187,8 @@ fn complement(
     }
 }
 
-fn cast(
-    alloc: Global,
-    operand: Result<Valued, Fault>,
-    width: Result<Width, Fault>,
-) -> Result<Result<Valued, Fault>, AllocError>
-    ensures { IfOk result (λ made. made ≡ verdict.becomes (λ p. expressions.cast p.0 p.1) (verdict.both operand width)) }
+fn cast(alloc: Global, operand: Verdict<Valued>, width: Verdict<Width>) -> Settled<Valued>
+    ensures { IfOk result (λ made. made ≡ findings.becomes (λ p. expressions.cast p.0 p.1) (findings.both least operand width)) }
 {
     match both(operand, width) {
         Ok((operand, width)) => Ok(Ok(Valued {

@@ -2,10 +2,9 @@
 #![tactic(auto)]
 
 ghost use Rattle.std.specs.Prelude.{◌≡◌, ◌⊎◌, Ok, IfOk, IfErr};
-ghost use Rattle.types.specs.DeclarationFaults.{found_description};
-ghost use Rattle.types.specs.Declarations.{judged_description};
-ghost use Rattle.types.specs.Findings.{IsRefused};
-ghost use Rattle.types.specs.Verdict.{becomes, both};
+ghost use Rattle.types.specs.Declarations.{found_description, judged_description};
+ghost use Rattle.types.specs.Findings.{IsRefused, becomes, both};
+ghost use Rattle.types.specs.Walking.{least};
 ghost use Rattle.refusals.specs.declared.types.Fault.TheVariants.{Memory};
 
 mod arms;
@@ -13,6 +12,7 @@ mod call;
 mod command;
 mod declaration;
 mod expression;
+mod forms;
 mod scope;
 mod uses;
 mod verdict;
@@ -20,12 +20,13 @@ mod verdict;
 use declaration::{declare_types, settled_procedures};
 pub use refusals::types::Fault;
 use scope::Scope;
-use std::alloc::{AllocError, Global};
+use std::alloc::Global;
 use syntax::{Description, Items};
 pub use typed::{
     Action, Arm, ChannelUse, Command, Expression, Guarded, Labelled, Local, LocalKind, Place, Port,
     PortKind, Procedure, Typed, VariableUse,
 };
+use verdict::{Settled, Verdict};
 
 /// The description with its names, kinds and widths settled, or why it is not typed: of all its faults that with the
 /// least offset, and at one offset that with the least number.
@@ -39,8 +40,8 @@ pub fn check_types(alloc: Global, description: &Description) -> Result<Typed, Fa
     }
 }
 
-fn settled(alloc: Global, description: &Description) -> Result<Result<Typed, Fault>, AllocError>
-    ensures { IfOk result (λ made. made ≡ judged_description description.now) }
+fn settled(alloc: Global, description: &Description) -> Settled<Typed>
+    ensures { IfOk result (λ made. made ≡ judged_description least description.now) }
 {
     let mut scope = Scope::new(alloc);
     let types = declare_types(alloc, &mut scope.names, description.types.as_slice())?;
@@ -49,14 +50,9 @@ fn settled(alloc: Global, description: &Description) -> Result<Result<Typed, Fau
 }
 
 /// The typed description, if its types and its procedures are right.
-fn described(
-    types: Result<(), Fault>,
-    procedures: Result<Items<Procedure>, Fault>,
-) -> Result<Typed, Fault>
-    ensures { result ≡ becomes (λ p. p.1) (both types procedures) }
+fn described(types: Verdict<()>, procedures: Verdict<Items<Procedure>>) -> Verdict<Typed>
+    ensures { result ≡ becomes (λ p. p.1) (both least types procedures) }
 {
-    match verdict::both(types, procedures) {
-        Ok((_, procedures)) => Ok(Typed::new(procedures)),
-        Err(fault) => Err(fault),
-    }
+    let (_, procedures) = verdict::both(types, procedures)?;
+    Ok(Typed::new(procedures))
 }

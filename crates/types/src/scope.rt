@@ -5,8 +5,9 @@ ghost use Rattle.types.specs.Names as names;
 ghost use Rattle.types.specs.Names.{entries};
 
 use crate::Fault;
+use crate::verdict::Settled;
 use indexmap::IndexMap;
-use std::alloc::{AllocError, Global};
+use std::alloc::Global;
 use syntax::{Identifier, Items, Name};
 use typed::{LocalKind, Place, PortKind};
 use value::{Value, Width};
@@ -98,7 +99,7 @@ impl Names {
         alloc: Global,
         declared: &Identifier,
         meaning: Meaning,
-    ) -> Result<Result<(), Fault>, AllocError>
+    ) -> Settled<()>
         ensures fresh { IfOk result (λ made. made ≡ names.is_fresh (entries self.old) declared.now.name declared.now.span.start) }
         ensures declared { OnOk result (entries self.new ≡ names.declared (entries self.old) declared.now.name meaning) }
     {

@@ -4,11 +4,12 @@ ghost use Rattle.types.specs.Uses as uses;
 
 use crate::Fault;
 use crate::scope::{Channel, Found, Meaning};
+use crate::verdict::Verdict;
 use typed::{ChannelUse, Place, VariableUse};
 use value::{Value, Width};
 
 /// What the name means, if it is visible and no channel that is open.
-fn visible(found: Found, offset: u64) -> Result<Meaning, Fault>
+fn visible(found: Found, offset: u64) -> Verdict<Meaning>
     ensures { result ≡ uses.visible found offset }
 {
     match found {
@@ -20,7 +21,7 @@ fn visible(found: Found, offset: u64) -> Result<Meaning, Fault>
 
 /// A type, by its width.
 #[tactic(auto, unfolding(crate::specs::Uses::type_use))]
-pub(crate) fn type_use(found: Found, offset: u64) -> Result<Width, Fault>
+pub(crate) fn type_use(found: Found, offset: u64) -> Verdict<Width>
     ensures { result ≡ uses.type_use found offset }
 {
     match visible(found, offset)? {
@@ -31,7 +32,7 @@ pub(crate) fn type_use(found: Found, offset: u64) -> Result<Width, Fault>
 
 /// A variable to write, and its width.
 #[tactic(auto, unfolding(crate::specs::Uses::target_use))]
-pub(crate) fn target_use(found: Found, offset: u64) -> Result<(VariableUse, Width), Fault>
+pub(crate) fn target_use(found: Found, offset: u64) -> Verdict<(VariableUse, Width)>
     ensures { result ≡ uses.target_use found offset }
 {
     match visible(found, offset)? {
@@ -42,7 +43,7 @@ pub(crate) fn target_use(found: Found, offset: u64) -> Result<(VariableUse, Widt
 
 /// A channel to send on, and its width.
 #[tactic(auto, unfolding(crate::specs::Uses::sending_use))]
-pub(crate) fn sending_use(found: Found, offset: u64) -> Result<(ChannelUse, Width), Fault>
+pub(crate) fn sending_use(found: Found, offset: u64) -> Verdict<(ChannelUse, Width)>
     ensures { result ≡ uses.sending_use found offset }
 {
     match visible(found, offset)? {
@@ -54,7 +55,7 @@ pub(crate) fn sending_use(found: Found, offset: u64) -> Result<(ChannelUse, Widt
 
 /// A channel to receive from, and its width.
 #[tactic(auto, unfolding(crate::specs::Uses::receiving_use))]
-pub(crate) fn receiving_use(found: Found, offset: u64) -> Result<(ChannelUse, Width), Fault>
+pub(crate) fn receiving_use(found: Found, offset: u64) -> Verdict<(ChannelUse, Width)>
     ensures { result ≡ uses.receiving_use found offset }
 {
     match visible(found, offset)? {
@@ -66,7 +67,7 @@ pub(crate) fn receiving_use(found: Found, offset: u64) -> Result<(ChannelUse, Wi
 
 /// A channel without data.
 #[tactic(auto, unfolding(crate::specs::Uses::sync_use))]
-pub(crate) fn sync_use(found: Found, offset: u64) -> Result<ChannelUse, Fault>
+pub(crate) fn sync_use(found: Found, offset: u64) -> Verdict<ChannelUse>
     ensures { result ≡ uses.sync_use found offset }
 {
     match visible(found, offset)? {
@@ -78,7 +79,7 @@ pub(crate) fn sync_use(found: Found, offset: u64) -> Result<ChannelUse, Fault>
 
 /// A channel that an arm of `select` or `arbitrate` can be opened on: one to receive from, or one without data.
 #[tactic(auto, unfolding(crate::specs::Uses::arm_use))]
-pub(crate) fn arm_use(found: Found, offset: u64) -> Result<ChannelUse, Fault>
+pub(crate) fn arm_use(found: Found, offset: u64) -> Verdict<ChannelUse>
     ensures { result ≡ uses.arm_use found offset }
 {
     match visible(found, offset)? {
@@ -92,7 +93,7 @@ pub(crate) fn arm_use(found: Found, offset: u64) -> Result<ChannelUse, Fault>
 
 /// A procedure, by its place in the description.
 #[tactic(auto, unfolding(crate::specs::Uses::procedure_use))]
-pub(crate) fn procedure_use(found: Found, offset: u64) -> Result<u32, Fault>
+pub(crate) fn procedure_use(found: Found, offset: u64) -> Verdict<u32>
     ensures { result ≡ uses.procedure_use found offset }
 {
     match visible(found, offset)? {
@@ -103,7 +104,7 @@ pub(crate) fn procedure_use(found: Found, offset: u64) -> Result<u32, Fault>
 
 /// A label of a `case` that is a name: an element of an enumeration.
 #[tactic(auto, unfolding(crate::specs::Uses::label_use))]
-pub(crate) fn label_use(found: Found, offset: u64) -> Result<Value, Fault>
+pub(crate) fn label_use(found: Found, offset: u64) -> Verdict<Value>
     ensures { result ≡ uses.label_use found offset }
 {
     match visible(found, offset)? {
@@ -114,7 +115,7 @@ pub(crate) fn label_use(found: Found, offset: u64) -> Result<Value, Fault>
 
 /// An argument of a call: a channel or a port.
 #[tactic(auto, unfolding(crate::specs::Uses::argument_use))]
-pub(crate) fn argument_use(found: Found, offset: u64) -> Result<ChannelUse, Fault>
+pub(crate) fn argument_use(found: Found, offset: u64) -> Verdict<ChannelUse>
     ensures { result ≡ uses.argument_use found offset }
 {
     match visible(found, offset)? {
@@ -139,7 +140,7 @@ pub(crate) enum Named {
 
 /// A name that has a value.
 #[tactic(auto, unfolding(crate::specs::Uses::value_use))]
-pub(crate) fn value_use(found: Found, offset: u64) -> Result<Named, Fault>
+pub(crate) fn value_use(found: Found, offset: u64) -> Verdict<Named>
     ensures { result ≡ uses.value_use found offset }
 {
     match found {
@@ -156,7 +157,7 @@ pub(crate) fn value_use(found: Found, offset: u64) -> Result<Named, Fault>
 }
 
 /// The value of an opened channel, if it has any.
-fn received(channel: Channel, offset: u64) -> Result<Named, Fault>
+fn received(channel: Channel, offset: u64) -> Verdict<Named>
     ensures { result ≡ uses.received_by offset channel.place channel.width }
 {
     match channel.width {

@@ -1,19 +1,22 @@
-// What is found of a construct, as `Result<T, Fault>`: it is right, with what it becomes, or it has faults, of which
-// the one is kept that would be answered. Want of memory is no verdict: it ends the pass at once.
 ghost use Rattle.std.specs.Prelude.{◌≡◌, IfOk};
+ghost use Rattle.types.specs.Findings as findings;
 ghost use Rattle.types.specs.Refusal as refusal;
-ghost use Rattle.types.specs.Verdict as verdict;
+ghost use Rattle.types.specs.Walking.{least};
 
 use crate::Fault;
 use std::alloc::AllocError;
 use syntax::Items;
 
+/// What is found of a construct: it is right, with what it becomes, or it has faults, of which the one is kept that
+/// would be answered.
+pub(crate) type Verdict<T> = Result<T, Fault>;
+
+/// A verdict. Want of memory is none: it ends the pass at once.
+pub(crate) type Settled<T> = Result<Verdict<T>, AllocError>;
+
 /// Two constructs, or the fault that is answered where one or both have some.
-pub(crate) fn both<A: Drop, B: Drop>(
-    first: Result<A, Fault>,
-    second: Result<B, Fault>,
-) -> Result<(A, B), Fault>
-    ensures { result ≡ verdict.both first second }
+pub(crate) fn both<A: Drop, B: Drop>(first: Verdict<A>, second: Verdict<B>) -> Verdict<(A, B)>
+    ensures { result ≡ findings.both least first second }
 {
     match first {
         Ok(first) => match second {
@@ -28,25 +31,19 @@ pub(crate) fn both<A: Drop, B: Drop>(
 }
 
 /// Two demands that are to be met, or the fault that is answered.
-pub(crate) fn and(first: Result<(), Fault>, second: Result<(), Fault>) -> Result<(), Fault>
-    ensures { result ≡ verdict.and first second }
+pub(crate) fn and(first: Verdict<()>, second: Verdict<()>) -> Verdict<()>
+    ensures { result ≡ findings.and least first second }
 {
-    match both(first, second) {
-        Ok(_) => Ok(()),
-        Err(fault) => Err(fault),
-    }
+    both(first, second)?;
+    Ok(())
 }
 
 /// The constructs with the next one behind them, or the fault that is answered.
-pub(crate) fn with_next<T: Drop>(
-    list: Result<Items<T>, Fault>,
-    next: Result<T, Fault>,
-) -> Result<Result<Items<T>, Fault>, AllocError>
-    ensures { IfOk result (λ made. made ≡ verdict.with_next list next) }
+pub(crate) fn with_next<T: Drop>(list: Verdict<Items<T>>, next: Verdict<T>) -> Settled<Items<T>>
+    ensures { IfOk result (λ made. made ≡ findings.with_next least list next) }
 {
     match both(list, next) {
-        Ok((list, next)) => {
-            let mut list = list;
+        Ok((mut list, next)) => {
             list.push(next)?;
             Ok(Ok(list))
         }

@@ -1,4 +1,4 @@
-use Rattle.std.proofs.Common.{rules, ◌≡◌, sym}
+use Rattle.std.proofs.Common.{sym}
 use Rattle.parser.proofs.LastLemmas.{end_of_last}
 use Rattle.parser.proofs.end_of.Goals as goal
 

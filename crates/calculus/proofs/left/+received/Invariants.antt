@@ -1,7 +1,7 @@
 use Rattle.std.proofs.Common.{◌≡◌, ◌≤◌, ◌++◌, drop, map}
 use Rattle.system.specs.Residual.{put_residual}
 use Rattle.calculus.specs.Left.{residual_of_left}
-use Rattle.calculus.specs.Passed.{behind}
+use Rattle.calculus.specs.walking.Passed.{behind}
 use Rattle.calculus.proofs.left.Left.TheLaws.{the_size}
 use Rattle.calculus.proofs.left.+received.Given as goal
 

@@ -1,6 +1,6 @@
 use Rattle.std.proofs.Common.{◌≡◌, length}
 use Rattle.calculus.specs.Left.{residual_of_left}
-use Rattle.calculus.specs.Passed.{along_all}
+use Rattle.calculus.specs.walking.Passed.{along_all}
 use Rattle.calculus.proofs.left.along_all.Given as goal
 
 -- those that are left beside what is made so far

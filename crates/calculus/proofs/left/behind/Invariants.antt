@@ -1,6 +1,6 @@
 use Rattle.std.proofs.Common.{◌≡◌, length}
 use Rattle.calculus.specs.Left.{residual_of_left}
-use Rattle.calculus.specs.Passed.{behind}
+use Rattle.calculus.specs.walking.Passed.{behind}
 use Rattle.calculus.proofs.left.behind.Given as goal
 
 -- those that are left before what is made so far

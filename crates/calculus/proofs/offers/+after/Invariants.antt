@@ -1,8 +1,8 @@
 use Rattle.std.proofs.Common.{◌≡◌, ◌≤◌}
-use Rattle.calculus.specs.After.{around, after}
-use Rattle.calculus.specs.Answers.{ask_of}
+use Rattle.calculus.specs.walking.After.{around, after}
+use Rattle.calculus.specs.walking.Meanings.{ask_of}
 use Rattle.calculus.specs.Left.{residual_of_left}
-use Rattle.calculus.specs.Passed.{along_all}
+use Rattle.calculus.specs.walking.Passed.{along_all}
 use Rattle.calculus.proofs.left.Left.TheLaws.{the_size}
 use Rattle.calculus.proofs.offers.+after.Given as goal
 

@@ -1,4 +1,4 @@
-use Rattle.calculus.specs.EventLaws.{decided, same_place-decides}
+use Rattle.calculus.specs.walking.EventLaws.{decided, same_place-decides}
 use Rattle.calculus.proofs.same.same_place.Goals as goal
 
 pub returns : goal.returns

@@ -1,7 +1,7 @@
 use Rattle.std.proofs.Common.{◌≡◌, length, map}
 use Rattle.system.specs.Translation.{in_parallel}
 use Rattle.calculus.specs.Left.{residual_of_left}
-use Rattle.calculus.specs.Children.{parallel_onto}
+use Rattle.calculus.proofs.Children.{parallel_onto}
 use Rattle.calculus.proofs.translate.in_parallel.Given as goal
 
 abbrev pub invariant-loop-child : goal.invariant-loop-child

@@ -1,7 +1,7 @@
 use Rattle.std.proofs.Common.{◌≡◌, ◌≤◌, ◌++◌, map}
-use Rattle.calculus.specs.AllowedEvents.{offers}
+use Rattle.calculus.specs.walking.AllowedEvents.{offers}
 use Rattle.calculus.specs.Left.{residual_of_left}
-use Rattle.calculus.specs.Walk.{located_of, below}
+use Rattle.calculus.specs.walking.Walk.{located_of, below}
 use Rattle.calculus.proofs.left.Left.TheLaws.{the_size}
 use Rattle.calculus.proofs.walk.+add_offers.Given as goal
 

@@ -1,6 +1,6 @@
 use Rattle.std.proofs.Common.{◌≡◌, ◌++◌, drop, map}
-use Rattle.calculus.specs.AllowedEvents.{opens_from}
-use Rattle.calculus.specs.Walk.{located_of, below}
+use Rattle.calculus.specs.walking.AllowedEvents.{opens_from}
+use Rattle.calculus.specs.walking.Walk.{located_of, below}
 use Rattle.calculus.proofs.walk.add_opens.Given as goal
 
 abbrev pub invariant-loop-arm : goal.invariant-loop-arm

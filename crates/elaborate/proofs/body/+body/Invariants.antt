@@ -1,8 +1,8 @@
-use Rattle.std.proofs.Common.{ℕ, ◌≡◌, ◌+◌, ◌≤◌, [], length, drop, map}
+use Rattle.std.proofs.Common.{◌≡◌, ◌+◌, ◌≤◌, [], length, drop, map}
 use Rattle.elaborate.proofs.Weights.{total, weight, weight_of_guarded, weight_of_labelled, weight_of_arm, weights, last_weight}
 use Rattle.std.specs.Option.{option_map}
 use Rattle.elaborate.specs.Body.{meaning_of, meanings, all_onto, called, after_call}
-use Rattle.elaborate.specs.BodyParts.{meaning_of_guarded, meaning_of_labelled, meaning_of_arm}
+use Rattle.elaborate.specs.walking.BodyParts.{meaning_of_guarded, meaning_of_labelled, meaning_of_arm}
 use Rattle.elaborate.proofs.body.+body.Given as goal
 
 abbrev pub decreases-command_of : goal.decreases-command_of

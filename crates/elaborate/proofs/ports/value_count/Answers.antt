@@ -1,4 +1,4 @@
-use Rattle.std.proofs.Common.{◌≡◌, ℕ, ◌+◌, ◌-◌, ◌^◌, ◌≤◌, min, List, [], length, drop, ap, arith, drop_of_length-le}
+use Rattle.std.proofs.Common.{◌≡◌, ℕ, ◌+◌, ◌-◌, ◌^◌, ◌≤◌, min, List, length, drop, ap, arith, drop_of_length-le}
 use Rattle.elaborate.specs.Fit.{values_given}
 use Rattle.stimulus.specs.declared.stimulus.Entry.{Entry}
 use Rattle.elaborate.proofs.ports.value_count.Goals as goal

@@ -1,5 +1,5 @@
 use Rattle.std.proofs.Common.{refl, sym}
-use Rattle.calculus.specs.Plain.{state_of}
+use Rattle.calculus.specs.Left.{state_of}
 use Rattle.machine.proofs.asking.value_told.Goals as goal
 
 pub returns-in-Some : goal.returns-in-Some

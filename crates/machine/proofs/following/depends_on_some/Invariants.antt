@@ -1,5 +1,5 @@
 use Rattle.std.proofs.Common.{take}
-use Rattle.machine.specs.Following.{DependsOnSome}
+use Rattle.machine.specs.walking.Following.{DependsOnSome}
 use Rattle.machine.proofs.following.depends_on_some.Given as goal
 
 abbrev pub invariant-loop-entry : goal.invariant-loop-entry

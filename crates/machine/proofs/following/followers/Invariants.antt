@@ -1,6 +1,6 @@
 use Rattle.std.proofs.Common.{ℕ, take}
 use Rattle.calculus.specs.Live.{Rising}
-use Rattle.machine.specs.Following.{Gathered}
+use Rattle.machine.specs.walking.Following.{Gathered}
 use Rattle.machine.proofs.following.followers.Given as goal
 
 abbrev pub invariant-loop-entry : goal.invariant-loop-entry

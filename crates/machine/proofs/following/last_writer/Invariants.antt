@@ -1,7 +1,7 @@
 use Rattle.std.proofs.Common.{take}
 use Rattle.std.specs.Prelude.{MatchOption}
 use Rattle.calculus.specs.Live.{NoWriter}
-use Rattle.machine.specs.Following.{WritesLast}
+use Rattle.machine.specs.walking.Following.{WritesLast}
 use Rattle.machine.proofs.following.last_writer.Given as goal
 
 abbrev pub invariant-loop-entry : goal.invariant-loop-entry

@@ -1,6 +1,6 @@
 use Rattle.std.proofs.Common.{◌≡◌, ◌≤◌, false, length, drop}
 use Rattle.system.specs.Lists.{Every}
-use Rattle.machine.specs.Sorting.{is_sooner}
+use Rattle.machine.specs.walking.Sorting.{is_sooner}
 use Rattle.machine.proofs.order.sooner_count.Given as goal
 
 abbrev pub invariant-loop-place : goal.invariant-loop-place

@@ -1,5 +1,5 @@
 use Rattle.std.proofs.Common.{take}
-use Rattle.machine.specs.Choosing.{HasNone}
+use Rattle.machine.specs.walking.Choosing.{HasNone}
 use Rattle.machine.proofs.ready.first_with.Given as goal
 
 abbrev pub invariant-loop-i : goal.invariant-loop-i

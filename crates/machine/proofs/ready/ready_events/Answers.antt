@@ -1,10 +1,10 @@
-use Rattle.calculus.specs.Plain.{state_of}
+use Rattle.calculus.specs.Left.{state_of}
 use Rattle.machine.proofs.Sooner.{sorting-start, sorting-step, sorting-stop, left-none}
 use Rattle.machine.proofs.ready.ready_events.Goals as goal
 
 pub loop-event-init : goal.loop-event-init
 loop-event-init c =
-    sorting-start (state_of c.args.state.now) _ _ _ _ c.requires c.in_ok-allowed.ensures c.into_vec-allowed.ensures c.sort_unstable_by.ensures.permutation c.new-sorted.ensures.items
+    sorting-start (state_of c.args.state.now) _ _ _ _ c.requires c.in_ok-allowed.ensures.computed c.into_vec-allowed.ensures c.sort_unstable_by.ensures.permutation c.new-sorted.ensures.items
 
 pub loop-event-preserved : goal.loop-event-preserved
 loop-event-preserved c =

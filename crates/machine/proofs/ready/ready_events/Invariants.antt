@@ -1,5 +1,5 @@
 use Rattle.std.proofs.Common.{length}
-use Rattle.calculus.specs.Plain.{state_of}
+use Rattle.calculus.specs.Left.{state_of}
 use Rattle.machine.proofs.Sooner.{Sorting}
 use Rattle.machine.proofs.ready.ready_events.Given as goal
 

@@ -1,5 +1,5 @@
 use Rattle.std.proofs.Common.{take}
-use Rattle.machine.specs.Dependents.{NoneDirectly}
+use Rattle.machine.specs.walking.Dependents.{NoneDirectly}
 use Rattle.machine.proofs.scan.first_directly.Given as goal
 
 abbrev pub invariant-loop-entry : goal.invariant-loop-entry

@@ -1,4 +1,4 @@
-use Rattle.std.proofs.Common.{◌≡◌, ◌∙◌, ap, sym}
+use Rattle.std.proofs.Common.{◌∙◌, ap, sym}
 use Rattle.parser.specs.Trees.{command_span, over}
 use Rattle.parser.proofs.LastLemmas.{over_last, span_through}
 use Rattle.parser.proofs.command.span_over.Goals as goal

@@ -9,10 +9,9 @@ use Rattle.system.specs.declared.command.Command.{Command}
 use Rattle.system.specs.declared.expression.Expression.{Expression}
 use Rattle.system.specs.declared.expression.Use.{Use}
 use Rattle.system.specs.Residual as residual
-use Rattle.system.specs.Translation.{expression_of, residual_of, in_sequence, in_parallel, if_of, case_of, choose_of}
+use Rattle.system.specs.Translation.{expression_of, residual_of, in_sequence, in_parallel, if_of, case_of, choose_of, guarded_of, labelled_of, arm_of}
 use Rattle.sharing_check.specs.declared.widths.Together.TheVariants.{InOneBranch}
-use Rattle.sharing_check.specs.Counting.{Table, nothing, noted, join, adding, in_turn, last_in_turn, arms_in_turn, side_by_side}
-use Rattle.sharing_check.specs.CountingParts.{of_guarded, of_labelled, of_arm}
+use Rattle.sharing_check.specs.walking.Counting.{Table, nothing, noted, join, adding, in_turn, last_in_turn, arms_in_turn, side_by_side}
 use Rattle.sharing_check.proofs.CountParts.{used_by_send, used_by_receive, used_by_sync, adding_test, adding_input, adding_sequence, used_by_parallel, adding_done, adding_halted, adding_assign, adding_choose, used_by_loop, used_by_while}
 use Rattle.sharing_check.proofs.widths.+widths.Goals as goal
 
@@ -82,24 +81,24 @@ add_command-returns-in-While t c =
 pub add_command-returns-in_ok-add_guarded-in-If : goal.add_command-returns-in_ok-add_guarded-in-If
 add_command-returns-in_ok-add_guarded-in-If t c =
     let before = noted c.args.widths.now in
-    let arms = map of_guarded c.in-If.arms in
+    let arms = map guarded_of c.in-If.arms in
     let last = option_map residual_of c.in-If.last in
     let is : residual_of c.args.command.now ≡ if_of arms last = search (rules, the_lemmas) in
     subst (λ t. OnOk c.add_last.result (noted c.add_last.new.widths ≡ t))
     (ap (λ t. last_in_turn t last)
-    (c.in_ok-add_guarded-in-If.ensures ∙ ap (λ gs. in_turn before (map (λ a. a.body) (map of_guarded gs))) c.as_slice.ensures)
+    (c.in_ok-add_guarded-in-If.ensures ∙ ap (λ gs. in_turn before (map (λ a. a.body) (map guarded_of gs))) c.as_slice.ensures)
     ∙ sym (ap (λ r. adding before r) is ∙ adding_test before _ (map (λ a. a.body) arms) last))
     c.add_last.ensures
 
 pub add_command-returns-in_ok-add_labelled-in-Case : goal.add_command-returns-in_ok-add_labelled-in-Case
 add_command-returns-in_ok-add_labelled-in-Case t c =
     let before = noted c.args.widths.now in
-    let arms = map of_labelled c.in-Case.arms in
+    let arms = map labelled_of c.in-Case.arms in
     let last = option_map residual_of c.in-Case.last in
     let is : residual_of c.args.command.now ≡ case_of (expression_of c.in-Case.field-0) arms last = search (rules, the_lemmas) in
     subst (λ t. OnOk c.add_last-in-Case.result (noted c.add_last-in-Case.new.widths ≡ t))
     (ap (λ t. last_in_turn t last)
-    (c.in_ok-add_labelled-in-Case.ensures ∙ ap (λ ls. in_turn before (map (λ a. a.body) (map of_labelled ls))) c.as_slice-in-Case.ensures)
+    (c.in_ok-add_labelled-in-Case.ensures ∙ ap (λ ls. in_turn before (map (λ a. a.body) (map labelled_of ls))) c.as_slice-in-Case.ensures)
     ∙ sym (ap (λ r. adding before r) is ∙ adding_test before _ (map (λ a. a.body) arms) last))
     c.add_last-in-Case.ensures
 
@@ -116,10 +115,10 @@ add_command-returns-in_ok-add-in-Input t c =
 pub add_command-returns-in-Select : goal.add_command-returns-in-Select
 add_command-returns-in-Select t c =
     let before = noted c.args.widths.now in
-    let is : residual_of c.args.command.now ≡ choose_of (map of_arm c.in-Select.arms) = search (rules, the_lemmas) in
+    let is : residual_of c.args.command.now ≡ choose_of (map arm_of c.in-Select.arms) = search (rules, the_lemmas) in
     subst (λ t. OnOk c.add_arms.result (noted c.add_arms.new.widths ≡ t))
-    (ap (λ ws. arms_in_turn before (map of_arm ws)) c.as_slice-in-Select.ensures
-    ∙ sym (ap (λ r. adding before r) is ∙ adding_choose before (map of_arm c.in-Select.arms)))
+    (ap (λ ws. arms_in_turn before (map arm_of ws)) c.as_slice-in-Select.ensures
+    ∙ sym (ap (λ r. adding before r) is ∙ adding_choose before (map arm_of c.in-Select.arms)))
     c.add_arms.ensures
 
 pub add_command-returns-in-Sequence : goal.add_command-returns-in-Sequence

@@ -1,8 +1,7 @@
 -- With the parts that are left, the table says what it says of all.
 use Rattle.std.proofs.Common.{◌≡◌, drop, map}
-use Rattle.system.specs.Translation.{residual_of}
-use Rattle.sharing_check.specs.Counting.{nothing, noted, in_turn, arms_in_turn, side_by_side}
-use Rattle.sharing_check.specs.CountingParts.{of_guarded, of_labelled, of_arm}
+use Rattle.system.specs.Translation.{residual_of, guarded_of, labelled_of, arm_of}
+use Rattle.sharing_check.specs.walking.Counting.{nothing, noted, in_turn, arms_in_turn, side_by_side}
 use Rattle.sharing_check.proofs.widths.+widths.Given as goal
 
 abbrev pub invariant-add_commands-loop-command : goal.invariant-add_commands-loop-command
@@ -11,17 +10,17 @@ invariant-add_commands-loop-command l =
 
 abbrev pub invariant-add_guarded-loop-arm : goal.invariant-add_guarded-loop-arm
 invariant-add_guarded-loop-arm l =
-    in_turn (noted l.widths) (map (λ a. a.body) (map of_guarded (drop l.arm-index l.arms)))
-    ≡ in_turn (noted l.initial.widths) (map (λ a. a.body) (map of_guarded l.arms))
+    in_turn (noted l.widths) (map (λ a. a.body) (map guarded_of (drop l.arm-index l.arms)))
+    ≡ in_turn (noted l.initial.widths) (map (λ a. a.body) (map guarded_of l.arms))
 
 abbrev pub invariant-add_labelled-loop-arm : goal.invariant-add_labelled-loop-arm
 invariant-add_labelled-loop-arm l =
-    in_turn (noted l.widths) (map (λ a. a.body) (map of_labelled (drop l.arm-index l.arms)))
-    ≡ in_turn (noted l.initial.widths) (map (λ a. a.body) (map of_labelled l.arms))
+    in_turn (noted l.widths) (map (λ a. a.body) (map labelled_of (drop l.arm-index l.arms)))
+    ≡ in_turn (noted l.initial.widths) (map (λ a. a.body) (map labelled_of l.arms))
 
 abbrev pub invariant-add_arms-loop-arm : goal.invariant-add_arms-loop-arm
 invariant-add_arms-loop-arm l =
-    arms_in_turn (noted l.widths) (map of_arm (drop l.arm-index l.arms)) ≡ arms_in_turn (noted l.initial.widths) (map of_arm l.arms)
+    arms_in_turn (noted l.widths) (map arm_of (drop l.arm-index l.arms)) ≡ arms_in_turn (noted l.initial.widths) (map arm_of l.arms)
 
 abbrev pub invariant-of_branches-loop-child : goal.invariant-of_branches-loop-child
 invariant-of_branches-loop-child l =

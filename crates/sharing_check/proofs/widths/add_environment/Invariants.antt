@@ -1,5 +1,5 @@
 use Rattle.std.proofs.Common.{◌≡◌, drop}
-use Rattle.sharing_check.specs.Counting.{noted, with_environment}
+use Rattle.sharing_check.specs.walking.Counting.{noted, with_environment}
 use Rattle.sharing_check.proofs.widths.add_environment.Given as goal
 
 abbrev pub invariant-loop-outside : goal.invariant-loop-outside

@@ -1,5 +1,5 @@
 use Rattle.std.proofs.Common.{sym, subst}
-use Rattle.sharing_check.specs.Refused.{PassesAt}
+use Rattle.sharing_check.specs.Refusal.{PassesAt}
 use Rattle.sharing_check.proofs.CountLeast.{IsLeast, least_is}
 use Rattle.sharing_check.proofs.widths.least_passing.Goals as goal
 

@@ -1,5 +1,5 @@
 use Rattle.std.proofs.Common.{◌≡◌, drop, map}
-use Rattle.system.specs.Hashing.{hash_of, hashes_noted_from, places_of_hashes}
+use Rattle.system.specs.walking.Hashing.{hash_of, hashes_noted_from, places_of_hashes}
 use Rattle.system.proofs.variable_table.first_places.Given as goal
 
 -- the hashes that are left lead to the places of all

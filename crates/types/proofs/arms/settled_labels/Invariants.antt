@@ -1,11 +1,12 @@
 use Rattle.std.proofs.Common.{◌≡◌, drop, map}
 use Rattle.types.specs.Arms.{judged_label, judged_labels}
 use Rattle.types.specs.Names.{entries}
-use Rattle.types.specs.Verdict.{with_all}
+use Rattle.types.specs.Findings.{with_all}
+use Rattle.types.specs.Walking.{least}
 use Rattle.types.proofs.arms.settled_labels.Given as goal
 
 -- with the labels that are left, those so far are all
 abbrev pub invariant-loop-label : goal.invariant-loop-label
 invariant-loop-label l =
-    with_all l.settled (map (judged_label (entries l.scope.names) l.opened) (drop l.label-index l.labels))
-    ≡ judged_labels (entries l.scope.names) l.opened l.labels
+    with_all least l.settled (map (judged_label (entries l.scope.names) l.opened) (drop l.label-index l.labels))
+    ≡ judged_labels least (entries l.scope.names) l.opened l.labels

@@ -1,10 +1,11 @@
 use Rattle.std.proofs.Common.{◌≡◌, drop}
 use Rattle.types.specs.Declarations.{with_locals}
 use Rattle.types.specs.Names.{entries}
+use Rattle.types.specs.Walking.{least}
 use Rattle.types.proofs.declaration.declare_local.Given as goal
 
 -- with the names that are left, those so far are all
 abbrev pub invariant-loop-name : goal.invariant-loop-name
 invariant-loop-name l =
-    with_locals l.kind (record { names = entries l.names; made = l.locals; right = l.right }) (drop l.name-index l.declared)
-    ≡ with_locals l.kind (record { names = entries l.fn.names; made = l.fn.locals; right = l.fn.right }) l.declared
+    with_locals least l.kind (record { names = entries l.names; made = l.locals; right = l.right }) (drop l.name-index l.declared)
+    ≡ with_locals least l.kind (record { names = entries l.fn.names; made = l.fn.locals; right = l.fn.right }) l.declared

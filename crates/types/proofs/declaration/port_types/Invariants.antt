@@ -1,10 +1,11 @@
 use Rattle.std.proofs.Common.{◌≡◌, drop, Ok}
 use Rattle.types.specs.Declarations.{port_types}
 use Rattle.types.specs.Names.{entries}
+use Rattle.types.specs.Walking.{least}
 use Rattle.types.proofs.declaration.port_types.Given as goal
 
 -- with the declarations that are left, the outcome is that of all
 abbrev pub invariant-loop-declaration : goal.invariant-loop-declaration
 invariant-loop-declaration l =
-    port_types (entries l.names) l.outcome (drop l.declaration-index l.declarations)
-    ≡ port_types (entries l.names) (Ok tt) l.declarations
+    port_types least (entries l.names) l.outcome (drop l.declaration-index l.declarations)
+    ≡ port_types least (entries l.names) (Ok tt) l.declarations

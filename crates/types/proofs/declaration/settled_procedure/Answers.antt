@@ -1,7 +1,7 @@
 use Rattle.std.proofs.Common.{rules, ◌∙◌, ap, map}
-use Rattle.types.specs.Commands.{visible_in}
+use Rattle.types.specs.Walking.{least, visible_in}
 use Rattle.types.specs.Names.{entries}
-use Rattle.types.specs.Verdict.{and}
+use Rattle.types.specs.Findings.{and}
 use Rattle.types.proofs.DeclarationLemmas.{procedure_is, visible_after}
 use Rattle.types.proofs.declaration.settled_procedure.Goals as goal
 
@@ -14,7 +14,7 @@ returns-clause-made c =
     (entries c.keep_first.new.self) c.len-visible.result c.len-visible.ensures c.keep_first.ensures
     (rw (← c.as_slice-3.ensures, ← c.as_slice-4.ensures, ← c.port_types.ensures, ← c.local_types.ensures) c.and-types.ensures)
     c.in_ok-body.ensures c.in_ok-named.ensures.made
-    (c.and-right.ensures ∙ ap (λ x. and c.in_ok-named.named x) (c.and-2.ensures ∙ ap (λ x. and x c.and-types.result) c.and.ensures))
+    (c.and-right.ensures ∙ ap (λ x. and least c.in_ok-named.named x) (c.and-2.ensures ∙ ap (λ x. and least x c.and-types.result) c.and.ensures))
     (search rules) c.whole.ensures
 
 pub returns-clause-visible : goal.returns-clause-visible

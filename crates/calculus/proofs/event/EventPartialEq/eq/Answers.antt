@@ -1,5 +1,5 @@
 use Rattle.std.proofs.Common.{◌≡◌, Bool, Decides, sym, subst}
-use Rattle.calculus.specs.EventLaws.{same_event-decides}
+use Rattle.calculus.specs.walking.EventLaws.{same_event-decides}
 use Rattle.calculus.proofs.event.EventPartialEq.eq.Goals as goal
 
 pub returns-clause-equal : goal.returns-clause-equal

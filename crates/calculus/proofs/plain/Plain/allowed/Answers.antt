@@ -1,10 +1,6 @@
-use Rattle.std.proofs.Common.{◌∙◌}
-use Rattle.calculus.proofs.Walking.{found_all, answered_equal}
+use Rattle.calculus.specs.Left.{state_of}
+use Rattle.calculus.proofs.Replayed.{listed}
 use Rattle.calculus.proofs.plain.Plain.allowed.Goals as goal
 
-pub returns : goal.returns
-returns c =
-    answered_equal c.events_among.result _ _
-    (found_all c.args.self.now _ _ _ _ _ _ c.as_slice-values.ensures.value c.get.ensures
-    (c.from_vec-root.ensures ∙ c.new.ensures.items) c.new-offers.ensures c.in_ok-add_offers.ensures c.as_slice.ensures)
-    c.events_among.ensures
+pub returns-clause-listed : goal.returns-clause-listed
+returns-clause-listed c = λ w. listed (state_of c.args.self.now) c.events_offered.result w c.events_offered.ensures

@@ -1,5 +1,5 @@
 use Rattle.std.proofs.Common.{◌≡◌, drop, map}
-use Rattle.elaborate.specs.Places.{noted_from, places_of}
+use Rattle.elaborate.specs.walking.NamePlaces.{noted_from, places_of}
 use Rattle.elaborate.proofs.lookups.NamedEntries.new.Given as goal
 
 -- the names that are left lead to the places of all

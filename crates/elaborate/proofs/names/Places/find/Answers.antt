@@ -1,5 +1,5 @@
 use Rattle.std.proofs.Common.{◌∙◌, ap}
-use Rattle.elaborate.specs.Places.{place_at}
+use Rattle.elaborate.specs.walking.NamePlaces.{place_at}
 use Rattle.elaborate.proofs.PlaceLemmas.{place_at-shown}
 use Rattle.elaborate.proofs.names.Places.find.Goals as goal
 

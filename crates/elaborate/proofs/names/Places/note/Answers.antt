@@ -1,5 +1,5 @@
 use Rattle.std.proofs.Common.{◌≡◌, ◌∙◌, sym, false, is_some}
-use Rattle.elaborate.specs.Places.{place_at}
+use Rattle.elaborate.specs.walking.NamePlaces.{place_at}
 use Rattle.elaborate.proofs.PlaceLemmas.{noted-insert}
 use Rattle.elaborate.proofs.names.Places.note.Goals as goal
 

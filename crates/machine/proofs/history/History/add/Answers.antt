@@ -1,6 +1,6 @@
 use Rattle.std.proofs.Common.{refl}
 use Rattle.calculus.specs.Object.{with_event}
-use Rattle.machine.specs.Histories.{execution}
+use Rattle.machine.specs.walking.Histories.{execution}
 use Rattle.machine.proofs.KeptStates.{kept-same}
 use Rattle.machine.proofs.history.History.add.Goals as goal
 

@@ -3,9 +3,9 @@ use Rattle.std.specs.Prelude.{MatchOption}
 use Rattle.std.proofs.lemmas.Result.{IfOk-weaker}
 use Rattle.system.specs.Lists.{Every}
 use Rattle.calculus.specs.declared.event.Event.{Event}
-use Rattle.machine.specs.Taking.{FirstAt, Takes}
-use Rattle.machine.specs.Histories.{held}
-use Rattle.machine.specs.Branching.{moves, in_branch, line_of_first, StepsBranch}
+use Rattle.machine.specs.walking.Choosing.{FirstAt, Takes, moves, line_of_first}
+use Rattle.machine.specs.walking.Histories.{held}
+use Rattle.machine.specs.Branching.{in_branch, StepsBranch}
 use Rattle.machine.specs.declared.branching.BranchReply.{BranchReply}
 use Rattle.machine.proofs.Entries.{within-at}
 use Rattle.machine.proofs.Branches.{moving-chosen, taken-branched, back-branched}

@@ -1,6 +1,7 @@
 use Rattle.std.proofs.Common.{◌≡◌, drop}
-use Rattle.machine.specs.Histories.{held}
-use Rattle.machine.specs.Branching.{in_branch, line_of_first}
+use Rattle.machine.specs.walking.Histories.{held}
+use Rattle.machine.specs.Branching.{in_branch}
+use Rattle.machine.specs.walking.Choosing.{line_of_first}
 use Rattle.machine.proofs.history.History.first_line.Given as goal
 
 abbrev pub invariant-loop-event : goal.invariant-loop-event

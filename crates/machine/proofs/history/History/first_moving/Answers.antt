@@ -1,5 +1,5 @@
-use Rattle.machine.specs.Histories.{held}
-use Rattle.machine.specs.Branching.{moves}
+use Rattle.machine.specs.walking.Histories.{held}
+use Rattle.machine.specs.walking.Choosing.{moves}
 use Rattle.machine.proofs.Branches.{fails-more}
 use Rattle.machine.proofs.history.History.first_moving.Goals as goal
 

@@ -1,7 +1,7 @@
 use Rattle.std.proofs.Common.{◌≡◌, false, take}
 use Rattle.system.specs.Lists.{Every}
-use Rattle.machine.specs.Histories.{held}
-use Rattle.machine.specs.Branching.{moves}
+use Rattle.machine.specs.walking.Histories.{held}
+use Rattle.machine.specs.walking.Choosing.{moves}
 use Rattle.machine.proofs.history.History.first_moving.Given as goal
 
 abbrev pub invariant-loop-i : goal.invariant-loop-i

@@ -1,5 +1,5 @@
-use Rattle.machine.specs.Histories.{execution}
-use Rattle.calculus.specs.Plain.{state_of}
+use Rattle.machine.specs.walking.Histories.{execution}
+use Rattle.calculus.specs.Left.{state_of}
 use Rattle.machine.proofs.KeptStates.{kept-reaches}
 use Rattle.machine.proofs.Stepped.{state-formed, ready-of}
 use Rattle.machine.proofs.history.History.ready.Goals as goal

@@ -1,7 +1,7 @@
 use Rattle.std.proofs.Common.{subst, refl}
 use Rattle.calculus.specs.Live.{Live, NoWriter}
-use Rattle.machine.specs.Following.{WritesLast}
-use Rattle.machine.specs.Histories.{execution}
+use Rattle.machine.specs.walking.Following.{WritesLast}
+use Rattle.machine.specs.walking.Histories.{execution}
 use Rattle.machine.proofs.Gathering.{last-is-last}
 use Rattle.machine.proofs.TakenOut.{roll-of-value}
 use Rattle.machine.proofs.Stepped.{on-error}

@@ -4,7 +4,7 @@ use Rattle.calculus.specs.Object.{Object}
 use Rattle.calculus.specs.Does.{Does}
 use Rattle.calculus.specs.Sound.{Sound}
 use Rattle.calculus.specs.declared.command.Command.{Command}
-use Rattle.machine.specs.Histories.{execution}
+use Rattle.machine.specs.walking.Histories.{execution}
 use Rattle.machine.proofs.history.History.step.Goals as goal
 
 pub step_from_state-requires : goal.step_from_state-requires

@@ -1,5 +1,5 @@
 use Rattle.std.proofs.Common.{refl}
-use Rattle.machine.specs.Histories.{execution}
+use Rattle.machine.specs.walking.Histories.{execution}
 use Rattle.machine.proofs.Stepped.{chosen-of, not-taken, step-done}
 use Rattle.machine.proofs.history.History.step_from_state.Goals as goal
 

@@ -1,5 +1,5 @@
 use Rattle.std.proofs.Common.{refl}
-use Rattle.machine.specs.Histories.{execution}
+use Rattle.machine.specs.walking.Histories.{execution}
 use Rattle.machine.proofs.TakenOut.{takes-out}
 use Rattle.machine.proofs.history.History.take_out.Goals as goal
 

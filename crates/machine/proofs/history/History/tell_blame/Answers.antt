@@ -1,6 +1,6 @@
 use Rattle.std.proofs.Common.{subst, refl}
 use Rattle.calculus.specs.Live.{Live, NoWriter}
-use Rattle.machine.specs.Following.{WritesLast}
+use Rattle.machine.specs.walking.Following.{WritesLast}
 use Rattle.machine.proofs.Gathering.{last-is-last}
 use Rattle.machine.proofs.history.History.tell_blame.Goals as goal
 

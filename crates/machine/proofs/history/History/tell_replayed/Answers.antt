@@ -1,4 +1,4 @@
-use Rattle.machine.specs.Histories.{execution}
+use Rattle.machine.specs.walking.Histories.{execution}
 use Rattle.machine.proofs.history.History.tell_replayed.Goals as goal
 
 pub returns : goal.returns

@@ -1,4 +1,4 @@
-use Rattle.machine.specs.Histories.{execution}
+use Rattle.machine.specs.walking.Histories.{execution}
 use Rattle.machine.proofs.KeptStates.{kept-reaches}
 use Rattle.machine.proofs.history.History.tell_value.Goals as goal
 

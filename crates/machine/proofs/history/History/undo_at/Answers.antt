@@ -1,5 +1,5 @@
 use Rattle.std.proofs.Common.{refl}
-use Rattle.machine.specs.Histories.{execution}
+use Rattle.machine.specs.walking.Histories.{execution}
 use Rattle.machine.proofs.Undone.{undo-named, undo-taken}
 use Rattle.machine.proofs.history.History.undo_at.Goals as goal
 

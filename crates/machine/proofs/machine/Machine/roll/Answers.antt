@@ -3,7 +3,7 @@ use Rattle.calculus.specs.Does.{Answers}
 use Rattle.calculus.specs.declared.command.Command.{Command}
 use Rattle.calculus.proofs.Effects.{stays-sound}
 use Rattle.machine.specs.Held.{Held, object}
-use Rattle.machine.specs.Histories.{execution}
+use Rattle.machine.specs.walking.Histories.{execution}
 use Rattle.machine.proofs.Stepped.{answers-of}
 use Rattle.machine.proofs.machine.Machine.roll.Goals as goal
 

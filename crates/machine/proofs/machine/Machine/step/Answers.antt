@@ -1,6 +1,6 @@
 use Rattle.calculus.specs.declared.command.Command.{Command}
 use Rattle.calculus.proofs.Effects.{stays-sound}
-use Rattle.machine.specs.Histories.{execution}
+use Rattle.machine.specs.walking.Histories.{execution}
 use Rattle.machine.proofs.Stepped.{answers-of, on-error}
 use Rattle.machine.proofs.machine.Machine.step.Goals as goal
 

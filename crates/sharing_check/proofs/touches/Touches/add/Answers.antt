@@ -1,6 +1,6 @@
 -- Where the variable was touched before, its entry has both parts.
 use Rattle.std.proofs.Common.{◌≡◌, subst}
-use Rattle.sharing_check.specs.Crossing.{noted}
+use Rattle.sharing_check.specs.walking.Crossing.{noted}
 use Rattle.sharing_check.proofs.TableSteps.{added_twice}
 use Rattle.sharing_check.proofs.touches.Touches.add.Goals as goal
 

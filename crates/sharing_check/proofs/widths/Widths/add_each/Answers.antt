@@ -3,7 +3,7 @@ use Rattle.std.proofs.lemmas.Map.Keys.{IsDistinct-tail}
 use Rattle.std.specs.List.{IsDistinct}
 use Rattle.std.specs.Map.{keys_of}
 use Rattle.sharing_check.specs.declared.widths.Width.{Width}
-use Rattle.sharing_check.specs.Counting.{join, noted, listed}
+use Rattle.sharing_check.specs.walking.Counting.{join, noted, listed}
 use Rattle.sharing_check.proofs.CountTables.{join_none, join_entry}
 use Rattle.sharing_check.proofs.widths.Widths.add_each.Goals as goal
 

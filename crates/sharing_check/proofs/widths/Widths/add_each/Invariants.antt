@@ -1,7 +1,7 @@
 use Rattle.std.proofs.Common.{◌≡◌, nat_eq}
 use Rattle.std.specs.List.{IsDistinct}
 use Rattle.std.specs.Map.{keys_of}
-use Rattle.sharing_check.specs.Counting.{join, noted, listed}
+use Rattle.sharing_check.specs.walking.Counting.{join, noted, listed}
 use Rattle.sharing_check.proofs.widths.Widths.add_each.Given as goal
 
 -- with the uses that are left, the table says what both say

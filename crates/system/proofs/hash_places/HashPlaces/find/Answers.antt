@@ -1,5 +1,5 @@
 use Rattle.std.proofs.Common.{◌∙◌, ap}
-use Rattle.system.specs.Hashing.{place_of_hash}
+use Rattle.system.specs.walking.Hashing.{place_of_hash}
 use Rattle.system.proofs.HashLemmas.{place_of_hash-lookup}
 use Rattle.system.proofs.hash_places.HashPlaces.find.Goals as goal
 

@@ -1,5 +1,5 @@
 use Rattle.std.proofs.Common.{◌≡◌, sym, false, is_some}
-use Rattle.system.specs.Hashing.{place_of_hash}
+use Rattle.system.specs.walking.Hashing.{place_of_hash}
 use Rattle.system.proofs.HashLemmas.{hash_noted-insert}
 use Rattle.system.proofs.hash_places.HashPlaces.note.Goals as goal
 

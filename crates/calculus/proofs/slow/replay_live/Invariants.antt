@@ -1,9 +1,0 @@
-use Rattle.std.proofs.Common.{◌≡◌, drop}
-use Rattle.calculus.specs.StepOf.{run_of}
-use Rattle.calculus.specs.Live.{events}
-use Rattle.calculus.specs.Plain.{state_of}
-use Rattle.calculus.specs.Opening.{opening}
-use Rattle.calculus.proofs.slow.replay_live.Given as goal
-
-abbrev pub invariant-loop-event : goal.invariant-loop-event
-invariant-loop-event l = run_of (state_of l.state) (events (drop l.event-index l.live)) ≡ run_of (opening l.system) (events l.live)

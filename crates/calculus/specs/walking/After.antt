@@ -1,0 +1,155 @@
+-- Local moves as a function: the move that is asked for at a place, and the residual after it.
+-- No reader has to believe it: `proofs/After.antt` ties it to `Local` of `Moves.antt`.
+use Rattle.std.specs.Prelude.{ℕ, ◌+◌, ◌*◌, ◌==◌, List, [], ◌∷◌, true, false, cond, Option, Some, None, slice_get}
+use Rattle.calculus.specs.Moves.{Place, Move, assigns, tests, turns, sends, receives, syncs, opens, releases, closes}
+use Rattle.address.specs.declared.Entry.TheVariants.{Ordered, Branch}
+use Rattle.value.specs.Word.{Word}
+use Rattle.system.specs.Expression.{Expression, Decision, by_guards}
+use Rattle.system.specs.Residual.{Residual, done, halted, inside, beside, assign, send, receive, sync, held, loop, while, test, choose, closing, drain, Arms, within, along, arm_at, opened}
+
+-- what an event asks for at one of its places
+pub data Ask : Type 0 where
+  to_assign : Ask
+  -- a test that takes this arm, or none
+  to_test : Option ℕ → Ask
+  to_turn : Ask
+  to_send : Ask
+  -- a send or sync that is held until the close
+  to_hold : Ask
+  to_receive : Ask
+  -- the arm, and the value received if any
+  to_open : ℕ → Option Word → Ask
+  to_sync : Ask
+  to_release : Ask
+  to_close : Ask
+
+-- what a move answers to
+abbrev pub asks : Move → Ask
+asks (assigns x w e) = to_assign
+asks (tests d k) = to_test k
+asks turns = to_turn
+asks (sends c w e false) = to_send
+asks (sends c w e true) = to_hold
+asks (receives c x) = to_receive
+asks (syncs c false) = to_sync
+asks (syncs c true) = to_hold
+asks (opens c k v) = to_open k v
+asks (releases c) = to_release
+asks (closes c) = to_close
+
+-- a move and the residual after it, if there is one
+abbrev pub Answer : Type 0
+Answer = Option (Move × Residual)
+
+-- an answer with the rest put around the residual
+abbrev pub around : (Residual → Residual) → Answer → Answer
+around rest None = None
+around rest (Some x) = Some (x.0, rest x.1)
+
+-- the answer, at the command's own place
+abbrev pub at_place : Place → Answer → Answer
+at_place [] answer = answer
+at_place (x ∷ a) answer = None
+
+-- the answer, at act n of the command
+abbrev pub at_act : ℕ → Place → Answer → Answer
+at_act n [] answer = None
+at_act n (Ordered i ∷ []) answer = cond (i == n) answer None
+at_act n (Ordered i ∷ x ∷ a) answer = None
+at_act n (Branch i ∷ a) answer = None
+
+-- the child's answer, at places in child n of a sequence
+abbrev pub in_child : ℕ → Place → (Place → Answer) → Answer
+in_child n [] child = None
+in_child n (Ordered i ∷ a) child = cond (i == n) (child a) None
+in_child n (Branch i ∷ a) child = None
+
+-- the child's answer at places in branch n, and elsewhere that of the rest
+abbrev pub in_branch : ℕ → Place → (Place → Answer) → Answer → Answer
+in_branch n [] child rest = rest
+in_branch n (Ordered i ∷ a) child rest = rest
+in_branch n (Branch i ∷ a) child rest = cond (i == n) (child a) rest
+
+-- the answer of an assignment
+abbrev pub after_assign : ℕ → ℕ → Expression → Ask → Answer
+after_assign x w e to_assign = Some (assigns x w e, done)
+after_assign x w e _ = None
+
+-- the answer of a send
+abbrev pub after_send : ℕ → ℕ → Expression → Ask → Answer
+after_send c w e to_send = Some (sends c w e false, done)
+after_send c w e to_hold = Some (sends c w e true, held c)
+after_send c w e _ = None
+
+-- the answer of a receive
+abbrev pub after_receive : ℕ → ℕ → Ask → Answer
+after_receive c x to_receive = Some (receives c (Some x), done)
+after_receive c x _ = None
+
+-- the answer of a handshake without data
+abbrev pub after_sync : ℕ → Ask → Answer
+after_sync c to_sync = Some (syncs c false, done)
+after_sync c to_hold = Some (syncs c true, held c)
+after_sync c _ = None
+
+-- the answer of what is held
+abbrev pub after_held : ℕ → Ask → Answer
+after_held c to_release = Some (releases c, done)
+after_held c _ = None
+
+-- the answer of a loop before turn k
+abbrev pub after_loop : ℕ → Residual → Ask → Answer
+after_loop k body to_turn = Some (turns, within (2 * k + 1) body (loop (k + 1) body))
+after_loop k body _ = None
+
+-- the answer of a while loop before test k; its arm is number 0
+abbrev pub after_while : ℕ → Expression → Residual → Ask → Answer
+after_while k e body (to_test None) = Some (tests (by_guards (e ∷ []) false) None, done)
+after_while k e body (to_test (Some j)) =
+    cond (j == 0) (Some (tests (by_guards (e ∷ []) false) (Some j), within (2 * k + 1) body (while (k + 1) e body))) None
+after_while k e body _ = None
+
+-- the answer of a test with arms
+abbrev pub after_test : Decision → Arms → Ask → Answer
+after_test d arms (to_test None) = Some (tests d None, done)
+after_test d arms (to_test (Some j)) = Some (tests d (Some j), within 1 (arm_at arms j) done)
+after_test d arms _ = None
+
+-- the answer of an arm that opens on its channel, if there is one
+abbrev pub after_open : Option ℕ → Arms → ℕ → Option Word → Answer
+after_open None arms j v = None
+after_open (Some c) arms j v = Some (opens c j v, within 1 (opened c v (arm_at arms j)) (closing c))
+
+-- the answer of arms that wait on their channels
+abbrev pub after_choose : List ℕ → Arms → Ask → Answer
+after_choose channels arms (to_open j v) = after_open (slice_get channels j) arms j v
+after_choose channels arms _ = None
+
+-- the answer of what comes after an opened arm
+abbrev pub after_closing : ℕ → Ask → Answer
+after_closing c to_close = Some (closes c, done)
+after_closing c _ = None
+
+-- the answer of the receives on an output port, before act k
+abbrev pub after_drain : ℕ → ℕ → Ask → Answer
+after_drain c k to_receive = Some (receives c None, drain c (k + 1))
+after_drain c k _ = None
+
+-- the move that is asked of the residual at the place, and the residual after it
+abbrev pub after : Ask → Residual → Place → Answer
+after k done a = None
+after k halted a = None
+after k (inside i child next) a = in_child i a (λ b. around (λ t. within i t next) (after k child b))
+after k (beside n child rest) a =
+    in_branch n a (λ b. around (λ t. along n t rest) (after k child b)) (around (λ t. along n child t) (after k rest a))
+after k (assign x w e) a = at_place a (after_assign x w e k)
+after k (send c w e) a = at_act 0 a (after_send c w e k)
+after k (receive c x) a = at_place a (after_receive c x k)
+after k (sync c) a = at_act 0 a (after_sync c k)
+after k (held c) a = at_act 1 a (after_held c k)
+after k (loop n body) a = at_act (2 * n) a (after_loop n body k)
+after k (while n e body) a = at_act (2 * n) a (after_while n e body k)
+after k (test d arms) a = at_act 0 a (after_test d arms k)
+after k (choose channels arms) a = at_act 0 a (after_choose channels arms k)
+after k (closing c) a = at_act 2 a (after_closing c k)
+after k (drain c n) a = at_act n a (after_drain c n k)

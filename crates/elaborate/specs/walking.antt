@@ -1,0 +1,3 @@
+pub mod BodyParts
+pub mod NamePlaces
+pub mod SizeParts

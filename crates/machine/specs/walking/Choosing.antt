@@ -1,0 +1,50 @@
+-- The event of a list that is taken, and why none is.
+-- No reader has to believe it: the proofs of `step` and `branch_step` tie it to `Steps` of `calculus` and to `StepsBranch` of `Branching.antt`.
+use Rattle.std.specs.Prelude.{◌≡◌, ◌<◌, ◌≤◌, ℕ, List, Option, Some, None, IsSome, take, slice_get, Bool, true, false, [], ◌∷◌, cond}
+use Rattle.system.specs.Lists.{In, Every}
+use Rattle.calculus.specs.Choices.{choice_of}
+use Rattle.calculus.specs.Object.{most_live, last_ticket}
+use Rattle.calculus.specs.declared.event.Event.{Event}
+use Rattle.calculus.specs.declared.event.Choice.{Choice}
+use Rattle.calculus.specs.declared.command.Refusal.{Refusal}
+use Rattle.calculus.specs.declared.command.Refusal.TheVariants.{NotReady, HistoryFull, Spent}
+use Rattle.calculus.specs.Does.{Steps, RefusesStep}
+use Rattle.calculus.specs.declared.command.Reply.{Reply}
+use Rattle.machine.specs.Held.{Held, object}
+use Rattle.machine.specs.declared.branching.BranchReply.{BranchReply}
+use Rattle.machine.specs.declared.branching.BranchReply.TheVariants.{Stepped, Refused}
+use Rattle.machine.specs.Branching.{line_of, acts_in, is_free}
+
+-- no event of the list has the choice
+abbrev pub HasNone : Choice → List Event → Type 0
+HasNone c es = (e : Event) → In e es → choice_of e ≡ c → ⊥
+
+-- the event at place i has the choice, and none before it
+abbrev pub FirstWith : Choice → List Event → ℕ → Type 0
+FirstWith c es i = (e : Event) × (slice_get es i ≡ Some e) × (choice_of e ≡ c) × HasNone c (take i es)
+
+-- why no event is taken, with so many live and this ticket next: none was found, or a limit is reached
+abbrev pub NotTaken : Option Event → ℕ → ℕ → Refusal → Type 0
+NotTaken found live next NotReady = found ≡ None
+NotTaken found live next HistoryFull = IsSome found × (most_live ≤ live)
+NotTaken found live next Spent = IsSome found × (live < most_live) × (last_ticket < next)
+NotTaken found live next _ = ⊥
+
+-- the event at place i passes the test, and none before it
+abbrev pub FirstAt : (Event → Bool) → List Event → ℕ → Type 0
+FirstAt test es i = (e : Event) × (slice_get es i ≡ Some e) × (test e ≡ true) × Every (λ f. test f ≡ false) (take i es)
+
+-- what is answered where e is to be taken, and what is left
+abbrev pub Takes : Held → Event → BranchReply → Held → Type 0
+Takes h e (Stepped t f) h' = (f ≡ e) × Steps (object h) (choice_of e) (Reply.Stepped t e) (object h')
+Takes h e (Refused why) h' = RefusesStep (object h) (choice_of e) why × (h' ≡ h)
+Takes h e _ h' = ⊥
+
+-- whether an event acts in branch k and no breakpoint keeps it back
+abbrev pub moves : Held → ℕ → List ℕ → Event → Bool
+moves h k breaks e = cond (acts_in h k e) (is_free h breaks e) false
+
+-- the line of the first event of the list
+abbrev pub line_of_first : Held → List Event → Option ℕ
+line_of_first h [] = None
+line_of_first h (e ∷ es) = line_of h e

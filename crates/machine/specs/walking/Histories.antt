@@ -1,0 +1,20 @@
+-- The live events as they lie in memory, and the state that is kept beside them.
+-- No reader has to believe it: contracts see a machine as `Held`.
+use Rattle.sharing_check.specs.declared.checked.Checked.{Checked}
+use Rattle.calculus.specs.Object.{Object, Reaches}
+use Rattle.machine.specs.Held.{Held, object}
+use Rattle.machine.specs.declared.history.History.{History}
+use Rattle.std.specs.Option.{IfSome}
+use Rattle.calculus.specs.Left.{state_of}
+
+-- what is held of a system
+abbrev pub held : Checked → History → Held
+held checked h = record { checked = checked; live = h.live.items; next = h.next }
+
+-- the execution of a system
+abbrev pub execution : Checked → History → Object
+execution checked h = object (held checked h)
+
+-- where a state is kept, it is what the live events lead to
+abbrev pub KeepsState : Checked → History → Type 0
+KeepsState checked h = IfSome h.state (λ p. Reaches (execution checked h) (state_of p))

@@ -1,7 +1,0 @@
-use Rattle.std.proofs.Common.{◌≡◌, [], drop}
-use Rattle.types.specs.Calls.{all_differ}
-use Rattle.types.proofs.call.all_differ.Given as goal
-
--- all differ exactly where those that are left do from one another and from those seen
-abbrev pub invariant-loop-channel : goal.invariant-loop-channel
-invariant-loop-channel l = all_differ l.seen.keys (drop l.channel-index l.channels) ≡ all_differ [] l.channels
