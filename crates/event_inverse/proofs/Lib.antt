@@ -1,0 +1,4 @@
+pub mod FromOpening
+pub mod Moving
+pub mod Neighbours
+pub mod Undoing

@@ -1,0 +1,30 @@
+-- An event taken back by its record.
+-- No reader has to believe it: the law `records_revert` says that it gives the tree and the store to which the event was applied.
+use Rattle.std.specs.Prelude.{ℕ, List, [], ◌∷◌, Option, Some, None, option_map, slice_set}
+use Rattle.std.specs.Option.{option_and_then}
+use Rattle.value.specs.Word.{Word}
+use Rattle.system.specs.Expression.{Store}
+use Rattle.calculus.specs.Moves.{Place}
+use Rattle.calculus.specs.walking.After.{Ask}
+use Rattle.calculus.specs.walking.Made.{asked}
+use Rattle.calculus.specs.declared.event.Event.{Event}
+use Rattle.process_tree.specs.Part.{Part}
+use Rattle.process_tree.specs.walking.Retreated.{retreated}
+use Rattle.event_inverse.specs.Grown.{Tree, Taken}
+
+-- the part before the moves, which took these out: the last is taken back first
+abbrev pub all_retreated : Part → List (Place × Ask) → List (Option Part) → Option Part
+all_retreated p [] outs = Some p
+all_retreated p (k ∷ ks) [] = None
+all_retreated p (k ∷ ks) (out ∷ outs) = option_and_then (λ q. retreated q k.0 out) (all_retreated p ks outs)
+
+-- the store with the value put back that was overwritten
+abbrev pub written_back : Option ℕ → Option Word → Store → Store
+written_back None v s = s
+written_back (Some x) None s = s
+written_back (Some x) (Some v) s = slice_set s x v
+
+-- the tree before an event that left this record
+abbrev pub reverted : Tree → Event → Taken → Option Tree
+reverted T e r =
+    option_and_then (λ ks. option_map (λ p. record { part = p; store = written_back e.written r.old T.store }) (all_retreated T.part ks r.parts)) (asked e)

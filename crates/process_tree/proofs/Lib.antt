@@ -1,0 +1,11 @@
+pub mod Asking
+pub mod Back
+pub mod Children
+pub mod Formed
+pub mod Ports
+pub mod Puts
+pub mod Rows
+pub mod Simulation
+pub mod Swap
+pub mod Translated
+pub mod Views

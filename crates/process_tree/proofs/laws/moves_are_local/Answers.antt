@@ -1,0 +1,6 @@
+-- The moves of the tree are those of what is left of it.
+use Rattle.process_tree.proofs.Simulation.{does, did}
+use Rattle.process_tree.proofs.laws.moves_are_local.Goals as goal
+
+pub returns : goal.returns
+returns c = record { made = does; offered = did }

@@ -1,0 +1,107 @@
+-- A move made on the tree: the part after it, and what it took out.
+use Rattle.std.specs.Prelude.{ℕ, ◌+◌, ◌*◌, ◌==◌, Bool, true, false, List, Option, Some, None, cond, slice_get}
+use Rattle.value.specs.Word.{Word}
+use Rattle.system.specs.Expression.{Expression, Decision}
+use Rattle.calculus.specs.Moves.{Place}
+use Rattle.calculus.specs.walking.After.{Ask, to_assign, to_test, to_turn, to_send, to_hold, to_receive, to_open, to_sync, to_release, to_close}
+use Rattle.process_tree.specs.Code.{Once, assigning, receiving, Sender, sending, syncing, Code, Codes, code_at}
+use Rattle.process_tree.specs.Part.{waiting, holding, past, Part, idle, stopped, once, sender, fresh, turn, ended_at_once, ended, untested, skipped, took, shut, entered, closed, sequence, parallel, drained, Parts, no_parts, part, started, finished}
+use Rattle.process_tree.specs.Places.{if_here, if_act, if_child, if_branch, wrap}
+
+-- the part after a move, and what the move took out: the body of the turn before it, where a loop turns again
+abbrev pub Moved : Type 0
+Moved = Part × Option Part
+
+-- the same of parts in a row
+abbrev pub MovedIn : Type 0
+MovedIn = Parts × Option Part
+
+-- an assignment assigns, a receive receives, once
+abbrev pub once_after : Once → Bool → Ask → Option Moved
+once_after (assigning x w e) false to_assign = Some (once (assigning x w e) true, None)
+once_after (receiving c x) false to_receive = Some (once (receiving c x) true, None)
+once_after _ _ _ = None
+
+-- a send or sync that waits meets its partner, or is held
+abbrev pub sender_after : Sender → Ask → Option Moved
+sender_after (sending c w e) to_send = Some (sender (sending c w e) past, None)
+sender_after (sending c w e) to_hold = Some (sender (sending c w e) holding, None)
+sender_after (syncing c) to_sync = Some (sender (syncing c) past, None)
+sender_after (syncing c) to_hold = Some (sender (syncing c) holding, None)
+sender_after _ _ = None
+
+-- one that is held is released
+abbrev pub holding_after : Sender → Ask → Option Moved
+holding_after s to_release = Some (sender s past, None)
+holding_after s _ = None
+
+-- a loop begins turn n with a new body, and takes out `out`; or a test ends it, and it is `over`
+abbrev pub again_after : Option Expression → Code → ℕ → Part → Option Part → Ask → Option Moved
+again_after None c n over out to_turn = Some (turn None c n (started c), out)
+again_after (Some e) c n over out (to_test None) = Some (over, None)
+again_after (Some e) c n over out (to_test (Some j)) = cond (j == 0) (Some (turn (Some e) c n (started c), out)) None
+again_after _ c n over out _ = None
+
+-- a test takes an arm, or none
+abbrev pub test_after : Decision → Codes → Ask → Option Moved
+test_after d cs (to_test None) = Some (skipped d cs, None)
+test_after d cs (to_test (Some j)) = Some (took d cs j (started (code_at cs j)), None)
+test_after d cs _ = None
+
+-- arm j opens on its channel, if there is one
+abbrev pub open_on : List ℕ → Codes → Option ℕ → ℕ → Option Word → Option Moved
+open_on ds cs None j v = None
+open_on ds cs (Some c) j v = Some (entered ds cs c v (started (code_at cs j)), None)
+
+-- one of the arms that wait opens
+abbrev pub open_after : List ℕ → Codes → Ask → Option Moved
+open_after ds cs (to_open j v) = open_on ds cs (slice_get ds j) j v
+open_after ds cs _ = None
+
+-- an opened arm is closed
+abbrev pub close_after : List ℕ → Codes → ℕ → Option Word → Part → Ask → Option Moved
+close_after ds cs c v q to_close = Some (closed ds cs c v q, None)
+close_after ds cs c v q _ = None
+
+-- the environment receives again
+abbrev pub drain_after : ℕ → ℕ → Ask → Option Moved
+drain_after c n to_receive = Some (drained c (n + 1), None)
+drain_after c n _ = None
+
+abbrev mutual
+  -- the part after the move that is asked for at the place, where it is possible
+  pub advanced : Part → Place → Ask → Option Moved
+  advanced idle a k = None
+  advanced stopped a k = None
+  advanced (once o made) a k = if_here a (once_after o made k)
+  advanced (sender s waiting) a k = if_act 0 a (sender_after s k)
+  advanced (sender s holding) a k = if_act 1 a (holding_after s k)
+  advanced (sender s past) a k = None
+  advanced (fresh g c) a k = if_act 0 a (again_after g c 0 (ended_at_once g c) None k)
+  advanced (turn g c n q) a k =
+      cond (finished q) (if_act (2 * (n + 1)) a (again_after g c (n + 1) (ended g c n q) (Some q) k))
+      (if_child (2 * n + 1) a (λ b. wrap (turn g c n) (advanced q b k)))
+  advanced (ended_at_once g c) a k = None
+  advanced (ended g c n q) a k = None
+  advanced (untested d cs) a k = if_act 0 a (test_after d cs k)
+  advanced (skipped d cs) a k = None
+  advanced (took d cs j q) a k = cond (finished q) None (if_child 1 a (λ b. wrap (took d cs j) (advanced q b k)))
+  advanced (shut ds cs) a k = if_act 0 a (open_after ds cs k)
+  advanced (entered ds cs c v q) a k =
+      cond (finished q) (if_act 2 a (close_after ds cs c v q k)) (if_child 1 a (λ b. wrap (entered ds cs c v) (advanced q b k)))
+  advanced (closed ds cs c v q) a k = None
+  advanced (sequence ps) a k = wrap sequence (advanced_sequence 0 ps a k)
+  advanced (parallel ps) a k = wrap parallel (advanced_parallel 0 ps a k)
+  advanced (drained c n) a k = if_act n a (drain_after c n k)
+
+  -- of children one after another, the first with number n: the first that is not finished moves
+  pub advanced_sequence : ℕ → Parts → Place → Ask → Option MovedIn
+  advanced_sequence n no_parts a k = None
+  advanced_sequence n (part p ps) a k =
+      cond (finished p) (wrap (part p) (advanced_sequence (n + 1) ps a k)) (if_child n a (λ b. wrap (λ q. part q ps) (advanced p b k)))
+
+  -- of children side by side, the first in branch n: that in the branch of the place moves
+  pub advanced_parallel : ℕ → Parts → Place → Ask → Option MovedIn
+  advanced_parallel n no_parts a k = None
+  advanced_parallel n (part p ps) a k =
+      if_branch n a (λ b. wrap (λ q. part q ps) (advanced p b k)) (wrap (part p) (advanced_parallel (n + 1) ps a k))

@@ -1,0 +1,10 @@
+pub mod Advanced
+pub mod Code
+pub mod Laws
+pub mod Left
+pub mod Part
+pub mod Places
+pub mod Translation
+pub mod View
+pub mod formers
+pub mod walking

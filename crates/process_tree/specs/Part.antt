@@ -1,0 +1,104 @@
+-- The tree that is changed in place, as contracts see it: each command with what it has done, the finished parts kept.
+use Rattle.std.specs.Prelude.{ℕ, Bool, true, false, ◌&&◌, List, Option}
+use Rattle.value.specs.Word.{Word}
+use Rattle.system.specs.Expression.{Expression, Decision}
+use Rattle.process_tree.specs.Code.{Once, Sender, Code, continues, halts, acts, offers, repeats, decides, awaits, in_turn, side_by_side, drains, Codes, no_code, code}
+
+-- how far a send or sync is; it holds from the open that took it until the close
+pub data Phase : Type 0 where
+  waiting : Phase
+  holding : Phase
+  past : Phase
+
+mutual
+  -- a command with what it has done
+  pub data Part : Type 0 where
+    -- `continue`
+    idle : Part
+    -- `halt`
+    stopped : Part
+    -- what makes one move, and whether it has made it
+    once : Once → Bool → Part
+    sender : Sender → Phase → Part
+    -- a loop before its first turn
+    fresh : Option Expression → Code → Part
+    -- a loop in this turn or behind it, and the body of that turn
+    turn : Option Expression → Code → ℕ → Part → Part
+    -- a loop whose first test ended it
+    ended_at_once : Option Expression → Code → Part
+    -- a loop that a test ended behind this turn
+    ended : Option Expression → Code → ℕ → Part → Part
+    -- an `if` or `case` before its test
+    untested : Decision → Codes → Part
+    -- one that took no arm
+    skipped : Decision → Codes → Part
+    -- one that took this arm
+    took : Decision → Codes → ℕ → Part → Part
+    -- arms that wait on their channels
+    shut : List ℕ → Codes → Part
+    -- arms of which one has opened on this channel, with what was received if anything
+    entered : List ℕ → Codes → ℕ → Option Word → Part → Part
+    -- the same after the close
+    closed : List ℕ → Codes → ℕ → Option Word → Part → Part
+    -- children one after another: the first that is not finished is at work
+    sequence : Parts → Part
+    -- children side by side
+    parallel : Parts → Part
+    -- the receives on an output port, after so many
+    drained : ℕ → ℕ → Part
+
+  -- parts in a row
+  pub data Parts : Type 0 where
+    no_parts : Parts
+    part : Part → Parts → Parts
+
+abbrev mutual
+  -- a command that has made no move
+  pub started : Code → Part
+  started continues = idle
+  started halts = stopped
+  started (acts o) = once o false
+  started (offers s) = sender s waiting
+  started (repeats g c) = fresh g c
+  started (decides d cs) = untested d cs
+  started (awaits ds cs) = shut ds cs
+  started (in_turn cs) = sequence (all_started cs)
+  started (side_by_side cs) = parallel (all_started cs)
+  started (drains c) = drained c 0
+
+  -- the same of each
+  pub all_started : Codes → Parts
+  all_started no_code = no_parts
+  all_started (code c cs) = part (started c) (all_started cs)
+
+-- whether a send or sync is done
+abbrev pub is_past : Phase → Bool
+is_past waiting = false
+is_past holding = false
+is_past past = true
+
+abbrev mutual
+  -- whether nothing is left to do
+  pub finished : Part → Bool
+  finished idle = true
+  finished stopped = false
+  finished (once o made) = made
+  finished (sender s p) = is_past p
+  finished (fresh g c) = false
+  finished (turn g c n q) = false
+  finished (ended_at_once g c) = true
+  finished (ended g c n q) = true
+  finished (untested d cs) = false
+  finished (skipped d cs) = true
+  finished (took d cs j q) = finished q
+  finished (shut ds cs) = false
+  finished (entered ds cs c v q) = false
+  finished (closed ds cs c v q) = true
+  finished (sequence ps) = all_finished ps
+  finished (parallel ps) = all_finished ps
+  finished (drained c n) = false
+
+  -- whether each is finished
+  pub all_finished : Parts → Bool
+  all_finished no_parts = true
+  all_finished (part p ps) = finished p && all_finished ps

@@ -1,0 +1,19 @@
+//! The tree of an execution, which is changed in place: what each command has done, with the finished parts kept.
+#![tactic(auto)]
+
+mod code;
+mod environment;
+mod laws;
+mod part;
+mod shared;
+mod translate;
+mod tree;
+
+pub use code::{Act, Await, Code, Decide, Offer, Repeat, Row};
+pub use laws::{
+    finished_is_done, left_is_formed, moves_are_local, moves_go_back, moves_swap, one_child_moves,
+    started_has_all_left, systems_open_alike,
+};
+pub use part::{Phase, Proc, start};
+pub use translate::code_of;
+pub use tree::Tree;
