@@ -19,5 +19,4 @@ pub mod Sound
 pub mod Steps
 pub mod Tests
 pub mod WellFormed
-pub mod formers
 pub mod walking

@@ -1,4 +1,4 @@
--- Tests of equality, and of places that are apart.
+-- Whether two events are equal, as a test.
 use Rattle.std.specs.Prelude.{◌==◌, List, [], ◌∷◌, Bool, true, false, ◌&&◌, Option, Some, None}
 use Rattle.address.specs.declared.Entry.{Entry}
 use Rattle.address.specs.declared.Entry.TheVariants.{Ordered, Branch}

@@ -12,10 +12,9 @@ ghost use Rattle.calculus.specs.walking.Passed.{along_all};
 use crate::left::{Left, along, along_all, with_received, within};
 use crate::moves::{Ask, Move, Moved};
 use crate::place::{is_act, is_here, is_turn};
-use crate::shared::Shared;
 use address::Entry;
 use std::alloc::{AllocError, Global};
-use syntax::{Boxed, Items};
+use syntax::{Boxed, Items, Shared};
 use system::{Decision, Expression};
 use value::{Value, Width};
 

@@ -5,9 +5,8 @@ ghost use Rattle.system.specs.Translation.{expression_of, arms_of, decision_of};
 ghost use Rattle.calculus.specs.Left.{residual_of_left};
 ghost use Rattle.calculus.specs.walking.Passed.{is_done, along_all, before, behind, goes_on};
 
-use crate::shared::Shared;
 use std::alloc::{AllocError, Global};
-use syntax::Items;
+use syntax::{Items, Shared};
 use system::{Decision, Expression};
 use value::{Value, Width};
 

@@ -17,7 +17,6 @@ mod offers;
 mod place;
 mod plain;
 mod same;
-mod shared;
 mod slow;
 mod start;
 mod step;

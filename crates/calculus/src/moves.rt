@@ -1,6 +1,5 @@
 use crate::left::Left;
-use crate::shared::Shared;
-use syntax::Boxed;
+use syntax::{Boxed, Shared};
 use system::{Decision, Expression};
 use value::{Value, Width};
 

@@ -2,7 +2,7 @@ ghost use Rattle.std.specs.Prelude.{◌≡◌, slice_get};
 ghost use Rattle.calculus.specs.Left.{state_of};
 
 use crate::left::Left;
-use crate::shared::Shared;
+use syntax::Shared;
 use value::Value;
 
 /// The state of a run as the slow replay holds it: what is still to do, and the values of the variables.

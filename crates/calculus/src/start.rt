@@ -8,10 +8,9 @@ ghost use Rattle.calculus.specs.Steps.{opening};
 
 use crate::Plain;
 use crate::left::{Left, within};
-use crate::shared::Shared;
 use crate::translate::{in_parallel, in_sequence, left_of};
 use std::alloc::{AllocError, Global};
-use syntax::Items;
+use syntax::{Items, Shared};
 use system::{Branch, Expression, System, Variable};
 use value::{Value, Width};
 

@@ -18,10 +18,10 @@ use crate::left::Left;
 use crate::making::{made_alone, made_together};
 use crate::moves::{Ask, Move, Moved};
 use crate::offers::after;
-use crate::shared::Shared;
 use crate::{Event, Kind, Plain};
 use address::Address;
 use std::alloc::{AllocError, Global};
+use syntax::Shared;
 use value::Value;
 
 impl Plain {

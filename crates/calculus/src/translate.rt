@@ -8,9 +8,8 @@ ghost use Rattle.system.specs.Translation.{decision_of, guarded_of, labelled_of,
 ghost use Rattle.calculus.specs.Left.{residual_of_left};
 
 use crate::left::{Left, along, within};
-use crate::shared::Shared;
 use std::alloc::{AllocError, Global};
-use syntax::Items;
+use syntax::{Items, Shared};
 use system::{Action, Arm, Command, Decision, Expression, Guarded, Labelled};
 use value::Width;
 

@@ -1,6 +1,6 @@
 -- What the environment does on the ports of the root.
 use Rattle.std.specs.Prelude.{ℕ, ◌+◌, min, List, [], ◌∷◌, Option, Some, None}
-use Rattle.value.specs.Word.{Word, resized}
+use Rattle.value.specs.Word.{Word, most_bits, resized}
 use Rattle.system.specs.Expression.{word}
 use Rattle.elaborate.specs.Fit.{entry_named}
 use Rattle.stimulus.specs.declared.stimulus.Given.{Given}
@@ -19,7 +19,7 @@ number_of place = min place 4294967295
 -- numbers as values of a width, which holds them where the stimulus fits
 abbrev pub at_width : ℕ → List ℕ → List Word
 at_width width [] = []
-at_width width (n ∷ ns) = resized (word n 64) width ∷ at_width width ns
+at_width width (n ∷ ns) = resized (word n most_bits) width ∷ at_width width ns
 
 -- the values that are given
 abbrev pub given_values : Given → List ℕ

@@ -1,8 +1,8 @@
 -- What the names of a procedure stand for where it is called.
 use Rattle.std.specs.Prelude.{ℕ, List, map, slice_index_or}
 use Rattle.system.specs.Named.{prefix_of_call}
-use Rattle.typed.specs.declared.tree.Place.{Place}
-use Rattle.typed.specs.declared.tree.Place.TheVariants as place
+use Rattle.typed.specs.declared.tree.Binding.{Binding}
+use Rattle.typed.specs.declared.tree.Binding.TheVariants as binding
 use Rattle.typed.specs.declared.tree.ChannelUse.{ChannelUse}
 use Rattle.typed.specs.declared.tree.VariableUse.{VariableUse}
 use Rattle.typed.specs.declared.tree.Expression.{Expression}
@@ -37,10 +37,10 @@ operator_of written.GreaterOrEqual = operator.Compare comparison.GreaterOrEqual
 abbrev pub number_at : List ℕ → ℕ → ℕ
 number_at numbers place = slice_index_or numbers place 0
 
--- the channel that a place stands for
-abbrev pub channel_at : Scope → Place → ℕ
-channel_at scope (place.Port p) = number_at scope.ports p
-channel_at scope (place.Local p) = number_at scope.locals p
+-- the channel that a port or local is
+abbrev pub channel_at : Scope → Binding → ℕ
+channel_at scope (binding.Port p) = number_at scope.ports p
+channel_at scope (binding.Local p) = number_at scope.locals p
 
 -- a use of a channel, with its number
 abbrev pub channel_use : Scope → ChannelUse → Use

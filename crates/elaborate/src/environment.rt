@@ -11,7 +11,7 @@ use stimulus::{Entry, Given};
 use syntax::Items;
 use system::Branch;
 use typed::{Port, PortKind};
-use value::{Value, Width};
+use value::{MOST_BITS, Value, Width};
 
 /// The branch of the environment for each port.
 pub fn branches(
@@ -75,7 +75,7 @@ fn at_width(alloc: Global, numbers: &[u64], width: Width) -> Result<Items<Value>
 {
     let mut values = Items::with_capacity(alloc, numbers.len())?;
     for number in numbers {
-        values.push(value::resize(Value::make(*number, 64), width.bits()))?;
+        values.push(value::resize(Value::make(*number, MOST_BITS), width.bits()))?;
     }
     Ok(values)
 }

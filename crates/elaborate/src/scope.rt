@@ -5,7 +5,7 @@ ghost use Rattle.elaborate.specs.Scopes.{operator_of, number_at};
 use std::alloc::{AllocError, Global};
 use syntax::{Boxed, Items};
 use system::{Expression, Operator, Prefix, Use};
-use typed::{ChannelUse, Place, VariableUse};
+use typed::{Binding, ChannelUse, VariableUse};
 use value::Comparison;
 
 /// What the names of a procedure stand for where it is called.
@@ -41,13 +41,13 @@ fn number_at(numbers: &[u32], place: u32) -> u32
 impl Scope {
     ghost use Rattle.elaborate.specs.Scopes as scopes;
 
-    /// The channel that a place stands for.
-    pub fn channel(&self, place: Place) -> u32
-        ensures { result ≡ scopes.channel_at self.now place }
+    /// The channel that a port or local is.
+    pub fn channel(&self, binding: Binding) -> u32
+        ensures { result ≡ scopes.channel_at self.now binding }
     {
-        match place {
-            Place::Port(place) => number_at(self.ports.as_slice(), place),
-            Place::Local(place) => number_at(self.locals.as_slice(), place),
+        match binding {
+            Binding::Port(place) => number_at(self.ports.as_slice(), place),
+            Binding::Local(place) => number_at(self.locals.as_slice(), place),
         }
     }
 
@@ -129,8 +129,8 @@ impl Scope {
             typed::Expression::Variable(named, width) => {
                 Expression::Variable(self.variable_use(*named), *width)
             }
-            typed::Expression::Received(place, width) => {
-                Expression::Received(self.channel(*place), *width)
+            typed::Expression::Received(binding, width) => {
+                Expression::Received(self.channel(*binding), *width)
             }
             typed::Expression::Binary(operator, left, right) => {
                 let left = Boxed::new(alloc, self.expression(alloc, left.get())?)?;

@@ -13,34 +13,34 @@ use Rattle.lexer.proofs.MarkLemmas.{mark_extends}
 use Rattle.lexer.specs.Bytes.{Text}
 use Rattle.lexer.specs.Cut.{IsCut, IsFront, Piece, joined}
 use Rattle.lexer.specs.Refusal.{IsDueAt, IsPieceFault, IsRefused}
-use Rattle.lexer.specs.Tokens.{AreReadable, AreTokens, IsReadable, IsReadTo, behind, first_place, token_at, token_of, tokens_from}
+use Rattle.lexer.specs.Tokens.{AreReadable, AreTokens, IsReadable, IsReadTo, behind, first_position, token_at, token_of, tokens_from}
 use Rattle.lexer.specs.declared.class.Class.{Class}
 use Rattle.refusals.specs.declared.lexer.Fault.{Fault}
-use Rattle.lexer.specs.declared.place.Place.{Place}
+use Rattle.lexer.specs.declared.position.Position.{Position}
 use Rattle.lexer.specs.declared.token.Kind.TheVariants.{EndOfSource}
 use Rattle.lexer.specs.declared.token.Token.{Token}
 
 -- The source is read to `end`, and its tokens are those given and then those of the later pieces, which begin
--- at the place.
-pub record Reading (source : Text) (tokens : List Token) (place : Place) (later : List Piece) (end : Text) : Type 0 where
+-- at the position.
+pub record Reading (source : Text) (tokens : List Token) (position : Position) (later : List Piece) (end : Text) : Type 0 where
   pub pieces : List Piece
   pub read : IsReadTo source pieces end
-  pub same : tokens_from first_place pieces ≡ tokens ++ tokens_from place later
-  pub offset : length (joined pieces) ≡ place.offset + length (joined later)
+  pub same : tokens_from first_position pieces ≡ tokens ++ tokens_from position later
+  pub offset : length (joined pieces) ≡ position.offset + length (joined later)
 
 -- The source is read up to `rest`, with these tokens: to read on there is to read the source.
-pub record Reaches (source : Text) (tokens : List Token) (place : Place) (rest : Text) : Type 0 where
-  pub onward : (later : List Piece) (end : Text) → IsReadTo rest later end → Reading source tokens place later end
+pub record Reaches (source : Text) (tokens : List Token) (position : Position) (rest : Text) : Type 0 where
+  pub onward : (later : List Piece) (end : Text) → IsReadTo rest later end → Reading source tokens position later end
 
 -- at the beginning
-pub reaches_first : (source : Text) → Reaches source [] first_place source
+pub reaches_first : (source : Text) → Reaches source [] first_position source
 reaches_first source = record {
   onward = λ later end read. record { pieces = later; read = read; same = refl; offset = omega arith };
 }
 
 -- one piece on
-pub reaches_next : (source : Text) (tokens : List Token) (place : Place) (rest : Text) (class : Class) (n : ℕ) → Reaches source tokens place rest → IsFront class n rest → IsReadable class (take n rest) → Reaches source (tokens ++ option_to_list (token_of place class (take n rest))) (behind place (take n rest)) (drop n rest)
-reaches_next source tokens place rest class n reached front readable = record {
+pub reaches_next : (source : Text) (tokens : List Token) (position : Position) (rest : Text) (class : Class) (n : ℕ) → Reaches source tokens position rest → IsFront class n rest → IsReadable class (take n rest) → Reaches source (tokens ++ option_to_list (token_of position class (take n rest))) (behind position (take n rest)) (drop n rest)
+reaches_next source tokens position rest class n reached front readable = record {
   onward = λ later end read.
       let piece : Piece = record { class = class; text = take n rest } in
       let whole : rest ≡ joined (piece ∷ later) ++ end =
@@ -50,22 +50,22 @@ reaches_next source tokens place rest class n reached front readable = record {
       record {
         pieces = before.pieces;
         read = before.read;
-        same = before.same ∙ sym (append_assoc tokens (option_to_list (token_of place class (take n rest))) (tokens_from (behind place (take n rest)) later));
+        same = before.same ∙ sym (append_assoc tokens (option_to_list (token_of position class (take n rest))) (tokens_from (behind position (take n rest)) later));
         offset = before.offset ∙ omega (arith, length-append (take n rest) (joined later));
       };
 }
 
 -- where the source ends
-pub reaches_end : (source : Text) (tokens : List Token) (place : Place) → Reaches source tokens place [] → AreTokens source (tokens ++ token_at place EndOfSource [] 0 ∷ [])
-reaches_end source tokens place reached =
+pub reaches_end : (source : Text) (tokens : List Token) (position : Position) → Reaches source tokens position [] → AreTokens source (tokens ++ token_at position EndOfSource [] 0 ∷ [])
+reaches_end source tokens position reached =
     let all = reached.onward [] [] (record { whole = refl; cut = tt; readable = tt }) in
     (all.pieces, all.read, sym all.same)
 
 -- where a fault is due
-pub reaches_fault : (source : Text) (tokens : List Token) (place : Place) (rest : Text) (fault : Fault) → Reaches source tokens place rest → IsDueAt place.offset rest fault → IsRefused source fault
-reaches_fault source tokens place rest fault reached due =
+pub reaches_fault : (source : Text) (tokens : List Token) (position : Position) (rest : Text) (fault : Fault) → Reaches source tokens position rest → IsDueAt position.offset rest fault → IsRefused source fault
+reaches_fault source tokens position rest fault reached due =
     let all = reached.onward [] rest (record { whole = refl; cut = tt; readable = tt }) in
-    let here : length (joined all.pieces) ≡ place.offset = all.offset ∙ omega arith in
+    let here : length (joined all.pieces) ≡ position.offset = all.offset ∙ omega arith in
     (all.pieces, rest, all.read, rw here due)
 
 -- a front that is an open comment is so to the end

@@ -8,7 +8,7 @@ use Rattle.lexer.specs.Comment.{closes, is_opening, is_nested_comment, IsOpenCom
 use Rattle.lexer.specs.Cut.{IsCut, IsFront, IsLongest, Piece, joined}
 use Rattle.lexer.specs.Refusal.{BeginsTooLarge, IsDueAt, IsRefused}
 use Rattle.lexer.specs.Spelling.{Spells, NothingSpelled, class_at}
-use Rattle.lexer.specs.Tokens.{AreReadable, AreTokens, IsReadable, IsReadTo, first_place, tokens_from, value_of}
+use Rattle.lexer.specs.Tokens.{AreReadable, AreTokens, IsReadable, IsReadTo, first_position, tokens_from, value_of}
 use Rattle.lexer.specs.declared.class.Class.{Class}
 use Rattle.lexer.specs.declared.class.Class.TheVariants.{Blank, LineComment, NestedComment, OpenComment, Word, Number, Symbol}
 use Rattle.refusals.specs.declared.lexer.Fault.{Fault}
@@ -52,13 +52,13 @@ append_split (a ∷ front) (b ∷ other) rest beyond e shorter =
     let step : other ≡ front ++ split.0 = split.1 in
     (split.0, cc, split.2)
 
--- of two longest pieces at one place none is shorter
+-- of two longest pieces at one position none is shorter
 longest_text : (p q : Piece) (rest beyond more : Text) → IsLongest p rest → IsLongest q beyond → q.text ≡ p.text ++ more → rest ≡ more ++ beyond → (p.text ≡ q.text) × (rest ≡ beyond)
 longest_text p q rest beyond [] first second text split = (sym (append-nil p.text) ∙ sym text, split)
 longest_text p q rest beyond (m ∷ more) first second text split =
     absurd (first.longest (m ∷ more) beyond split (λ e. cc) q.class (rw text at second.spelled))
 
--- two longest pieces at one place are one
+-- two longest pieces at one position are one
 pub longest_unique : (p q : Piece) (rest beyond : Text) → IsLongest p rest → IsLongest q beyond → p.text ++ rest ≡ q.text ++ beyond → (p ≡ q) × (rest ≡ beyond)
 longest_unique p q rest beyond first second e = elim (cases_lt (length p.text) (length q.text)) [
   | inl shorter ↦
@@ -91,7 +91,7 @@ pub some_front : (class : Class) (n : ℕ) (rest : Text) → IsFront class n res
 some_front class zero rest front = absurd (some_spelled class front.1.spelled)
 some_front class (suc n) rest front = omega arith
 
--- an open comment is the longest piece at its place
+-- an open comment is the longest piece at its position
 opened_piece : (rest : Text) → IsOpenComment rest → IsLongest (record { class = OpenComment; text = rest }) []
 opened_piece rest still =
     let front = (open_front rest still).1 in
@@ -121,7 +121,7 @@ end_stops : Stops []
 end_stops piece after e longest readable =
     some_spelled piece.class (rw (empty_front piece.text after e) at longest.spelled)
 
--- a fault stops at its place
+-- a fault stops at its position
 due_stops : (at : ℕ) (rest : Text) (due : Fault) → IsDueAt at rest due → Stops rest
 due_stops at rest fault.Memory none piece after e longest readable = none
 due_stops at rest (fault.BadCharacter offset) bad piece after e longest readable = bad.2 piece.class piece.text after e longest.spelled
@@ -150,7 +150,7 @@ open_no_number rest still large =
     let class : OpenComment ≡ Number = ap (λ (p : Piece). p.class) same in
     absurd (cc)
 
--- one fault alone is due at a place
+-- one fault alone is due at a position
 one_due : (at : ℕ) (rest : Text) (f g : Fault) → IsDueAt at rest f → IsDueAt at rest g → f ≡ g
 one_due at rest fault.Memory g first second = absurd first
 one_due at rest (fault.BadCharacter m) fault.Memory first second = absurd second
@@ -175,7 +175,7 @@ read_once source ps qs rest end first second stop halt =
 pub tokens_unique : (source : Text) (xs ys : List Token) → AreTokens source xs → AreTokens source ys → xs ≡ ys
 tokens_unique source xs ys first second =
     let same = read_once source first.0 second.0 [] [] first.1 second.1 end_stops end_stops in
-    first.2 ∙ ap (tokens_from first_place) same.0 ∙ sym second.2
+    first.2 ∙ ap (tokens_from first_position) same.0 ∙ sym second.2
 
 -- it is refused in one way
 pub refused_unique : (source : Text) (f g : Fault) → IsRefused source f → IsRefused source g → f ≡ g

@@ -19,7 +19,7 @@ pub record IsLongest (piece : Piece) (after : Text) : Type 0 where
   pub spelled : Spells piece.class piece.text
   pub longest : (more beyond : Text) → after ≡ more ++ beyond → more ≢ [] → (class : Class) → ¬ Spells class (piece.text ++ more)
 
--- each piece is the longest spelling at its place, where `rest` stands behind the last one
+-- each piece is the longest spelling at its position, where `rest` stands behind the last one
 abbrev pub IsCut : List Piece → Text → Type 0
 IsCut [] rest = Unit {0}
 IsCut (piece ∷ pieces) rest = IsLongest piece (joined pieces ++ rest) × IsCut pieces rest

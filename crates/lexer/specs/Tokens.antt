@@ -7,7 +7,7 @@ use Rattle.lexer.specs.Cut.{Piece, joined, IsCut}
 use Rattle.lexer.specs.Table.{symbol, word}
 use Rattle.lexer.specs.declared.class.Class.{Class}
 use Rattle.lexer.specs.declared.class.Class.TheVariants as class
-use Rattle.lexer.specs.declared.place.Place.{Place}
+use Rattle.lexer.specs.declared.position.Position.{Position}
 use Rattle.lexer.specs.declared.token.Kind.{Kind}
 use Rattle.lexer.specs.declared.token.Kind.TheVariants.{Name, Number, EndOfSource}
 use Rattle.lexer.specs.declared.token.Token.{Token}
@@ -41,22 +41,22 @@ number_of class.LineComment text = 0
 number_of class.NestedComment text = 0
 number_of class.OpenComment text = 0
 
--- the place behind a text that begins at the place
-abbrev pub behind : Place → Text → Place
-behind place text = record { offset = place.offset + length text; line = place.line + count_by (λ b. b == 10) text }
+-- the position behind a text that begins at the position
+abbrev pub behind : Position → Text → Position
+behind position text = record { offset = position.offset + length text; line = position.line + count_by (λ b. b == 10) text }
 
--- a token with this text at the place
-abbrev pub token_at : Place → Kind → Text → ℕ → Token
-token_at place kind text number = record {
+-- a token with this text at the position
+abbrev pub token_at : Position → Kind → Text → ℕ → Token
+token_at position kind text number = record {
   kind = kind;
   text = text;
   number = number;
-  span = record { start = place.offset; stop = place.offset + length text; line = place.line };
+  span = record { start = position.offset; stop = position.offset + length text; line = position.line };
 }
 
--- the token of a piece at the place, or none for blanks and comments
-abbrev pub token_of : Place → Class → Text → Option Token
-token_of place class text = option_map (λ kind. token_at place kind text (number_of class text)) (kind_of class text)
+-- the token of a piece at the position, or none for blanks and comments
+abbrev pub token_of : Position → Class → Text → Option Token
+token_of position class text = option_map (λ kind. token_at position kind text (number_of class text)) (kind_of class text)
 
 -- whether a piece is no fault in itself: no open comment, and no number of 2^64 or more
 abbrev pub IsReadable : Class → Text → Type 0
@@ -79,15 +79,15 @@ pub record IsReadTo (source : Text) (pieces : List Piece) (rest : Text) : Type 0
   pub cut : IsCut pieces rest
   pub readable : AreReadable pieces
 
--- the tokens of pieces of which the first is at the place, and behind them the end
-abbrev pub tokens_from : Place → List Piece → List Token
-tokens_from place [] = token_at place EndOfSource [] 0 ∷ []
-tokens_from place (piece ∷ pieces) = option_to_list (token_of place piece.class piece.text) ++ tokens_from (behind place piece.text) pieces
+-- the tokens of pieces of which the first is at the position, and behind them the end
+abbrev pub tokens_from : Position → List Piece → List Token
+tokens_from position [] = token_at position EndOfSource [] 0 ∷ []
+tokens_from position (piece ∷ pieces) = option_to_list (token_of position piece.class piece.text) ++ tokens_from (behind position piece.text) pieces
 
--- the first place of a source
-abbrev pub first_place : Place
-first_place = record { offset = 0; line = 1 }
+-- the first position of a source
+abbrev pub first_position : Position
+first_position = record { offset = 0; line = 1 }
 
 -- the source is cut into readable pieces, and these are its tokens
 abbrev pub AreTokens : Text → List Token → Type 0
-AreTokens source tokens = (pieces : List Piece) × IsReadTo source pieces [] × (tokens ≡ tokens_from first_place pieces)
+AreTokens source tokens = (pieces : List Piece) × IsReadTo source pieces [] × (tokens ≡ tokens_from first_position pieces)

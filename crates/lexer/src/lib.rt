@@ -12,13 +12,13 @@ mod class;
 mod name;
 mod number;
 mod piece;
-mod place;
+mod position;
 mod table;
 mod token;
 
 pub use name::is_name;
 use piece::longest_piece;
-use place::Place;
+use position::Position;
 pub use refusals::lexer::Fault;
 use std::alloc::Global;
 use syntax::Name;
@@ -38,17 +38,17 @@ pub fn lex(alloc: Global, source: &[u8]) -> Result<Vec<Token>, Fault>
         → MatchResult result (λ _. ⊥) (λ fault. (fault ≡ Memory) ⊎ (fault ≡ due)) }
 {
     let mut tokens = Vec::new(alloc);
-    let mut place = Place { offset: 0, line: 1 };
+    let mut position = Position { offset: 0, line: 1 };
     let mut rest = source;
     while !rest.is_empty() {
         let Some(found) = longest_piece(rest) else {
-            return Err(Fault::BadCharacter(place.offset));
+            return Err(Fault::BadCharacter(position.offset));
         };
         let (text, after) = rest.split_at(found.length);
-        push_token(alloc, &mut tokens, place, found.class, text)?;
-        place = place.behind(text);
+        push_token(alloc, &mut tokens, position, found.class, text)?;
+        position = position.behind(text);
         rest = after;
     }
-    tokens.push(Token::new(alloc, place, Kind::EndOfSource, b"", 0)?)?;
+    tokens.push(Token::new(alloc, position, Kind::EndOfSource, b"", 0)?)?;
     Ok(tokens)
 }

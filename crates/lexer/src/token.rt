@@ -7,7 +7,7 @@ ghost use Rattle.refusals.specs.declared.lexer.Fault.TheVariants.{Memory};
 use crate::Fault;
 use crate::class::Class;
 use crate::number::value;
-use crate::place::Place;
+use crate::position::Position;
 use crate::table::{symbol, word};
 use std::alloc::{AllocError, Global};
 use syntax::{Name, Span};
@@ -131,43 +131,43 @@ pub struct Token {
 }
 
 impl Token {
-    /// The token of this kind whose text begins at `place`.
+    /// The token of this kind whose text begins at `position`.
     pub(crate) fn new(
         alloc: Global,
-        place: Place,
+        position: Position,
         kind: Kind,
         text: &[u8],
         number: u64,
     ) -> Result<Token, AllocError>
-        requires { place.offset + length text.now < 2 ^ 64 }
-        ensures { IfOk result (λ token. token ≡ token_at place kind text.now number) }
+        requires { position.offset + length text.now < 2 ^ 64 }
+        ensures { IfOk result (λ token. token ≡ token_at position kind text.now number) }
     {
         Ok(Token {
             kind,
             text: Name::new(alloc, text)?,
             number,
-            span: place.span(text.len()),
+            span: position.span(text.len()),
         })
     }
 }
 
-/// The token of a piece that begins at `place`. None: it is blank or a comment.
+/// The token of a piece that begins at `position`. None: it is blank or a comment.
 pub(crate) fn token_of(
     alloc: Global,
-    place: Place,
+    position: Position,
     class: Class,
     text: &[u8],
 ) -> Result<Option<Token>, Fault>
-    requires { place.offset + length text.now < 2 ^ 64 }
-    ensures ok { IfOk result (λ token. IsReadable class text.now × (token ≡ token_of place class text.now)) }
-    ensures err { IfErr result (λ fault. (fault ≡ Memory) ⊎ IsPieceFault place.offset class text.now fault) }
+    requires { position.offset + length text.now < 2 ^ 64 }
+    ensures ok { IfOk result (λ token. IsReadable class text.now × (token ≡ token_of position class text.now)) }
+    ensures err { IfErr result (λ fault. (fault ≡ Memory) ⊎ IsPieceFault position.offset class text.now fault) }
 {
     let (kind, number) = match class {
         Class::Blank | Class::LineComment | Class::NestedComment => return Ok(None),
-        Class::OpenComment => return Err(Fault::OpenComment(place.offset)),
+        Class::OpenComment => return Err(Fault::OpenComment(position.offset)),
         Class::Word => (word(text).unwrap_or(Kind::Name), 0),
         Class::Number => {
-            let number = value(text).ok_or(Fault::NumberTooLarge(place.offset))?;
+            let number = value(text).ok_or(Fault::NumberTooLarge(position.offset))?;
             (Kind::Number, number)
         }
         Class::Symbol => match symbol(text) {
@@ -175,23 +175,23 @@ pub(crate) fn token_of(
             None => return Ok(None),
         },
     };
-    Ok(Some(Token::new(alloc, place, kind, text, number)?))
+    Ok(Some(Token::new(alloc, position, kind, text, number)?))
 }
 
-/// Adds the token of a piece that begins at `place`, unless it is blank or a comment.
+/// Adds the token of a piece that begins at `position`, unless it is blank or a comment.
 pub(crate) fn push_token(
     alloc: Global,
     tokens: &mut Vec<Token>,
-    place: Place,
+    position: Position,
     class: Class,
     text: &[u8],
 ) -> Result<(), Fault>
-    requires { place.offset + length text.now < 2 ^ 64 }
+    requires { position.offset + length text.now < 2 ^ 64 }
     ensures readable { OnOk result (IsReadable class text.now) }
-    ensures tokens { OnOk result (tokens.new.items ≡ tokens.old.items ++ option_to_list (token_of place class text.now)) }
-    ensures err { IfErr result (λ fault. (fault ≡ Memory) ⊎ IsPieceFault place.offset class text.now fault) }
+    ensures tokens { OnOk result (tokens.new.items ≡ tokens.old.items ++ option_to_list (token_of position class text.now)) }
+    ensures err { IfErr result (λ fault. (fault ≡ Memory) ⊎ IsPieceFault position.offset class text.now fault) }
 {
-    if let Some(token) = token_of(alloc, place, class, text)? {
+    if let Some(token) = token_of(alloc, position, class, text)? {
         tokens.push(token)?;
     }
     Ok(())

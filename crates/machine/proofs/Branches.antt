@@ -24,8 +24,8 @@ use Rattle.calculus.specs.declared.command.Refusal.TheVariants.{Memory}
 use Rattle.calculus.proofs.Options.{some-injective}
 use Rattle.calculus.proofs.Lists.{every-in, every-of, in-parts}
 use Rattle.calculus.proofs.Effects.{stays-sound}
-use Rattle.machine.specs.Held.{Held, object}
-use Rattle.machine.specs.walking.Histories.{held, execution}
+use Rattle.machine.specs.Held.{Held, object, held}
+use Rattle.machine.specs.walking.Histories.{execution}
 use Rattle.machine.specs.walking.Choosing.{NotTaken, FirstAt, Takes, moves, line_of_first}
 use Rattle.machine.specs.Branching.{is_branch, acts_in, in_branch, has_no_break, line_of, is_free, FirstFree, Branched, StepsBranch, AnswersBranch, SteppedIsStep, OthersLeave}
 use Rattle.machine.specs.declared.history.History.{History}

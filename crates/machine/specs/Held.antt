@@ -4,6 +4,7 @@ use Rattle.sharing_check.specs.declared.checked.Checked.{Checked}
 use Rattle.calculus.specs.Steps.{opening}
 use Rattle.calculus.specs.Live.{Live}
 use Rattle.calculus.specs.Object.{Object}
+use Rattle.machine.specs.declared.history.History.{History}
 
 -- a system, its live events and the ticket of the next step
 pub record Held : Type 0 where
@@ -14,3 +15,7 @@ pub record Held : Type 0 where
 -- the execution: it began as the system opens
 abbrev pub object : Held → Object
 object h = record { opening = opening h.checked; live = h.live; next = h.next }
+
+-- what a machine shows: its system, and the live events as they lie in memory
+abbrev pub held : Checked → History → Held
+held checked h = record { checked = checked; live = h.live.items; next = h.next }

@@ -10,7 +10,8 @@ ghost use Rattle.calculus.specs.Object.{Reaches};
 ghost use Rattle.calculus.specs.Sound.{Sound};
 ghost use Rattle.machine.specs.Branching.{is_branch, acts_in, in_branch, is_free, StepsBranch};
 ghost use Rattle.machine.specs.walking.Choosing.{moves, line_of_first, FirstAt, Takes};
-ghost use Rattle.machine.specs.walking.Histories.{held, execution, KeepsState};
+ghost use Rattle.machine.specs.Held.{held};
+ghost use Rattle.machine.specs.walking.Histories.{execution, KeepsState};
 
 use crate::following::is_among;
 use crate::history::History;

@@ -41,9 +41,8 @@ impl Model for Machine {
     ghost coded = { Prim.hlevel (codes, whole.the_row.coded) };
 
     ghost use Rattle.calculus.specs.Sound.{Sound};
-    ghost use Rattle.machine.specs.Held.{object};
-    ghost use Rattle.machine.specs.walking.Histories.{held, execution};
-    ghost use Rattle.machine.specs.walking.Histories.{KeepsState};
+    ghost use Rattle.machine.specs.Held.{held, object};
+    ghost use Rattle.machine.specs.walking.Histories.{execution, KeepsState};
 
     ghost view = { λ machine. held machine.system machine.history };
 

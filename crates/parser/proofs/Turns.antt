@@ -6,8 +6,8 @@ use Rattle.syntax.specs.declared.expression.Expression.{Expression}
 use Rattle.parser.specs.declared.halt.Halt.{Halt}
 use Rattle.parser.specs.declared.halt.Halt.TheVariants.{Memory, Unexpected, TooDeep}
 use Rattle.parser.specs.Input.{Input, next, is_one_of}
-use Rattle.parser.specs.Readers.{Outcome, Reader, read, and_then, bind, pure, branch, repeat, repeat_from}
-use Rattle.parser.specs.Reads.{Halts}
+use Rattle.parser.specs.walking.Readers.{Outcome, Reader, read, and_then, bind, pure, branch, repeat, repeat_from}
+use Rattle.parser.specs.walking.Reads.{Halts}
 
 -- one turn fewer is left
 left_over : (n at : ℕ) → at < n → n - at ≡ suc (n - (at + 1))

@@ -1,12 +1,8 @@
 pub mod Accepted
-pub mod Answer
 pub mod Grammar
 pub mod Input
-pub mod Nests
 pub mod Offsets
-pub mod Readers
-pub mod Reading
-pub mod Reads
 pub mod Rules
 pub mod Sentences
 pub mod Trees
+pub mod walking

@@ -16,11 +16,6 @@ use Rattle.syntax.specs.declared.command.Label.{Label}
 use Rattle.syntax.specs.declared.command.LabelValue.TheVariants as label
 use Rattle.syntax.specs.declared.command.Command.{Command, roll-Command, out-Command}
 use Rattle.syntax.specs.declared.command.Action.{Action}
-use Rattle.syntax.specs.declared.command.Action.TheVariants as action
-use Rattle.syntax.specs.declared.declaration.Port.{Port}
-use Rattle.syntax.specs.declared.declaration.PortKind.TheVariants as port
-use Rattle.syntax.specs.declared.declaration.Local.{Local}
-use Rattle.syntax.specs.declared.declaration.LocalKind.TheVariants as local
 
 -- from the beginning of the first to the end of the last
 abbrev pub through : Span → Span → Span
@@ -80,29 +75,3 @@ abbrev pub over : Span → List Command → Span
 over span [] = span
 over span (command ∷ []) = through span (command_span command)
 over span (command ∷ next ∷ more) = over span (next ∷ more)
-
--- what commands with this sign between them make
-abbrev pub made_of : Kind → List Command → Action
-made_of kind.DoubleBar = action.Parallel
-made_of _ = action.Sequence
-
--- what an expression behind this sign does with the name before it
-abbrev pub given_by : Kind → Identifier → Expression → Action
-given_by kind.AssignSign = action.Assign
-given_by _ = action.Send
-
--- what names and a type declare behind this word
-abbrev pub typed_port : Kind → List Identifier → TypeName → Port
-typed_port kind.InputWord = λ names given. record { names = names; kind = port.Input given }
-typed_port _ = λ names given. record { names = names; kind = port.Output given }
-
-abbrev pub typed_local : Kind → List Identifier → TypeName → Local
-typed_local kind.VariableWord = λ names given. record { names = names; kind = local.Variable given }
-typed_local _ = λ names given. record { names = names; kind = local.Channel given }
-
--- what names alone declare
-abbrev pub sync_port : List Identifier → Port
-sync_port names = record { names = names; kind = port.Sync }
-
-abbrev pub sync_local : List Identifier → Local
-sync_local names = record { names = names; kind = local.Sync }

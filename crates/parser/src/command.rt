@@ -2,12 +2,13 @@
 //! so that each function but one is proved by itself.
 
 ghost use Rattle.std.specs.Prelude.{◌≡◌, ◌+◌, ◌^◌, ◌<◌};
-ghost use Rattle.parser.specs.Nests.{ReadsAt, simple_in, command_in, expression_in};
-ghost use Rattle.parser.specs.Readers.{read};
-ghost use Rattle.parser.specs.Reading as reading;
-ghost use Rattle.parser.specs.Reading.{command_of};
-ghost use Rattle.parser.specs.Reads.{place, Reads};
+ghost use Rattle.parser.specs.walking.Nests.{ReadsAt, simple_in, command_in, expression_in};
+ghost use Rattle.parser.specs.walking.Readers.{read};
+ghost use Rattle.parser.specs.walking.Reading as reading;
+ghost use Rattle.parser.specs.walking.Reading.{command_of};
+ghost use Rattle.parser.specs.walking.Reads.{place, Reads};
 ghost use Rattle.parser.specs.Trees as trees;
+ghost use Rattle.parser.specs.walking.BySign as by_sign;
 
 use crate::cursor::Cursor;
 use crate::expression::expression;
@@ -27,7 +28,7 @@ fn new_command(cursor: &Cursor<'_>, span: Span, action: Action) -> Result<Comman
 
 /// `end`, behind what begins at `start`. The command is made first, since an action that is dropped
 /// at the `?` would be dropped form by form.
-#[tactic(auto, unfolding(crate::specs::Readers::bind, crate::specs::Readers::pure))]
+#[tactic(auto, unfolding(crate::specs::walking::Readers::bind, crate::specs::walking::Readers::pure))]
 fn ended(cursor: &mut Cursor<'_>, start: Span, action: Action) -> Result<Command, Halt>
     ensures { Reads (reading.ended start action (place cursor.old)) result (place cursor.new) }
 {
@@ -38,7 +39,7 @@ fn ended(cursor: &mut Cursor<'_>, start: Span, action: Action) -> Result<Command
 }
 
 /// `continue`
-#[tactic(auto, unfolding(crate::specs::Reading::word, crate::specs::Readers::bind, crate::specs::Readers::pure))]
+#[tactic(auto, unfolding(crate::specs::walking::Reading::word, crate::specs::walking::Readers::bind, crate::specs::walking::Readers::pure))]
 fn nothing(cursor: &mut Cursor<'_>) -> Result<Command, Halt>
     ensures { Reads (reading.word Kind.ContinueWord Action.Continue (place cursor.old)) result (place cursor.new) }
 {
@@ -47,7 +48,7 @@ fn nothing(cursor: &mut Cursor<'_>) -> Result<Command, Halt>
 }
 
 /// `halt`
-#[tactic(auto, unfolding(crate::specs::Reading::word, crate::specs::Readers::bind, crate::specs::Readers::pure))]
+#[tactic(auto, unfolding(crate::specs::walking::Reading::word, crate::specs::walking::Readers::bind, crate::specs::walking::Readers::pure))]
 fn halt(cursor: &mut Cursor<'_>) -> Result<Command, Halt>
     ensures { Reads (reading.word Kind.HaltWord Action.Halt (place cursor.old)) result (place cursor.new) }
 {
@@ -56,7 +57,7 @@ fn halt(cursor: &mut Cursor<'_>) -> Result<Command, Halt>
 }
 
 /// `sync name`
-#[tactic(auto, unfolding(crate::specs::Reading::synchronisation, crate::specs::Readers::bind, crate::specs::Readers::pure))]
+#[tactic(auto, unfolding(crate::specs::walking::Reading::synchronisation, crate::specs::walking::Readers::bind, crate::specs::walking::Readers::pure))]
 fn sync(cursor: &mut Cursor<'_>) -> Result<Command, Halt>
     ensures { Reads (reading.synchronisation (place cursor.old)) result (place cursor.new) }
 {
@@ -68,7 +69,7 @@ fn sync(cursor: &mut Cursor<'_>) -> Result<Command, Halt>
 
 /// What an expression behind `sign` does with the name before it.
 fn given_by(sign: Kind, name: Identifier, value: Expression) -> Action
-    ensures { result ≡ trees.given_by sign name value }
+    ensures { result ≡ by_sign.given_by sign name value }
 {
     match sign {
         Kind::AssignSign => Action::Assign(name, value),
@@ -77,14 +78,14 @@ fn given_by(sign: Kind, name: Identifier, value: Expression) -> Action
 }
 
 /// `:= expression` or `<- expression`, behind `name`.
-#[tactic(auto, unfolding(crate::specs::Readers::bind, crate::specs::Readers::pure))]
+#[tactic(auto, unfolding(crate::specs::walking::Readers::bind, crate::specs::walking::Readers::pure))]
 fn give(
     cursor: &mut Cursor<'_>,
     sign: Kind,
     depth: usize,
     name: Identifier,
 ) -> Result<Command, Halt>
-    ensures { Reads (reading.giving sign (trees.given_by sign) (expression_in depth) name (place cursor.old)) result (place cursor.new) }
+    ensures { Reads (reading.giving sign (by_sign.given_by sign) (expression_in depth) name (place cursor.old)) result (place cursor.new) }
 {
     cursor.take(sign)?;
     let value = expression(cursor, depth)?;
@@ -93,7 +94,7 @@ fn give(
 }
 
 /// A variable's name, behind `channel ->`.
-#[tactic(auto, unfolding(crate::specs::Reading::receiving, crate::specs::Readers::bind, crate::specs::Readers::pure))]
+#[tactic(auto, unfolding(crate::specs::walking::Reading::receiving, crate::specs::walking::Readers::bind, crate::specs::walking::Readers::pure))]
 fn receive(cursor: &mut Cursor<'_>, channel: Identifier) -> Result<Command, Halt>
     ensures { Reads (reading.receiving channel (place cursor.old)) result (place cursor.new) }
 {
@@ -104,7 +105,7 @@ fn receive(cursor: &mut Cursor<'_>, channel: Identifier) -> Result<Command, Halt
 }
 
 /// The names in the parentheses of a call, none or more.
-#[tactic(auto, unfolding(crate::specs::Reading::arguments, crate::specs::Readers::branch, crate::specs::Readers::pure))]
+#[tactic(auto, unfolding(crate::specs::walking::Reading::arguments, crate::specs::walking::Readers::branch, crate::specs::walking::Readers::pure))]
 fn arguments(cursor: &mut Cursor<'_>) -> Result<Items<Identifier>, Halt>
     ensures { Reads (reading.arguments (place cursor.old)) result (place cursor.new) }
 {
@@ -116,7 +117,7 @@ fn arguments(cursor: &mut Cursor<'_>) -> Result<Items<Identifier>, Halt>
 }
 
 /// `( names )`, behind `procedure`.
-#[tactic(auto, unfolding(crate::specs::Reading::call, crate::specs::Readers::bind, crate::specs::Readers::pure))]
+#[tactic(auto, unfolding(crate::specs::walking::Reading::call, crate::specs::walking::Readers::bind, crate::specs::walking::Readers::pure))]
 fn call(cursor: &mut Cursor<'_>, procedure: Identifier) -> Result<Command, Halt>
     ensures { Reads (reading.call procedure (place cursor.old)) result (place cursor.new) }
 {
@@ -140,7 +141,7 @@ fn span_over(start: Span, children: &Items<Command>) -> Span
 
 /// What commands with `sign` between them make.
 fn made_of(sign: Kind, children: Items<Command>) -> Action
-    ensures { result ≡ trees.made_of sign children }
+    ensures { result ≡ by_sign.made_of sign children }
 {
     match sign {
         Kind::DoubleBar => Action::Parallel(children),
@@ -157,10 +158,10 @@ struct Joined<'r, R> {
 
 impl<R: Rule<Tree = Command>> Joined<'_, R> {
     /// The command that `first` begins.
-    #[tactic(auto, unfolding(crate::specs::Reading::joined, crate::specs::Reading::one_more, crate::specs::Readers::bind, crate::specs::Readers::pure))]
+    #[tactic(auto, unfolding(crate::specs::walking::Reading::joined, crate::specs::walking::Reading::one_more, crate::specs::walking::Readers::bind, crate::specs::walking::Readers::pure))]
     fn joined(&self, cursor: &mut Cursor<'_>, first: Command) -> Result<Command, Halt>
         requires { R.can_read self.now.item.now }
-        ensures { Reads (reading.joined self.now.sign (trees.made_of self.now.sign) (R.reader self.now.item.now) first (place cursor.old)) result (place cursor.new) }
+        ensures { Reads (reading.joined self.now.sign (by_sign.made_of self.now.sign) (R.reader self.now.item.now) first (place cursor.old)) result (place cursor.new) }
     {
         let start = first.span;
         let mut children = one(cursor.alloc(), first)?;
@@ -180,9 +181,9 @@ impl<R: Rule<Tree = Command>> Rule for Joined<'_, R> {
 
     ghost can_read = { λ joined. R.can_read joined.item.now };
 
-    ghost reader = { λ joined. reading.alone_or_joined joined.sign (trees.made_of joined.sign) (R.reader joined.item.now) };
+    ghost reader = { λ joined. reading.alone_or_joined joined.sign (by_sign.made_of joined.sign) (R.reader joined.item.now) };
 
-    #[tactic(auto, unfolding(crate::specs::Reading::alone_or_joined, crate::specs::Readers::branch, crate::specs::Readers::bind, crate::specs::Readers::pure))]
+    #[tactic(auto, unfolding(crate::specs::walking::Reading::alone_or_joined, crate::specs::walking::Readers::branch, crate::specs::walking::Readers::bind, crate::specs::walking::Readers::pure))]
     fn read(&self, cursor: &mut Cursor<'_>) -> Result<Command, Halt> {
         let first = self.item.read(cursor)?;
         if cursor.sees(self.sign) {
@@ -204,7 +205,7 @@ struct Parts<R> {
 
 impl<R: Rule<Tree = Command>> Parts<R> {
     /// Any command: parallels with `;` between them, of simple commands with `||` between them.
-    #[tactic(auto, unfolding(crate::specs::Reading::command_of, crate::specs::Reading::parallel_of))]
+    #[tactic(auto, unfolding(crate::specs::walking::Reading::command_of, crate::specs::walking::Reading::parallel_of))]
     fn command(&self, cursor: &mut Cursor<'_>) -> Result<Command, Halt>
         requires { R.can_read self.now.simple }
         ensures { Reads (command_of (R.reader self.now.simple) (place cursor.old)) result (place cursor.new) }
@@ -221,7 +222,7 @@ impl<R: Rule<Tree = Command>> Parts<R> {
     }
 
     /// `[ command ]`
-    #[tactic(auto, unfolding(crate::specs::Reading::bracketed, crate::specs::Readers::bind, crate::specs::Readers::pure))]
+    #[tactic(auto, unfolding(crate::specs::walking::Reading::bracketed, crate::specs::walking::Readers::bind, crate::specs::walking::Readers::pure))]
     fn bracketed(&self, cursor: &mut Cursor<'_>) -> Result<Command, Halt>
         requires { R.can_read self.now.simple }
         ensures { Reads (reading.bracketed self.now.depth (expression_in (self.now.depth + 1)) (command_of (R.reader self.now.simple)) (expression_in self.now.depth) (place cursor.old)) result (place cursor.new) }
@@ -233,7 +234,7 @@ impl<R: Rule<Tree = Command>> Parts<R> {
     }
 
     /// `then command`
-    #[tactic(auto, unfolding(crate::specs::Reading::body, crate::specs::Readers::bind, crate::specs::Readers::pure))]
+    #[tactic(auto, unfolding(crate::specs::walking::Reading::body, crate::specs::walking::Readers::bind, crate::specs::walking::Readers::pure))]
     fn body(&self, cursor: &mut Cursor<'_>) -> Result<Command, Halt>
         requires { R.can_read self.now.simple }
         ensures { Reads (reading.body (command_of (R.reader self.now.simple)) (expression_in self.now.depth) (place cursor.old)) result (place cursor.new) }
@@ -243,7 +244,7 @@ impl<R: Rule<Tree = Command>> Parts<R> {
     }
 
     /// `while expression then command end`, behind the `loop` at `start`.
-    #[tactic(auto, unfolding(crate::specs::Reading::while_loop, crate::specs::Readers::bind, crate::specs::Readers::pure))]
+    #[tactic(auto, unfolding(crate::specs::walking::Reading::while_loop, crate::specs::walking::Readers::bind, crate::specs::walking::Readers::pure))]
     fn while_loop(&self, cursor: &mut Cursor<'_>, start: Span) -> Result<Command, Halt>
         requires { R.can_read self.now.simple }
         ensures { Reads (reading.while_loop (command_of (R.reader self.now.simple)) (expression_in self.now.depth) start (place cursor.old)) result (place cursor.new) }
@@ -255,7 +256,7 @@ impl<R: Rule<Tree = Command>> Parts<R> {
     }
 
     /// `command end`, behind the `loop` at `start`.
-    #[tactic(auto, unfolding(crate::specs::Reading::endless, crate::specs::Readers::bind, crate::specs::Readers::pure))]
+    #[tactic(auto, unfolding(crate::specs::walking::Reading::endless, crate::specs::walking::Readers::bind, crate::specs::walking::Readers::pure))]
     fn endless(&self, cursor: &mut Cursor<'_>, start: Span) -> Result<Command, Halt>
         requires { R.can_read self.now.simple }
         ensures { Reads (reading.endless (command_of (R.reader self.now.simple)) (expression_in self.now.depth) start (place cursor.old)) result (place cursor.new) }
@@ -265,7 +266,7 @@ impl<R: Rule<Tree = Command>> Parts<R> {
     }
 
     /// `loop .. end`
-    #[tactic(auto, unfolding(crate::specs::Reading::looping, crate::specs::Readers::branch, crate::specs::Readers::bind, crate::specs::Readers::pure))]
+    #[tactic(auto, unfolding(crate::specs::walking::Reading::looping, crate::specs::walking::Readers::branch, crate::specs::walking::Readers::bind, crate::specs::walking::Readers::pure))]
     fn repeated(&self, cursor: &mut Cursor<'_>) -> Result<Command, Halt>
         requires { R.can_read self.now.simple }
         ensures { Reads (reading.looping self.now.depth (expression_in (self.now.depth + 1)) (command_of (R.reader self.now.simple)) (expression_in self.now.depth) (place cursor.old)) result (place cursor.new) }
@@ -279,7 +280,7 @@ impl<R: Rule<Tree = Command>> Parts<R> {
     }
 
     /// `else command`, or nothing.
-    #[tactic(auto, unfolding(crate::specs::Reading::otherwise, crate::specs::Reading::last_body, crate::specs::Readers::branch, crate::specs::Readers::bind, crate::specs::Readers::pure))]
+    #[tactic(auto, unfolding(crate::specs::walking::Reading::otherwise, crate::specs::walking::Reading::last_body, crate::specs::walking::Readers::branch, crate::specs::walking::Readers::bind, crate::specs::walking::Readers::pure))]
     fn otherwise(&self, cursor: &mut Cursor<'_>) -> Result<Option<Command>, Halt>
         requires { R.can_read self.now.simple }
         ensures { Reads (reading.otherwise (command_of (R.reader self.now.simple)) (expression_in self.now.depth) (place cursor.old)) result (place cursor.new) }
@@ -294,7 +295,7 @@ impl<R: Rule<Tree = Command>> Parts<R> {
     }
 
     /// `if .. end`
-    #[tactic(auto, unfolding(crate::specs::Reading::branching, crate::specs::Readers::bind, crate::specs::Readers::pure))]
+    #[tactic(auto, unfolding(crate::specs::walking::Reading::branching, crate::specs::walking::Readers::bind, crate::specs::walking::Readers::pure))]
     fn branching(&self, cursor: &mut Cursor<'_>) -> Result<Command, Halt>
         requires { R.can_read self.now.simple }
         ensures { Reads (reading.branching self.now.depth (expression_in (self.now.depth + 1)) (command_of (R.reader self.now.simple)) (expression_in self.now.depth) (place cursor.old)) result (place cursor.new) }
@@ -307,7 +308,7 @@ impl<R: Rule<Tree = Command>> Parts<R> {
     }
 
     /// `of .. end`, behind the `case` at `start` and `value`.
-    #[tactic(auto, unfolding(crate::specs::Readers::bind, crate::specs::Readers::pure))]
+    #[tactic(auto, unfolding(crate::specs::walking::Readers::bind, crate::specs::walking::Readers::pure))]
     fn cases(
         &self,
         cursor: &mut Cursor<'_>,
@@ -325,7 +326,7 @@ impl<R: Rule<Tree = Command>> Parts<R> {
     }
 
     /// `case .. end`
-    #[tactic(auto, unfolding(crate::specs::Reading::casing, crate::specs::Readers::bind, crate::specs::Readers::pure))]
+    #[tactic(auto, unfolding(crate::specs::walking::Reading::casing, crate::specs::walking::Readers::bind, crate::specs::walking::Readers::pure))]
     fn case(&self, cursor: &mut Cursor<'_>) -> Result<Command, Halt>
         requires { R.can_read self.now.simple }
         ensures { Reads (reading.casing self.now.depth (expression_in (self.now.depth + 1)) (command_of (R.reader self.now.simple)) (expression_in self.now.depth) (place cursor.old)) result (place cursor.new) }
@@ -336,7 +337,7 @@ impl<R: Rule<Tree = Command>> Parts<R> {
     }
 
     /// `select .. end`
-    #[tactic(auto, unfolding(crate::specs::Reading::selecting, crate::specs::Readers::bind, crate::specs::Readers::pure))]
+    #[tactic(auto, unfolding(crate::specs::walking::Reading::selecting, crate::specs::walking::Readers::bind, crate::specs::walking::Readers::pure))]
     fn select(&self, cursor: &mut Cursor<'_>) -> Result<Command, Halt>
         requires { R.can_read self.now.simple }
         ensures { Reads (reading.selecting self.now.depth (expression_in (self.now.depth + 1)) (command_of (R.reader self.now.simple)) (expression_in self.now.depth) (place cursor.old)) result (place cursor.new) }
@@ -347,7 +348,7 @@ impl<R: Rule<Tree = Command>> Parts<R> {
     }
 
     /// `| name then command end`, behind the `arbitrate` at `start` and its first arm.
-    #[tactic(auto, unfolding(crate::specs::Readers::bind, crate::specs::Readers::pure))]
+    #[tactic(auto, unfolding(crate::specs::walking::Readers::bind, crate::specs::walking::Readers::pure))]
     fn against(&self, cursor: &mut Cursor<'_>, start: Span, first: Arm) -> Result<Command, Halt>
         requires { R.can_read self.now.simple }
         ensures { Reads (reading.against (command_of (R.reader self.now.simple)) (expression_in self.now.depth) start first (place cursor.old)) result (place cursor.new) }
@@ -358,7 +359,7 @@ impl<R: Rule<Tree = Command>> Parts<R> {
     }
 
     /// `arbitrate .. end`
-    #[tactic(auto, unfolding(crate::specs::Reading::arbitrating, crate::specs::Readers::bind, crate::specs::Readers::pure))]
+    #[tactic(auto, unfolding(crate::specs::walking::Reading::arbitrating, crate::specs::walking::Readers::bind, crate::specs::walking::Readers::pure))]
     fn arbitrate(&self, cursor: &mut Cursor<'_>) -> Result<Command, Halt>
         requires { R.can_read self.now.simple }
         ensures { Reads (reading.arbitrating self.now.depth (expression_in (self.now.depth + 1)) (command_of (R.reader self.now.simple)) (expression_in self.now.depth) (place cursor.old)) result (place cursor.new) }
@@ -369,7 +370,7 @@ impl<R: Rule<Tree = Command>> Parts<R> {
     }
 
     /// `then command end`, behind `channel ->`.
-    #[tactic(auto, unfolding(crate::specs::Reading::enclosing, crate::specs::Readers::bind, crate::specs::Readers::pure))]
+    #[tactic(auto, unfolding(crate::specs::walking::Reading::enclosing, crate::specs::walking::Readers::bind, crate::specs::walking::Readers::pure))]
     fn input(&self, cursor: &mut Cursor<'_>, channel: Identifier) -> Result<Command, Halt>
         requires { R.can_read self.now.simple }
         ensures { Reads (reading.enclosing self.now.depth (expression_in (self.now.depth + 1)) (command_of (R.reader self.now.simple)) (expression_in self.now.depth) channel (place cursor.old)) result (place cursor.new) }
@@ -380,7 +381,7 @@ impl<R: Rule<Tree = Command>> Parts<R> {
     }
 
     /// `->` and what stands behind it, behind `channel`.
-    #[tactic(auto, unfolding(crate::specs::Reading::incoming, crate::specs::Readers::branch, crate::specs::Readers::bind, crate::specs::Readers::pure))]
+    #[tactic(auto, unfolding(crate::specs::walking::Reading::incoming, crate::specs::walking::Readers::branch, crate::specs::walking::Readers::bind, crate::specs::walking::Readers::pure))]
     fn incoming(&self, cursor: &mut Cursor<'_>, channel: Identifier) -> Result<Command, Halt>
         requires { R.can_read self.now.simple }
         ensures { Reads (reading.incoming self.now.depth (expression_in (self.now.depth + 1)) (command_of (R.reader self.now.simple)) (expression_in self.now.depth) channel (place cursor.old)) result (place cursor.new) }
@@ -394,7 +395,7 @@ impl<R: Rule<Tree = Command>> Parts<R> {
     }
 
     /// What begins with a name.
-    #[tactic(auto, unfolding(crate::specs::Reading::named, crate::specs::Reading::assignment, crate::specs::Reading::sending, crate::specs::Readers::branch, crate::specs::Readers::bind, crate::specs::Readers::pure))]
+    #[tactic(auto, unfolding(crate::specs::walking::Reading::named, crate::specs::walking::Reading::assignment, crate::specs::walking::Reading::sending, crate::specs::walking::Readers::branch, crate::specs::walking::Readers::bind, crate::specs::walking::Readers::pure))]
     fn named(&self, cursor: &mut Cursor<'_>) -> Result<Command, Halt>
         requires { R.can_read self.now.simple }
         ensures { Reads (reading.named self.now.depth (expression_in (self.now.depth + 1)) (command_of (R.reader self.now.simple)) (expression_in self.now.depth) (place cursor.old)) result (place cursor.new) }
@@ -412,7 +413,7 @@ impl<R: Rule<Tree = Command>> Parts<R> {
     }
 
     /// A command that is no sequence and no parallel, unless in brackets.
-    #[tactic(auto, unfolding(crate::specs::Reading::any_simple, crate::specs::Readers::branch))]
+    #[tactic(auto, unfolding(crate::specs::walking::Reading::any_simple, crate::specs::walking::Readers::branch))]
     fn choice(&self, cursor: &mut Cursor<'_>) -> Result<Command, Halt>
         requires { R.can_read self.now.simple }
         ensures { Reads (reading.any_simple self.now.depth (expression_in (self.now.depth + 1)) (command_of (R.reader self.now.simple)) (expression_in self.now.depth) (place cursor.old)) result (place cursor.new) }
@@ -441,7 +442,7 @@ impl<R: Rule<Tree = Command>> Parts<R> {
     }
 
     /// The same, and closes the levels that it opened.
-    #[tactic(auto, using(crate::proofs::Closed::closes), unfolding(crate::specs::Reading::simple_of, crate::specs::Readers::inside))]
+    #[tactic(auto, using(crate::proofs::Closed::closes), unfolding(crate::specs::walking::Reading::simple_of, crate::specs::walking::Readers::inside))]
     fn whole(&self, cursor: &mut Cursor<'_>) -> Result<Command, Halt>
         requires { R.can_read self.now.simple }
         ensures { Reads (reading.simple_of self.now.depth (expression_in (self.now.depth + 1)) (command_of (R.reader self.now.simple)) (expression_in self.now.depth) (place cursor.old)) result (place cursor.new) }
@@ -466,7 +467,7 @@ impl<R: Rule<Tree = Command>> Rule for GuardedRule<'_, R> {
 
     ghost reader = { λ arm. reading.guarded (command_of (R.reader arm.parts.now.simple)) (expression_in arm.parts.now.depth) };
 
-    #[tactic(auto, unfolding(crate::specs::Reading::guarded, crate::specs::Readers::bind, crate::specs::Readers::pure))]
+    #[tactic(auto, unfolding(crate::specs::walking::Reading::guarded, crate::specs::walking::Readers::bind, crate::specs::walking::Readers::pure))]
     fn read(&self, cursor: &mut Cursor<'_>) -> Result<Guarded, Halt> {
         let guard = expression(cursor, self.parts.depth)?;
         let body = self.parts.body(cursor)?;
@@ -487,7 +488,7 @@ impl<R: Rule<Tree = Command>> Rule for CaseArmRule<'_, R> {
 
     ghost reader = { λ arm. reading.case_arm (command_of (R.reader arm.parts.now.simple)) (expression_in arm.parts.now.depth) };
 
-    #[tactic(auto, unfolding(crate::specs::Reading::case_arm, crate::specs::Readers::bind, crate::specs::Readers::pure))]
+    #[tactic(auto, unfolding(crate::specs::walking::Reading::case_arm, crate::specs::walking::Readers::bind, crate::specs::walking::Readers::pure))]
     fn read(&self, cursor: &mut Cursor<'_>) -> Result<CaseArm, Halt> {
         let labels = labels(cursor)?;
         let body = self.parts.body(cursor)?;
@@ -508,7 +509,7 @@ impl<R: Rule<Tree = Command>> Rule for ArmRule<'_, R> {
 
     ghost reader = { λ arm. reading.arm_of (command_of (R.reader arm.parts.now.simple)) (expression_in arm.parts.now.depth) };
 
-    #[tactic(auto, unfolding(crate::specs::Reading::arm_of, crate::specs::Readers::bind, crate::specs::Readers::pure))]
+    #[tactic(auto, unfolding(crate::specs::walking::Reading::arm_of, crate::specs::walking::Readers::bind, crate::specs::walking::Readers::pure))]
     fn read(&self, cursor: &mut Cursor<'_>) -> Result<Arm, Halt> {
         let channel = cursor.identifier()?;
         let body = self.parts.body(cursor)?;

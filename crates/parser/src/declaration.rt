@@ -1,10 +1,11 @@
 //! Declarations and the whole description.
 
 ghost use Rattle.std.specs.Prelude.{◌≡◌, List, [], ◌∷◌};
-ghost use Rattle.parser.specs.Readers as readers;
-ghost use Rattle.parser.specs.Reading as reading;
-ghost use Rattle.parser.specs.Reads.{place, Reads};
-ghost use Rattle.parser.specs.Trees as trees;
+ghost use Rattle.parser.specs.walking.Readers as readers;
+ghost use Rattle.parser.specs.walking.Reading as reading;
+ghost use Rattle.parser.specs.walking.Reads.{place, Reads};
+ghost use Rattle.parser.specs.Accepted.{most_levels};
+ghost use Rattle.parser.specs.walking.BySign as by_sign;
 ghost use Rattle.lexer.specs.declared.token.Kind.{Kind};
 ghost use Rattle.syntax.specs.declared.expression.TypeName.{TypeName};
 ghost use Rattle.syntax.specs.declared.name.Identifier.{Identifier};
@@ -22,7 +23,7 @@ use syntax::{
 };
 
 /// `number bits` or `enumeration names end`
-#[tactic(auto, unfolding(crate::specs::Reading::type_definition, crate::specs::Reading::bits, crate::specs::Reading::enumeration, crate::specs::Readers::branch, crate::specs::Readers::bind, crate::specs::Readers::pure))]
+#[tactic(auto, unfolding(crate::specs::walking::Reading::type_definition, crate::specs::walking::Reading::bits, crate::specs::walking::Reading::enumeration, crate::specs::walking::Readers::branch, crate::specs::walking::Readers::bind, crate::specs::walking::Readers::pure))]
 fn definition(cursor: &mut Cursor<'_>) -> Result<TypeDefinition, Halt>
     ensures { Reads (reading.type_definition (place cursor.old)) result (place cursor.new) }
 {
@@ -48,7 +49,7 @@ impl Rule for TypeRule {
 
     ghost reader = { λ _. reading.type_declaration };
 
-    #[tactic(auto, unfolding(crate::specs::Reading::type_declaration, crate::specs::Readers::bind, crate::specs::Readers::pure))]
+    #[tactic(auto, unfolding(crate::specs::walking::Reading::type_declaration, crate::specs::walking::Readers::bind, crate::specs::walking::Readers::pure))]
     fn read(&self, cursor: &mut Cursor<'_>) -> Result<TypeDeclaration, Halt> {
         cursor.take(Kind::TypeWord)?;
         let name = cursor.identifier()?;
@@ -74,7 +75,7 @@ trait Declared: Drop {
 }
 
 /// `word names : type`
-#[tactic(auto, unfolding(crate::specs::Readers::bind, crate::specs::Readers::pure))]
+#[tactic(auto, unfolding(crate::specs::walking::Readers::bind, crate::specs::walking::Readers::pure))]
 fn typed<D: Declared>(cursor: &mut Cursor<'_>, word: Kind) -> Result<D, Halt>
     ensures { Reads (reading.typed word (D.typed word) (place cursor.old)) result (place cursor.new) }
 {
@@ -85,7 +86,7 @@ fn typed<D: Declared>(cursor: &mut Cursor<'_>, word: Kind) -> Result<D, Halt>
 }
 
 /// `sync names`
-#[tactic(auto, unfolding(crate::specs::Readers::bind, crate::specs::Readers::pure))]
+#[tactic(auto, unfolding(crate::specs::walking::Readers::bind, crate::specs::walking::Readers::pure))]
 fn synced<D: Declared>(cursor: &mut Cursor<'_>) -> Result<D, Halt>
     ensures { Reads (reading.synced D.sync (place cursor.old)) result (place cursor.new) }
 {
@@ -95,9 +96,9 @@ fn synced<D: Declared>(cursor: &mut Cursor<'_>) -> Result<D, Halt>
 }
 
 impl Declared for Port {
-    ghost typed = { trees.typed_port };
+    ghost typed = { by_sign.typed_port };
 
-    ghost sync = { trees.sync_port };
+    ghost sync = { by_sign.sync_port };
 
     fn typed(word: Kind, names: Items<Identifier>, given: TypeName) -> Port {
         let kind = match word {
@@ -125,7 +126,7 @@ impl Rule for PortRule {
 
     ghost reader = { λ _. reading.port_of };
 
-    #[tactic(auto, unfolding(crate::specs::Reading::port_of, crate::specs::Reading::input_port, crate::specs::Reading::output_port, crate::specs::Reading::sync_port, crate::specs::Readers::branch))]
+    #[tactic(auto, unfolding(crate::specs::walking::Reading::port_of, crate::specs::walking::Reading::input_port, crate::specs::walking::Reading::output_port, crate::specs::walking::Reading::sync_port, crate::specs::walking::Readers::branch))]
     fn read(&self, cursor: &mut Cursor<'_>) -> Result<Port, Halt> {
         if cursor.sees(Kind::InputWord) {
             typed(cursor, Kind::InputWord)
@@ -138,7 +139,7 @@ impl Rule for PortRule {
 }
 
 /// `( port ; .. ; port )`, or nothing.
-#[tactic(auto, unfolding(crate::specs::Reading::ports, crate::specs::Reading::port_list, crate::specs::Readers::branch, crate::specs::Readers::bind, crate::specs::Readers::pure))]
+#[tactic(auto, unfolding(crate::specs::walking::Reading::ports, crate::specs::walking::Reading::port_list, crate::specs::walking::Readers::branch, crate::specs::walking::Readers::bind, crate::specs::walking::Readers::pure))]
 fn ports(cursor: &mut Cursor<'_>) -> Result<Items<Port>, Halt>
     ensures { Reads (reading.ports (place cursor.old)) result (place cursor.new) }
 {
@@ -153,9 +154,9 @@ fn ports(cursor: &mut Cursor<'_>) -> Result<Items<Port>, Halt>
 }
 
 impl Declared for Local {
-    ghost typed = { trees.typed_local };
+    ghost typed = { by_sign.typed_local };
 
-    ghost sync = { trees.sync_local };
+    ghost sync = { by_sign.sync_local };
 
     fn typed(word: Kind, names: Items<Identifier>, given: TypeName) -> Local {
         let kind = match word {
@@ -183,7 +184,7 @@ impl Rule for LocalRule {
 
     ghost reader = { λ _. reading.local_of };
 
-    #[tactic(auto, unfolding(crate::specs::Reading::local_of, crate::specs::Reading::variables, crate::specs::Reading::channels, crate::specs::Reading::syncs, crate::specs::Readers::branch))]
+    #[tactic(auto, unfolding(crate::specs::walking::Reading::local_of, crate::specs::walking::Reading::variables, crate::specs::walking::Reading::channels, crate::specs::walking::Reading::syncs, crate::specs::walking::Readers::branch))]
     fn read(&self, cursor: &mut Cursor<'_>) -> Result<Local, Halt> {
         if cursor.sees(Kind::VariableWord) {
             typed(cursor, Kind::VariableWord)
@@ -199,9 +200,9 @@ impl Rule for LocalRule {
 const LOCAL_WORDS: [Kind; 3] = [Kind::VariableWord, Kind::ChannelWord, Kind::SyncWord];
 
 /// `begin command end`
-#[tactic(auto, unfolding(crate::specs::Reading::block, crate::specs::Reading::command, crate::specs::Readers::bind, crate::specs::Readers::pure))]
+#[tactic(auto, unfolding(crate::specs::walking::Reading::block, crate::specs::walking::Reading::command, crate::specs::walking::Readers::bind, crate::specs::walking::Readers::pure))]
 fn block(cursor: &mut Cursor<'_>) -> Result<Command, Halt>
-    ensures { Reads (reading.block 64 (place cursor.old)) result (place cursor.new) }
+    ensures { Reads (reading.block most_levels (place cursor.old)) result (place cursor.new) }
 {
     cursor.take(Kind::BeginWord)?;
     let body = command(cursor, LEVELS + 1)?;
@@ -210,9 +211,9 @@ fn block(cursor: &mut Cursor<'_>) -> Result<Command, Halt>
 }
 
 /// The ports, locals and body of the procedure `name`.
-#[tactic(auto, unfolding(crate::specs::Reading::procedure_of, crate::specs::Readers::bind, crate::specs::Readers::pure))]
+#[tactic(auto, unfolding(crate::specs::walking::Reading::procedure_of, crate::specs::walking::Readers::bind, crate::specs::walking::Readers::pure))]
 fn procedure_of(cursor: &mut Cursor<'_>, name: Identifier) -> Result<Procedure, Halt>
-    ensures { Reads (reading.procedure_of 64 name (place cursor.old)) result (place cursor.new) }
+    ensures { Reads (reading.procedure_of most_levels name (place cursor.old)) result (place cursor.new) }
 {
     let ports = ports(cursor)?;
     cursor.take(Kind::IsWord)?;
@@ -234,9 +235,9 @@ impl Rule for ProcedureRule {
 
     ghost can_read = { λ _. Unit {0} };
 
-    ghost reader = { λ _. reading.procedure 64 };
+    ghost reader = { λ _. reading.procedure most_levels };
 
-    #[tactic(auto, unfolding(crate::specs::Reading::procedure, crate::specs::Readers::bind, crate::specs::Readers::pure))]
+    #[tactic(auto, unfolding(crate::specs::walking::Reading::procedure, crate::specs::walking::Readers::bind, crate::specs::walking::Readers::pure))]
     fn read(&self, cursor: &mut Cursor<'_>) -> Result<Procedure, Halt> {
         cursor.take(Kind::ProcedureWord)?;
         let name = cursor.identifier()?;
@@ -245,9 +246,9 @@ impl Rule for ProcedureRule {
 }
 
 /// Declarations of types, and one procedure or more.
-#[tactic(auto, unfolding(crate::specs::Reading::description, crate::specs::Reading::procedures, crate::specs::Readers::bind, crate::specs::Readers::pure))]
+#[tactic(auto, unfolding(crate::specs::walking::Reading::description, crate::specs::walking::Reading::procedures, crate::specs::walking::Readers::bind, crate::specs::walking::Readers::pure))]
 fn description(cursor: &mut Cursor<'_>) -> Result<Description, Halt>
-    ensures { Reads (reading.description 64 (place cursor.old)) result (place cursor.new) }
+    ensures { Reads (reading.description most_levels (place cursor.old)) result (place cursor.new) }
 {
     let types = all(&TypeRule, cursor, &[Kind::TypeWord])?;
     let rule = ProcedureRule;
@@ -256,9 +257,9 @@ fn description(cursor: &mut Cursor<'_>) -> Result<Description, Halt>
 }
 
 /// A description, and nothing behind it.
-#[tactic(auto, unfolding(crate::specs::Readers::whole))]
+#[tactic(auto, unfolding(crate::specs::walking::Readers::whole))]
 pub fn whole(cursor: &mut Cursor<'_>) -> Result<Description, Halt>
-    ensures { Reads (readers.whole (reading.description 64) (place cursor.old)) result (place cursor.new) }
+    ensures { Reads (readers.whole (reading.description most_levels) (place cursor.old)) result (place cursor.new) }
 {
     let description = description(cursor)?;
     if cursor.sees(Kind::EndOfSource) {

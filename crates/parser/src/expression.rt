@@ -3,10 +3,10 @@
 
 ghost use Rattle.std.specs.Prelude.{◌≡◌};
 ghost use Rattle.parser.specs.Grammar.{expression_words};
-ghost use Rattle.parser.specs.Nests.{ReadsAt, factor_in, expression_in};
-ghost use Rattle.parser.specs.Readers.{read};
-ghost use Rattle.parser.specs.Reading as reading;
-ghost use Rattle.parser.specs.Reads.{place, Reads};
+ghost use Rattle.parser.specs.walking.Nests.{ReadsAt, factor_in, expression_in};
+ghost use Rattle.parser.specs.walking.Readers.{read};
+ghost use Rattle.parser.specs.walking.Reading as reading;
+ghost use Rattle.parser.specs.walking.Reads.{place, Reads};
 ghost use Rattle.parser.specs.Trees as trees;
 
 use crate::cursor::Cursor;
@@ -58,7 +58,7 @@ fn new_expression(cursor: &Cursor<'_>, span: Span, shape: Shape) -> Result<Expre
     Ok(Expression::new(cursor.alloc(), span, shape)?)
 }
 
-#[tactic(auto, unfolding(crate::specs::Reading::number, crate::specs::Readers::bind, crate::specs::Readers::pure))]
+#[tactic(auto, unfolding(crate::specs::walking::Reading::number, crate::specs::walking::Readers::bind, crate::specs::walking::Readers::pure))]
 fn number(cursor: &mut Cursor<'_>) -> Result<Expression, Halt>
     ensures { Reads (reading.number (place cursor.old)) result (place cursor.new) }
 {
@@ -67,7 +67,7 @@ fn number(cursor: &mut Cursor<'_>) -> Result<Expression, Halt>
     new_expression(cursor, token.span, shape)
 }
 
-#[tactic(auto, unfolding(crate::specs::Reading::variable_name, crate::specs::Readers::bind, crate::specs::Readers::pure))]
+#[tactic(auto, unfolding(crate::specs::walking::Reading::variable_name, crate::specs::walking::Readers::bind, crate::specs::walking::Readers::pure))]
 fn named(cursor: &mut Cursor<'_>) -> Result<Expression, Halt>
     ensures { Reads (reading.variable_name (place cursor.old)) result (place cursor.new) }
 {
@@ -91,7 +91,7 @@ fn binary(
 }
 
 /// One of `signs` and the operand behind it, behind `left`.
-#[tactic(auto, unfolding(crate::specs::Reading::operation, crate::specs::Readers::bind, crate::specs::Readers::pure))]
+#[tactic(auto, unfolding(crate::specs::walking::Reading::operation, crate::specs::walking::Readers::bind, crate::specs::walking::Readers::pure))]
 fn operation<R: Rule<Tree = Expression>>(
     operand: &R,
     cursor: &mut Cursor<'_>,
@@ -122,7 +122,7 @@ impl<R: Rule<Tree = Expression>> Rule for Grouped<'_, R> {
 
     ghost reader = { λ grouped. reading.grouped grouped.depth grouped.signs.now (R.reader grouped.operand.now) };
 
-    #[tactic(auto, unfolding(crate::specs::Reading::grouped, crate::specs::Readers::bind))]
+    #[tactic(auto, unfolding(crate::specs::walking::Reading::grouped, crate::specs::walking::Readers::bind))]
     fn read(&self, cursor: &mut Cursor<'_>) -> Result<Expression, Halt> {
         let mut left = self.operand.read(cursor)?;
         for _turn in 0..cursor.rest().len() {
@@ -149,7 +149,7 @@ impl<R: Rule<Tree = Expression>> Rule for Compared<'_, R> {
 
     ghost reader = { λ compared. reading.compared compared.depth (R.reader compared.operand.now) };
 
-    #[tactic(auto, unfolding(crate::specs::Reading::compared, crate::specs::Readers::branch, crate::specs::Readers::bind, crate::specs::Readers::pure))]
+    #[tactic(auto, unfolding(crate::specs::walking::Reading::compared, crate::specs::walking::Readers::branch, crate::specs::walking::Readers::bind, crate::specs::walking::Readers::pure))]
     fn read(&self, cursor: &mut Cursor<'_>) -> Result<Expression, Halt> {
         let left = self.operand.read(cursor)?;
         if cursor.sees_any(&COMPARISON_SIGNS) {
@@ -170,7 +170,7 @@ struct Operands<R> {
 
 impl<R: Rule<Tree = Expression>> Operands<R> {
     /// Factors with operators between them, a rule for each rank. It closes the levels of its operators.
-    #[tactic(auto, using(crate::proofs::Closed::closes), unfolding(crate::specs::Reading::expression_of, crate::specs::Reading::sum_of, crate::specs::Reading::comparison_of, crate::specs::Reading::conjunct_of, crate::specs::Readers::inside))]
+    #[tactic(auto, using(crate::proofs::Closed::closes), unfolding(crate::specs::walking::Reading::expression_of, crate::specs::walking::Reading::sum_of, crate::specs::walking::Reading::comparison_of, crate::specs::walking::Reading::conjunct_of, crate::specs::walking::Readers::inside))]
     fn expression(&self, cursor: &mut Cursor<'_>) -> Result<Expression, Halt>
         requires { R.can_read self.now.factor }
         ensures { Reads (reading.expression_of self.now.depth (R.reader self.now.factor) (place cursor.old)) result (place cursor.new) }
@@ -202,7 +202,7 @@ impl<R: Rule<Tree = Expression>> Operands<R> {
     }
 
     /// `not factor`
-    #[tactic(auto, unfolding(crate::specs::Reading::negation, crate::specs::Readers::bind, crate::specs::Readers::pure))]
+    #[tactic(auto, unfolding(crate::specs::walking::Reading::negation, crate::specs::walking::Readers::bind, crate::specs::walking::Readers::pure))]
     fn negated(&self, cursor: &mut Cursor<'_>) -> Result<Expression, Halt>
         requires { R.can_read self.now.factor }
         ensures { Reads (reading.negation self.now.depth (R.reader self.now.factor) (reading.expression_of self.now.depth (R.reader self.now.factor)) (place cursor.old)) result (place cursor.new) }
@@ -214,7 +214,7 @@ impl<R: Rule<Tree = Expression>> Operands<R> {
     }
 
     /// `( expression )` or `( expression as type )`
-    #[tactic(auto, unfolding(crate::specs::Reading::parenthesised, crate::specs::Readers::branch, crate::specs::Readers::bind, crate::specs::Readers::pure))]
+    #[tactic(auto, unfolding(crate::specs::walking::Reading::parenthesised, crate::specs::walking::Readers::branch, crate::specs::walking::Readers::bind, crate::specs::walking::Readers::pure))]
     fn parenthesised(&self, cursor: &mut Cursor<'_>) -> Result<Expression, Halt>
         requires { R.can_read self.now.factor }
         ensures { Reads (reading.parenthesised self.now.depth (R.reader self.now.factor) (reading.expression_of self.now.depth (R.reader self.now.factor)) (place cursor.old)) result (place cursor.new) }
@@ -229,7 +229,7 @@ impl<R: Rule<Tree = Expression>> Operands<R> {
     }
 
     /// What stands between operators.
-    #[tactic(auto, unfolding(crate::specs::Reading::any_factor, crate::specs::Readers::branch))]
+    #[tactic(auto, unfolding(crate::specs::walking::Reading::any_factor, crate::specs::walking::Readers::branch))]
     fn choice(&self, cursor: &mut Cursor<'_>) -> Result<Expression, Halt>
         requires { R.can_read self.now.factor }
         ensures { Reads (reading.any_factor self.now.depth (R.reader self.now.factor) (reading.expression_of self.now.depth (R.reader self.now.factor)) (place cursor.old)) result (place cursor.new) }
@@ -246,7 +246,7 @@ impl<R: Rule<Tree = Expression>> Operands<R> {
     }
 
     /// The same, and closes the levels that it opened.
-    #[tactic(auto, using(crate::proofs::Closed::closes), unfolding(crate::specs::Reading::factor_of, crate::specs::Readers::inside))]
+    #[tactic(auto, using(crate::proofs::Closed::closes), unfolding(crate::specs::walking::Reading::factor_of, crate::specs::walking::Readers::inside))]
     fn whole(&self, cursor: &mut Cursor<'_>) -> Result<Expression, Halt>
         requires { R.can_read self.now.factor }
         ensures { Reads (reading.factor_of self.now.depth (R.reader self.now.factor) (reading.expression_of self.now.depth (R.reader self.now.factor)) (place cursor.old)) result (place cursor.new) }
@@ -259,7 +259,7 @@ impl<R: Rule<Tree = Expression>> Operands<R> {
 }
 
 /// `as type )`, behind what begins at `start`.
-#[tactic(auto, unfolding(crate::specs::Reading::cast, crate::specs::Reading::closing, crate::specs::Readers::bind, crate::specs::Readers::pure))]
+#[tactic(auto, unfolding(crate::specs::walking::Reading::cast, crate::specs::walking::Reading::closing, crate::specs::walking::Readers::bind, crate::specs::walking::Readers::pure))]
 fn cast(cursor: &mut Cursor<'_>, start: Span, operand: Expression) -> Result<Expression, Halt>
     ensures { Reads (reading.cast start operand (place cursor.old)) result (place cursor.new) }
 {
@@ -270,7 +270,7 @@ fn cast(cursor: &mut Cursor<'_>, start: Span, operand: Expression) -> Result<Exp
 }
 
 /// `)`, behind what begins at `start`.
-#[tactic(auto, unfolding(crate::specs::Reading::closing, crate::specs::Readers::bind, crate::specs::Readers::pure))]
+#[tactic(auto, unfolding(crate::specs::walking::Reading::closing, crate::specs::walking::Readers::bind, crate::specs::walking::Readers::pure))]
 fn closing(cursor: &mut Cursor<'_>, start: Span, operand: Expression) -> Result<Expression, Halt>
     ensures { Reads (reading.closing start operand (place cursor.old)) result (place cursor.new) }
 {

@@ -6,5 +6,4 @@ pub mod Part
 pub mod Places
 pub mod Translation
 pub mod View
-pub mod formers
 pub mod walking

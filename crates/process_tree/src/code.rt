@@ -1,5 +1,4 @@
-use crate::shared::Shared;
-use syntax::Items;
+use syntax::{Items, Shared};
 use system::{Decision, Expression};
 use value::Width;
 

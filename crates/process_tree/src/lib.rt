@@ -5,7 +5,6 @@ mod code;
 mod environment;
 mod laws;
 mod part;
-mod shared;
 mod translate;
 mod tree;
 

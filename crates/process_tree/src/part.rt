@@ -3,9 +3,8 @@ ghost use Rattle.process_tree.specs.Part.{started};
 ghost use Rattle.process_tree.specs.View.{code_view, part_view};
 
 use crate::code::{Act, Await, Code, Decide, Offer, Repeat, Row};
-use crate::shared::Shared;
 use std::alloc::{AllocError, Global};
-use syntax::{Boxed, Items};
+use syntax::{Boxed, Items, Shared};
 use value::Value;
 
 /// How far a send or sync is.

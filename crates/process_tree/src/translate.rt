@@ -9,9 +9,8 @@ ghost use Rattle.process_tree.specs.Translation.{guarded_of, labelled_of, arm_of
 ghost use Rattle.process_tree.specs.View.{act_view, offer_view, code_view};
 
 use crate::code::{Act, Await, Code, Decide, Offer, Repeat, Row};
-use crate::shared::Shared;
 use std::alloc::{AllocError, Global};
-use syntax::Items;
+use syntax::{Items, Shared};
 use system::{Action, Arm, Command, Decision, Expression, Guarded, Labelled};
 use value::Width;
 

@@ -21,7 +21,7 @@ use Rattle.calculus.proofs.Lists.{every-in}
 use Rattle.event_places.specs.EventPlaces.{line_after, is_open_after}
 use Rattle.machine.specs.Held.{Held}
 use Rattle.source_view.specs.View.{is_line, acts_on, are_in_conflict, is_conflict_on}
-use Rattle.source_view.specs.Marking.{conflicts_with_next, neighbours_on}
+use Rattle.source_view.specs.walking.Marking.{conflicts_with_next, neighbours_on}
 
 -- events between two at one place act there too
 between : (x y f : Event) → Sooner x y → Sooner y f → acting x ≡ acting f → acting x ≡ acting y

@@ -1,6 +1,6 @@
 // What ready events add to the marks of lines.
 ghost use Rattle.source_view.specs.View.{is_line};
-ghost use Rattle.source_view.specs.Marking.{ChangedBy, with_events, with_event};
+ghost use Rattle.source_view.specs.walking.Marking.{ChangedBy, with_events, with_event};
 
 use crate::conflict::conflicts_with_next;
 use crate::marks::Marks;

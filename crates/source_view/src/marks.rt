@@ -3,7 +3,7 @@ ghost use Rattle.std.specs.Prelude.{IfOk};
 ghost use Rattle.calculus.specs.InOrder.{InOrder};
 ghost use Rattle.calculus.specs.Ready.{Sooner};
 ghost use Rattle.source_view.specs.View.{marks_on};
-ghost use Rattle.source_view.specs.Marking.{AreMarks, break_mark};
+ghost use Rattle.source_view.specs.walking.Marking.{AreMarks, break_mark};
 
 use crate::adding::add_ready;
 use calculus::Event;

@@ -2,7 +2,7 @@
 ghost use Rattle.std.specs.Prelude.{◌≡◌, ◌≤◌, ◌++◌, length, replicate, IfOk, OnOk};
 ghost use Rattle.std.specs.Fmt.{decimal};
 ghost use Rattle.source_view.specs.View.{lines, lines_text, line_text, right, mark};
-ghost use Rattle.source_view.specs.Marking.{marks_at};
+ghost use Rattle.source_view.specs.walking.Marking.{marks_at};
 
 use crate::lines::first_line;
 use crate::marks::Marks;

@@ -1,6 +1,6 @@
 //! The trees of a Balsa description, as the parser builds them and as every later stage reads them.
 //!
-//! A tree holds its children in `Boxed` and `Items`, which contracts see as a plain value and a
+//! A tree holds its children in `Boxed`, `Shared` and `Items`, which contracts see as plain values and a
 //! plain list, so a clause can say that a tree equals what a definition computes.
 #![tactic(auto)]
 
@@ -10,6 +10,7 @@ mod declaration;
 mod expression;
 mod items;
 mod name;
+mod shared;
 mod span;
 
 pub use boxed::Boxed;
@@ -20,4 +21,5 @@ pub use declaration::{
 pub use expression::{Expression, Operator, Shape, TypeName, Width};
 pub use items::Items;
 pub use name::{Identifier, Name};
+pub use shared::Shared;
 pub use span::Span;

@@ -1,6 +1,6 @@
 -- Expressions with widths, and their values over a store.
 use Rattle.std.specs.Prelude.{ℕ, suc, ◌+◌, ◌==◌, min, List, [], ◌∷◌, ◌++◌, Bool, true, false, cond, Option, Some, None, slice_index_or, slice_set, nat_lt, if◌then◌else◌}
-use Rattle.value.specs.Word.{Word, resized, common_width, sum_of, difference_of, and_of, or_of, xor_of, complement_of, comparison_of}
+use Rattle.value.specs.Word.{Word, most_bits, resized, common_width, sum_of, difference_of, and_of, or_of, xor_of, complement_of, comparison_of}
 use Rattle.system.specs.declared.expression.Operator.{Operator}
 use Rattle.system.specs.declared.expression.Operator.TheVariants.{Add, Subtract, And, Or, Xor, Compare}
 
@@ -32,9 +32,9 @@ abbrev pub put : Store → ℕ → Word → Store
 put s x v = slice_set s x (resized v (get s x).width)
 
 -- the value of an operator: a sum is one bit wider than the wider operand
--- (at most 64 bits: typing refuses what would need more, so that no sum is cut)
+-- (at most so many bits as a number has: typing refuses what would need more, so that no sum is cut)
 abbrev pub combined : Operator → Word → Word → Word
-combined Add a b = resized (sum_of a b) (min 64 (common_width a b + 1))
+combined Add a b = resized (sum_of a b) (min most_bits (common_width a b + 1))
 combined Subtract a b = difference_of a b
 combined And a b = and_of a b
 combined Or a b = or_of a b

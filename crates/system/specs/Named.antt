@@ -2,6 +2,9 @@
 use Rattle.std.specs.Prelude.{ℕ, ◌+◌, nat_eq, nat_le, if◌then◌else◌, List, [], ◌∷◌, Option, Some, None, slice_get, ◌++◌}
 use Rattle.std.specs.Option.{option_map}
 use Rattle.std.specs.Cmp.Lexicographic.{pointwise}
+use Rattle.std.specs.declared.alloc.Global.{Global}
+use Rattle.std.specs.declared.sync.Arc.{Arc}
+use Rattle.system.specs.declared.prefix.Call.{Call}
 use Rattle.system.specs.declared.system.Variable.{Variable}
 use Rattle.system.specs.declared.system.Channel.{Channel}
 use Rattle.std.specs.Fmt.{decimal}
@@ -26,3 +29,8 @@ channel_name_at channels number = option_map (λ c. c.name) (slice_get channels 
 -- what stands before the names that are made for the call of this number: `k:` behind what stands there already
 abbrev pub prefix_of_call : List ℕ → ℕ → List ℕ
 prefix_of_call prefix call = prefix ++ decimal call ++ 58 ∷ []
+
+-- what a prefix shows: the bytes of the calls, the outermost first
+abbrev pub shown : Option (Arc Call Global) → List ℕ
+shown None = []
+shown (Some call) = call.value.around ++ call.value.text.items

@@ -4,7 +4,7 @@ ghost use Rattle.system.specs.Translation.{expression_of};
 
 use std::alloc::{AllocError, Global};
 use syntax::Boxed;
-use value::{Comparison, Value, Width};
+use value::{Comparison, MOST_BITS, Value, Width};
 
 /// A name in the source that uses a variable or a channel.
 #[derive(Clone, Copy, Debug, PartialEq, Eq)]
@@ -33,7 +33,7 @@ pub enum Operator {
 }
 
 impl Operator {
-    /// The value of the operator at two operands. A sum has at most 64 bits, and what would not fit is cut.
+    /// The value of the operator at two operands. A sum has at most `MOST_BITS` bits, and what would not fit is cut.
     pub fn apply(self, left: Value, right: Value) -> Value
         ensures { result ≡ model.combined self left right }
     {
@@ -48,14 +48,14 @@ impl Operator {
     }
 }
 
-/// The sum, one bit wider than the wider operand, or cut at 64 bits where that operand has as many.
+/// The sum, one bit wider than the wider operand, or cut at the most bits where that operand has as many.
 fn add_cut(left: Value, right: Value) -> Value
     ensures { result ≡ model.combined Operator.Add left right }
 {
-    if left.width().max(right.width()) < 64 {
+    if left.width().max(right.width()) < MOST_BITS {
         value::add(left, right)
     } else {
-        Value::make(left.bits().wrapping_add(right.bits()), 64)
+        Value::make(left.bits().wrapping_add(right.bits()), MOST_BITS)
     }
 }
 

@@ -33,7 +33,8 @@ impl Model for Prefix {
 
     ghost Value = { List ℕ };
 
-    ghost use Rattle.system.specs.walking.SharedPrefix.{shown, IsHashed};
+    ghost use Rattle.system.specs.Named.{shown};
+    ghost use Rattle.system.specs.walking.SharedPrefix.{IsHashed};
 
     ghost view = { λ prefix. shown prefix.innermost };
 

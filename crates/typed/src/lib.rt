@@ -4,6 +4,6 @@
 mod tree;
 
 pub use tree::{
-    Action, Arm, ChannelUse, Command, Expression, Guarded, Labelled, Local, LocalKind, Place, Port,
-    PortKind, Procedure, Typed, VariableUse,
+    Action, Arm, Binding, ChannelUse, Command, Expression, Guarded, Labelled, Local, LocalKind,
+    Port, PortKind, Procedure, Typed, VariableUse,
 };

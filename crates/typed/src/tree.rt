@@ -91,9 +91,9 @@ pub enum LocalKind {
     Sync,
 }
 
-/// What a channel's name denotes: a port or a local of its procedure, by its place among these, from 0.
+/// What a channel's name is bound to: a port or a local of its procedure, by its place among these, from 0.
 #[derive(Clone, Copy, Debug, PartialEq, Eq, Hash)]
-pub enum Place {
+pub enum Binding {
     Port(u32),
     Local(u32),
 }
@@ -101,7 +101,7 @@ pub enum Place {
 /// A name in the source that uses a channel.
 #[derive(Clone, Copy, Debug, PartialEq, Eq)]
 pub struct ChannelUse {
-    pub channel: Place,
+    pub channel: Binding,
     /// The offset in bytes of the name in the source, from 0.
     pub offset: u64,
 }
@@ -198,7 +198,7 @@ pub enum Expression {
     /// a variable, and its width
     Variable(VariableUse, Width),
     /// the name of a data channel in an arm that is opened on it, and the channel's width
-    Received(Place, Width),
+    Received(Binding, Width),
     Binary(Operator, Boxed<Expression>, Boxed<Expression>),
     /// `not`, each bit flipped
     Not(Boxed<Expression>),

@@ -16,7 +16,7 @@ use Rattle.typed.specs.declared.tree.Command as typed_command
 use Rattle.typed.specs.declared.tree.Action as typed_action
 use Rattle.typed.specs.declared.tree.Guarded as typed_guarded
 use Rattle.typed.specs.declared.tree.Labelled as typed_labelled
-use Rattle.typed.specs.declared.tree.Place.{Place}
+use Rattle.typed.specs.declared.tree.Binding.{Binding}
 use Rattle.syntax.specs.declared.command.Action.{Action}
 use Rattle.syntax.specs.declared.command.Arm.{Arm}
 use Rattle.syntax.specs.declared.command.CaseArm.{CaseArm}
@@ -39,16 +39,16 @@ abbrev judged_shape : (k : Keeping) → Shape → ℕ → JudgedValue k
 judged_shape k = fold-Shape (ℕ → JudgedValue k) (JudgedValue k) (shape_layer k) (expression_layer k)
 
 abbrev ShapeAgrees : Shape → Type 0
-ShapeAgrees s = (start : ℕ) (names : VisibleNames) (opened : List Place) → answer (judged_shape every s start names opened) ≡ judged_shape least s start names opened
+ShapeAgrees s = (start : ℕ) (names : VisibleNames) (opened : List Binding) → answer (judged_shape every s start names opened) ≡ judged_shape least s start names opened
 
 abbrev ExpressionAgrees : Expression → Type 0
-ExpressionAgrees x = (names : VisibleNames) (opened : List Place) → answer (judged_expression every x names opened) ≡ judged_expression least x names opened
+ExpressionAgrees x = (names : VisibleNames) (opened : List Binding) → answer (judged_expression every x names opened) ≡ judged_expression least x names opened
 
 abbrev open_shape : (k : Keeping) → Shape-F (With ShapeAgrees) (With ExpressionAgrees) → ℕ → JudgedValue k
 open_shape k y = shape_layer k (map-Shape Shape Expression (ℕ → JudgedValue k) (JudgedValue k) (judged_shape k) (judged_expression k)
     (map-Shape (With ShapeAgrees) (With ExpressionAgrees) Shape Expression (λ x. x.0) (λ x. x.0) y))
 
-shape_agrees : (y : Shape-F (With ShapeAgrees) (With ExpressionAgrees)) (start : ℕ) (names : VisibleNames) (opened : List Place)
+shape_agrees : (y : Shape-F (With ShapeAgrees) (With ExpressionAgrees)) (start : ℕ) (names : VisibleNames) (opened : List Binding)
     → answer (open_shape every y start names opened) ≡ open_shape least y start names opened
 unfolding binary
 shape_agrees (Shape-F.Number n) start names opened = refl
@@ -103,7 +103,7 @@ width_is : (x : Findings every Valued) → width_of x ≡ width_of (answer x)
 width_is (Ok value) = refl
 width_is (Err faults) = refl
 
-different_is : (seen : List Place) (outcome : Findings every (Unit {0})) (channels : List ChannelUse)
+different_is : (seen : List Binding) (outcome : Findings every (Unit {0})) (channels : List ChannelUse)
     → answer (different every seen outcome channels) ≡ different least seen (answer outcome) channels
 different_is seen outcome [] = refl
 different_is seen outcome (c ∷ rest) =
@@ -115,7 +115,7 @@ one_bit_is : (x : Findings every Valued) (start : ℕ) → answer (one_bit every
 one_bit_is (Ok guard) start = answer-found _
 one_bit_is (Err faults) start = refl
 
-labels_are : (names : VisibleNames) (opened : List Place) (labels : List Label) → answer (judged_labels every names opened labels) ≡ judged_labels least names opened labels
+labels_are : (names : VisibleNames) (opened : List Binding) (labels : List Label) → answer (judged_labels every names opened labels) ≡ judged_labels least names opened labels
 labels_are names opened labels = all_is _ _ (found-each (judged_label names opened) labels)
 
 conditional_is : (arms : Findings every (List typed_guarded.Guarded)) (own : Findings every (Unit {0})) (last : Findings every (Option typed_command.Command))
@@ -140,21 +140,21 @@ distinct_is arms a x = if_right_is arms a _ _ x (λ these. becomes_is _ (differe
 -- ---- commands
 
 abbrev ActionAgrees : Action → Type 0
-ActionAgrees x = (scope : Visible) (opened : List Place) → answer (judged_action every x scope opened) ≡ judged_action least x scope opened
+ActionAgrees x = (scope : Visible) (opened : List Binding) → answer (judged_action every x scope opened) ≡ judged_action least x scope opened
 
 abbrev ArmAgrees : Arm → Type 0
-ArmAgrees x = (scope : Visible) (opened : List Place) → answer (judged_arm every x scope opened) ≡ judged_arm least x scope opened
+ArmAgrees x = (scope : Visible) (opened : List Binding) → answer (judged_arm every x scope opened) ≡ judged_arm least x scope opened
 
 abbrev LabelledAgrees : CaseArm → Type 0
-LabelledAgrees x = (scope : Visible) (opened : List Place)
+LabelledAgrees x = (scope : Visible) (opened : List Binding)
     → (answer ((judged_labelled every x).arm scope opened) ≡ (judged_labelled least x).arm scope opened)
     × (answer ((judged_labelled every x).labels scope opened) ≡ (judged_labelled least x).labels scope opened)
 
 abbrev CommandAgrees : Command → Type 0
-CommandAgrees x = (scope : Visible) (opened : List Place) → answer (judged_command every x scope opened) ≡ judged_command least x scope opened
+CommandAgrees x = (scope : Visible) (opened : List Binding) → answer (judged_command every x scope opened) ≡ judged_command least x scope opened
 
 abbrev GuardedAgrees : Guarded → Type 0
-GuardedAgrees x = (scope : Visible) (opened : List Place)
+GuardedAgrees x = (scope : Visible) (opened : List Binding)
     → (answer ((judged_guarded every x).arm scope opened) ≡ (judged_guarded least x).arm scope opened)
     × (answer ((judged_guarded every x).own scope opened) ≡ (judged_guarded least x).own scope opened)
 
@@ -171,23 +171,23 @@ open_action k y = action_layer k (map-Action Action Arm CaseArm Command Guarded
     (judged_action k) (judged_arm k) (judged_labelled k) (judged_command k) (judged_guarded k) y)
 
 -- children that agree, where this is visible
-commands_are : (scope : Visible) (opened : List Place) (ys : List (With CommandAgrees))
+commands_are : (scope : Visible) (opened : List Binding) (ys : List (With CommandAgrees))
     → answer (each every (map (judged_command every) (map (λ y. y.0) ys)) scope opened) ≡ each least (map (judged_command least) (map (λ y. y.0) ys)) scope opened
 commands_are scope opened ys =
     all_is _ _ (each_is CommandAgrees (judged_command every) (judged_command least) (λ child. child scope opened) (λ child. child scope opened) (λ x same. same scope opened) ys)
 
-arms_are : (scope : Visible) (opened : List Place) (ys : List (With ArmAgrees))
+arms_are : (scope : Visible) (opened : List Binding) (ys : List (With ArmAgrees))
     → answer (each every (map (judged_arm every) (map (λ y. y.0) ys)) scope opened) ≡ each least (map (judged_arm least) (map (λ y. y.0) ys)) scope opened
 arms_are scope opened ys =
     all_is _ _ (each_is ArmAgrees (judged_arm every) (judged_arm least) (λ child. child scope opened) (λ child. child scope opened) (λ x same. same scope opened) ys)
 
 -- the arms of a `case`, and what their labels owe
-case_arms_are : (scope : Visible) (opened : List Place) (ys : List (With LabelledAgrees))
+case_arms_are : (scope : Visible) (opened : List Binding) (ys : List (With LabelledAgrees))
     → answer (labelled_arms every (map (judged_labelled every) (map (λ y. y.0) ys)) scope opened) ≡ labelled_arms least (map (judged_labelled least) (map (λ y. y.0) ys)) scope opened
 case_arms_are scope opened ys =
     all_is _ _ (each_is LabelledAgrees (judged_labelled every) (judged_labelled least) (λ a. a.arm scope opened) (λ a. a.arm scope opened) (λ x same. (same scope opened).0) ys)
 
-case_own_is : (subject : Expression) (scope : Visible) (opened : List Place) (ys : List (With LabelledAgrees))
+case_own_is : (subject : Expression) (scope : Visible) (opened : List Binding) (ys : List (With LabelledAgrees))
     → answer (case_own every (width_of (value every subject scope opened)) (map (judged_labelled every) (map (λ y. y.0) ys)) scope opened)
     ≡ case_own least (width_of (value least subject scope opened)) (map (judged_labelled least) (map (λ y. y.0) ys)) scope opened
 case_own_is subject scope opened ys =
@@ -198,17 +198,17 @@ case_own_is subject scope opened ys =
     (each_is LabelledAgrees (judged_labelled every) (judged_labelled least) (λ a. a.labels scope opened) (λ a. a.labels scope opened) (λ x same. (same scope opened).1) ys))
 
 -- the arms of an `if`, and what their guards owe
-if_arms_are : (scope : Visible) (opened : List Place) (ys : List (With GuardedAgrees))
+if_arms_are : (scope : Visible) (opened : List Binding) (ys : List (With GuardedAgrees))
     → answer (guarded_arms every (map (judged_guarded every) (map (λ y. y.0) ys)) scope opened) ≡ guarded_arms least (map (judged_guarded least) (map (λ y. y.0) ys)) scope opened
 if_arms_are scope opened ys =
     all_is _ _ (each_is GuardedAgrees (judged_guarded every) (judged_guarded least) (λ a. a.arm scope opened) (λ a. a.arm scope opened) (λ x same. (same scope opened).0) ys)
 
-guards_own_is : (scope : Visible) (opened : List Place) (ys : List (With GuardedAgrees))
+guards_own_is : (scope : Visible) (opened : List Binding) (ys : List (With GuardedAgrees))
     → answer (guards_own every (map (judged_guarded every) (map (λ y. y.0) ys)) scope opened) ≡ guards_own least (map (judged_guarded least) (map (λ y. y.0) ys)) scope opened
 guards_own_is scope opened ys =
     and_all_is _ _ (each_is GuardedAgrees (judged_guarded every) (judged_guarded least) (λ a. a.own scope opened) (λ a. a.own scope opened) (λ x same. (same scope opened).1) ys)
 
-action_agrees : (y : Agreeing) (scope : Visible) (opened : List Place) → answer (open_action every (plain y) scope opened) ≡ open_action least (plain y) scope opened
+action_agrees : (y : Agreeing) (scope : Visible) (opened : List Binding) → answer (open_action every (plain y) scope opened) ≡ open_action least (plain y) scope opened
 unfolding assignment sending receiving guarded_loop enclosing called
 action_agrees Action-F.Continue scope opened = refl
 action_agrees Action-F.Halt scope opened = refl
@@ -245,7 +245,7 @@ action_agrees (Action-F.Call p arguments) scope opened =
 action_agrees (Action-F.Sequence children) scope opened = becomes_is _ _ _ (commands_are scope opened children)
 action_agrees (Action-F.Parallel children) scope opened = becomes_is _ _ _ (commands_are scope opened children)
 
-arm_agrees : (a : Arm-F (With ActionAgrees) (With ArmAgrees) (With LabelledAgrees) (With CommandAgrees) (With GuardedAgrees)) (scope : Visible) (opened : List Place)
+arm_agrees : (a : Arm-F (With ActionAgrees) (With ArmAgrees) (With LabelledAgrees) (With CommandAgrees) (With GuardedAgrees)) (scope : Visible) (opened : List Binding)
     → let channel = arm_use (find scope.names opened a.channel.name) a.channel.span.start in
     answer (arm_of every channel (judged_command every a.body.0 scope (opened_by opened channel)))
     ≡ arm_of least channel (judged_command least a.body.0 scope (opened_by opened channel))
@@ -255,14 +255,14 @@ arm_agrees a scope opened =
     joined_is opened_arm (found channel) (judged_command every a.body.0 scope (opened_by opened channel)) channel _ (answer-found channel)
     (a.body.1 scope (opened_by opened channel))
 
-guarded_agrees : (guard : Expression) (body : With CommandAgrees) (scope : Visible) (opened : List Place)
+guarded_agrees : (guard : Expression) (body : With CommandAgrees) (scope : Visible) (opened : List Binding)
     → answer (guarded every (value every guard scope opened) (judged_command every body.0 scope opened))
     ≡ guarded least (value least guard scope opened) (judged_command least body.0 scope opened)
 unfolding guarded
 guarded_agrees guard body scope opened =
     joined_is guarded_arm (value every guard scope opened) (judged_command every body.0 scope opened) _ _ (expression_agrees guard scope.names opened) (body.1 scope opened)
 
-labelled_agrees : (labels : List Label) (body : With CommandAgrees) (scope : Visible) (opened : List Place)
+labelled_agrees : (labels : List Label) (body : With CommandAgrees) (scope : Visible) (opened : List Binding)
     → answer (labelled every (judged_labels every scope.names opened labels) (judged_command every body.0 scope opened))
     ≡ labelled least (judged_labels least scope.names opened labels) (judged_command least body.0 scope opened)
 unfolding labelled

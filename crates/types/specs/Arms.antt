@@ -16,7 +16,7 @@ use Rattle.typed.specs.declared.tree.ChannelUse.{ChannelUse}
 use Rattle.typed.specs.declared.tree.Command.{Command}
 use Rattle.typed.specs.declared.tree.Guarded.{Guarded, roll-Guarded}
 use Rattle.typed.specs.declared.tree.Labelled.{Labelled, roll-Labelled}
-use Rattle.typed.specs.declared.tree.Place.{Place}
+use Rattle.typed.specs.declared.tree.Binding.{Binding}
 use Rattle.syntax.specs.declared.command.Label.{Label}
 use Rattle.syntax.specs.declared.command.LabelValue.{LabelValue}
 use Rattle.syntax.specs.declared.command.LabelValue.TheVariants as label
@@ -42,11 +42,11 @@ module _ (k : Keeping) where
 -- ---- `case`
 
 -- the value of a label: of a number at its least width, of an element at the width of its enumeration
-abbrev pub label_value : VisibleNames → List Place → ℕ → LabelValue → Verdict Word
+abbrev pub label_value : VisibleNames → List Binding → ℕ → LabelValue → Verdict Word
 label_value names opened offset (label.Number n) = Ok (least_word n)
 label_value names opened offset (label.Name name) = label_use (find names opened name) offset
 
-abbrev pub judged_label : VisibleNames → List Place → Label → Verdict LabelUse
+abbrev pub judged_label : VisibleNames → List Binding → Label → Verdict LabelUse
 judged_label names opened l = becomes (λ v. record { offset = l.span.start; value = v }) (label_value names opened l.span.start l.value)
 
 abbrev pub labelled_arm : List LabelUse × Command → Labelled
@@ -77,7 +77,7 @@ width_of (Err faults) = 0
 
 module _ (k : Keeping) where
   -- the labels of an arm
-  abbrev pub judged_labels : VisibleNames → List Place → List Label → Findings k (List LabelUse)
+  abbrev pub judged_labels : VisibleNames → List Binding → List Label → Findings k (List LabelUse)
   judged_labels names opened labels = all k (map (λ l. k.alone (judged_label names opened l)) labels)
 
   unfoldable pub labelled : Findings k (List LabelUse) → Findings k Command → Findings k Labelled
@@ -110,11 +110,11 @@ abbrev pub opened_arm : ChannelUse × Command → Arm
 opened_arm p = roll-Arm (record { channel = p.0; body = p.1 })
 
 -- the channel is none of those seen before
-abbrev pub new_channel : List Place → ChannelUse → Verdict (Unit {0})
+abbrev pub new_channel : List Binding → ChannelUse → Verdict (Unit {0})
 new_channel seen c = if is_among seen c.channel then Err (BadArm c.offset) else Ok tt
 
 -- the channels seen, with one more
-abbrev pub with_channel : List Place → Place → List Place
+abbrev pub with_channel : List Binding → Binding → List Binding
 with_channel seen channel = if is_among seen channel then seen else seen ++ channel ∷ []
 
 abbrev pub channel_of_arm : Arm → ChannelUse
@@ -125,7 +125,7 @@ module _ (k : Keeping) where
   arm_of channel body = becomes opened_arm (both k (k.alone channel) body)
 
   -- no channel stands twice, nor was seen before, beside the outcome so far
-  abbrev pub different : List Place → Findings k (Unit {0}) → List ChannelUse → Findings k (Unit {0})
+  abbrev pub different : List Binding → Findings k (Unit {0}) → List ChannelUse → Findings k (Unit {0})
   different seen outcome [] = outcome
   different seen outcome (c ∷ rest) = different (with_channel seen c.channel) (and k outcome (k.alone (new_channel seen c))) rest
 

@@ -10,7 +10,7 @@ use Rattle.types.specs.declared.scope.Meaning.TheVariants as meaning
 use Rattle.typed.specs.declared.tree.Action.{Action}
 use Rattle.typed.specs.declared.tree.Action.TheVariants as action
 use Rattle.typed.specs.declared.tree.ChannelUse.{ChannelUse}
-use Rattle.typed.specs.declared.tree.Place.{Place}
+use Rattle.typed.specs.declared.tree.Binding.{Binding}
 use Rattle.typed.specs.declared.tree.PortKind.{PortKind}
 use Rattle.typed.specs.declared.tree.PortKind.TheVariants as port
 use Rattle.syntax.specs.declared.name.Identifier.{Identifier}
@@ -50,7 +50,7 @@ all_fit names (kind ∷ kinds) [] = false
 all_fit names (kind ∷ kinds) (argument ∷ arguments) = fits_port kind (look_up names argument.name) && all_fit names kinds arguments
 
 -- no channel stands twice, nor was seen before
-abbrev pub all_differ : List Place → List ChannelUse → Bool
+abbrev pub all_differ : List Binding → List ChannelUse → Bool
 all_differ seen [] = true
 all_differ seen (c ∷ rest) = not (is_among seen c.channel) && all_differ (with_channel seen c.channel) rest
 
@@ -60,15 +60,15 @@ fits names None arguments channels = false
 fits names (Some kinds) arguments channels = all_fit names kinds arguments && all_differ [] channels
 
 -- an argument of a call
-abbrev pub judged_argument : VisibleNames → List Place → Identifier → Verdict ChannelUse
+abbrev pub judged_argument : VisibleNames → List Binding → Identifier → Verdict ChannelUse
 judged_argument names opened argument = argument_use (find names opened argument.name) argument.span.start
 
 module _ (k : Keeping) where
-  abbrev pub judged_arguments : VisibleNames → List Place → List Identifier → Findings k (List ChannelUse)
+  abbrev pub judged_arguments : VisibleNames → List Binding → List Identifier → Findings k (List ChannelUse)
   judged_arguments names opened arguments = all k (map (λ a. k.alone (judged_argument names opened a)) arguments)
 
   -- a call of a procedure, where these are the ports of the visible procedures
-  unfoldable pub called : VisibleNames → List (List PortKind) → List Place → Identifier → List Identifier → Findings k Action
+  unfoldable pub called : VisibleNames → List (List PortKind) → List Binding → Identifier → List Identifier → Findings k Action
   called names procedures opened procedure arguments =
       if_right
       (both k (k.alone (procedure_use (find names opened procedure.name) procedure.span.start)) (judged_arguments names opened arguments))

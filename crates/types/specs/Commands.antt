@@ -16,7 +16,7 @@ use Rattle.typed.specs.declared.tree.ChannelUse.{ChannelUse}
 use Rattle.typed.specs.declared.tree.Command.{Command, roll-Command}
 use Rattle.typed.specs.declared.tree.Guarded.{Guarded}
 use Rattle.typed.specs.declared.tree.Labelled.{Labelled}
-use Rattle.typed.specs.declared.tree.Place.{Place}
+use Rattle.typed.specs.declared.tree.Binding.{Binding}
 use Rattle.typed.specs.declared.tree.PortKind.{PortKind}
 use Rattle.typed.specs.declared.tree.VariableUse.{VariableUse}
 use Rattle.syntax.specs.declared.command.Action as syntax_action
@@ -40,17 +40,17 @@ start_of e = (out-Expression e).span.start
 
 -- ---- names
 
-abbrev pub target : Identifier → Visible → List Place → Verdict (VariableUse × ℕ)
+abbrev pub target : Identifier → Visible → List Binding → Verdict (VariableUse × ℕ)
 target name scope opened = target_use (find scope.names opened name.name) name.span.start
 
-abbrev pub sender : Identifier → Visible → List Place → Verdict (ChannelUse × ℕ)
+abbrev pub sender : Identifier → Visible → List Binding → Verdict (ChannelUse × ℕ)
 sender name scope opened = sending_use (find scope.names opened name.name) name.span.start
 
-abbrev pub receiver : Identifier → Visible → List Place → Verdict (ChannelUse × ℕ)
+abbrev pub receiver : Identifier → Visible → List Binding → Verdict (ChannelUse × ℕ)
 receiver name scope opened = receiving_use (find scope.names opened name.name) name.span.start
 
 -- the channels that are open inside an arm on the channel; what is no such channel opens none
-abbrev pub opened_by : List Place → Verdict ChannelUse → List Place
+abbrev pub opened_by : List Binding → Verdict ChannelUse → List Binding
 opened_by opened (Ok found) = opened ++ found.channel ∷ []
 opened_by opened (Err fault) = opened
 
@@ -66,7 +66,7 @@ made line action = roll-Command (record { line = line; action = action })
 module _ (k : Keeping) where
   -- what a command is where this is visible and these channels are open
   abbrev pub Judged : Type 0 → Type 0
-  Judged A = Visible → List Place → Findings k A
+  Judged A = Visible → List Binding → Findings k A
 
   abbrev pub value : Expression → Judged Valued
   value e scope opened = judged_expression k e scope.names opened

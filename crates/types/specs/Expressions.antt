@@ -1,13 +1,13 @@
 -- Expressions: what they become, and how wide they are.
 use Rattle.std.specs.Prelude.{ℕ, ◌+◌, List, ◌&&◌, nat_le, max, if◌then◌else◌, Ok, Err}
-use Rattle.value.specs.Word.{Word, least_width_of}
+use Rattle.value.specs.Word.{Word, most_bits, least_width_of}
 use Rattle.types.specs.Names.{VisibleNames, find}
 use Rattle.types.specs.Uses.{type_use, value_use}
 use Rattle.types.specs.Findings.{Verdict, Keeping, Findings, becomes, if_right, both}
 use Rattle.types.specs.declared.expression.Valued.{Valued}
 use Rattle.refusals.specs.declared.types.Fault.TheVariants.{TooWide}
 use Rattle.typed.specs.declared.tree.Expression.TheVariants as typed
-use Rattle.typed.specs.declared.tree.Place.{Place}
+use Rattle.typed.specs.declared.tree.Binding.{Binding}
 use Rattle.types.specs.declared.uses.Named.{Named}
 use Rattle.types.specs.declared.uses.Named.TheVariants as named
 use Rattle.syntax.specs.declared.expression.Expression.{Expression}
@@ -19,13 +19,13 @@ use Rattle.syntax.specs.declared.expression.TypeName.{TypeName}
 use Rattle.syntax.specs.declared.expression.TypeName.TheVariants.{Named as NamedType, Bits}
 use Rattle.syntax.specs.declared.expression.Width.{Width}
 
--- a declared width is from 1 to 64
+-- a declared width is from 1 to the most bits of a number
 unfoldable pub declared_width : Width → Verdict ℕ
 declared_width declared =
-    if nat_le 1 declared.bits && nat_le declared.bits 64 then Ok declared.bits else Err (TooWide declared.span.start)
+    if nat_le 1 declared.bits && nat_le declared.bits most_bits then Ok declared.bits else Err (TooWide declared.span.start)
 
 -- the width of a type
-abbrev pub type_width : VisibleNames → List Place → TypeName → Verdict ℕ
+abbrev pub type_width : VisibleNames → List Binding → TypeName → Verdict ℕ
 type_width names opened (NamedType identifier) = type_use (find names opened identifier.name) identifier.span.start
 type_width names opened (Bits width) = declared_width width
 
@@ -43,9 +43,9 @@ operator_width Greater left right = 1
 operator_width LessOrEqual left right = 1
 operator_width GreaterOrEqual left right = 1
 
--- a sum may not be wider than 64 bits
+-- a sum may not be wider than a number
 abbrev pub width_within : ℕ → ℕ → Operator → Verdict ℕ
-width_within start width Add = if nat_le width 64 then Ok width else Err (TooWide start)
+width_within start width Add = if nat_le width most_bits then Ok width else Err (TooWide start)
 width_within start width _ = Ok width
 
 -- a number at its least width
@@ -58,7 +58,7 @@ constant v = record { expression = typed.Constant v; width = v.width }
 abbrev pub of_name : Named → Valued
 of_name (named.Element v) = constant v
 of_name (named.Variable variable w) = record { expression = typed.Variable variable w; width = w }
-of_name (named.Received place w) = record { expression = typed.Received place w; width = w }
+of_name (named.Received binding w) = record { expression = typed.Received binding w; width = w }
 
 abbrev pub combined : Operator → Valued → Valued → ℕ → Valued
 combined op left right width = record { expression = typed.Binary op left.expression right.expression; width = width }
@@ -79,7 +79,7 @@ module _ (k : Keeping) where
 
   -- what an expression is where these names are visible and these channels are open
   abbrev pub JudgedValue : Type 0
-  JudgedValue = VisibleNames → List Place → Findings k Valued
+  JudgedValue = VisibleNames → List Binding → Findings k Valued
 
   -- one layer of an expression whose own first byte is at `start`
   abbrev pub shape_layer : Shape-F (ℕ → JudgedValue) JudgedValue → ℕ → JudgedValue

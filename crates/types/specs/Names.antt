@@ -12,10 +12,10 @@ use Rattle.types.specs.declared.scope.Channel.{Channel}
 use Rattle.types.specs.declared.scope.Names.{Names}
 use Rattle.typed.specs.declared.tree.LocalKind.{LocalKind}
 use Rattle.typed.specs.declared.tree.LocalKind.TheVariants as local
-use Rattle.typed.specs.declared.tree.Place.{Place}
+use Rattle.typed.specs.declared.tree.Binding.{Binding}
 use Rattle.typed.specs.declared.tree.PortKind.{PortKind}
 use Rattle.typed.specs.declared.tree.PortKind.TheVariants as port
-use Rattle.typed.specs.declared.tree.Place.TheVariants as place
+use Rattle.typed.specs.declared.tree.Binding.TheVariants as binding
 
 -- the visible names in order of declaration, each with what it means
 abbrev pub VisibleNames : Type 0
@@ -31,34 +31,34 @@ abbrev pub channel_of : Meaning → Option Channel
 channel_of (meaning.TypeName w) = None
 channel_of (meaning.Element v) = None
 channel_of (meaning.Procedure p) = None
-channel_of (meaning.Input p w) = Some (record { place = place.Port p; width = Some w })
-channel_of (meaning.Output p w) = Some (record { place = place.Port p; width = Some w })
-channel_of (meaning.SyncPort p) = Some (record { place = place.Port p; width = None })
+channel_of (meaning.Input p w) = Some (record { binding = binding.Port p; width = Some w })
+channel_of (meaning.Output p w) = Some (record { binding = binding.Port p; width = Some w })
+channel_of (meaning.SyncPort p) = Some (record { binding = binding.Port p; width = None })
 channel_of (meaning.Variable l w) = None
-channel_of (meaning.Channel l w) = Some (record { place = place.Local l; width = Some w })
-channel_of (meaning.Sync l) = Some (record { place = place.Local l; width = None })
+channel_of (meaning.Channel l w) = Some (record { binding = binding.Local l; width = Some w })
+channel_of (meaning.Sync l) = Some (record { binding = binding.Local l; width = None })
 
-abbrev pub same_place : Place → Place → Bool
-same_place (place.Port a) (place.Port b) = nat_eq a b
-same_place (place.Port a) (place.Local b) = false
-same_place (place.Local a) (place.Port b) = false
-same_place (place.Local a) (place.Local b) = nat_eq a b
+abbrev pub same_binding : Binding → Binding → Bool
+same_binding (binding.Port a) (binding.Port b) = nat_eq a b
+same_binding (binding.Port a) (binding.Local b) = false
+same_binding (binding.Local a) (binding.Port b) = false
+same_binding (binding.Local a) (binding.Local b) = nat_eq a b
 
--- one of these places is the channel
-abbrev pub is_among : List Place → Place → Bool
-is_among places channel = list_any (same_place channel) places
+-- one of these is the channel
+abbrev pub is_among : List Binding → Binding → Bool
+is_among bindings channel = list_any (same_binding channel) bindings
 
 -- what a name is that means this, and is this channel, where these channels are open
-abbrev pub seen_as : List Place → Meaning → Option Channel → Found
+abbrev pub seen_as : List Binding → Meaning → Option Channel → Found
 seen_as opened m None = Visible m
-seen_as opened m (Some channel) = if is_among opened channel.place then Opened channel else Visible m
+seen_as opened m (Some channel) = if is_among opened channel.binding then Opened channel else Visible m
 
-abbrev pub seen : List Place → Option Meaning → Found
+abbrev pub seen : List Binding → Option Meaning → Found
 seen opened None = Nothing
 seen opened (Some m) = seen_as opened m (channel_of m)
 
 -- what the name is where these names are visible and these channels are open
-unfoldable pub find : VisibleNames → List Place → List ℕ → Found
+unfoldable pub find : VisibleNames → List Binding → List ℕ → Found
 find names opened name = seen opened (look_up names name)
 
 -- the names after one more is declared with this meaning: what is visible already stays as it is

@@ -7,8 +7,8 @@ use Rattle.types.specs.declared.scope.Meaning.{Meaning}
 use Rattle.types.specs.declared.scope.Meaning.TheVariants.{TypeName, Element, Procedure, Input, Output, SyncPort, Variable, Channel, Sync}
 use Rattle.types.specs.declared.scope.Found.{Found}
 use Rattle.types.specs.declared.scope.Found.TheVariants.{Nothing, Opened, Visible}
-use Rattle.typed.specs.declared.tree.Place.{Place}
-use Rattle.typed.specs.declared.tree.Place.TheVariants.{Port, Local}
+use Rattle.typed.specs.declared.tree.Binding.{Binding}
+use Rattle.typed.specs.declared.tree.Binding.TheVariants.{Port, Local}
 use Rattle.typed.specs.declared.tree.ChannelUse.{ChannelUse}
 use Rattle.typed.specs.declared.tree.VariableUse.{VariableUse}
 use Rattle.types.specs.declared.uses.Named.{Named}
@@ -20,8 +20,8 @@ visible Nothing offset = Err (UnknownName offset)
 visible (Opened c) offset = Err (EnclosedTwice offset)
 visible (Visible m) offset = Ok m
 
-abbrev pub at : Place → ℕ → ChannelUse
-at place offset = record { channel = place; offset = offset }
+abbrev pub at : Binding → ℕ → ChannelUse
+at binding offset = record { channel = binding; offset = offset }
 
 abbrev pub type_by : ℕ → Meaning → Verdict ℕ
 type_by offset (TypeName w) = Ok w
@@ -105,9 +105,9 @@ argument_by offset _ = Err (WrongKind offset)
 unfoldable pub argument_use : Found → ℕ → Verdict ChannelUse
 argument_use found offset = if_right (visible found offset) (argument_by offset)
 
-abbrev pub received_by : ℕ → Place → Option ℕ → Verdict Named
-received_by offset place (Some w) = Ok (named.Received place w)
-received_by offset place None = Err (EnclosedTwice offset)
+abbrev pub received_by : ℕ → Binding → Option ℕ → Verdict Named
+received_by offset binding (Some w) = Ok (named.Received binding w)
+received_by offset binding None = Err (EnclosedTwice offset)
 
 abbrev pub value_by : ℕ → Meaning → Verdict Named
 value_by offset (Element v) = Ok (named.Element v)
@@ -117,5 +117,5 @@ value_by offset _ = Err (WrongKind offset)
 -- a name that has a value: an element, a variable, or a channel with data that is open
 unfoldable pub value_use : Found → ℕ → Verdict Named
 value_use Nothing offset = Err (UnknownName offset)
-value_use (Opened c) offset = received_by offset c.place c.width
+value_use (Opened c) offset = received_by offset c.binding c.width
 value_use (Visible m) offset = value_by offset m

@@ -11,7 +11,7 @@ use crate::{Fault, uses};
 use indexmap::IndexSet;
 use std::alloc::{AllocError, Global};
 use syntax::{Items, Label, LabelValue};
-use typed::{Action, Arm, ChannelUse, Command, Guarded, Labelled, Place};
+use typed::{Action, Arm, Binding, ChannelUse, Command, Guarded, Labelled};
 use value::Value;
 
 /// Arms, and what they owe as a whole where each of them is right.
@@ -96,7 +96,7 @@ pub(crate) struct LabelUse {
 pub(crate) fn settled_labels(
     alloc: Global,
     scope: &Scope,
-    opened: &[Place],
+    opened: &[Binding],
     labels: &[Label],
 ) -> Settled<Items<LabelUse>>
     ensures { IfOk result (λ made. made ≡ spec.judged_labels least (entries scope.now.names) opened.now labels.now) }
@@ -108,7 +108,7 @@ pub(crate) fn settled_labels(
     Ok(settled)
 }
 
-fn settled_label(names: &Names, opened: &[Place], label: &Label) -> Verdict<LabelUse>
+fn settled_label(names: &Names, opened: &[Binding], label: &Label) -> Verdict<LabelUse>
     ensures { result ≡ spec.judged_label (entries names.now) opened.now label.now }
 {
     let offset = label.span.start;
@@ -217,7 +217,7 @@ fn different_channels(alloc: Global, arms: &[Arm]) -> Settled<()>
 }
 
 /// That no channel stands in two of the arms, nor was seen before.
-fn different(seen: &mut IndexSet<Place>, arms: &[Arm]) -> Settled<()>
+fn different(seen: &mut IndexSet<Binding>, arms: &[Arm]) -> Settled<()>
     ensures { IfOk result (λ made. made ≡ spec.different least seen.old.keys (Ok tt) (map spec.channel_of_arm arms.now)) }
 {
     let mut outcome = Ok(());
@@ -227,7 +227,7 @@ fn different(seen: &mut IndexSet<Place>, arms: &[Arm]) -> Settled<()>
     Ok(outcome)
 }
 
-fn new_channel(seen: &mut IndexSet<Place>, channel: ChannelUse) -> Settled<()>
+fn new_channel(seen: &mut IndexSet<Binding>, channel: ChannelUse) -> Settled<()>
     ensures made { IfOk result (λ made. made ≡ spec.new_channel seen.old.keys channel) }
     ensures seen { OnOk result (seen.new.keys ≡ spec.with_channel seen.old.keys channel.channel) }
 {

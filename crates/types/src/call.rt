@@ -9,7 +9,7 @@ use crate::{Fault, uses};
 use indexmap::IndexSet;
 use std::alloc::{AllocError, Global};
 use syntax::{Identifier, Items};
-use typed::{Action, ChannelUse, Place, PortKind};
+use typed::{Action, Binding, ChannelUse, PortKind};
 use value::Width;
 
 /// A call of the procedure with the arguments.
@@ -17,7 +17,7 @@ use value::Width;
 pub(crate) fn called(
     alloc: Global,
     scope: &Scope,
-    opened: &[Place],
+    opened: &[Binding],
     procedure: &Identifier,
     arguments: &[Identifier],
 ) -> Settled<Action>
@@ -41,7 +41,7 @@ pub(crate) fn called(
 fn settled_arguments(
     alloc: Global,
     names: &Names,
-    opened: &[Place],
+    opened: &[Binding],
     arguments: &[Identifier],
 ) -> Settled<Items<ChannelUse>>
     ensures { IfOk result (λ made. made ≡ calls.judged_arguments least (entries names.now) opened.now arguments.now) }
@@ -150,7 +150,7 @@ fn all_differ(alloc: Global, channels: &[ChannelUse]) -> Result<bool, AllocError
 }
 
 /// Whether no channel is passed twice, nor was seen before.
-fn differ_from(seen: &mut IndexSet<Place>, channels: &[ChannelUse]) -> Result<bool, AllocError>
+fn differ_from(seen: &mut IndexSet<Binding>, channels: &[ChannelUse]) -> Result<bool, AllocError>
     ensures { IfOk result (λ answer. answer ≡ calls.all_differ seen.old.keys channels.now) }
 {
     for channel in channels {

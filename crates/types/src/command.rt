@@ -24,14 +24,14 @@ use crate::verdict::{Settled, Verdict, and, with_next};
 use indexmap::IndexSet;
 use std::alloc::{AllocError, Global};
 use syntax::{Expression, Identifier, Items};
-use typed::{Action, Arm, Command, Guarded, Labelled, Place};
+use typed::{Action, Arm, Binding, Command, Guarded, Labelled};
 
 /// The command with its names settled, at a place around which these channels are open.
 #[cycle(settled_command)]
 pub(crate) fn settled_command(
     alloc: Global,
     scope: &Scope,
-    opened: &[Place],
+    opened: &[Binding],
     command: &syntax::Command,
 ) -> Settled<Command>
     ensures { IfOk result (λ made. made ≡ judged_command least command.now (visible_in scope.now) opened.now) }
@@ -56,7 +56,7 @@ fn made(alloc: Global, line: u64, action: Verdict<Action>) -> Settled<Command>
 fn settled_action(
     alloc: Global,
     scope: &Scope,
-    opened: &[Place],
+    opened: &[Binding],
     action: &syntax::Action,
 ) -> Settled<Action>
     ensures { IfOk result (λ made. made ≡ judged_action least action.now (visible_in scope.now) opened.now) }
@@ -104,7 +104,7 @@ fn settled_action(
 fn settled_assign(
     alloc: Global,
     scope: &Scope,
-    opened: &[Place],
+    opened: &[Binding],
     variable: &Identifier,
     value: &Expression,
 ) -> Settled<Action>
@@ -118,7 +118,7 @@ fn settled_assign(
 fn settled_send(
     alloc: Global,
     scope: &Scope,
-    opened: &[Place],
+    opened: &[Binding],
     channel: &Identifier,
     value: &Expression,
 ) -> Settled<Action>
@@ -133,7 +133,7 @@ fn settled_send(
 fn settled_loop(
     alloc: Global,
     scope: &Scope,
-    opened: &[Place],
+    opened: &[Binding],
     body: &syntax::Command,
 ) -> Settled<Action>
     ensures { IfOk result (λ made. made ≡ judged_action least (form.Loop body.now) (visible_in scope.now) opened.now) }
@@ -145,7 +145,7 @@ fn settled_loop(
 fn settled_while(
     alloc: Global,
     scope: &Scope,
-    opened: &[Place],
+    opened: &[Binding],
     body: &syntax::Command,
     guard: &Expression,
 ) -> Settled<Action>
@@ -161,7 +161,7 @@ fn settled_while(
 fn settled_if(
     alloc: Global,
     scope: &Scope,
-    opened: &[Place],
+    opened: &[Binding],
     arms: &[syntax::Guarded],
     last: Verdict<Option<Command>>,
 ) -> Settled<Action>
@@ -175,7 +175,7 @@ fn settled_if(
 fn settled_case(
     alloc: Global,
     scope: &Scope,
-    opened: &[Place],
+    opened: &[Binding],
     arms: &[syntax::CaseArm],
     last: Verdict<Option<Command>>,
     subject: &Expression,
@@ -191,7 +191,7 @@ fn settled_case(
 fn settled_input(
     alloc: Global,
     scope: &Scope,
-    opened: &[Place],
+    opened: &[Binding],
     body: &syntax::Command,
     channel: &Identifier,
 ) -> Settled<Action>
@@ -207,7 +207,7 @@ fn settled_input(
 fn settled_select(
     alloc: Global,
     scope: &Scope,
-    opened: &[Place],
+    opened: &[Binding],
     arms: &[syntax::Arm],
 ) -> Settled<Action>
     ensures { IfOk result (λ made. made ≡ judged_action least (form.Select arms.now) (visible_in scope.now) opened.now) }
@@ -220,7 +220,7 @@ fn settled_select(
 fn settled_arbitrate(
     alloc: Global,
     scope: &Scope,
-    opened: &[Place],
+    opened: &[Binding],
     second: &syntax::Arm,
     first: Verdict<Arm>,
 ) -> Settled<Action>
@@ -235,7 +235,7 @@ fn settled_arbitrate(
 fn settled_sequence(
     alloc: Global,
     scope: &Scope,
-    opened: &[Place],
+    opened: &[Binding],
     children: &[syntax::Command],
 ) -> Settled<Action>
     ensures { IfOk result (λ made. made ≡ judged_action least (form.Sequence children.now) (visible_in scope.now) opened.now) }
@@ -247,7 +247,7 @@ fn settled_sequence(
 fn settled_parallel(
     alloc: Global,
     scope: &Scope,
-    opened: &[Place],
+    opened: &[Binding],
     children: &[syntax::Command],
 ) -> Settled<Action>
     ensures { IfOk result (λ made. made ≡ judged_action least (form.Parallel children.now) (visible_in scope.now) opened.now) }
@@ -260,7 +260,7 @@ fn settled_parallel(
 fn settled_commands(
     alloc: Global,
     scope: &Scope,
-    opened: &[Place],
+    opened: &[Binding],
     commands: &[syntax::Command],
 ) -> Settled<Items<Command>>
     ensures { IfOk result (λ made. made ≡ spec.each least (map (judged_command least) commands.now) (visible_in scope.now) opened.now) }
@@ -278,7 +278,7 @@ fn settled_commands(
 fn settled_last(
     alloc: Global,
     scope: &Scope,
-    opened: &[Place],
+    opened: &[Binding],
     last: &Option<syntax::Command>,
 ) -> Settled<Option<Command>>
     ensures { IfOk result (λ made. made ≡ spec.last_of least (option_map (judged_command least) last.now) (visible_in scope.now) opened.now) }
@@ -294,7 +294,7 @@ fn settled_last(
 fn settled_guarded(
     alloc: Global,
     scope: &Scope,
-    opened: &[Place],
+    opened: &[Binding],
     arms: &[syntax::Guarded],
 ) -> Result<Arms<Guarded>, AllocError>
     ensures arms { IfOk result (λ made. made.arms ≡ spec.guarded_arms least (map (judged_guarded least) arms.now) (visible_in scope.now) opened.now) }
@@ -315,7 +315,7 @@ fn settled_guarded(
 fn settled_guarded_arm(
     alloc: Global,
     scope: &Scope,
-    opened: &[Place],
+    opened: &[Binding],
     arm: &syntax::Guarded,
 ) -> Result<(Verdict<Guarded>, Verdict<()>), AllocError>
     ensures arm { IfOk result (λ made. made.0 ≡ (judged_guarded least arm.now).arm (visible_in scope.now) opened.now) }
@@ -332,7 +332,7 @@ fn settled_guarded_arm(
 fn settled_labelled(
     alloc: Global,
     scope: &Scope,
-    opened: &[Place],
+    opened: &[Binding],
     width: u8,
     arms: &[syntax::CaseArm],
 ) -> Result<Arms<Labelled>, AllocError>
@@ -355,7 +355,7 @@ fn settled_labelled(
 fn settled_labelled_arm(
     alloc: Global,
     scope: &Scope,
-    opened: &[Place],
+    opened: &[Binding],
     width: u8,
     arm: &syntax::CaseArm,
     seen: &mut IndexSet<u64>,
@@ -375,7 +375,7 @@ fn settled_labelled_arm(
 fn settled_arms(
     alloc: Global,
     scope: &Scope,
-    opened: &[Place],
+    opened: &[Binding],
     arms: &[syntax::Arm],
 ) -> Settled<Items<Arm>>
     ensures { IfOk result (λ made. made ≡ spec.each least (map (judged_arm least) arms.now) (visible_in scope.now) opened.now) }
@@ -390,7 +390,7 @@ fn settled_arms(
 
 /// An arm of a `select` or an `arbitrate`.
 #[cycle(settled_command)]
-fn settled_arm(alloc: Global, scope: &Scope, opened: &[Place], arm: &syntax::Arm) -> Settled<Arm>
+fn settled_arm(alloc: Global, scope: &Scope, opened: &[Binding], arm: &syntax::Arm) -> Settled<Arm>
     ensures { IfOk result (λ made. made ≡ judged_arm least arm.now (visible_in scope.now) opened.now) }
 {
     let found = scope.names.find(opened, &arm.channel.name);

@@ -12,8 +12,8 @@ use crate::uses::{self, Named};
 use crate::verdict::{Settled, Verdict, both};
 use std::alloc::{AllocError, Global};
 use syntax::{Boxed, Name, Operator, Shape, TypeName};
-use typed::{Expression, Place};
-use value::{Value, Width};
+use typed::{Binding, Expression};
+use value::{MOST_BITS, Value, Width};
 
 /// A typed expression, and how many bits its value has.
 #[derive(Drop)]
@@ -22,12 +22,12 @@ pub(crate) struct Valued {
     pub(crate) width: u8,
 }
 
-/// The declared width, which has to be from 1 to 64.
+/// The declared width, which has to be from 1 to `MOST_BITS`.
 #[tactic(auto, unfolding(crate::specs::Expressions::declared_width))]
 pub(crate) fn declared_width(declared: &syntax::Width) -> Verdict<Width>
     ensures { result ≡ expressions.declared_width declared.now }
 {
-    if declared.bits > 64 {
+    if declared.bits > MOST_BITS as u64 {
         return Err(Fault::TooWide(declared.span.start));
     }
     match Width::new(declared.bits as u8) {
@@ -37,7 +37,7 @@ pub(crate) fn declared_width(declared: &syntax::Width) -> Verdict<Width>
 }
 
 /// The width of the type.
-pub(crate) fn type_width(names: &Names, opened: &[Place], type_name: &TypeName) -> Verdict<Width>
+pub(crate) fn type_width(names: &Names, opened: &[Binding], type_name: &TypeName) -> Verdict<Width>
     ensures { result ≡ expressions.type_width (entries names.now) opened.now type_name.now }
 {
     match type_name {
@@ -52,7 +52,7 @@ pub(crate) fn type_width(names: &Names, opened: &[Place], type_name: &TypeName) 
 pub(crate) fn settled_expression(
     alloc: Global,
     names: &Names,
-    opened: &[Place],
+    opened: &[Binding],
     expression: &syntax::Expression,
 ) -> Settled<Valued>
     ensures { IfOk result (λ made. made ≡ expressions.judged_expression least expression.now (entries names.now) opened.now) }
@@ -96,7 +96,7 @@ fn constant(alloc: Global, constant: Value) -> Settled<Valued>
 fn named(
     alloc: Global,
     names: &Names,
-    opened: &[Place],
+    opened: &[Binding],
     name: &Name,
     offset: u64,
 ) -> Settled<Valued>
@@ -124,13 +124,13 @@ fn settled_name(alloc: Global, name: Named) -> Settled<Valued>
     }
 }
 
-/// How many bits the operator's value has over operands of so many bits, which may be no more than 64.
+/// How many bits the operator's value has over operands of so many bits, which may be no more than `MOST_BITS`.
 fn operator_width(operator: Operator, start: u64, left: u8, right: u8) -> Verdict<u8>
     ensures { result ≡ expressions.width_within start (expressions.operator_width operator left right) operator }
 {
     match operator {
         Operator::Add => {
-            if left.max(right) >= 64 {
+            if left.max(right) >= MOST_BITS {
                 Err(Fault::TooWide(start))
             } else {
                 Ok(left.max(right) + 1)

@@ -13,12 +13,12 @@ use crate::verdict::{Verdict, both};
 use crate::{Fault, uses};
 use std::alloc::{AllocError, Global};
 use syntax::Identifier;
-use typed::{Action, ChannelUse, Command, Place, VariableUse};
+use typed::{Action, Binding, ChannelUse, Command, VariableUse};
 use value::Width;
 
 pub(crate) fn target(
     scope: &Scope,
-    opened: &[Place],
+    opened: &[Binding],
     variable: &Identifier,
 ) -> Verdict<(VariableUse, Width)>
     ensures { result ≡ spec.target variable.now (visible_in scope.now) opened.now }
@@ -31,7 +31,7 @@ pub(crate) fn target(
 
 pub(crate) fn sender(
     scope: &Scope,
-    opened: &[Place],
+    opened: &[Binding],
     channel: &Identifier,
 ) -> Verdict<(ChannelUse, Width)>
     ensures { result ≡ spec.sender channel.now (visible_in scope.now) opened.now }
@@ -41,7 +41,7 @@ pub(crate) fn sender(
 
 pub(crate) fn receiver(
     scope: &Scope,
-    opened: &[Place],
+    opened: &[Binding],
     channel: &Identifier,
 ) -> Verdict<(ChannelUse, Width)>
     ensures { result ≡ spec.receiver channel.now (visible_in scope.now) opened.now }
@@ -61,9 +61,9 @@ pub(crate) fn channel_alone(channel: &Verdict<(ChannelUse, Width)>) -> Verdict<C
 /// The channels that are open in an arm on the channel. A name that is no such channel opens none.
 pub(crate) fn opened_by(
     alloc: Global,
-    opened: &[Place],
+    opened: &[Binding],
     channel: &Verdict<ChannelUse>,
-) -> Result<Vec<Place>, AllocError>
+) -> Result<Vec<Binding>, AllocError>
     ensures { IfOk result (λ inner. inner.items ≡ spec.opened_by opened.now channel.now) }
 {
     let mut inner = Vec::from_slice(alloc, opened)?;
@@ -74,7 +74,7 @@ pub(crate) fn opened_by(
 }
 
 /// A handshake without data.
-pub(crate) fn sync(scope: &Scope, opened: &[Place], channel: &Identifier) -> Verdict<Action>
+pub(crate) fn sync(scope: &Scope, opened: &[Binding], channel: &Identifier) -> Verdict<Action>
     ensures { result ≡ becomes (λ u. typed.Sync u) (uses.sync_use (find (entries scope.now.names) opened.now channel.now.name) channel.now.span.start) }
 {
     let found = scope.names.find(opened, &channel.name);

@@ -23,8 +23,8 @@ use scope::Scope;
 use std::alloc::Global;
 use syntax::{Description, Items};
 pub use typed::{
-    Action, Arm, ChannelUse, Command, Expression, Guarded, Labelled, Local, LocalKind, Place, Port,
-    PortKind, Procedure, Typed, VariableUse,
+    Action, Arm, Binding, ChannelUse, Command, Expression, Guarded, Labelled, Local, LocalKind,
+    Port, PortKind, Procedure, Typed, VariableUse,
 };
 use verdict::{Settled, Verdict};
 

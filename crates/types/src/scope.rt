@@ -9,7 +9,7 @@ use crate::verdict::Settled;
 use indexmap::IndexMap;
 use std::alloc::Global;
 use syntax::{Identifier, Items, Name};
-use typed::{LocalKind, Place, PortKind};
+use typed::{Binding, LocalKind, PortKind};
 use value::{Value, Width};
 
 /// What a declared name means.
@@ -113,7 +113,7 @@ impl Names {
 
     /// What the name is at a place around which these channels are open.
     #[tactic(auto, unfolding(crate::specs::Names::find))]
-    pub(crate) fn find(&self, opened: &[Place], name: &Name) -> Found
+    pub(crate) fn find(&self, opened: &[Binding], name: &Name) -> Found
         ensures { result ≡ names.find (entries self.now) opened.now name.now }
     {
         match self.meaning(name) {
@@ -151,12 +151,12 @@ impl Scope {
 }
 
 /// What a name of this meaning is where these channels are open.
-fn found_as(opened: &[Place], meaning: &Meaning) -> Found
+fn found_as(opened: &[Binding], meaning: &Meaning) -> Found
     ensures { result ≡ names.seen_as opened.now meaning.now (names.channel_of meaning.now) }
 {
     match channel_of(meaning) {
         Some(channel) => {
-            if is_open(opened, channel.place) {
+            if is_open(opened, channel.binding) {
                 Found::Opened(channel)
             } else {
                 Found::Visible(*meaning)
@@ -166,28 +166,28 @@ fn found_as(opened: &[Place], meaning: &Meaning) -> Found
     }
 }
 
-fn is_open(opened: &[Place], place: Place) -> bool
-    ensures { result ≡ names.is_among opened.now place }
+fn is_open(opened: &[Binding], binding: Binding) -> bool
+    ensures { result ≡ names.is_among opened.now binding }
 {
     for open in opened {
-        if is_same(place, *open) {
+        if is_same(binding, *open) {
             return true;
         }
     }
     false
 }
 
-fn is_same(one: Place, other: Place) -> bool
-    ensures { result ≡ names.same_place one other }
+fn is_same(one: Binding, other: Binding) -> bool
+    ensures { result ≡ names.same_binding one other }
 {
     match one {
-        Place::Port(one) => match other {
-            Place::Port(other) => one == other,
-            Place::Local(_) => false,
+        Binding::Port(one) => match other {
+            Binding::Port(other) => one == other,
+            Binding::Local(_) => false,
         },
-        Place::Local(one) => match other {
-            Place::Port(_) => false,
-            Place::Local(other) => one == other,
+        Binding::Local(one) => match other {
+            Binding::Port(_) => false,
+            Binding::Local(other) => one == other,
         },
     }
 }
@@ -195,7 +195,7 @@ fn is_same(one: Place, other: Place) -> bool
 /// A channel, and the width of its values, if it has any.
 #[derive(Clone, Copy)]
 pub(crate) struct Channel {
-    pub(crate) place: Place,
+    pub(crate) binding: Binding,
     pub(crate) width: Option<Width>,
 }
 
@@ -204,11 +204,11 @@ fn channel_of(meaning: &Meaning) -> Option<Channel>
     ensures { result ≡ names.channel_of meaning.now }
 {
     match meaning {
-        Meaning::Input(port, width) => data(Place::Port(*port), *width),
-        Meaning::Output(port, width) => data(Place::Port(*port), *width),
-        Meaning::Channel(local, width) => data(Place::Local(*local), *width),
-        Meaning::SyncPort(port) => handshake(Place::Port(*port)),
-        Meaning::Sync(local) => handshake(Place::Local(*local)),
+        Meaning::Input(port, width) => data(Binding::Port(*port), *width),
+        Meaning::Output(port, width) => data(Binding::Port(*port), *width),
+        Meaning::Channel(local, width) => data(Binding::Local(*local), *width),
+        Meaning::SyncPort(port) => handshake(Binding::Port(*port)),
+        Meaning::Sync(local) => handshake(Binding::Local(*local)),
         Meaning::TypeName(_) => None,
         Meaning::Element(_) => None,
         Meaning::Procedure(_) => None,
@@ -216,17 +216,20 @@ fn channel_of(meaning: &Meaning) -> Option<Channel>
     }
 }
 
-fn data(place: Place, width: Width) -> Option<Channel>
-    ensures { result ≡ Some (record { place = place; width = Some width }) }
+fn data(binding: Binding, width: Width) -> Option<Channel>
+    ensures { result ≡ Some (record { binding = binding; width = Some width }) }
 {
     Some(Channel {
-        place,
+        binding,
         width: Some(width),
     })
 }
 
-fn handshake(place: Place) -> Option<Channel>
-    ensures { result ≡ Some (record { place = place; width = None }) }
+fn handshake(binding: Binding) -> Option<Channel>
+    ensures { result ≡ Some (record { binding = binding; width = None }) }
 {
-    Some(Channel { place, width: None })
+    Some(Channel {
+        binding,
+        width: None,
+    })
 }

@@ -5,7 +5,7 @@ ghost use Rattle.types.specs.Uses as uses;
 use crate::Fault;
 use crate::scope::{Channel, Found, Meaning};
 use crate::verdict::Verdict;
-use typed::{ChannelUse, Place, VariableUse};
+use typed::{Binding, ChannelUse, VariableUse};
 use value::{Value, Width};
 
 /// What the name means, if it is visible and no channel that is open.
@@ -47,8 +47,8 @@ pub(crate) fn sending_use(found: Found, offset: u64) -> Verdict<(ChannelUse, Wid
     ensures { result ≡ uses.sending_use found offset }
 {
     match visible(found, offset)? {
-        Meaning::Output(port, width) => Ok((at(Place::Port(port), offset), width)),
-        Meaning::Channel(local, width) => Ok((at(Place::Local(local), offset), width)),
+        Meaning::Output(port, width) => Ok((at(Binding::Port(port), offset), width)),
+        Meaning::Channel(local, width) => Ok((at(Binding::Local(local), offset), width)),
         _ => Err(Fault::WrongKind(offset)),
     }
 }
@@ -59,8 +59,8 @@ pub(crate) fn receiving_use(found: Found, offset: u64) -> Verdict<(ChannelUse, W
     ensures { result ≡ uses.receiving_use found offset }
 {
     match visible(found, offset)? {
-        Meaning::Input(port, width) => Ok((at(Place::Port(port), offset), width)),
-        Meaning::Channel(local, width) => Ok((at(Place::Local(local), offset), width)),
+        Meaning::Input(port, width) => Ok((at(Binding::Port(port), offset), width)),
+        Meaning::Channel(local, width) => Ok((at(Binding::Local(local), offset), width)),
         _ => Err(Fault::WrongKind(offset)),
     }
 }
@@ -71,8 +71,8 @@ pub(crate) fn sync_use(found: Found, offset: u64) -> Verdict<ChannelUse>
     ensures { result ≡ uses.sync_use found offset }
 {
     match visible(found, offset)? {
-        Meaning::SyncPort(port) => Ok(at(Place::Port(port), offset)),
-        Meaning::Sync(local) => Ok(at(Place::Local(local), offset)),
+        Meaning::SyncPort(port) => Ok(at(Binding::Port(port), offset)),
+        Meaning::Sync(local) => Ok(at(Binding::Local(local), offset)),
         _ => Err(Fault::WrongKind(offset)),
     }
 }
@@ -83,10 +83,10 @@ pub(crate) fn arm_use(found: Found, offset: u64) -> Verdict<ChannelUse>
     ensures { result ≡ uses.arm_use found offset }
 {
     match visible(found, offset)? {
-        Meaning::Input(port, _) => Ok(at(Place::Port(port), offset)),
-        Meaning::SyncPort(port) => Ok(at(Place::Port(port), offset)),
-        Meaning::Channel(local, _) => Ok(at(Place::Local(local), offset)),
-        Meaning::Sync(local) => Ok(at(Place::Local(local), offset)),
+        Meaning::Input(port, _) => Ok(at(Binding::Port(port), offset)),
+        Meaning::SyncPort(port) => Ok(at(Binding::Port(port), offset)),
+        Meaning::Channel(local, _) => Ok(at(Binding::Local(local), offset)),
+        Meaning::Sync(local) => Ok(at(Binding::Local(local), offset)),
         _ => Err(Fault::WrongKind(offset)),
     }
 }
@@ -119,11 +119,11 @@ pub(crate) fn argument_use(found: Found, offset: u64) -> Verdict<ChannelUse>
     ensures { result ≡ uses.argument_use found offset }
 {
     match visible(found, offset)? {
-        Meaning::Input(port, _) => Ok(at(Place::Port(port), offset)),
-        Meaning::Output(port, _) => Ok(at(Place::Port(port), offset)),
-        Meaning::SyncPort(port) => Ok(at(Place::Port(port), offset)),
-        Meaning::Channel(local, _) => Ok(at(Place::Local(local), offset)),
-        Meaning::Sync(local) => Ok(at(Place::Local(local), offset)),
+        Meaning::Input(port, _) => Ok(at(Binding::Port(port), offset)),
+        Meaning::Output(port, _) => Ok(at(Binding::Port(port), offset)),
+        Meaning::SyncPort(port) => Ok(at(Binding::Port(port), offset)),
+        Meaning::Channel(local, _) => Ok(at(Binding::Local(local), offset)),
+        Meaning::Sync(local) => Ok(at(Binding::Local(local), offset)),
         _ => Err(Fault::WrongKind(offset)),
     }
 }
@@ -135,7 +135,7 @@ pub(crate) enum Named {
     Element(Value),
     Variable(VariableUse, Width),
     /// the value of an opened channel
-    Received(Place, Width),
+    Received(Binding, Width),
 }
 
 /// A name that has a value.
@@ -158,15 +158,15 @@ pub(crate) fn value_use(found: Found, offset: u64) -> Verdict<Named>
 
 /// The value of an opened channel, if it has any.
 fn received(channel: Channel, offset: u64) -> Verdict<Named>
-    ensures { result ≡ uses.received_by offset channel.place channel.width }
+    ensures { result ≡ uses.received_by offset channel.binding channel.width }
 {
     match channel.width {
-        Some(width) => Ok(Named::Received(channel.place, width)),
+        Some(width) => Ok(Named::Received(channel.binding, width)),
         None => Err(Fault::EnclosedTwice(offset)),
     }
 }
 
-fn at(channel: Place, offset: u64) -> ChannelUse
+fn at(channel: Binding, offset: u64) -> ChannelUse
     ensures { result ≡ uses.at channel offset }
 {
     ChannelUse { channel, offset }

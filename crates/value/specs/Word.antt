@@ -10,9 +10,13 @@ pub record Word : Type 0 where
   pub bits : ℕ
   pub width : ℕ
 
--- the width is from 1 to 64, and the number fits it
+-- the most bits that a number has
+abbrev pub most_bits : ℕ
+most_bits = 64
+
+-- the width is from 1 to that, and the number fits it
 abbrev pub IsWord : Word → Type 0
-IsWord w = (1 ≤ w.width) × (w.width ≤ 64) × (w.bits < 2 ^ w.width)
+IsWord w = (1 ≤ w.width) × (w.width ≤ most_bits) × (w.bits < 2 ^ w.width)
 
 -- the wider of the two widths
 abbrev pub common_width : Word → Word → ℕ

@@ -28,6 +28,9 @@ pub enum Comparison {
     GreaterOrEqual,
 }
 
+/// The most bits that a number has.
+pub const MOST_BITS: u8 = 64;
+
 /// An unsigned number below two to the power of its width, which is 1 to 64 bits.
 ///
 /// Two values are equal where both the numbers and the widths are.

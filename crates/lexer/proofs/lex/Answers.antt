@@ -8,7 +8,7 @@ use Rattle.lexer.specs.Refusal.{IsPieceFault, IsRefused}
 use Rattle.lexer.specs.Spelling.{NothingSpelled}
 use Rattle.lexer.specs.Tokens.{AreTokens, token_at}
 use Rattle.refusals.specs.declared.lexer.Fault.TheVariants.{Memory, BadCharacter}
-use Rattle.lexer.specs.declared.place.Place.{Place}
+use Rattle.lexer.specs.declared.position.Position.{Position}
 use Rattle.lexer.specs.declared.token.Kind.TheVariants.{EndOfSource}
 use Rattle.lexer.proofs.ReadingLemmas.{Reaches, reaches_next, reaches_end, reaches_fault, piece_fault_due}
 use Rattle.lexer.proofs.UniqueLemmas.{some_front, tokens_unique, refused_unique, never_both}
@@ -34,38 +34,38 @@ loop-rest-preserved c =
     let text = c.split_at.result.0.now in
     let found = front (goal.at.loop-rest-preserved c).In-Some in
     let readable = rw c.split_at.ensures.front at c.in_ok-push_token.ensures.readable in
-    let reached = reaches_next c.args.source.now c.loop-rest.tokens.items c.loop-rest.place rest class n c.loop-rest.invariant.reached found readable in
-    let offset : c.behind-place.result.offset ≡ c.loop-rest.place.offset + length text = ap (λ (place : Place). place.offset) c.behind-place.ensures in
-    let line : c.behind-place.result.line ≡ c.loop-rest.place.line + count_by (λ b. b == 10) text = ap (λ (place : Place). place.line) c.behind-place.ensures in
+    let reached = reaches_next c.args.source.now c.loop-rest.tokens.items c.loop-rest.position rest class n c.loop-rest.invariant.reached found readable in
+    let offset : c.behind-position.result.offset ≡ c.loop-rest.position.offset + length text = ap (λ (position : Position). position.offset) c.behind-position.ensures in
+    let line : c.behind-position.result.line ≡ c.loop-rest.position.line + count_by (λ b. b == 10) text = ap (λ (position : Position). position.line) c.behind-position.ensures in
     let few = count_by-le-length (λ b. b == 10) text in
     let cut = c.split_at.ensures.back_len in
     let front_len = c.split_at.ensures.front_len in
     let before = c.loop-rest.invariant.offset in
     let before_line = c.loop-rest.invariant.line in
     record {
-      reached = rw (c.in_ok-push_token.ensures.tokens, c.behind-place.ensures, c.split_at.ensures.front, c.split_at.ensures.back) reached;
+      reached = rw (c.in_ok-push_token.ensures.tokens, c.behind-position.ensures, c.split_at.ensures.front, c.split_at.ensures.back) reached;
       offset = omega (arith, offset, cut, front_len, before);
       line = omega (arith, offset, line, few, before_line);
     }
 
 -- nothing is spelled where no piece was found
-bad_due : (c : After-drop-tokens) → IsRefused c.args.source.now (BadCharacter c.loop-rest.place.offset)
+bad_due : (c : After-drop-tokens) → IsRefused c.args.source.now (BadCharacter c.loop-rest.position.offset)
 bad_due c =
     let some : 1 ≤ length c.loop-rest.rest.now = grind (arith, nat_tests) in
     let nonempty : c.loop-rest.rest.now ≢ [] = λ e. absurd (omega (arith, some, ap length e)) in
     let nothing : NothingSpelled c.loop-rest.rest.now = c.in_default.ensures in
-    reaches_fault c.args.source.now c.loop-rest.tokens.items c.loop-rest.place c.loop-rest.rest.now (BadCharacter c.loop-rest.place.offset) c.loop-rest.invariant.reached (refl, nonempty, nothing)
+    reaches_fault c.args.source.now c.loop-rest.tokens.items c.loop-rest.position c.loop-rest.rest.now (BadCharacter c.loop-rest.position.offset) c.loop-rest.invariant.reached (refl, nonempty, nothing)
 
 pub returns-in_default-clause-fault : goal.returns-in_default-clause-fault
 returns-in_default-clause-fault c = inr (bad_due c)
 
 pub returns-in_default-clause-every_source : goal.returns-in_default-clause-every_source
 returns-in_default-clause-every_source c tokens read =
-    absurd (never_both c.args.source.now tokens (BadCharacter c.loop-rest.place.offset) read (bad_due c))
+    absurd (never_both c.args.source.now tokens (BadCharacter c.loop-rest.position.offset) read (bad_due c))
 
 pub returns-in_default-clause-every_fault : goal.returns-in_default-clause-every_fault
 returns-in_default-clause-every_fault c due refused =
-    inr (refused_unique c.args.source.now (BadCharacter c.loop-rest.place.offset) due (bad_due c) refused)
+    inr (refused_unique c.args.source.now (BadCharacter c.loop-rest.position.offset) due (bad_due c) refused)
 
 -- a piece that is a fault is refused, unless memory is out
 piece_refused : (c : After-drop-tokens-in_err-push_token) → (c.in_err-push_token.field-0.0 ≡ Memory) ⊎ IsRefused c.args.source.now c.in_err-push_token.field-0.0
@@ -76,9 +76,9 @@ piece_refused c = elim c.in_err-push_token.ensures.err [
       let class = c.in-Some.found.class in
       let n = c.in-Some.found.length in
       let rest = c.loop-rest.rest.now in
-      let here : IsPieceFault c.loop-rest.place.offset class (take n rest) fault = rw c.split_at.ensures.front at piece in
-      let due = piece_fault_due c.loop-rest.place.offset class n rest fault c.in-Some.ensures here in
-      inr (reaches_fault c.args.source.now c.loop-rest.tokens.items c.loop-rest.place rest fault c.loop-rest.invariant.reached due)
+      let here : IsPieceFault c.loop-rest.position.offset class (take n rest) fault = rw c.split_at.ensures.front at piece in
+      let due = piece_fault_due c.loop-rest.position.offset class n rest fault c.in-Some.ensures here in
+      inr (reaches_fault c.args.source.now c.loop-rest.tokens.items c.loop-rest.position rest fault c.loop-rest.invariant.reached due)
 ]
 
 pub returns-in_err-push_token-clause-fault : goal.returns-in_err-push_token-clause-fault
@@ -107,8 +107,8 @@ all_read : (c : In_ok-push) → AreTokens c.args.source.now c.push.new.self.item
 all_read c =
     let none : length c.loop-rest.rest.now ≡ 0 = grind (arith, nat_tests) in
     let end : c.loop-rest.rest.now ≡ [] = nil_from_length c.loop-rest.rest.now none in
-    let reached : Reaches c.args.source.now c.loop-rest.tokens.items c.loop-rest.place [] = rw end at c.loop-rest.invariant.reached in
-    rw (c.in_ok-push.ensures.items, c.in_ok-new.ensures) (reaches_end c.args.source.now c.loop-rest.tokens.items c.loop-rest.place reached)
+    let reached : Reaches c.args.source.now c.loop-rest.tokens.items c.loop-rest.position [] = rw end at c.loop-rest.invariant.reached in
+    rw (c.in_ok-push.ensures.items, c.in_ok-new.ensures) (reaches_end c.args.source.now c.loop-rest.tokens.items c.loop-rest.position reached)
 
 pub returns-clause-tokens : goal.returns-clause-tokens
 returns-clause-tokens c = all_read c

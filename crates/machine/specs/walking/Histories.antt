@@ -1,17 +1,13 @@
 -- The live events as they lie in memory, and the state that is kept beside them.
--- No reader has to believe it: contracts see a machine as `Held`.
+-- No reader has to believe it: the methods of `Machine` are said of `Held`, which has no state, and `object`.
 use Rattle.sharing_check.specs.declared.checked.Checked.{Checked}
 use Rattle.calculus.specs.Object.{Object, Reaches}
-use Rattle.machine.specs.Held.{Held, object}
+use Rattle.machine.specs.Held.{held, object}
 use Rattle.machine.specs.declared.history.History.{History}
 use Rattle.std.specs.Option.{IfSome}
 use Rattle.calculus.specs.Left.{state_of}
 
--- what is held of a system
-abbrev pub held : Checked → History → Held
-held checked h = record { checked = checked; live = h.live.items; next = h.next }
-
--- the execution of a system
+-- the execution of a system with these live events
 abbrev pub execution : Checked → History → Object
 execution checked h = object (held checked h)
 

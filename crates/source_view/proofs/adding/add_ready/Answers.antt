@@ -2,7 +2,7 @@ use Rattle.std.proofs.Common.{suc, ◌-◌, length, take, drop, get_or, arith, a
 use Rattle.calculus.specs.Live.{events}
 use Rattle.calculus.specs.Moves.{Place}
 use Rattle.event_places.specs.EventPlaces.{line_after}
-use Rattle.source_view.specs.Marking.{no_marks, with_events}
+use Rattle.source_view.specs.walking.Marking.{no_marks, with_events}
 use Rattle.source_view.proofs.Agreeing.{first-and-rest, after-one}
 use Rattle.source_view.proofs.adding.add_ready.Goals as goal
 

@@ -1,5 +1,5 @@
 use Rattle.std.proofs.Common.{◌≡◌, ℕ, suc, ◌<◌, length, get_or}
-use Rattle.source_view.specs.Marking.{no_marks, with_events}
+use Rattle.source_view.specs.walking.Marking.{no_marks, with_events}
 use Rattle.source_view.proofs.adding.add_ready.Given as goal
 
 abbrev pub invariant-loop-rest : goal.invariant-loop-rest

@@ -1,6 +1,6 @@
 use Rattle.std.proofs.Common.{◌≡◌, suc, ◌+◌, ◌≤◌, ◌++◌, length}
 use Rattle.source_view.specs.View.{lines, lines_text}
-use Rattle.source_view.specs.Marking.{marks_at}
+use Rattle.source_view.specs.walking.Marking.{marks_at}
 use Rattle.source_view.proofs.text.write_lines.Given as goal
 
 abbrev pub invariant-loop-index : goal.invariant-loop-index

@@ -2,7 +2,7 @@ use Rattle.std.proofs.Common.{◌≡◌, List, IfOk, sym, subst}
 use Rattle.calculus.specs.InOrder.{InOrder}
 use Rattle.calculus.specs.Ready.{Sooner}
 use Rattle.calculus.specs.declared.event.Event.{Event}
-use Rattle.source_view.specs.Marking.{AreMarks, marks_at}
+use Rattle.source_view.specs.walking.Marking.{AreMarks, marks_at}
 use Rattle.source_view.specs.View.{lines, lines_text, marks_on}
 use Rattle.source_view.specs.declared.marks.Marks.{Marks}
 use Rattle.source_view.proofs.Agreeing.{shown}

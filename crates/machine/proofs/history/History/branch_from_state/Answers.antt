@@ -4,7 +4,7 @@ use Rattle.std.proofs.lemmas.Result.{IfOk-weaker}
 use Rattle.system.specs.Lists.{Every}
 use Rattle.calculus.specs.declared.event.Event.{Event}
 use Rattle.machine.specs.walking.Choosing.{FirstAt, Takes, moves, line_of_first}
-use Rattle.machine.specs.walking.Histories.{held}
+use Rattle.machine.specs.Held.{held}
 use Rattle.machine.specs.Branching.{in_branch, StepsBranch}
 use Rattle.machine.specs.declared.branching.BranchReply.{BranchReply}
 use Rattle.machine.proofs.Entries.{within-at}

@@ -1,8 +1,7 @@
 use Rattle.std.proofs.Common.{◌≡◌, sym, subst}
 use Rattle.std.specs.Prelude.{IfOk, OnErr}
 use Rattle.calculus.specs.Sound.{Sound}
-use Rattle.machine.specs.Held.{Held}
-use Rattle.machine.specs.walking.Histories.{held}
+use Rattle.machine.specs.Held.{Held, held}
 use Rattle.machine.specs.Branching.{StepsBranch}
 use Rattle.machine.proofs.Branches.{held-same}
 use Rattle.machine.proofs.history.History.branch_step.Goals as goal

@@ -1,5 +1,5 @@
 use Rattle.std.proofs.Common.{◌≡◌, drop}
-use Rattle.machine.specs.walking.Histories.{held}
+use Rattle.machine.specs.Held.{held}
 use Rattle.machine.specs.Branching.{in_branch}
 use Rattle.machine.specs.walking.Choosing.{line_of_first}
 use Rattle.machine.proofs.history.History.first_line.Given as goal

@@ -1,4 +1,4 @@
-use Rattle.machine.specs.walking.Histories.{held}
+use Rattle.machine.specs.Held.{held}
 use Rattle.machine.specs.walking.Choosing.{moves}
 use Rattle.machine.proofs.Branches.{fails-more}
 use Rattle.machine.proofs.history.History.first_moving.Goals as goal

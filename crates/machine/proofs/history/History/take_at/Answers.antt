@@ -1,7 +1,7 @@
 use Rattle.std.proofs.Common.{◌∙◌, ap}
 use Rattle.std.specs.Prelude.{slice_get, List}
 use Rattle.calculus.specs.declared.event.Event.{Event}
-use Rattle.machine.specs.walking.Histories.{held}
+use Rattle.machine.specs.Held.{held}
 use Rattle.machine.proofs.Entries.{got-at}
 use Rattle.machine.proofs.Branches.{held-same, take-done}
 use Rattle.machine.proofs.Stepped.{on-error}

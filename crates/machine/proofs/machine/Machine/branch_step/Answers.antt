@@ -1,6 +1,5 @@
 use Rattle.std.proofs.Common.{List, ℕ, subst}
-use Rattle.machine.specs.Held.{Held}
-use Rattle.machine.specs.walking.Histories.{held}
+use Rattle.machine.specs.Held.{Held, held}
 use Rattle.machine.specs.Branching.{AnswersBranch}
 use Rattle.machine.proofs.Branches.{branch-answers, answers-sound}
 use Rattle.machine.proofs.machine.Machine.branch_step.Goals as goal

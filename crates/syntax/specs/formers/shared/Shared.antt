@@ -17,10 +17,10 @@ use Rattle.std.specs.contracts.sync.Arc as arc
 use Rattle.std.specs.declared.alloc.Global.{Global}
 use Rattle.std.specs.contracts.alloc.Global as heap
 use Rattle.std.specs.contracts.impls.GlobalAllocator.TheImpl.{ghosts}
-use Rattle.calculus.specs.declared.shared.Shared.TheInside.{Inside}
-use Rattle.calculus.specs.declared.shared.Shared.TheView.{view, invariant}
-use Rattle.calculus.specs.contracts.shared.Shared as shared
-use Rattle.calculus.specs.contracts.shared.Shared.TheInside as inside
+use Rattle.syntax.specs.declared.shared.Shared.TheInside.{Inside}
+use Rattle.syntax.specs.declared.shared.Shared.TheView.{view, invariant}
+use Rattle.syntax.specs.contracts.shared.Shared as shared
+use Rattle.syntax.specs.contracts.shared.Shared.TheInside as inside
 
 -- what contracts see: the one value
 abbrev pub the_former : Former {0} → Former {0}

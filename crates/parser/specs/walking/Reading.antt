@@ -1,4 +1,5 @@
 -- The grammar a second time, word by word: how it is read, where each choice is made by the kind of the next token.
+-- No reader has to believe it: the contract of `parse` cites `Accepted` and `Grammar` alone.
 use Rattle.std.specs.Prelude.{ℕ, zero, suc, List, [], ◌∷◌, ◌++◌, Option, Some, None}
 use Rattle.lexer.specs.declared.token.Kind.{Kind}
 use Rattle.lexer.specs.declared.token.Kind.TheVariants as kind
@@ -25,8 +26,9 @@ use Rattle.syntax.specs.declared.declaration.Local.{Local}
 use Rattle.syntax.specs.declared.declaration.LocalKind.TheVariants as local
 use Rattle.syntax.specs.declared.declaration.Procedure.{Procedure}
 use Rattle.syntax.specs.declared.declaration.Description.{Description}
-use Rattle.parser.specs.Trees.{through, identifier_of, width_of, number_label, name_label, span_of, expression_at, in_parentheses, binary, command_span, command_at, over, given_by, typed_port, typed_local}
-use Rattle.parser.specs.Readers.{Reader, ◌>>=◌, ◌>>◌, pure, take, take_open, branch, repeat, inside, nothing}
+use Rattle.parser.specs.Trees.{through, identifier_of, width_of, number_label, name_label, span_of, expression_at, in_parentheses, binary, command_span, command_at, over}
+use Rattle.parser.specs.walking.BySign.{given_by, typed_port, typed_local}
+use Rattle.parser.specs.walking.Readers.{Reader, ◌>>=◌, ◌>>◌, pure, take, take_open, branch, repeat, inside, nothing}
 use Rattle.parser.specs.Grammar.{sum_signs, comparison_signs, conjunct_words, expression_words}
 
 -- an item behind what was found before

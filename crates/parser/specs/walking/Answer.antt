@@ -7,7 +7,7 @@ use Rattle.parser.specs.declared.halt.Halt.{Halt}
 use Rattle.parser.specs.declared.halt.Halt.TheVariants as halt
 use Rattle.parser.specs.Input.{Input}
 use Rattle.parser.specs.Offsets.{offset_at}
-use Rattle.parser.specs.Readers.{Outcome, read, unexpected, too_deep}
+use Rattle.parser.specs.walking.Readers.{Outcome, read, unexpected, too_deep}
 
 -- the answer is what was read, or where reading stopped, unless memory is out
 abbrev pub IsAnswer : {A : Type 0} → List Token → Outcome A → Result A Fault → Type 0

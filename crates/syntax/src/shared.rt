@@ -37,14 +37,14 @@ impl<T: Drop> Clone for Shared<T> {
 
 impl<T> Shared<T> {
     /// The value.
-    pub(crate) fn get(&self) -> &T
+    pub fn get(&self) -> &T
         ensures { result.now ≡ self.now }
     {
         &self.pointer
     }
 
     /// The value, where no one else has it. Otherwise this owner is given up.
-    pub(crate) fn into_inner(self) -> Option<T>
+    pub fn into_inner(self) -> Option<T>
         ensures { IfSome result (λ value. value ≡ self) }
     {
         let Shared { pointer } = self;
@@ -54,7 +54,7 @@ impl<T> Shared<T> {
 
 impl<T: Drop> Shared<T> {
     /// Moves `value` to the heap. Without memory it is dropped.
-    pub(crate) fn new(alloc: Global, value: T) -> Result<Shared<T>, AllocError>
+    pub fn new(alloc: Global, value: T) -> Result<Shared<T>, AllocError>
         ensures { IfOk result (λ shared. shared ≡ value) }
     {
         Ok(Shared {

@@ -5,9 +5,9 @@ use Rattle.syntax.specs.declared.expression.Expression.{Expression}
 use Rattle.syntax.specs.declared.command.Command.{Command}
 use Rattle.parser.specs.declared.cursor.Cursor.{Cursor}
 use Rattle.parser.specs.declared.halt.Halt.{Halt}
-use Rattle.parser.specs.Readers.{Reader, nothing}
-use Rattle.parser.specs.Reading.{factor, expression_of, simple, command_of}
-use Rattle.parser.specs.Reads.{place, Reads}
+use Rattle.parser.specs.walking.Readers.{Reader, nothing}
+use Rattle.parser.specs.walking.Reading.{factor, expression_of, simple, command_of}
+use Rattle.parser.specs.walking.Reads.{place, Reads}
 
 -- what is read inside a level of this depth; inside the last one there is nothing
 abbrev pub inner : {A : Type 0} → (ℕ → Reader A) → ℕ → Reader A

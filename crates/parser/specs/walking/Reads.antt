@@ -6,7 +6,7 @@ use Rattle.parser.specs.declared.cursor.Cursor.{Cursor}
 use Rattle.parser.specs.declared.halt.Halt.{Halt}
 use Rattle.parser.specs.declared.halt.Halt.TheVariants.{Memory, Unexpected, TooDeep}
 use Rattle.parser.specs.Input.{Input, input}
-use Rattle.parser.specs.Readers.{Outcome, read, unexpected, too_deep}
+use Rattle.parser.specs.walking.Readers.{Outcome, read, unexpected, too_deep}
 
 -- where a cursor stands
 abbrev pub place : Cursor → Input

@@ -5,22 +5,22 @@ use syntax::Span;
 
 /// Where a piece begins.
 #[derive(Clone, Copy)]
-pub struct Place {
+pub struct Position {
     /// In bytes, from 0.
     pub offset: u64,
     /// From 1.
     pub line: u64,
 }
 
-impl Place {
-    /// The place behind `text`, which begins here.
-    pub fn behind(self, text: &[u8]) -> Place
+impl Position {
+    /// The position behind `text`, which begins here.
+    pub fn behind(self, text: &[u8]) -> Position
         requires offset { self.offset + length text.now < 2 ^ 64 }
         requires line { self.line + length text.now < 2 ^ 64 }
         ensures { result ≡ behind self text.now }
     {
         let line_ends = text.iter().filter(|byte| **byte == b'\n').count();
-        Place {
+        Position {
             offset: self.offset + text.len() as u64,
             line: self.line + line_ends as u64,
         }

@@ -1,0 +1,6 @@
+pub mod Answer
+pub mod BySign
+pub mod Nests
+pub mod Readers
+pub mod Reading
+pub mod Reads
