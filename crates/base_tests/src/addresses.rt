@@ -1,4 +1,4 @@
-//! The text of addresses, and the orders on them.
+//! The orders on addresses, and copies. Their texts stand in the answers of the program.
 
 use address::{Address, Entry, before, compare, read};
 use std::alloc::Global;
@@ -7,53 +7,6 @@ use std::test::Fail;
 
 fn place(alloc: Global, text: &str) -> Result<Address, Fail> {
     Ok(read(alloc, text.as_bytes())?.ok_or("an address")?)
-}
-
-const TEXTS: [(&str, &[Entry]); 4] = [
-    ("", &[]),
-    (".0", &[Entry::Ordered(0)]),
-    ("/4294967295", &[Entry::Branch(4294967295)]),
-    (
-        "/0.1.0",
-        &[Entry::Branch(0), Entry::Ordered(1), Entry::Ordered(0)],
-    ),
-];
-
-#[test]
-fn texts_are_read(rt: HostRuntime) -> Result<(), Fail> {
-    for (text, entries) in TEXTS {
-        let place = place(rt.alloc(), text)?;
-        assert!(rt; place.entries() == entries, "{text}");
-    }
-    Ok(())
-}
-
-#[test]
-fn texts_are_written(rt: HostRuntime) -> Result<(), Fail> {
-    for (text, entries) in TEXTS {
-        let place = Address::from_vec(Vec::from_slice(rt.alloc(), entries)?);
-        let written = format!(in rt.alloc(); "{place}")?;
-        assert_eq!(rt; written.as_str(), text);
-    }
-    Ok(())
-}
-
-#[test]
-fn other_texts_are_refused(rt: HostRuntime) -> Result<(), Fail> {
-    for text in [
-        "/",
-        "0",
-        "/0.",
-        "/00",
-        "/4294967296",
-        "/1a",
-        "./0",
-        ".01",
-        "/0 ",
-    ] {
-        assert!(rt; read(rt.alloc(), text.as_bytes())?.is_none(), "{text}");
-    }
-    Ok(())
 }
 
 /// Two places, whether the first comes before the second, and how they compare.
