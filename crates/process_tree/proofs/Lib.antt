@@ -6,6 +6,7 @@ pub mod Ports
 pub mod Puts
 pub mod Rows
 pub mod Simulation
+pub mod Steps
 pub mod Swap
 pub mod Translated
 pub mod Views

@@ -1,12 +1,13 @@
 -- Parts that begin together.
 use Rattle.std.proofs.Common.{◌≡◌, List, [], ◌∷◌, ◌++◌, map, Option, Some, None, option_map, refl, sym, ap, ◌∙◌, rules}
+use Rattle.std.specs.Global.{Vec}
 use Rattle.system.specs.Translation.{expression_of, decision_of}
 use Rattle.system.specs.declared.command.Command.{Command}
 use Rattle.process_tree.specs.Code as model
 use Rattle.process_tree.specs.Code.{acts, offers, repeats, decides, awaits, in_turn, side_by_side, code}
-use Rattle.process_tree.specs.Part.{parallel, part, started, all_started}
+use Rattle.process_tree.specs.Part.{idle, parallel, part, started, all_started}
 use Rattle.process_tree.specs.Translation.{code_of, row_of, row_with}
-use Rattle.process_tree.specs.View.{act_view, offer_view, code_view, part_view, parts_of}
+use Rattle.process_tree.specs.View.{act_view, offer_view, code_view, repeat_view, row_view, part_view, parts_of}
 use Rattle.process_tree.specs.declared.code.Act.{Act}
 use Rattle.process_tree.specs.declared.code.Await.{Await}
 use Rattle.process_tree.specs.declared.code.Code as made_code
@@ -18,7 +19,7 @@ use Rattle.process_tree.specs.declared.code.Repeat.{Repeat}
 use Rattle.process_tree.specs.declared.code.Row.{Row}
 use Rattle.process_tree.specs.declared.part.Proc as made_part
 use Rattle.process_tree.specs.declared.part.Proc.{Proc}
-use Rattle.process_tree.specs.declared.part.Proc.TheFolds.{the_lemmas as part_lemmas}
+use Rattle.process_tree.specs.declared.part.Gate.TheFolds.{the_lemmas as part_lemmas}
 
 -- the parts of commands before their first move
 parts_started : (cs : List Code) → parts_of (map (λ c. started (code_view c)) cs) ≡ all_started (row_of (map code_view cs))
@@ -76,17 +77,29 @@ arms_and_else new xs x body last h e n =
     ∙ ap (λ r. row_with (map code_view xs) (Some r)) e
     ∙ sym (ap (λ o. row_with (map code_view xs) (option_map code_of o)) h)
 
+-- the body of a loop
+pub repeat_body : (r : Repeat) → (repeat_view r).1 ≡ code_view r.body
+repeat_body r = search (rules, the_lemmas)
+
+-- the commands of a row
+pub row_codes : (row : Row) → row_view row ≡ row_of (map code_view row.codes)
+row_codes row = search (rules, the_lemmas)
+
 -- commands side by side
 pub code_parallel : (row : Row) → code_view (made_code.SideBySide row) ≡ side_by_side (row_of (map code_view row.codes))
 code_parallel row = search (rules, the_lemmas)
 
 -- parts side by side
-part_parallel : (ps : List Proc) → part_view (made_part.Parallel ps) ≡ parallel (parts_of (map part_view ps))
+part_parallel : (ps : Vec Proc) → part_view (made_part.Parallel ps) ≡ parallel (parts_of (map part_view ps.items))
 part_parallel ps = search (rules, part_lemmas)
 
 -- branches that begin together
-pub parallel_started : (ps : List Proc) (row : Row) (c : Code) → c ≡ made_code.SideBySide row → map part_view ps ≡ map (λ c. started (code_view c)) row.codes
+pub parallel_started : (ps : Vec Proc) (row : Row) (c : Code) → c ≡ made_code.SideBySide row → map part_view ps.items ≡ map (λ c. started (code_view c)) row.codes
     → part_view (made_part.Parallel ps) ≡ started (code_view c)
 parallel_started ps row c is e =
     part_parallel ps ∙ ap (λ qs. parallel (parts_of qs)) e ∙ ap parallel (parts_started row.codes)
     ∙ sym (ap started (code_parallel row)) ∙ sym (ap (λ x. started (code_view x)) is)
+
+-- `continue` is done at once
+pub part_idle : part_view made_part.Idle ≡ idle
+part_idle = search (rules, part_lemmas)

@@ -1,11 +1,16 @@
 -- What the trees in memory stand for: the code, and the parts.
-use Rattle.std.specs.Prelude.{ℕ, List, [], ◌∷◌, Option, option_map}
+use Rattle.std.specs.Prelude.{ℕ, List, [], ◌∷◌, Bool, cond, Option, option_map}
+use Rattle.std.specs.Global.{Box}
+use Rattle.value.specs.Word.{Word}
 use Rattle.system.specs.Expression.{Expression, Decision}
 use Rattle.system.specs.Translation.{expression_of, decision_of}
+use Rattle.calculus.specs.walking.After as model_ask
 use Rattle.process_tree.specs.Code as model
 use Rattle.process_tree.specs.Part as model_part
 use Rattle.process_tree.specs.Part.{all_started}
 use Rattle.process_tree.specs.Translation.{row_of}
+use Rattle.process_tree.specs.declared.ask.Ask.{Ask}
+use Rattle.process_tree.specs.declared.ask.Ask.TheVariants as ask
 use Rattle.process_tree.specs.declared.code.Act.{Act}
 use Rattle.process_tree.specs.declared.code.Act.TheVariants as act
 use Rattle.process_tree.specs.declared.code.Offer.{Offer}
@@ -19,10 +24,13 @@ use Rattle.process_tree.specs.declared.code.Code.TheOpen.{Await-F, Code-F, Decid
 use Rattle.process_tree.specs.declared.code.Code.TheFolds.{fold-Await, fold-Code, fold-Decide, fold-Repeat, fold-Row}
 use Rattle.process_tree.specs.declared.part.Phase.{Phase}
 use Rattle.process_tree.specs.declared.part.Phase.TheVariants as phase
+use Rattle.process_tree.specs.declared.part.Gate.{Gate}
 use Rattle.process_tree.specs.declared.part.Proc.{Proc}
+use Rattle.process_tree.specs.declared.part.Gate.TheOpen.{Gate-F, Proc-F, Tested-F, Turns-F}
+use Rattle.process_tree.specs.declared.part.Gate.TheFolds.{fold-Gate, fold-Proc, fold-Tested, fold-Turns}
+use Rattle.process_tree.specs.declared.part.Tested.{Tested}
+use Rattle.process_tree.specs.declared.part.Turns.{Turns}
 use Rattle.process_tree.specs.declared.tree.Tree.{Tree}
-use Rattle.process_tree.specs.declared.part.Proc.TheOpen.{Proc-F}
-use Rattle.process_tree.specs.declared.part.Proc.TheFolds.{fold-Proc}
 
 -- what makes one move
 abbrev pub act_view : Act → model.Once
@@ -112,29 +120,86 @@ begun_of [] cs = all_started cs
 begun_of (p ∷ ps) model.no_code = model_part.no_parts
 begun_of (p ∷ ps) (model.code c cs) = model_part.part p (begun_of ps cs)
 
+-- a loop in a turn or behind it, or ended there
+abbrev pub turn_of : Bool → Option Expression → model.Code → ℕ → model_part.Part → model_part.Part
+turn_of over g c n q = cond over (model_part.ended g c n q) (model_part.turn g c n q)
+
+-- an arm that opened, or was closed
+abbrev pub opened_of : Bool → List ℕ → model.Codes → ℕ → Option Word → model_part.Part → model_part.Part
+opened_of over ds cs c v q = cond over (model_part.closed ds cs c v q) (model_part.entered ds cs c v q)
+
+-- a loop, a test and arms that wait, by what they are to do
+abbrev pub OfLoop : Type 0
+OfLoop = Option Expression → model.Code → model_part.Part
+
+abbrev pub OfTest : Type 0
+OfTest = Decision → model.Codes → model_part.Part
+
+abbrev pub OfArms : Type 0
+OfArms = List ℕ → model.Codes → model_part.Part
+
+-- how far a loop is
+abbrev pub turns_layer : Turns-F OfArms model_part.Part OfTest OfLoop → OfLoop
+turns_layer Turns-F.Fresh = model_part.fresh
+turns_layer Turns-F.EndedAtOnce = model_part.ended_at_once
+turns_layer (Turns-F.Turn n over q) = λ g c. turn_of over g c n q.value
+
+-- how far a test is
+abbrev pub tested_layer : Tested-F OfArms model_part.Part OfTest OfLoop → OfTest
+tested_layer Tested-F.Untested = model_part.untested
+tested_layer Tested-F.Skipped = model_part.skipped
+tested_layer (Tested-F.Took j q) = λ d cs. model_part.took d cs j q.value
+
+-- how far arms are that wait
+abbrev pub gate_layer : Gate-F OfArms model_part.Part OfTest OfLoop → OfArms
+gate_layer Gate-F.Shut = model_part.shut
+gate_layer (Gate-F.Opened c v over q) = λ ds cs. opened_of over ds cs c v q.value
+
 -- one layer of a part
-abbrev pub part_layer : Proc-F model_part.Part → model_part.Part
+abbrev pub part_layer : Proc-F OfArms model_part.Part OfTest OfLoop → model_part.Part
 part_layer Proc-F.Idle = model_part.idle
 part_layer Proc-F.Stopped = model_part.stopped
 part_layer (Proc-F.Act a made) = model_part.once (act_view a) made
 part_layer (Proc-F.Offer o p) = model_part.sender (offer_view o) (phase_view p)
-part_layer (Proc-F.Fresh r) = model_part.fresh (repeat_view r).0 (repeat_view r).1
-part_layer (Proc-F.Turn r n q) = model_part.turn (repeat_view r).0 (repeat_view r).1 n q
-part_layer (Proc-F.EndedAtOnce r) = model_part.ended_at_once (repeat_view r).0 (repeat_view r).1
-part_layer (Proc-F.Ended r n q) = model_part.ended (repeat_view r).0 (repeat_view r).1 n q
-part_layer (Proc-F.Untested d) = model_part.untested (decide_view d).0 (decide_view d).1
-part_layer (Proc-F.Skipped d) = model_part.skipped (decide_view d).0 (decide_view d).1
-part_layer (Proc-F.Took d j q) = model_part.took (decide_view d).0 (decide_view d).1 j q
-part_layer (Proc-F.Shut a) = model_part.shut (await_view a).0 (await_view a).1
-part_layer (Proc-F.Entered a c v q) = model_part.entered (await_view a).0 (await_view a).1 c v q
-part_layer (Proc-F.Closed a c v q) = model_part.closed (await_view a).0 (await_view a).1 c v q
-part_layer (Proc-F.Sequence r begun) = model_part.sequence (begun_of begun (row_view r))
-part_layer (Proc-F.Parallel ps) = model_part.parallel (parts_of ps)
+part_layer (Proc-F.Loop r t) = t (repeat_view r).0 (repeat_view r).1
+part_layer (Proc-F.Test d t) = t (decide_view d).0 (decide_view d).1
+part_layer (Proc-F.Arms a g) = g (await_view a).0 (await_view a).1
+part_layer (Proc-F.Sequence r begun) = model_part.sequence (begun_of begun.items (row_view r))
+part_layer (Proc-F.Parallel ps) = model_part.parallel (parts_of ps.items)
 part_layer (Proc-F.Drained c n) = model_part.drained c n
 
 -- the part that a tree in memory stands for
 abbrev pub part_view : Proc → model_part.Part
-part_view = fold-Proc model_part.Part part_layer
+part_view = fold-Proc OfArms model_part.Part OfTest OfLoop gate_layer part_layer tested_layer turns_layer
+
+-- how far a loop in memory is
+abbrev pub turns_view : Turns → OfLoop
+turns_view = fold-Turns OfArms model_part.Part OfTest OfLoop gate_layer part_layer tested_layer turns_layer
+
+-- how far a test in memory is
+abbrev pub tested_view : Tested → OfTest
+tested_view = fold-Tested OfArms model_part.Part OfTest OfLoop gate_layer part_layer tested_layer turns_layer
+
+-- how far arms in memory are
+abbrev pub gate_view : Gate → OfArms
+gate_view = fold-Gate OfArms model_part.Part OfTest OfLoop gate_layer part_layer tested_layer turns_layer
+
+-- what an ask in memory stands for
+abbrev pub ask_view : Ask → model_ask.Ask
+ask_view ask.Assign = model_ask.to_assign
+ask_view (ask.Test arm) = model_ask.to_test arm
+ask_view ask.Turn = model_ask.to_turn
+ask_view ask.Send = model_ask.to_send
+ask_view ask.Hold = model_ask.to_hold
+ask_view ask.Receive = model_ask.to_receive
+ask_view (ask.Open arm value) = model_ask.to_open arm value
+ask_view ask.Sync = model_ask.to_sync
+ask_view ask.Release = model_ask.to_release
+ask_view ask.Close = model_ask.to_close
+
+-- the body that a move took out, if any
+abbrev pub out_view : Option (Box Proc) → Option model_part.Part
+out_view = option_map (λ out. part_view out.value)
 
 -- the part that the tree of an execution stands for
 abbrev pub tree_view : Tree → model_part.Part

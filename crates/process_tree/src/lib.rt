@@ -1,18 +1,22 @@
 //! The tree of an execution, which is changed in place: what each command has done, with the finished parts kept.
 #![tactic(auto)]
 
+mod advance;
+mod ask;
 mod code;
 mod environment;
 mod laws;
 mod part;
+mod place;
 mod translate;
 mod tree;
 
+pub use ask::Ask;
 pub use code::{Act, Await, Code, Decide, Offer, Repeat, Row};
 pub use laws::{
     finished_is_done, left_is_formed, moves_are_local, moves_go_back, moves_swap, one_child_moves,
     started_has_all_left, systems_open_alike,
 };
-pub use part::{Phase, Proc, start};
+pub use part::{Gate, Phase, Proc, Tested, Turns, start};
 pub use translate::code_of;
 pub use tree::Tree;

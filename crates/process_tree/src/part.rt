@@ -4,7 +4,7 @@ ghost use Rattle.process_tree.specs.View.{code_view, part_view};
 
 use crate::code::{Act, Await, Code, Decide, Offer, Repeat, Row};
 use std::alloc::{AllocError, Global};
-use syntax::{Boxed, Items, Shared};
+use syntax::Shared;
 use value::Value;
 
 /// How far a send or sync is.
@@ -25,30 +25,47 @@ pub enum Proc {
     /// whether it has made its move
     Act(Shared<Act>, bool),
     Offer(Shared<Offer>, Phase),
-    /// a loop before its first turn
-    Fresh(Shared<Repeat>),
-    /// a loop in this turn or behind it, and the body of that turn
-    Turn(Shared<Repeat>, u64, Boxed<Proc>),
-    /// a loop whose first test ended it
-    EndedAtOnce(Shared<Repeat>),
-    /// a loop that a test ended behind this turn
-    Ended(Shared<Repeat>, u64, Boxed<Proc>),
-    Untested(Shared<Decide>),
-    /// a test that took no arm
-    Skipped(Shared<Decide>),
-    /// a test that took this arm
-    Took(Shared<Decide>, u32, Boxed<Proc>),
+    Loop(Shared<Repeat>, Turns),
+    Test(Shared<Decide>, Tested),
     /// arms that wait on their channels
-    Shut(Shared<Await>),
-    /// an arm that opened on this channel, with what was received if anything
-    Entered(Shared<Await>, u32, Option<Value>, Boxed<Proc>),
-    /// the same after the close
-    Closed(Shared<Await>, u32, Option<Value>, Boxed<Proc>),
+    Arms(Shared<Await>, Gate),
     /// all children, and those that have begun
-    Sequence(Shared<Row>, Items<Proc>),
-    Parallel(Items<Proc>),
+    Sequence(Shared<Row>, Vec<Proc>),
+    Parallel(Vec<Proc>),
     /// the receives on an output port, after so many
     Drained(u32, u64),
+}
+
+/// How far a loop is.
+#[cycle(part)]
+#[derive(Drop)]
+pub enum Turns {
+    /// before its first turn
+    Fresh,
+    /// its first test ended it
+    EndedAtOnce,
+    /// in this turn or behind it, whether a test ended it there, and the body of that turn
+    Turn(u64, bool, Box<Proc>),
+}
+
+/// How far an `if` or `case` is.
+#[cycle(part)]
+#[derive(Drop)]
+pub enum Tested {
+    Untested,
+    /// it took no arm
+    Skipped,
+    /// it took this arm
+    Took(u32, Box<Proc>),
+}
+
+/// How far arms are that wait on their channels.
+#[cycle(part)]
+#[derive(Drop)]
+pub enum Gate {
+    Shut,
+    /// One opened on this channel, with what was received if anything; whether it has been closed; and the arm.
+    Opened(u32, Option<Value>, bool, Box<Proc>),
 }
 
 /// The command before its first move. It takes memory for what begins: the branches of a parallel begin at once, the
@@ -62,10 +79,10 @@ pub fn start(alloc: Global, code: &Code) -> Result<Proc, AllocError>
         Code::Halt => Ok(Proc::Stopped),
         Code::Act(act) => Ok(Proc::Act(act.clone()?, false)),
         Code::Offer(offer) => Ok(Proc::Offer(offer.clone()?, Phase::Waiting)),
-        Code::Repeat(repeat) => Ok(Proc::Fresh(repeat.clone()?)),
-        Code::Decide(decide) => Ok(Proc::Untested(decide.clone()?)),
-        Code::Await(waiting) => Ok(Proc::Shut(waiting.clone()?)),
-        Code::InTurn(row) => Ok(Proc::Sequence(row.clone()?, Items::new(alloc))),
+        Code::Repeat(repeat) => Ok(Proc::Loop(repeat.clone()?, Turns::Fresh)),
+        Code::Decide(decide) => Ok(Proc::Test(decide.clone()?, Tested::Untested)),
+        Code::Await(waiting) => Ok(Proc::Arms(waiting.clone()?, Gate::Shut)),
+        Code::InTurn(row) => Ok(Proc::Sequence(row.clone()?, Vec::new(alloc))),
         Code::SideBySide(row) => {
             let parts = start_all(alloc, row.get().codes.as_slice())?;
             Ok(Proc::Parallel(parts))
@@ -76,10 +93,10 @@ pub fn start(alloc: Global, code: &Code) -> Result<Proc, AllocError>
 
 /// Each of the commands before its first move.
 #[cycle(start)]
-fn start_all(alloc: Global, codes: &[Code]) -> Result<Items<Proc>, AllocError>
-    ensures { IfOk result (λ made. map part_view made ≡ map (λ c. started (code_view c)) codes.now) }
+fn start_all(alloc: Global, codes: &[Code]) -> Result<Vec<Proc>, AllocError>
+    ensures { IfOk result (λ made. map part_view made.items ≡ map (λ c. started (code_view c)) codes.now) }
 {
-    let mut parts = Items::with_capacity(alloc, codes.len())?;
+    let mut parts = Vec::with_capacity(alloc, codes.len())?;
     for code in codes {
         parts.push(start(alloc, code)?)?;
     }

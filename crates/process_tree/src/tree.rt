@@ -1,10 +1,14 @@
-ghost use Rattle.std.specs.Prelude.{◌≡◌, IfOk};
+ghost use Rattle.std.specs.Prelude.{◌≡◌, Some, IsSome, IfOk, OnErr};
+ghost use Rattle.process_tree.specs.Advanced.{advanced};
 ghost use Rattle.process_tree.specs.Part.{started};
 ghost use Rattle.process_tree.specs.Translation as translation;
-ghost use Rattle.process_tree.specs.View.{tree_view};
+ghost use Rattle.process_tree.specs.View.{ask_view, out_view, tree_view};
 
+use crate::advance::advance;
+use crate::ask::Ask;
 use crate::environment::system_code;
 use crate::part::{Proc, start};
+use address::Entry;
 use std::alloc::{AllocError, Global};
 use system::System;
 
@@ -23,5 +27,22 @@ impl Tree {
         Ok(Tree {
             part: start(alloc, &code)?,
         })
+    }
+
+    /// Makes the move that is asked for at the place. Where a loop turns again, the body of the turn before it is taken
+    /// out and given back, for `retreat`. It costs the depth of the place and what begins.
+    ///
+    /// Without memory no move is made.
+    pub fn advance(
+        &mut self,
+        alloc: Global,
+        place: &[Entry],
+        ask: Ask,
+    ) -> Result<Option<Box<Proc>>, AllocError>
+        requires { IsSome (advanced (tree_view self.old) place.now (ask_view ask)) }
+        ensures made { IfOk result (λ out. advanced (tree_view self.old) place.now (ask_view ask) ≡ Some (tree_view self.new, out_view out)) }
+        ensures without_memory { OnErr result (tree_view self.new ≡ tree_view self.old) }
+    {
+        advance(alloc, &mut self.part, place, ask)
     }
 }
