@@ -1,5 +1,6 @@
 pub mod Asking
 pub mod Back
+pub mod BackSteps
 pub mod Children
 pub mod Formed
 pub mod Ports

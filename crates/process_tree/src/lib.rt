@@ -8,6 +8,7 @@ mod environment;
 mod laws;
 mod part;
 mod place;
+mod retreat;
 mod translate;
 mod tree;
 

@@ -2,12 +2,14 @@ ghost use Rattle.std.specs.Prelude.{◌≡◌, Some, IsSome, IfOk, OnErr};
 ghost use Rattle.process_tree.specs.Advanced.{advanced};
 ghost use Rattle.process_tree.specs.Part.{started};
 ghost use Rattle.process_tree.specs.Translation as translation;
+ghost use Rattle.process_tree.specs.walking.Retreated.{retreated};
 ghost use Rattle.process_tree.specs.View.{ask_view, out_view, tree_view};
 
 use crate::advance::advance;
 use crate::ask::Ask;
 use crate::environment::system_code;
 use crate::part::{Proc, start};
+use crate::retreat::retreat;
 use address::Entry;
 use std::alloc::{AllocError, Global};
 use system::System;
@@ -44,5 +46,14 @@ impl Tree {
         ensures without_memory { OnErr result (tree_view self.new ≡ tree_view self.old) }
     {
         advance(alloc, &mut self.part, place, ask)
+    }
+
+    /// Takes the move at the place back, and puts what it took out where it was. It costs the depth of the place and what
+    /// began with the move, and takes no memory.
+    pub fn retreat(&mut self, place: &[Entry], out: Option<Box<Proc>>)
+        requires { IsSome (retreated (tree_view self.old) place.now (out_view out)) }
+        ensures { retreated (tree_view self.old) place.now (out_view out) ≡ Some (tree_view self.new) }
+    {
+        retreat(&mut self.part, place, out)
     }
 }
