@@ -1,0 +1,2 @@
+pub mod FollowerLaws
+pub mod Following

@@ -1,0 +1,5 @@
+use Rattle.dependence.proofs.FollowerLaws.{no-new-follower}
+use Rattle.dependence.proofs.laws.no_new_follower.Goals as goal
+
+pub returns : goal.returns
+returns c = no-new-follower

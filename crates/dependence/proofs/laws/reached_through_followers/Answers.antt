@@ -1,0 +1,5 @@
+use Rattle.dependence.proofs.FollowerLaws.{reached-through-followers}
+use Rattle.dependence.proofs.laws.reached_through_followers.Goals as goal
+
+pub returns : goal.returns
+returns c = reached-through-followers

@@ -1,0 +1,17 @@
+// The laws of followers, each the contract of a function that does nothing.
+ghost use Rattle.dependence.specs.Laws.{LeastIsFollower, ReachedThroughFollowers, NoNewFollower};
+
+/// The least of the events that depend on an event is a follower of it.
+pub fn least_is_follower()
+    ensures { LeastIsFollower }
+{}
+
+/// What depends on an event is reached from it by going from event to follower.
+pub fn reached_through_followers()
+    ensures { ReachedThroughFollowers }
+{}
+
+/// Taking out an event on which none depends makes no new follower, and takes no other one away.
+pub fn no_new_follower()
+    ensures { NoNewFollower }
+{}
