@@ -1,2 +1,13 @@
+pub mod AddedEvent
+pub mod Counting
+pub mod Edges
 pub mod FollowerLaws
 pub mod Following
+pub mod Linking
+pub mod ListPlaces
+pub mod Markings
+pub mod Reading
+pub mod Standing
+pub mod ShownStates
+pub mod Sweeps
+pub mod Wholes

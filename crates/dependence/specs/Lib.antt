@@ -1,2 +1,4 @@
 pub mod Followers
 pub mod Laws
+pub mod Shown
+pub mod walking

@@ -1,6 +1,17 @@
 //! Live events, and which of them depends on which.
 #![tactic(auto)]
 
+mod candidates;
+mod count;
+mod direct;
+mod entries;
 mod laws;
+mod links;
+mod live;
+mod marks;
+mod places;
+mod topmost;
+mod whole;
 
 pub use laws::{least_is_follower, no_new_follower, reached_through_followers};
+pub use live::Live;

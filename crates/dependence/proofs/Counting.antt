@@ -1,0 +1,185 @@
+-- Counting the events that depend directly on one.
+use Rattle.std.proofs.Common.{◌≡◌, ◌↔◌, inl, inr, ℕ, suc, ◌+◌, ◌-◌, ◌<◌, ◌≤◌, List, [], ◌∷◌, ◌++◌, Bool, true, false, cond, length, take, drop, get_or, Some, IsTrue, refl, sym, ◌∙◌, ap, subst, arith, length-append, length-drop}
+use Rattle.std.specs.Prelude.{slice_get}
+use Rattle.std.proofs.lemmas.Option.{slice_get-get_or}
+use Rattle.system.specs.Lists.{In}
+use Rattle.calculus.specs.Dependence.{Directly}
+use Rattle.calculus.specs.Live.{Live, Rising, LiveAt, same}
+use Rattle.calculus.specs.declared.event.Event.{Event}
+use Rattle.calculus.proofs.Lists.{in-left, in-right, in-parts}
+use Rattle.calculus.proofs.Tickets.{rising-in, rising-one, rising-parts, rising-lower}
+use Rattle.dependence.specs.Followers.{CountsDirect}
+use Rattle.dependence.specs.walking.Tables.{IsRising, CountsAmong, Candidates}
+use Rattle.dependence.proofs.ListPlaces.{parts-at, take-next, take-all, in-order-more}
+
+pub among-none : (e : Event) → CountsAmong e [] 0
+among-none e = ([], record { exactly = λ u. ((λ i. absurd i), (λ h. absurd h.1)); ascending = tt }, refl)
+
+module _ (e : Event) (l : Live) (i n : ℕ) (x : ℕ × Event) (r : IsRising l) (less : i < length l) (is : x ≡ get_or l i x) (counted : CountsAmong e (take i l) n) where
+  at : slice_get l i ≡ Some x
+  at = slice_get-get_or l i x less ∙ ap (λ (y : ℕ × Event). Some y) (sym is)
+
+  next : take (i + 1) l ≡ take i l ++ x ∷ []
+  next = let more : i + 1 ≡ suc i = omega arith in ap (λ (k : ℕ). take k l) more ∙ take-next l i x at
+
+  -- what was passed has a lesser ticket
+  passed : (u : ℕ) (f : Event) → LiveAt (take i l) u f → u < x.0
+  passed u f j =
+      let split = rising-parts 0 r.0 (take i l) (x ∷ drop (suc i) l) (subst (λ (k : Live). Rising 0 k r.0) (parts-at l i x at) r.1) in
+      let low : u < split.0 = (rising-in 0 split.0 (take i l) u f split.1 j).1 in
+      let high : split.0 ≤ x.0 = split.2.0 in
+      omega arith
+
+  pub among-more : Directly e x.1 → CountsAmong e (take (i + 1) l) (n + 1)
+  among-more d =
+      let ts : List ℕ = counted.0 in
+      let old = counted.1 in
+      let size = length-append ts (x.0 ∷ []) in
+      let was : length ts ≡ n = counted.2 in
+      subst (λ (k : Live). CountsAmong e k (n + 1)) (sym next) (
+        ts ++ x.0 ∷ [],
+        record {
+          exactly = λ u. (
+            (λ j. elim (in-parts u ts (x.0 ∷ []) j) [
+              | inl a ↦ let found = (old.exactly u).0 a in (found.0, in-left (u, found.0) (take i l) (x ∷ []) found.1, found.2)
+              | inr (inl a) ↦ (x.1, in-right (u, x.1) (take i l) (x ∷ []) (inl (ap (λ (v : ℕ). (v, x.1)) a)), d)
+              | inr (inr a) ↦ absurd a
+            ]),
+            (λ h. elim (in-parts (u, h.0) (take i l) (x ∷ []) h.1) [
+              | inl a ↦ in-left u ts (x.0 ∷ []) ((old.exactly u).1 (h.0, a, h.2))
+              | inr (inl a) ↦ in-right u ts (x.0 ∷ []) (inl (ap (λ (y : ℕ × Event). y.0) a))
+              | inr (inr a) ↦ absurd a
+            ]),
+          );
+          ascending = in-order-more ◌<◌ ts x.0 old.ascending (λ u j. let found = (old.exactly u).0 j in passed u found.0 found.1);
+        },
+        omega arith,
+      )
+
+  pub among-same : (Directly e x.1 → ⊥) → CountsAmong e (take (i + 1) l) n
+  among-same none =
+      let old = counted.1 in
+      subst (λ (k : Live). CountsAmong e k n) (sym next) (
+        counted.0,
+        record {
+          exactly = λ u. (
+            (λ j. let found = (old.exactly u).0 j in (found.0, in-left (u, found.0) (take i l) (x ∷ []) found.1, found.2)),
+            (λ h. elim (in-parts (u, h.0) (take i l) (x ∷ []) h.1) [
+              | inl a ↦ (old.exactly u).1 (h.0, a, h.2)
+              | inr (inl a) ↦ absurd (none (subst (λ (f : Event). Directly e f) (ap (λ (y : ℕ × Event). y.1) a) h.2))
+              | inr (inr a) ↦ absurd a
+            ]),
+          );
+          ascending = old.ascending;
+        },
+        counted.2,
+      )
+
+module _ (l : Live) (t place : ℕ) (e : Event) (r : IsRising l) (at : slice_get l place ≡ Some (t, e)) where
+  split : (between : ℕ) × Rising 0 (take place l) between × Rising between ((t, e) ∷ drop (suc place) l) r.0
+  split = rising-parts 0 r.0 (take place l) ((t, e) ∷ drop (suc place) l) (subst (λ (k : Live). Rising 0 k r.0) (parts-at l place (t, e) at) r.1)
+
+  -- the tickets after an entry
+  pub rising-after : Rising (suc t) (drop (suc place) l) r.0
+  rising-after = split.2.1
+
+  after-live : (u : ℕ) (f : Event) → LiveAt (drop (suc place) l) u f → LiveAt l u f
+  after-live u f i =
+      subst (λ (k : Live). LiveAt k u f) (sym (parts-at l place (t, e) at)) (in-right (u, f) (take place l) ((t, e) ∷ drop (suc place) l) (inr i))
+
+  live-after : (u : ℕ) (f : Event) → LiveAt l u f → t < u → LiveAt (drop (suc place) l) u f
+  live-after u f i less =
+      elim (in-parts (u, f) (take place l) ((t, e) ∷ drop (suc place) l) (subst (λ (k : Live). LiveAt k u f) (parts-at l place (t, e) at) i)) [
+        | inl a ↦
+            let low : u < split.0 = (rising-in 0 split.0 (take place l) u f split.1 a).1 in
+            let high : split.0 ≤ t = split.2.0 in
+            absurd (omega arith)
+        | inr (inl a) ↦ let is : u ≡ t = ap (λ (y : ℕ × Event). y.0) a in absurd (omega arith)
+        | inr (inr a) ↦ a
+      ]
+
+  here-live : LiveAt l t e
+  here-live = subst (λ (k : Live). LiveAt k t e) (sym (parts-at l place (t, e) at)) (in-right (t, e) (take place l) ((t, e) ∷ drop (suc place) l) (inl refl))
+
+  pub counts-direct : (n : ℕ) → CountsAmong e (drop (suc place) l) n → CountsDirect l t n
+  counts-direct n counted = (
+    counted.0,
+    record {
+      exactly = λ u. (
+        (λ j.
+            let found = (counted.1.exactly u).0 j in
+            let above : suc t ≤ u = (rising-in (suc t) r.0 (drop (suc place) l) u found.0 rising-after found.1).0 in
+            record {
+              event = e;
+              dependent = found.0;
+              live = here-live;
+              dependent_live = after-live u found.0 found.1;
+              less = omega arith;
+              direct = found.2;
+            }),
+        (λ d. (counted.1.exactly u).1 (
+          d.dependent,
+          live-after u d.dependent d.dependent_live d.less,
+          subst (λ (g : Event). Directly g d.dependent) (rising-one 0 r.0 l t d.event e r.1 d.live here-live) d.direct,
+        )),
+      );
+      ascending = counted.1.ascending;
+    },
+    counted.2,
+  )
+
+-- one more live event is looked at
+pub candidate-next : (f : Event) (l : Live) (i : ℕ) (x : ℕ × Event) (b : Bool) (old new : List ℕ) → i < length l → x ≡ get_or l i x → IsTrue b ↔ Directly x.1 f →
+    new ≡ cond b (old ++ x.0 ∷ []) old → ((t : ℕ) → In t old ↔ ((e : Event) × LiveAt (take i l) t e × Directly e f)) →
+    (t : ℕ) → In t new ↔ ((e : Event) × LiveAt (take (i + 1) l) t e × Directly e f)
+candidate-next f l i x b old new less is told now before t = pick b refl now
+  where
+    next : take (i + 1) l ≡ take i l ++ x ∷ []
+    next =
+        let more : i + 1 ≡ suc i = omega arith in
+        ap (λ (k : ℕ). take k l) more ∙ take-next l i x (slice_get-get_or l i x less ∙ ap (λ (y : ℕ × Event). Some y) (sym is))
+
+    pick : (c : Bool) → b ≡ c → new ≡ cond c (old ++ x.0 ∷ []) old → In t new ↔ ((e : Event) × LiveAt (take (i + 1) l) t e × Directly e f)
+    pick true on is_new = subst (λ (k : Live). In t new ↔ ((e : Event) × LiveAt k t e × Directly e f)) (sym next)
+        (subst (λ (k : List ℕ). In t k ↔ ((e : Event) × LiveAt (take i l ++ x ∷ []) t e × Directly e f)) (sym is_new) (
+          (λ j. elim (in-parts t old (x.0 ∷ []) j) [
+            | inl a ↦ let found = (before t).0 a in (found.0, in-left (t, found.0) (take i l) (x ∷ []) found.1, found.2)
+            | inr (inl a) ↦ (x.1, in-right (t, x.1) (take i l) (x ∷ []) (inl (ap (λ (v : ℕ). (v, x.1)) a)), told.0 on)
+            | inr (inr a) ↦ absurd a
+          ]),
+          (λ h. elim (in-parts (t, h.0) (take i l) (x ∷ []) h.1) [
+            | inl a ↦ in-left t old (x.0 ∷ []) ((before t).1 (h.0, a, h.2))
+            | inr (inl a) ↦ in-right t old (x.0 ∷ []) (inl (ap (λ (y : ℕ × Event). y.0) a))
+            | inr (inr a) ↦ absurd a
+          ]),
+        ))
+    pick false off is_new = subst (λ (k : Live). In t new ↔ ((e : Event) × LiveAt k t e × Directly e f)) (sym next)
+        (subst (λ (k : List ℕ). In t k ↔ ((e : Event) × LiveAt (take i l ++ x ∷ []) t e × Directly e f)) (sym is_new) (
+          (λ j. let found = (before t).0 j in (found.0, in-left (t, found.0) (take i l) (x ∷ []) found.1, found.2)),
+          (λ h. elim (in-parts (t, h.0) (take i l) (x ∷ []) h.1) [
+            | inl a ↦ (before t).1 (h.0, a, h.2)
+            | inr (inl a) ↦ let on : b ≡ true = told.1 (subst (λ (g : Event). Directly g f) (ap (λ (y : ℕ × Event). y.1) a) h.2) in cc
+            | inr (inr a) ↦ absurd a
+          ]),
+        ))
+
+-- all live events were looked at
+pub candidates-all : (f : Event) (l : Live) (i : ℕ) (found : List ℕ) → length l ≤ i → ((t : ℕ) → In t found ↔ ((e : Event) × LiveAt (take i l) t e × Directly e f)) →
+    Candidates l f found
+candidates-all f l i found past all =
+    let whole = take-all l i past in
+    record {
+      sound = λ t j. let h = (all t).0 j in (h.0, subst (λ (k : Live). LiveAt k t h.0) whole h.1, h.2);
+      complete = λ t e j d. (t, (all t).1 (e, subst (λ (k : Live). LiveAt k t e) (sym whole) j, d), same);
+    }
+
+-- what stands after an entry rises, and what is counted there is what depends directly on it
+pub after-rises : (l : Live) (t place : ℕ) (e : Event) → IsRising l → slice_get l place ≡ Some (t, e) → IsRising (drop (suc place) l)
+after-rises l t place e r at = (r.0, rising-lower 0 (suc t) r.0 (drop (suc place) l) (omega arith) (rising-after l t place e r at))
+
+-- what stands behind a place
+pub rest-is : (l : Live) (place : ℕ) → take (length l - (place + 1)) (drop (place + 1) l) ≡ drop (suc place) l
+rest-is l place =
+    let more : place + 1 ≡ suc place = omega arith in
+    let size = length-drop (place + 1) l in
+    take-all (drop (place + 1) l) (length l - (place + 1)) (omega arith) ∙ ap (λ (k : ℕ). drop k l) more

@@ -1,0 +1,235 @@
+-- Marks: what they stand for, and what the passes over them keep.
+use Rattle.std.proofs.Common.{◌≡◌, ◌⊎◌, ◌↔◌, inl, inr, ℕ, zero, suc, ◌+◌, ◌<◌, ◌≤◌, List, [], ◌∷◌, ◌++◌, Bool, true, false, cond, length, take, get_or, Some, refl, sym, ◌∙◌, ap, subst, arith}
+use Rattle.std.specs.Prelude.{slice_get, slice_set}
+use Rattle.std.specs.List.{count_by}
+use Rattle.std.proofs.lemmas.Bool.{cases_eq, cases_lt}
+use Rattle.std.proofs.lemmas.List.Sums.{sum_by-cons}
+use Rattle.std.proofs.lemmas.Option.{slice_get_within, slice_get-get_or}
+use Rattle.system.specs.Lists.{In}
+use Rattle.calculus.specs.InOrder.{InOrder}
+use Rattle.calculus.specs.Live.{Live, Rising, Follows, same, FollowersList}
+use Rattle.calculus.specs.declared.event.Event.{Event}
+use Rattle.calculus.proofs.Lists.{every-of, in-left, in-right, in-parts}
+use Rattle.calculus.proofs.Options.{none-some}
+use Rattle.calculus.proofs.Tickets.{rising-in}
+use Rattle.dependence.specs.Followers.{Follower, ListsFollowers, Reached, here, along}
+use Rattle.dependence.specs.Shown.{tickets_marked, Greatest}
+use Rattle.dependence.specs.walking.Tables.{IsRising}
+use Rattle.dependence.specs.walking.Marking.{MarkedAt, MarkedBelow}
+use Rattle.dependence.proofs.ListPlaces.{in-at, at-one, take-next, set-here, set-other}
+use Rattle.dependence.proofs.Linking.{one-place}
+use Rattle.dependence.proofs.Standing.{lesser-stands}
+use Rattle.dependence.proofs.Following.{follows-on}
+use Rattle.dependence.proofs.FollowerLaws.{direct-follows, reached-through-followers}
+
+marked-in : (l : Live) (marks : List Bool) (t i : ℕ) (e : Event) → slice_get l i ≡ Some (t, e) → slice_get marks i ≡ Some true → In t (tickets_marked l marks)
+marked-in [] marks t i e at on = none-some (t, e) at
+marked-in (x ∷ l) [] t i e at on = none-some true on
+marked-in (x ∷ l) (true ∷ marks) t zero e at on = inl (sym (ap (λ (y : ℕ × Event). y.0) (at-one (x ∷ l) zero x (t, e) refl at)))
+marked-in (x ∷ l) (false ∷ marks) t zero e at on = cc
+marked-in (x ∷ l) (true ∷ marks) t (suc i) e at on = inr (marked-in l marks t i e at on)
+marked-in (x ∷ l) (false ∷ marks) t (suc i) e at on = marked-in l marks t i e at on
+
+-- one place further
+further : (x : ℕ × Event) (l : Live) (m : Bool) (marks : List Bool) (t : ℕ) → MarkedAt l marks t → MarkedAt (x ∷ l) (m ∷ marks) t
+further x l m marks t h = (suc h.0, h.1, h.2)
+
+in-marked : (l : Live) (marks : List Bool) (t : ℕ) → In t (tickets_marked l marks) → MarkedAt l marks t
+in-marked [] marks t i = absurd i
+in-marked (x ∷ l) [] t i = absurd i
+in-marked (x ∷ l) (true ∷ marks) t i =
+    elim i [
+      | inl is ↦ (zero, (x.1, ap (λ (v : ℕ). Some (v, x.1)) (sym is)), refl)
+      | inr later ↦ further x l true marks t (in-marked l marks t later)
+    ]
+in-marked (x ∷ l) (false ∷ marks) t i = further x l false marks t (in-marked l marks t i)
+
+pub is-marked : (l : Live) (marks : List Bool) (t : ℕ) → In t (tickets_marked l marks) ↔ MarkedAt l marks t
+is-marked l marks t = (in-marked l marks t, λ h. marked-in l marks t h.0 h.1.0 h.1.1 h.2)
+
+pub marked-ascend : (low next : ℕ) (l : Live) (marks : List Bool) → Rising low l next → InOrder ◌<◌ (tickets_marked l marks)
+marked-ascend low next [] marks r = tt
+marked-ascend low next (x ∷ l) [] r = tt
+marked-ascend low next (x ∷ l) (true ∷ marks) r = (
+  every-of (λ u. x.0 < u) (tickets_marked l marks) (λ u i.
+      let at = in-marked l marks u i in
+      let above : suc x.0 ≤ u = (rising-in (suc x.0) next l u at.1.0 r.1 (in-at l at.0 (u, at.1.0) at.1.1)).0 in
+      omega arith),
+  marked-ascend (suc x.0) next l marks r.1,
+)
+marked-ascend low next (x ∷ l) (false ∷ marks) r = marked-ascend (suc x.0) next l marks r.1
+
+pub marked-count : (l : Live) (marks : List Bool) → length marks ≡ length l → count_by (λ m. m) marks ≡ length (tickets_marked l marks)
+marked-count [] [] h = refl
+marked-count [] (m ∷ marks) h = absurd (omega arith)
+marked-count (x ∷ l) [] h = absurd (omega arith)
+marked-count (x ∷ l) (true ∷ marks) h =
+    let rest : length marks ≡ length l = omega arith in
+    let more = marked-count l marks rest in
+    let step = sum_by-cons (λ (m : Bool). cond m 1 0) true marks in
+    omega arith
+marked-count (x ∷ l) (false ∷ marks) h =
+    let rest : length marks ≡ length l = omega arith in
+    let more = marked-count l marks rest in
+    let step = sum_by-cons (λ (m : Bool). cond m 1 0) false marks in
+    omega arith
+
+-- a mark is set at the place of a ticket
+module _ (low next : ℕ) (l : Live) (marks : List Bool) (t place : ℕ) (e : Event) (r : Rising low l next) (size : length marks ≡ length l) (stands : slice_get l place ≡ Some (t, e)) where
+  within : place < length marks
+  within = let inside : place < length l = slice_get_within l place (t, e) stands in omega arith
+
+  pub set-marked : (u : ℕ) → MarkedAt l (slice_set marks place true) u ↔ (MarkedAt l marks u ⊎ (u ≡ t))
+  set-marked u = (
+    (λ h. elim (cases_eq h.0 place) [
+      | inl is ↦ inr (ap (λ (x : ℕ × Event). x.0) (at-one l place (u, h.1.0) (t, e) (subst (λ (i : ℕ). slice_get l i ≡ Some (u, h.1.0)) is h.1.1) stands))
+      | inr differs ↦ inl (h.0, h.1, sym (set-other marks place h.0 true differs) ∙ h.2)
+    ]),
+    (λ h. elim h [
+      | inl old ↦ elim (cases_eq old.0 place) [
+        | inl is ↦ (old.0, old.1, subst (λ (i : ℕ). slice_get (slice_set marks place true) i ≡ Some true) (sym is) (set-here marks place true within))
+        | inr differs ↦ (old.0, old.1, set-other marks place old.0 true differs ∙ old.2)
+      ]
+      | inr is ↦ (place, (e, stands ∙ ap (λ (v : ℕ). Some (v, e)) (sym is)), set-here marks place true within)
+    ]),
+  )
+
+-- nothing was marked, and now t alone is
+pub marked-first : (low next : ℕ) (l : Live) (marks : List Bool) (t place : ℕ) (e : Event) → Rising low l next → length marks ≡ length l → slice_get l place ≡ Some (t, e) →
+    ((i : ℕ) → slice_get marks i ≡ Some true → ⊥) → MarkedBelow l t place (slice_set marks place true)
+marked-first low next l marks t place e r size stands none =
+    let only : (u : ℕ) → MarkedAt l (slice_set marks place true) u → u ≡ t = λ u h.
+    elim ((set-marked low next l marks t place e r size stands u).0 h) [ inl old ↦ absurd (none old.0 old.2) | inr is ↦ is ] in
+    record {
+      sound = λ u h. subst (λ (v : ℕ). Follows l t v) (sym (only u h)) same;
+      start = (set-marked low next l marks t place e r size stands t).1 (inr refl);
+      onward = λ s u i at low_i h f.
+          let is : s ≡ t = only s h in
+          let one : i ≡ place = one-place low next l t at.0 e i place r (subst (λ (v : ℕ). slice_get l i ≡ Some (v, at.0)) is at.1) stands in
+          absurd (omega arith);
+    }
+
+-- the place is passed: the followers of its event are marked if it is
+module _ (low next : ℕ) (l : Live) (t place s : ℕ) (e : Event) (old new : List Bool) (r : Rising low l next) (stands : slice_get l place ≡ Some (s, e)) (b : MarkedBelow l t place old) where
+  pub pass-marked : (followers : List ℕ) → slice_get old place ≡ Some true → ListsFollowers l s followers →
+      ((u : ℕ) → MarkedAt l new u ↔ (MarkedAt l old u ⊎ In u followers)) → MarkedBelow l t (suc place) new
+  pass-marked followers on lists both = record {
+    sound = λ u h. elim ((both u).0 h) [
+      | inl before ↦ b.sound u before
+      | inr added ↦ follows-on l t s u (b.sound s (place, (e, stands), on)) (direct-follows l s u ((lists.exactly u).0 added).dependent)
+    ];
+    start = (both t).1 (inl b.start);
+    onward = λ v u i at less h f. elim (cases_lt i place) [
+      | inl below ↦ elim ((both v).0 h) [
+        | inl before ↦ (both u).1 (inl (b.onward v u i at below before f))
+        | inr added ↦
+            let up : s < v = ((lists.exactly v).0 added).dependent.less in
+            let above : place < i = lesser-stands low next l place i s v e at.0 r stands at.1 up in
+            absurd (omega arith)
+      ]
+      | inr high ↦
+          let is : i ≡ place = omega arith in
+          let one : v ≡ s = ap (λ (x : ℕ × Event). x.0) (at-one l place (v, at.0) (s, e) (subst (λ (k : ℕ). slice_get l k ≡ Some (v, at.0)) is at.1) stands) in
+          (both u).1 (inr ((lists.exactly u).1 (subst (λ (k : ℕ). Follower l k u) one f)))
+    ];
+  }
+
+  pub pass-unmarked : slice_get old place ≡ Some false → MarkedBelow l t (suc place) old
+  pass-unmarked off = record {
+    sound = b.sound;
+    start = b.start;
+    onward = λ v u i at less h f. elim (cases_lt i place) [
+      | inl below ↦ b.onward v u i at below h f
+      | inr high ↦
+          let is : i ≡ place = omega arith in
+          let same_place : h.0 ≡ i = one-place low next l v h.1.0 at.0 h.0 i r h.1.1 at.1 in
+          let on : slice_get old place ≡ Some true = subst (λ (k : ℕ). slice_get old k ≡ Some true) (same_place ∙ is) h.2 in
+          let both : true ≡ false = at-one old place true false on off in
+          cc
+    ];
+  }
+
+-- once all places are passed, the marks are those of all that depends on t
+pub all-passed : (low next : ℕ) (l : Live) (t place : ℕ) (marks : List Bool) → Rising low l next → length l ≤ place → MarkedBelow l t place marks →
+    FollowersList l t (tickets_marked l marks)
+all-passed low next l t place marks r past b =
+    record {
+      exactly = λ u. (
+        (λ i.
+            let at = (is-marked l marks u).0 i in
+            (at.1.0, in-at l at.0 (u, at.1.0) at.1.1, b.sound u at)),
+        (λ h. (is-marked l marks u).1 (reached u ((reached-through-followers low next l t u r).0 h.2))),
+      );
+      ascending = marked-ascend low next l marks r;
+    }
+  where
+    reached : (u : ℕ) → Reached l t u → MarkedAt l marks u
+    reached u here = b.start
+    reached u (along {u = v} before f) =
+        let at = reached v before in
+        let within : at.0 < length l = slice_get_within l at.0 (v, at.1.0) at.1.1 in
+        b.onward v u at.0 at.1 (omega arith) at f
+
+-- one more ticket is marked
+pub marked-next : (l : Live) (first marks : List Bool) (tickets : List ℕ) (i place : ℕ) (e : Event) → IsRising l → length marks ≡ length l → i < length tickets →
+    slice_get l place ≡ Some (get_or tickets i 0, e) → ((u : ℕ) → MarkedAt l marks u ↔ (MarkedAt l first u ⊎ In u (take i tickets))) →
+    (u : ℕ) → MarkedAt l (slice_set marks place true) u ↔ (MarkedAt l first u ⊎ In u (take (i + 1) tickets))
+marked-next l first marks tickets i place e r size less stands before u =
+    let t : ℕ = get_or tickets i 0 in
+    let more : i + 1 ≡ suc i = omega arith in
+    let next : take (i + 1) tickets ≡ take i tickets ++ t ∷ [] =
+    ap (λ (k : ℕ). take k tickets) more ∙ take-next tickets i t (slice_get-get_or tickets i 0 less) in
+    let both = set-marked 0 r.0 l marks t place e r.1 size stands u in (
+      (λ h. elim (both.0 h) [
+        | inl old ↦ elim ((before u).0 old) [
+          | inl a ↦ inl a
+          | inr a ↦ inr (subst (λ (k : List ℕ). In u k) (sym next) (in-left u (take i tickets) (t ∷ []) a))
+        ]
+        | inr is ↦ inr (subst (λ (k : List ℕ). In u k) (sym next) (in-right u (take i tickets) (t ∷ []) (inl is)))
+      ]),
+      (λ h. both.1 (elim h [
+        | inl a ↦ inl ((before u).1 (inl a))
+        | inr a ↦ elim (in-parts u (take i tickets) (t ∷ []) (subst (λ (k : List ℕ). In u k) next a)) [
+          | inl b ↦ inl ((before u).1 (inr b))
+          | inr (inl b) ↦ inr b
+          | inr (inr b) ↦ absurd b
+        ]
+      ])),
+    )
+
+-- one more place is without a mark
+pub none-marked : (marks : List Bool) (place : ℕ) → place < length marks → get_or marks place false ≡ false →
+    ((k : ℕ) → suc place ≤ k → slice_get marks k ≡ Some true → ⊥) → (k : ℕ) → place ≤ k → slice_get marks k ≡ Some true → ⊥
+none-marked marks place less off none k up on =
+    elim (cases_eq k place) [
+      | inl is ↦
+          let here : slice_get marks place ≡ Some true = subst (λ (i : ℕ). slice_get marks i ≡ Some true) is on in
+          let both : true ≡ false = at-one marks place true false here (slice_get-get_or marks place false less ∙ ap (λ (b : Bool). Some b) off) in
+          cc
+      | inr differs ↦ none k (omega arith) on
+    ]
+
+-- the last of the marked places has the greatest ticket
+pub last-greatest : (l : Live) (marks : List Bool) (place : ℕ) (x : ℕ × Event) → IsRising l → slice_get l place ≡ Some x → slice_get marks place ≡ Some true →
+    ((k : ℕ) → suc place ≤ k → slice_get marks k ≡ Some true → ⊥) → Greatest (tickets_marked l marks) x.0
+last-greatest l marks place x r at on none = record {
+  inside = (is-marked l marks x.0).1 (place, (x.1, at), on);
+  greatest = λ u i.
+      let h = (is-marked l marks u).0 i in
+      elim (cases_lt x.0 u) [
+        | inl more ↦
+            let later : place < h.0 = lesser-stands 0 r.0 l place h.0 x.0 u x.1 h.1.0 r.1 at h.1.1 more in
+            absurd (none h.0 (omega arith) h.2)
+        | inr less ↦ less
+      ];
+}
+
+-- without marks there are no marked tickets
+pub none-at-all : (l : Live) (marks : List Bool) → ((k : ℕ) → 0 ≤ k → slice_get marks k ≡ Some true → ⊥) → tickets_marked l marks ≡ []
+none-at-all l marks none = pick (tickets_marked l marks) refl
+  where
+    pick : (ts : List ℕ) → tickets_marked l marks ≡ ts → tickets_marked l marks ≡ []
+    pick [] is = is
+    pick (t ∷ ts) is =
+        let h = (is-marked l marks t).0 (subst (λ (k : List ℕ). In t k) (sym is) (inl refl)) in
+        absurd (none h.0 (omega arith) h.2)

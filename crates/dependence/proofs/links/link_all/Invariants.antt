@@ -1,0 +1,8 @@
+use Rattle.std.proofs.Common.{ℕ, take}
+use Rattle.system.specs.Lists.{In}
+use Rattle.dependence.specs.walking.Tables.{PartLinked}
+use Rattle.dependence.proofs.links.link_all.Given as goal
+
+-- the ticket is behind the followers of those that are passed
+abbrev pub invariant-loop-done : goal.invariant-loop-done
+invariant-loop-done l = PartLinked l.live l.ticket (λ (t : ℕ). In t (take l.done l.leads)) l.links

@@ -1,0 +1,23 @@
+use Rattle.std.proofs.Common.{ℕ, ◌<◌, sym, subst}
+use Rattle.calculus.specs.Live.{LiveAt}
+use Rattle.calculus.specs.declared.event.Event.{Event}
+use Rattle.dependence.specs.Shown.{Shown}
+use Rattle.dependence.proofs.ShownStates.{shown-added, shown-same, ok-so, err-so}
+use Rattle.dependence.proofs.live.Live.add.Goals as goal
+
+pub add_event-requires : goal.add_event-requires
+add_event-requires c = record {
+  whole = c.self.invariant;
+  above = subst (λ (s : Shown). (t : ℕ) (e : Event) → LiveAt s.live t e → t < c.args.ticket) (sym c.self.view_is) c.requires;
+}
+
+pub returns : goal.returns
+returns c = record {
+  added = ok-so c.add_event.result _ _
+      (λ both. shown-added c.args.self.now c.self.inside.pairs.items c.add_event.new.pairs.items _ _ c.args.ticket c.args.event c.self.view_is both.0 both.1)
+      c.add_event.ensures.added;
+  refused = err-so c.add_event.result _ _ (λ back h. (
+    h.0,
+    shown-same c.args.self.now c.self.inside.pairs.items c.add_event.new.pairs.items c.self.inside.marks.items c.add_event.new.marks.items c.self.view_is h.1 h.2,
+  )) c.add_event.ensures.refused;
+}

@@ -1,0 +1,21 @@
+use Rattle.std.proofs.Common.{◌≡◌, ℕ, sym, subst}
+use Rattle.calculus.specs.Dependence.{Without}
+use Rattle.calculus.specs.Live.{LiveAt, NoDependent, WithoutTickets}
+use Rattle.dependence.specs.Shown.{Shown, tickets_marked}
+use Rattle.dependence.specs.walking.Tables.{IsLive}
+use Rattle.dependence.proofs.live.Live.take.Goals as goal
+
+pub take_event-requires : goal.take_event-requires
+take_event-requires c = record {
+  whole = c.self.invariant;
+  live = subst (λ (s : Shown). IsLive s.live c.args.ticket) (sym c.self.view_is) c.requires.live;
+  alone = subst (λ (s : Shown). NoDependent s.live c.args.ticket) (sym c.self.view_is) c.requires.alone;
+}
+
+pub returns : goal.returns
+returns c = record {
+  event = subst (λ (s : Shown). LiveAt s.live c.args.ticket c.take_event.result) c.self.view_is c.take_event.ensures.event;
+  live = subst (λ (s : Shown). WithoutTickets (λ t. t ≡ c.args.ticket) s.live c.take_event.new.pairs.items) c.self.view_is c.take_event.ensures.live;
+  marked = subst (λ (s : Shown). Without (λ (t : ℕ). t ≡ c.args.ticket) s.marked (tickets_marked c.take_event.new.pairs.items c.take_event.new.marks.items)) c.self.view_is
+      c.take_event.ensures.marked;
+}

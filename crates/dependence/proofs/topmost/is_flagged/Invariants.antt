@@ -1,0 +1,7 @@
+use Rattle.std.proofs.Common.{ℕ, take}
+use Rattle.system.specs.Lists.{In}
+use Rattle.dependence.specs.walking.Sweeping.{FlagAt}
+use Rattle.dependence.proofs.topmost.is_flagged.Given as goal
+
+abbrev pub invariant-loop-ticket : goal.invariant-loop-ticket
+invariant-loop-ticket l = (t : ℕ) → In t (take l.ticket-index l.tickets) → FlagAt l.live l.high l.flags t → ⊥

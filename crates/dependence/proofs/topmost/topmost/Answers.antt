@@ -1,0 +1,74 @@
+use Rattle.std.proofs.Common.{◌≡◌, ◌∙◌, ◌<◌, ◌-◌, ◌+◌, ◌↔◌, ℕ, suc, List, Bool, [], ◌∷◌, ◌++◌, cond, length, get_or, IsTrue, sym, ap, subst, arith}
+use Rattle.system.specs.Expression.{is_in}
+use Rattle.calculus.specs.declared.event.Event.{Event}
+use Rattle.system.specs.Lists.{In}
+use Rattle.dependence.specs.Followers.{ListsFollowers}
+use Rattle.dependence.specs.walking.Sweeping.{FlagAt, Swept}
+use Rattle.dependence.proofs.Linking.{linked-here}
+use Rattle.dependence.proofs.ListPlaces.{got-here}
+use Rattle.dependence.proofs.Standing.{lesser-stands}
+use Rattle.dependence.proofs.Sweeps.{swept-none, swept-next, swept-all}
+use Rattle.dependence.proofs.topmost.topmost.Goals as goal
+
+pub is_flagged-below-requires-clause-live : goal.is_flagged-below-requires-clause-live
+is_flagged-below-requires-clause-live c = λ t i.
+    let p : ℕ = c.loop-place.place - 1 in
+    let less : p < length c.args.live.now = omega arith in
+    let here = linked-here c.args.live.now c.args.links.now p c.index-links-place.result c.requires.linked less in
+    let f = (here.followers.exactly t).0 (subst (λ (k : List ℕ). In t k) c.as_slice-in-loop-place.ensures.value i) in
+    (f.dependent.dependent, f.dependent.dependent_live)
+
+pub is_flagged-below-requires-clause-passed : goal.is_flagged-below-requires-clause-passed
+is_flagged-below-requires-clause-passed c = λ t i j on.
+    let p : ℕ = c.loop-place.place - 1 in
+    let less : p < length c.args.live.now = omega arith in
+    let here = linked-here c.args.live.now c.args.links.now p c.index-links-place.result c.requires.linked less in
+    let f = (here.followers.exactly t).0 (subst (λ (k : List ℕ). In t k) c.as_slice-in-loop-place.ensures.value j) in
+    let above : p < i = lesser-stands 0 c.requires.rising.0 c.args.live.now p i here.ticket t here.event on.0 c.requires.rising.1 here.stands on.1 f.dependent.less in
+    let count : c.loop-place.place + length c.loop-place.flags.items ≡ c.args.high = c.loop-place.invariant.swept.count in
+    let size : length c.as_slice.result.now ≡ length c.loop-place.flags.items = ap length c.as_slice.ensures.value in
+    omega arith
+
+pub loop-place-init : goal.loop-place-init
+loop-place-init c =
+    let first = swept-none c.args.live.now c.args.candidates.now c.args.low c.args.high c.requires.stand c.requires.rising.0 0 c.requires.rising.1 in
+    record {
+      low = c.requires.order;
+      high = omega arith;
+      swept = subst (λ (k : List Bool). Swept c.args.live.now c.args.candidates.now c.args.high c.args.high k c.new-kept.result.items) (sym c.new-flags.ensures.items)
+          (subst (λ (k : List ℕ). Swept c.args.live.now c.args.candidates.now c.args.high c.args.high [] k) (sym c.new-kept.ensures.items) first);
+    }
+
+pub loop-place-preserved : goal.loop-place-preserved
+loop-place-preserved c =
+    let p : ℕ = c.loop-place.place - 1 in
+    let less : p < length c.args.live.now = omega arith in
+    let below : p < c.args.high = omega arith in
+    let step : suc p ≡ c.loop-place.place = omega arith in
+    let here = linked-here c.args.live.now c.args.links.now p c.index-links-place.result c.requires.linked less in
+    let ticket : (get_or c.args.live.now p c.index-live-place.result).0 ≡ here.ticket =
+    ap (λ (x : ℕ × Event). x.0) (got-here c.args.live.now p (here.ticket, here.event) c.index-live-place.result here.stands) in
+    let ticket_again : (get_or c.args.live.now p c.index-live-place-in-loop-place.result).0 ≡ here.ticket =
+    ap (λ (x : ℕ × Event). x.0) (got-here c.args.live.now p (here.ticket, here.event) c.index-live-place-in-loop-place.result here.stands) in
+    let flags : c.as_slice.result.now ≡ c.loop-place.flags.items = c.as_slice.ensures.value in
+    let told : IsTrue c.is_flagged-below.result ↔ ((v : ℕ) × In v c.as_slice-in-loop-place.result.now × FlagAt c.args.live.now c.args.high c.loop-place.flags.items v) =
+    subst (λ (k : List Bool). IsTrue c.is_flagged-below.result ↔ ((v : ℕ) × In v c.as_slice-in-loop-place.result.now × FlagAt c.args.live.now c.args.high k v)) flags
+    c.is_flagged-below.ensures in
+    record {
+      low = omega arith;
+      high = omega arith;
+      swept = swept-next 0 c.requires.rising.0 c.args.live.now c.args.candidates.now c.args.low c.args.high c.loop-place.place p here.ticket here.event
+          c.loop-place.flags.items c.push.new.self.items c.loop-place.kept.items c.add_if.new.found.items c.as_slice-in-loop-place.result.now
+          c.is_among-is_one.result c.is_flagged-below.result c.either.result c.alone.result c.requires.rising.1 c.requires.stand step here.stands below
+          (subst (λ (k : List ℕ). ListsFollowers c.args.live.now here.ticket k) (sym c.as_slice-in-loop-place.ensures.value) here.followers)
+          c.loop-place.invariant.swept
+          (c.is_among-is_one.ensures ∙ ap (λ (k : ℕ). is_in k c.args.candidates.now) ticket) told c.either.ensures c.alone.ensures c.in_ok-push.ensures.items
+          (c.in_ok-add_if.ensures ∙ ap (λ (k : ℕ). cond c.alone.result (c.loop-place.kept.items ++ k ∷ []) c.loop-place.kept.items) ticket_again);
+    }
+
+pub returns : goal.returns
+returns c = record {
+  falling = c.loop-place.invariant.swept.falling;
+  topmost = swept-all 0 c.requires.rising.0 c.args.live.now c.args.candidates.now c.args.low c.args.high c.loop-place.place c.loop-place.flags.items
+      c.loop-place.kept.items c.requires.rising.1 c.requires.stand c.loop-place-test.false c.loop-place.invariant.swept;
+}

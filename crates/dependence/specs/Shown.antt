@@ -1,0 +1,26 @@
+-- What callers see of a `Live`: the live events with their tickets, and the tickets that are marked.
+use Rattle.std.specs.Prelude.{ℕ, ◌≤◌, List, [], ◌∷◌, ◌++◌, Bool, true, false}
+use Rattle.system.specs.Lists.{In}
+use Rattle.calculus.specs.Live.{Live}
+use Rattle.calculus.specs.declared.event.Event.{Event}
+
+-- the live events with their tickets, in order of tickets, and the tickets that are marked, ascending
+pub record Shown : Type 0 where
+  pub live : Live
+  pub marked : List ℕ
+
+-- one more event, which has no mark
+abbrev pub with_event : Shown → ℕ → Event → Shown
+with_event s t e = record { live = s.live ++ (t, e) ∷ []; marked = s.marked }
+
+-- t is the greatest of these tickets
+pub record Greatest (tickets : List ℕ) (t : ℕ) : Type 0 where
+  pub inside : In t tickets
+  pub greatest : (u : ℕ) → In u tickets → u ≤ t
+
+-- the tickets at the places that are marked
+abbrev pub tickets_marked : Live → List Bool → List ℕ
+tickets_marked [] marks = []
+tickets_marked (x ∷ l) [] = []
+tickets_marked (x ∷ l) (true ∷ marks) = x.0 ∷ tickets_marked l marks
+tickets_marked (x ∷ l) (false ∷ marks) = tickets_marked l marks

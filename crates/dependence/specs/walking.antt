@@ -1,0 +1,4 @@
+pub mod Marking
+pub mod Sweeping
+pub mod Tables
+pub mod Whole

@@ -1,0 +1,16 @@
+-- Marks beside the live events, at the same places.
+-- No reader has to believe it: the proof of `mark_dependents` ties it to `FollowersList` of `calculus`.
+use Rattle.std.specs.Prelude.{◌≡◌, ℕ, ◌<◌, List, Bool, true, Some, slice_get}
+use Rattle.calculus.specs.Live.{Live, Follows}
+use Rattle.dependence.specs.Followers.{Follower}
+use Rattle.dependence.specs.walking.Tables.{StandsAt}
+
+-- the event of ticket t is marked
+abbrev pub MarkedAt : Live → List Bool → ℕ → Type 0
+MarkedAt l marks t = (i : ℕ) × StandsAt l t i × (slice_get marks i ≡ Some true)
+
+-- t and only what depends on it is marked, and the followers of all that is marked below the place
+pub record MarkedBelow (l : Live) (t place : ℕ) (marks : List Bool) : Type 0 where
+  pub sound : (u : ℕ) → MarkedAt l marks u → Follows l t u
+  pub start : MarkedAt l marks t
+  pub onward : (s u i : ℕ) → StandsAt l s i → i < place → MarkedAt l marks s → Follower l s u → MarkedAt l marks u

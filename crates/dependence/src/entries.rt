@@ -1,0 +1,118 @@
+// A new event in the tables, and one taken out of them.
+ghost use Rattle.std.specs.Prelude.{◌≡◌, ◌<◌, ◌++◌, ◌∷◌, [], ℕ, List, false, length, vec_len, ◌↔◌, IfOk, OnOk, OnErr};
+ghost use Rattle.std.specs.List.{remove};
+ghost use Rattle.std.specs.Vec.{vec_capacity};
+ghost use Rattle.system.specs.Lists.{In};
+ghost use Rattle.calculus.specs.Live.{Rising, LiveAt, NoDependent};
+ghost use Rattle.dependence.specs.declared.links.Links.{Links};
+ghost use Rattle.dependence.specs.walking.Tables.{IsRising, IsLive, StandsAt, Falling, Linked, PartLinked, Candidates, Topmost, LinkedBehind};
+
+use crate::candidates::candidates;
+use crate::links::{Links, link_all, unlink_all};
+use crate::places::place_of_live;
+use crate::topmost::topmost;
+use calculus::Event;
+use std::alloc::{AllocError, Global};
+
+/// The tickets of the live events that a new event follows, falling.
+pub(crate) fn leads_of(
+    alloc: Global,
+    live: &[(u64, Event)],
+    links: &[Links],
+    event: &Event,
+) -> Result<Vec<u64>, AllocError>
+    requires rising { IsRising live.now }
+    requires linked { Linked live.now links.now }
+    ensures falling { IfOk result (λ leads. Falling leads.items) }
+    ensures topmost { IfOk result (λ leads. (found : List ℕ) × Candidates live.now event.now found × ((t : ℕ) → In t leads.items ↔ Topmost live.now found t)) }
+{
+    let found = candidates(alloc, live, event)?;
+    topmost(alloc, live, links, found.as_slice(), 0, live.len())
+}
+
+/// Links a new event to those that it follows. Without memory for it the tables are as before.
+pub(crate) fn link_new(
+    alloc: Global,
+    live: &[(u64, Event)],
+    links: &mut Vec<Links>,
+    leads: Vec<u64>,
+    ticket: u64,
+) -> Result<(), AllocError>
+    requires rising { Rising 0 live.now ticket }
+    requires live { (t : ℕ) → In t leads.items → IsLive live.now t }
+    requires falling { Falling leads.items }
+    requires linked { PartLinked live.now ticket (λ t. In t []) links.old.items }
+    ensures ok { OnOk result (LinkedBehind live.now ticket leads.items links.new.items) }
+    ensures err { OnErr result (PartLinked live.now ticket (λ t. In t []) links.new.items) }
+{
+    link_all(live, links.as_mut_slice(), leads.as_slice(), ticket)?;
+    let entry = Links {
+        followers: Vec::new(alloc),
+        leads,
+    };
+    if let Err(refused) = links.push(entry) {
+        unlink_all(
+            live,
+            links.as_mut_slice(),
+            refused.value.leads.as_slice(),
+            ticket,
+        );
+        return Err(AllocError);
+    }
+    Ok(())
+}
+
+/// Room for one more event and its mark.
+pub(crate) fn make_room(
+    pairs: &mut Vec<(u64, Event)>,
+    marks: &mut Vec<bool>,
+) -> Result<(), AllocError>
+    ensures pairs { pairs.new.items ≡ pairs.old.items }
+    ensures marks { marks.new.items ≡ marks.old.items }
+    ensures room { OnOk result ((vec_len pairs.new < vec_capacity pairs.new) × (vec_len marks.new < vec_capacity marks.new)) }
+{
+    pairs.reserve(1)?;
+    marks.reserve(1)
+}
+
+/// Puts the event and its mark behind the others, where there is room for them.
+pub(crate) fn push_pair(
+    pairs: &mut Vec<(u64, Event)>,
+    marks: &mut Vec<bool>,
+    ticket: u64,
+    event: Event,
+)
+    requires pairs { vec_len pairs.old < vec_capacity pairs.old }
+    requires marks { vec_len marks.old < vec_capacity marks.old }
+    ensures pairs { pairs.new.items ≡ pairs.old.items ++ (ticket, event) ∷ [] }
+    ensures marks { marks.new.items ≡ marks.old.items ++ false ∷ [] }
+{
+    match pairs.push((ticket, event)) {
+        Ok(()) => {}
+        Err(_) => unreachable!(),
+    }
+    match marks.push(false) {
+        Ok(()) => {}
+        Err(_) => unreachable!(),
+    }
+}
+
+/// Takes the event at this place, on which no other depends, out of the tables.
+pub(crate) fn take_out(pairs: &mut Vec<(u64, Event)>, links: &mut Vec<Links>, place: usize) -> Event
+    requires rising { IsRising pairs.old.items }
+    requires linked { Linked pairs.old.items links.old.items }
+    requires alone { (t : ℕ) × StandsAt pairs.old.items t place × NoDependent pairs.old.items t }
+    ensures pairs { pairs.new.items ≡ remove pairs.old.items place }
+    ensures linked { Linked pairs.new.items links.new.items }
+    ensures event { (t : ℕ) → StandsAt pairs.old.items t place → LiveAt pairs.old.items t result }
+{
+    let (ticket, event) = pairs.remove(place);
+    let taken = links.remove(place);
+    unlink_all(
+        pairs.as_slice(),
+        links.as_mut_slice(),
+        taken.leads.as_slice(),
+        ticket,
+    );
+    event
+}

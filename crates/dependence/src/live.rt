@@ -1,0 +1,136 @@
+ghost use Rattle.std.specs.Prelude.{◌≡◌, ◌<◌, ℕ, [], length, Some, None, slice_get, MatchOption, IfErr, OnOk};
+ghost use Rattle.calculus.specs.Dependence.{Without};
+ghost use Rattle.calculus.specs.Live.{LiveAt, NoDependent, FirstDependent, FollowersList, WithoutTickets};
+ghost use Rattle.dependence.specs.Followers.{ListsFollowers, CountsDirect};
+ghost use Rattle.dependence.specs.Shown.{with_event, Greatest};
+ghost use Rattle.dependence.specs.walking.Tables.{IsLive};
+
+use crate::count::count_direct;
+use crate::links::Links;
+use crate::marks::{count_marked, last_marked, mark_dependents};
+use crate::whole::{add_event, followers_of, least_dependent, take_event};
+use calculus::Event;
+use std::alloc::Global;
+use std::marker::Model;
+
+/// The live events of an execution with their tickets, in order of tickets, the followers of each, and marks.
+#[derive(Drop)]
+pub struct Live {
+    alloc: Global,
+    pairs: Vec<(u64, Event)>,
+    links: Vec<Links>,
+    marks: Vec<bool>,
+}
+
+impl Model for Live {
+    ghost use Rattle.dependence.specs.Shown.{Shown, tickets_marked};
+
+    ghost Value = { Shown };
+
+    ghost use Rattle.dependence.specs.walking.Whole.{IsWhole};
+
+    ghost view = { λ live. record { live = live.pairs.items; marked = tickets_marked live.pairs.items live.marks.items } };
+
+    ghost invariant = { λ live. IsWhole live.pairs.items live.links.items live.marks.items };
+}
+
+impl Live {
+    /// No events. It takes no memory yet.
+    pub fn new(alloc: Global) -> Live
+        ensures { result ≡ record { live = []; marked = [] } }
+    {
+        Live {
+            alloc,
+            pairs: Vec::new(alloc),
+            links: Vec::new(alloc),
+            marks: Vec::new(alloc),
+        }
+    }
+
+    /// The ticket and the event at a place, counted from 0 in order of tickets; `None` past the last.
+    pub fn pair_at(&self, place: u64) -> Option<(u64, &Event)>
+        ensures { MatchOption result (slice_get self.now.live place ≡ None) (λ entry. slice_get self.now.live place ≡ Some (entry.0, entry.1.now)) }
+    {
+        match self.pairs.get(place as usize) {
+            Some(entry) => Some((entry.0, &entry.1)),
+            None => None,
+        }
+    }
+
+    /// The tickets of the followers of the live event of this ticket: of those that depend directly on it with no live event
+    /// between, ascending.
+    pub fn followers(&self, ticket: u64) -> &[u64]
+        requires { IsLive self.now.live ticket }
+        ensures { ListsFollowers self.now.live ticket result.now }
+    {
+        followers_of(self.pairs.as_slice(), self.links.as_slice(), ticket)
+    }
+
+    /// The least ticket of another live event that depends on the live event of this ticket.
+    pub fn first_dependent(&self, ticket: u64) -> Option<u64>
+        requires { IsLive self.now.live ticket }
+        ensures { MatchOption result (NoDependent self.now.live ticket) (λ u. FirstDependent self.now.live ticket u) }
+    {
+        least_dependent(self.pairs.as_slice(), self.links.as_slice(), ticket)
+    }
+
+    /// How many live events depend directly on the live event of this ticket.
+    pub fn count(&self, ticket: u64) -> u64
+        requires { IsLive self.now.live ticket }
+        ensures { CountsDirect self.now.live ticket result }
+    {
+        count_direct(self.pairs.as_slice(), ticket) as u64
+    }
+
+    /// Marks the live event of this ticket and all live events that depend on it, and no others; how many they are. The marks
+    /// stay until the next marking.
+    pub fn mark_consequences(&mut self, ticket: u64) -> u64
+        requires { IsLive self.old.live ticket }
+        ensures live { self.new.live ≡ self.old.live }
+        ensures marked { FollowersList self.old.live ticket self.new.marked }
+        ensures counted { result ≡ length self.new.marked }
+    {
+        mark_dependents(
+            self.pairs.as_slice(),
+            self.links.as_slice(),
+            self.marks.as_mut_slice(),
+            ticket,
+        );
+        count_marked(self.pairs.as_slice(), self.marks.as_slice()) as u64
+    }
+
+    /// The greatest ticket of a live event that is marked.
+    pub fn last_marked(&self) -> Option<u64>
+        ensures { MatchOption result (self.now.marked ≡ []) (λ t. Greatest self.now.marked t) }
+    {
+        last_marked(self.pairs.as_slice(), self.marks.as_slice())
+    }
+
+    /// Adds an event under a ticket that is greater than every live one; it has no mark. Without memory for it nothing has
+    /// changed, and the event is handed back.
+    pub fn add(&mut self, ticket: u64, event: Event) -> Result<(), Event>
+        requires { (t : ℕ) (e : Event) → LiveAt self.old.live t e → t < ticket }
+        ensures added { OnOk result (self.new ≡ with_event self.old ticket event) }
+        ensures refused { IfErr result (λ back. (back ≡ event) × (self.new ≡ self.old)) }
+    {
+        add_event(
+            self.alloc,
+            &mut self.pairs,
+            &mut self.links,
+            &mut self.marks,
+            ticket,
+            event,
+        )
+    }
+
+    /// Takes out the live event of this ticket, on which no other live event depends, with its mark.
+    pub fn take(&mut self, ticket: u64) -> Event
+        requires live { IsLive self.old.live ticket }
+        requires alone { NoDependent self.old.live ticket }
+        ensures event { LiveAt self.old.live ticket result }
+        ensures live { WithoutTickets (λ t. t ≡ ticket) self.old.live self.new.live }
+        ensures marked { Without (λ t. t ≡ ticket) self.old.marked self.new.marked }
+    {
+        take_event(&mut self.pairs, &mut self.links, &mut self.marks, ticket)
+    }
+}

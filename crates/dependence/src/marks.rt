@@ -1,0 +1,80 @@
+// Marks on the events that depend on one.
+ghost use Rattle.std.specs.Prelude.{◌≡◌, ◌<◌, ◌⊎◌, ◌↔◌, ℕ, [], length, true, Some, slice_get, MatchOption};
+ghost use Rattle.system.specs.Lists.{In};
+ghost use Rattle.calculus.specs.Live.{FollowersList};
+ghost use Rattle.dependence.specs.Shown.{tickets_marked, Greatest};
+ghost use Rattle.dependence.specs.walking.Tables.{IsRising, IsLive, Linked};
+ghost use Rattle.dependence.specs.walking.Marking.{MarkedAt};
+
+use crate::links::Links;
+use crate::places::place_of_live;
+use calculus::Event;
+
+/// Marks the event of this ticket and all that depend on it, and no others.
+pub(crate) fn mark_dependents(
+    live: &[(u64, Event)],
+    links: &[Links],
+    marks: &mut [bool],
+    ticket: u64,
+)
+    requires rising { IsRising live.now }
+    requires linked { Linked live.now links.now }
+    requires live { IsLive live.now ticket }
+    requires size { length marks.old ≡ length live.now }
+    ensures marked { FollowersList live.now ticket (tickets_marked live.now marks.new) }
+{
+    clear(marks);
+    let first = place_of_live(live, ticket);
+    marks[first] = true;
+    for place in first..live.len() {
+        if marks[place] {
+            mark_all(live, marks, links[place].followers.as_slice());
+        }
+    }
+}
+
+/// Takes all marks away.
+fn clear(marks: &mut [bool])
+    ensures { (i : ℕ) → slice_get marks.new i ≡ Some true → ⊥ }
+{
+    for mark in marks.iter_mut() {
+        *mark = false;
+    }
+}
+
+/// Marks the events of these tickets beside those that are marked.
+fn mark_all(live: &[(u64, Event)], marks: &mut [bool], tickets: &[u64])
+    requires rising { IsRising live.now }
+    requires live { (t : ℕ) → In t tickets.now → IsLive live.now t }
+    requires size { length marks.old ≡ length live.now }
+    ensures { (u : ℕ) → MarkedAt live.now marks.new u ↔ (MarkedAt live.now marks.old u ⊎ In u tickets.now) }
+{
+    for ticket in tickets {
+        let place = place_of_live(live, *ticket);
+        marks[place] = true;
+    }
+}
+
+/// How many events are marked.
+pub(crate) fn count_marked(live: &[(u64, Event)], marks: &[bool]) -> usize
+    requires { length marks.now ≡ length live.now }
+    ensures { result ≡ length (tickets_marked live.now marks.now) }
+{
+    marks.iter().filter(|mark| **mark).count()
+}
+
+/// The greatest ticket of a marked event.
+pub(crate) fn last_marked(live: &[(u64, Event)], marks: &[bool]) -> Option<u64>
+    requires rising { IsRising live.now }
+    requires size { length marks.now ≡ length live.now }
+    ensures { MatchOption result (tickets_marked live.now marks.now ≡ []) (λ t. Greatest (tickets_marked live.now marks.now) t) }
+{
+    let mut place = live.len();
+    while place > 0 {
+        place -= 1;
+        if marks[place] {
+            return Some(live[place].0);
+        }
+    }
+    None
+}

@@ -1,0 +1,42 @@
+// Looking for a ticket: by halves, since tickets rise.
+ghost use Rattle.std.specs.Prelude.{◌≡◌, ◌<◌, Some, slice_get, MatchOption};
+ghost use Rattle.system.specs.Lists.{In};
+ghost use Rattle.calculus.specs.InOrder.{InOrder};
+ghost use Rattle.calculus.specs.Live.{NoneAt};
+ghost use Rattle.dependence.specs.walking.Tables.{IsRising, IsLive, StandsAt};
+
+use calculus::Event;
+
+/// Where the event of this ticket stands.
+pub(crate) fn place_of(live: &[(u64, Event)], ticket: u64) -> Option<usize>
+    requires { IsRising live.now }
+    ensures { MatchOption result (NoneAt live.now ticket) (λ i. StandsAt live.now ticket i) }
+{
+    match live.binary_search_by_key(&ticket, |entry| entry.0) {
+        Ok(place) => Some(place),
+        Err(_) => None,
+    }
+}
+
+/// Where the live event of this ticket stands.
+pub(crate) fn place_of_live(live: &[(u64, Event)], ticket: u64) -> usize
+    requires rising { IsRising live.now }
+    requires live { IsLive live.now ticket }
+    ensures { StandsAt live.now ticket result }
+{
+    match place_of(live, ticket) {
+        Some(place) => place,
+        None => unreachable!(),
+    }
+}
+
+/// Where the ticket stands among others that ascend.
+pub(crate) fn place_in(tickets: &[u64], ticket: u64) -> Option<usize>
+    requires { InOrder ◌<◌ tickets.now }
+    ensures { MatchOption result (In ticket tickets.now → ⊥) (λ i. slice_get tickets.now i ≡ Some ticket) }
+{
+    match tickets.binary_search(&ticket) {
+        Ok(place) => Some(place),
+        Err(_) => None,
+    }
+}

@@ -1,0 +1,103 @@
+// Which of some live events no other of them depends on.
+ghost use Rattle.std.specs.Prelude.{◌≡◌, ◌<◌, ◌≤◌, ◌+◌, ◌↔◌, ◌||◌, ◌&&◌, not, ℕ, length, IsTrue, IfOk};
+ghost use Rattle.system.specs.Lists.{In};
+ghost use Rattle.system.specs.Expression.{is_in};
+ghost use Rattle.dependence.specs.walking.Tables.{IsRising, IsLive, StandsAt, Falling, Linked, Topmost};
+ghost use Rattle.dependence.specs.walking.Sweeping.{StandWithin, FlagAt};
+
+use crate::candidates::add_if;
+use crate::links::Links;
+use crate::places::place_of_live;
+use calculus::Event;
+use std::alloc::{AllocError, Global};
+
+/// Of these events, which stand from the place `low` on and below `high`, those on which no other of them depends, the last
+/// first. One sweep goes down from the last place and notes where one of them is reached.
+pub(crate) fn topmost(
+    alloc: Global,
+    live: &[(u64, Event)],
+    links: &[Links],
+    candidates: &[u64],
+    low: usize,
+    high: usize,
+) -> Result<Vec<u64>, AllocError>
+    requires rising { IsRising live.now }
+    requires linked { Linked live.now links.now }
+    requires order { low ≤ high }
+    requires size { high ≤ length live.now }
+    requires stand { StandWithin live.now candidates.now low high }
+    ensures falling { IfOk result (λ kept. Falling kept.items) }
+    ensures topmost { IfOk result (λ kept. (t : ℕ) → In t kept.items ↔ Topmost live.now candidates.now t) }
+{
+    let mut kept = Vec::new(alloc);
+    let mut flags = Vec::new(alloc);
+    let mut place = high;
+    while place > low {
+        place -= 1;
+        let below = is_flagged(
+            live,
+            high,
+            flags.as_slice(),
+            links[place].followers.as_slice(),
+        );
+        let is_one = is_among(candidates, live[place].0);
+        flags.push(either(is_one, below))?;
+        add_if(alone(is_one, below), live[place].0, &mut kept)?;
+    }
+    Ok(kept)
+}
+
+/// Whether one of these live events stands below `high` at a place that is flagged. The flags begin at the last place.
+fn is_flagged(live: &[(u64, Event)], high: usize, flags: &[bool], tickets: &[u64]) -> bool
+    requires rising { IsRising live.now }
+    requires live { (t : ℕ) → In t tickets.now → IsLive live.now t }
+    requires passed { (t i : ℕ) → In t tickets.now → StandsAt live.now t i → high ≤ i + length flags.now }
+    ensures { IsTrue result ↔ ((t : ℕ) × In t tickets.now × FlagAt live.now high flags.now t) }
+{
+    for ticket in tickets {
+        if flag_of(live, high, flags, *ticket) {
+            return true;
+        }
+    }
+    false
+}
+
+/// Whether this live event stands below `high` at a place that is flagged.
+fn flag_of(live: &[(u64, Event)], high: usize, flags: &[bool], ticket: u64) -> bool
+    requires rising { IsRising live.now }
+    requires live { IsLive live.now ticket }
+    requires passed { (i : ℕ) → StandsAt live.now ticket i → high ≤ i + length flags.now }
+    ensures { IsTrue result ↔ FlagAt live.now high flags.now ticket }
+{
+    let place = place_of_live(live, ticket);
+    if place >= high {
+        return false;
+    }
+    flags[high - 1 - place]
+}
+
+/// Whether the number is among these.
+fn is_among(numbers: &[u64], number: u64) -> bool
+    ensures { result ≡ is_in number numbers.now }
+{
+    for held in numbers {
+        if number == *held {
+            return true;
+        }
+    }
+    false
+}
+
+/// Whether one of them holds.
+fn either(one: bool, other: bool) -> bool
+    ensures { result ≡ (one || other) }
+{
+    one || other
+}
+
+/// Whether the first holds and the second does not.
+fn alone(one: bool, other: bool) -> bool
+    ensures { result ≡ (one && not other) }
+{
+    one && !other
+}

@@ -1,0 +1,86 @@
+// The tables as one: what is asked of them, an event more, an event less.
+ghost use Rattle.std.specs.Prelude.{◌≡◌, ◌<◌, ◌++◌, ◌∷◌, [], ℕ, MatchOption, IfErr, OnOk};
+ghost use Rattle.calculus.specs.Dependence.{Without};
+ghost use Rattle.calculus.specs.Live.{LiveAt, NoDependent, FirstDependent, WithoutTickets};
+ghost use Rattle.dependence.specs.Followers.{ListsFollowers};
+ghost use Rattle.dependence.specs.Shown.{tickets_marked};
+ghost use Rattle.dependence.specs.walking.Tables.{IsRising, IsLive, Linked};
+ghost use Rattle.dependence.specs.walking.Whole.{IsWhole};
+
+use crate::entries::{leads_of, link_new, make_room, push_pair, take_out};
+use crate::links::Links;
+use crate::places::place_of_live;
+use calculus::Event;
+use std::alloc::Global;
+
+/// The tickets of the followers of the live event of this ticket.
+pub(crate) fn followers_of<'a>(live: &[(u64, Event)], links: &'a [Links], ticket: u64) -> &'a [u64]
+    requires rising { IsRising live.now }
+    requires linked { Linked live.now links.now }
+    requires live { IsLive live.now ticket }
+    ensures { ListsFollowers live.now ticket result.now }
+{
+    let place = place_of_live(live, ticket);
+    links[place].followers.as_slice()
+}
+
+/// The least ticket of another live event that depends on the one of this ticket.
+pub(crate) fn least_dependent(live: &[(u64, Event)], links: &[Links], ticket: u64) -> Option<u64>
+    requires rising { IsRising live.now }
+    requires linked { Linked live.now links.now }
+    requires live { IsLive live.now ticket }
+    ensures { MatchOption result (NoDependent live.now ticket) (λ u. FirstDependent live.now ticket u) }
+{
+    followers_of(live, links, ticket).first().copied()
+}
+
+/// Adds an event under a ticket that is greater than every live one. Without memory for it nothing has changed.
+pub(crate) fn add_event(
+    alloc: Global,
+    pairs: &mut Vec<(u64, Event)>,
+    links: &mut Vec<Links>,
+    marks: &mut Vec<bool>,
+    ticket: u64,
+    event: Event,
+) -> Result<(), Event>
+    requires whole { IsWhole pairs.old.items links.old.items marks.old.items }
+    requires above { (t : ℕ) (e : Event) → LiveAt pairs.old.items t e → t < ticket }
+    ensures whole { IsWhole pairs.new.items links.new.items marks.new.items }
+    ensures added { OnOk result ((pairs.new.items ≡ pairs.old.items ++ (ticket, event) ∷ []) × (tickets_marked pairs.new.items marks.new.items ≡ tickets_marked pairs.old.items marks.old.items)) }
+    ensures refused { IfErr result (λ back. (back ≡ event) × (pairs.new.items ≡ pairs.old.items) × (marks.new.items ≡ marks.old.items)) }
+{
+    let found = leads_of(alloc, pairs.as_slice(), links.as_slice(), &event);
+    let Ok(leads) = found else {
+        return Err(event);
+    };
+    if make_room(pairs, marks).is_err() {
+        return Err(event);
+    }
+    let linked = link_new(alloc, pairs.as_slice(), links, leads, ticket);
+    if linked.is_err() {
+        return Err(event);
+    }
+    push_pair(pairs, marks, ticket, event);
+    Ok(())
+}
+
+/// Takes out the live event of this ticket, on which no other live event depends, with its mark.
+pub(crate) fn take_event(
+    pairs: &mut Vec<(u64, Event)>,
+    links: &mut Vec<Links>,
+    marks: &mut Vec<bool>,
+    ticket: u64,
+) -> Event
+    requires whole { IsWhole pairs.old.items links.old.items marks.old.items }
+    requires live { IsLive pairs.old.items ticket }
+    requires alone { NoDependent pairs.old.items ticket }
+    ensures whole { IsWhole pairs.new.items links.new.items marks.new.items }
+    ensures event { LiveAt pairs.old.items ticket result }
+    ensures live { WithoutTickets (λ t. t ≡ ticket) pairs.old.items pairs.new.items }
+    ensures marked { Without (λ t. t ≡ ticket) (tickets_marked pairs.old.items marks.old.items) (tickets_marked pairs.new.items marks.new.items) }
+{
+    let place = place_of_live(pairs.as_slice(), ticket);
+    let event = take_out(pairs, links, place);
+    marks.remove(place);
+    event
+}
