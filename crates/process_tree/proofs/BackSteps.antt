@@ -7,7 +7,7 @@ use Rattle.process_tree.specs.Code.{Code, continues, halts, acts, offers, repeat
 use Rattle.process_tree.specs.Part.{Part, once, Parts, no_parts, part, sequence, parallel, started, all_started}
 use Rattle.process_tree.specs.View.{part_view, begun_of}
 use Rattle.process_tree.specs.declared.part.Proc.{Proc}
-use Rattle.process_tree.specs.walking.Children.{part_at, with_part, BackChild}
+use Rattle.process_tree.specs.Children.{part_at, with_part, BackChild}
 use Rattle.process_tree.specs.walking.Retreated.{retreated, retreated_sequence, retreated_parallel}
 use Rattle.process_tree.specs.walking.Steps.{ordered_step, branch_step}
 use Rattle.process_tree.proofs.Asking.{cond-elim, here-elim, map-elim}

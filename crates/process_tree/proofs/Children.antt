@@ -8,7 +8,7 @@ use Rattle.process_tree.specs.Part.{Part, Parts, no_parts, part, finished}
 use Rattle.process_tree.specs.Places.{if_child, wrap}
 use Rattle.process_tree.specs.Advanced.{MovedIn, advanced, advanced_sequence, advanced_parallel}
 use Rattle.process_tree.specs.walking.Retreated.{retreated, retreated_sequence, retreated_parallel}
-use Rattle.process_tree.specs.walking.Children.{part_at, MovedChild, BackChild}
+use Rattle.process_tree.specs.Children.{part_at, MovedChild, BackChild}
 use Rattle.process_tree.proofs.Asking.{some-elim, cond-elim, wrap-elim, map-elim}
 use Rattle.process_tree.proofs.Swap.{sequence-behind}
 

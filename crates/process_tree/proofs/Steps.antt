@@ -15,7 +15,7 @@ use Rattle.process_tree.specs.View.{code_view, row_view, part_view, parts_of, be
 use Rattle.process_tree.specs.declared.code.Code.{Code}
 use Rattle.process_tree.specs.declared.code.Row.{Row}
 use Rattle.process_tree.specs.declared.part.Proc.{Proc}
-use Rattle.process_tree.specs.walking.Children.{part_at, with_part, MovedChild}
+use Rattle.process_tree.specs.Children.{part_at, with_part, MovedChild}
 use Rattle.process_tree.specs.walking.Steps.{ordered_step, branch_step, takes_none}
 use Rattle.process_tree.proofs.Asking.{some-elim, wrap-elim}
 use Rattle.process_tree.proofs.Views.{row_codes}

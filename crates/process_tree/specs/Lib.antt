@@ -1,4 +1,5 @@
 pub mod Advanced
+pub mod Children
 pub mod Code
 pub mod Laws
 pub mod Left

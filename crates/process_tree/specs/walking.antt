@@ -1,3 +1,2 @@
-pub mod Children
 pub mod Retreated
 pub mod Steps

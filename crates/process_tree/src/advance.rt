@@ -5,7 +5,7 @@ ghost use Rattle.process_tree.specs.Code.{Sender, code_at};
 ghost use Rattle.process_tree.specs.Advanced.{advanced, again_after, test_after, open_after};
 ghost use Rattle.process_tree.specs.Translation.{row_of};
 ghost use Rattle.process_tree.specs.View.{code_view, repeat_view, decide_view, await_view, row_view, phase_view, part_view, turns_view, turn_of, tested_view, gate_view, opened_of, ask_view, out_view, parts_of, begun_of};
-ghost use Rattle.process_tree.specs.walking.Children.{part_at};
+ghost use Rattle.process_tree.specs.Children.{part_at};
 ghost use Rattle.process_tree.specs.walking.Steps.{takes_none};
 ghost use Rattle.calculus.specs.Moves.{Place};
 ghost use Rattle.calculus.specs.walking.After as model;

@@ -1,6 +1,6 @@
 // The laws of the tree, each the contract of a function that does nothing.
 ghost use Rattle.process_tree.specs.Laws.{LeftIsFormed, StartedHasAllLeft, FinishedIsDone, OffersAreMade, MadeAreOffered, MovesGoBack, MovesSwap, CommandsAgree, SystemsOpenAlike};
-ghost use Rattle.process_tree.specs.walking.Children.{MovesInOneChild, MovesInOneBranch, BackInOneChild, BackInOneBranch};
+ghost use Rattle.process_tree.specs.Children.{MovesInOneChild, MovesInOneBranch, BackInOneChild, BackInOneBranch};
 
 /// What is left of any part is well formed: what comes later is numbered higher.
 pub fn left_is_formed()

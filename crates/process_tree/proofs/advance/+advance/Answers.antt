@@ -6,7 +6,7 @@ use Rattle.process_tree.specs.Part.{started, sequence, parallel, took, entered}
 use Rattle.process_tree.specs.Advanced.{advanced, advanced_sequence, advanced_parallel}
 use Rattle.process_tree.specs.Places.{wrap}
 use Rattle.process_tree.specs.View.{repeat_view, decide_view, await_view, row_view, part_view, ask_view, out_view, parts_of, begun_of, opened_of}
-use Rattle.process_tree.specs.walking.Children.{part_at}
+use Rattle.process_tree.specs.Children.{part_at}
 use Rattle.process_tree.specs.declared.part.Proc.{Proc}
 use Rattle.process_tree.proofs.Steps.{none-is, is-some, wrapped, took-inside, opened-inside, opened-closes, turn-next, turn-is, parallel-somewhere, parallel-moves, sequence-somewhere, sequence-moves, child-asked, child-moved, branch-at, branch-set, branch-within, begun-at, begun-set, view-same}
 use Rattle.process_tree.proofs.Views.{repeat_body}

@@ -1,5 +1,5 @@
 -- The children of a row by their numbers: one of them moves, and the others stay.
--- No reader has to believe it: code goes to a child by it, and the law `one_child_moves` says it of `Advanced.antt`.
+-- The law `one_child_moves` says so; it lets the code go straight to a child.
 use Rattle.std.specs.Prelude.{◌≡◌, ℕ, zero, suc, ◌<◌, ◌∷◌, true, Option, Some, None}
 use Rattle.address.specs.declared.Entry.TheVariants.{Ordered, Branch}
 use Rattle.calculus.specs.Moves.{Place}
