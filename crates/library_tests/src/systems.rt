@@ -123,6 +123,24 @@ fn places_have_branches_lines_and_selects(rt: HostRuntime) -> Result<(), Fail> {
     Ok(())
 }
 
+const BEGINS: [(u64, bool); 6] = [
+    (0, false),
+    (1, false),
+    (2, true),
+    (3, true),
+    (4, true),
+    (5, false),
+];
+
+#[test]
+fn commands_begin_on_lines(rt: HostRuntime) -> Result<(), Fail> {
+    let checked = checked(rt.alloc(), BUFFER)?;
+    for (line, begins) in BEGINS {
+        assert_eq!(rt; checked.begins(line), begins, "{line}");
+    }
+    Ok(())
+}
+
 /// Whether there is a name, and it is this one.
 fn is_named(name: Option<&QualifiedName>, text: &str) -> bool {
     match name {
@@ -142,6 +160,10 @@ fn a_clone_outlives_the_original(rt: HostRuntime) -> Result<(), Fail> {
     let clone = cloned(rt.alloc())?;
     assert_eq!(rt; clone.branches(), 4);
     assert_eq!(rt; clone.variable(b"2:x"), Some(1));
+    assert_eq!(rt; clone.variable(b"x"), None);
+    assert!(rt; is_named(clone.variable_name(1), "2:x"));
+    assert!(rt; clone.variable_name(2).is_none());
     assert!(rt; is_named(clone.channel_name(2), "c"));
+    assert!(rt; clone.channel_name(3).is_none());
     Ok(())
 }

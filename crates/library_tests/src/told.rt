@@ -47,13 +47,31 @@ pub fn turn(place: &'static [u8]) -> Told {
     alone(Kind::Turn, place)
 }
 
-/// A test that reads variable 0.
-pub fn test(place: &'static [u8], arm: Option<u32>) -> Told {
+/// A test that reads no variable.
+pub fn choosing(place: &'static [u8], arm: Option<u32>) -> Told {
     Told {
         arm,
-        reads: &[0],
         ..alone(Kind::Test, place)
     }
+}
+
+/// A test that reads variable 0.
+pub fn test(place: &'static [u8], arm: Option<u32>) -> Told {
+    reading(&[0], choosing(place, arm))
+}
+
+/// An assignment of a constant.
+pub fn assign(place: &'static [u8], variable: u32, value: u64) -> Told {
+    Told {
+        value: Some(value),
+        written: Some(variable),
+        ..alone(Kind::Assign, place)
+    }
+}
+
+/// An assignment to variable 0 that reads it.
+pub fn count(place: &'static [u8], value: u64) -> Told {
+    reading(&[0], assign(place, 0, value))
 }
 
 /// A meeting that neither reads nor writes a variable.
@@ -90,6 +108,10 @@ pub fn open(
         value,
         ..between(Kind::Open, first, second, channel)
     }
+}
+
+pub fn close(first: &'static [u8], second: &'static [u8], channel: u32) -> Told {
+    between(Kind::Close, first, second, channel)
 }
 
 pub fn sync(first: &'static [u8], second: &'static [u8], channel: u32) -> Told {
