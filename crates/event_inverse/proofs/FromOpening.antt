@@ -51,6 +51,7 @@ undone-by-records system h k e T records s none =
       later = u.later;
       tree = u.tree;
       found = u.found;
+      placed = u.placed;
       reverts = u.reverts;
       stands = stands system (h ++ k) rest.0 u.tree (u.earlier ++ u.later) rest.1 u.grows;
     }

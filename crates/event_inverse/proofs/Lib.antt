@@ -1,4 +1,6 @@
 pub mod FromOpening
+pub mod Moved
 pub mod Moving
 pub mod Neighbours
 pub mod Undoing
+pub mod Without

@@ -1,5 +1,5 @@
 -- An event in the middle of a list is undone by its record, and respecting orders grow the same.
-use Rattle.std.proofs.Common.{◌≡◌, ◌↔◌, List, [], ◌∷◌, ◌++◌, Option, Some, option_map, inl, inr, refl, sym, ap, ap₂, subst, ◌∙◌}
+use Rattle.std.proofs.Common.{◌≡◌, ◌↔◌, suc, List, [], ◌∷◌, ◌++◌, length, Option, Some, option_map, inl, inr, refl, sym, ap, ap₂, subst, ◌∙◌}
 use Rattle.system.specs.Lists.{In, Every}
 use Rattle.calculus.specs.Dependence.{Directly, Respecting}
 use Rattle.calculus.specs.Steps.{Run}
@@ -60,6 +60,7 @@ pub record UndoneIn (h k : List Event) (T : Tree) (e : Event) (y : Grew) : Type 
   pub later : Records
   pub tree : Tree
   pub found : y.1 ≡ earlier ++ (e, taken) ∷ later
+  pub placed : length earlier ≡ length h
   pub reverts : reverted y.0 e taken ≡ Some tree
   pub grows : grown T (h ++ k) ≡ Some (tree, earlier ++ later)
 
@@ -74,6 +75,7 @@ undone-in [] k T e y g none =
       later = w.1;
       tree = s.0.0;
       found = refl;
+      placed = refl;
       reverts = reverts s.0.0 e (w.0, x.1) s.2;
       grows = s.1 ∙ ap (λ (rs : Records). Some (s.0.0, rs)) s.3;
     })
@@ -86,6 +88,7 @@ undone-in (f ∷ h) k T e y g none =
       later = rest.later;
       tree = rest.tree;
       found = ap (λ (rs : Records). (f, x.1) ∷ rs) rest.found;
+      placed = ap suc rest.placed;
       reverts = rest.reverts;
       grows = first-grown T f (h ++ k) x (rest.tree, rest.earlier ++ rest.later) i rest.grows;
     })

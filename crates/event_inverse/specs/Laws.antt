@@ -1,5 +1,5 @@
 -- The laws of a tree with records.
-use Rattle.std.specs.Prelude.{◌≡◌, ◌↔◌, List, [], ◌∷◌, ◌++◌, Some}
+use Rattle.std.specs.Prelude.{◌≡◌, ◌↔◌, List, [], ◌∷◌, ◌++◌, length, Some}
 use Rattle.system.specs.Lists.{In}
 use Rattle.system.specs.declared.system.System.{System}
 use Rattle.calculus.specs.Dependence.{Directly, Respecting}
@@ -45,6 +45,7 @@ pub record Undone (system : System) (h k : List Event) (e : Event) (T : Tree) (r
   pub later : Records
   pub tree : Tree
   pub found : records ≡ earlier ++ (e, taken) ∷ later
+  pub placed : length earlier ≡ length h
   pub reverts : reverted T e taken ≡ Some tree
   pub stands : StandFor system (h ++ k) tree (earlier ++ later)
 
@@ -53,6 +54,12 @@ abbrev pub UndoneByRecords : Type 0
 UndoneByRecords =
     (system : System) (h k : List Event) (e : Event) (T : Tree) (records : Records) →
     StandFor system (h ++ e ∷ k) T records → ((f : Event) → In f k → Directly e f → ⊥) → Undone system h k e T records
+
+-- r leads from T to U as an undo: where T stands for a run with its event, on which no later one depends directly, U stands for the run without it
+abbrev pub UndoneBy : Tree → Event × Taken → Tree → Type 0
+UndoneBy T r U =
+    (system : System) (h k : List Event) (earlier later : Records) → StandFor system (h ++ r.0 ∷ k) T (earlier ++ r ∷ later) → length earlier ≡ length h →
+    ((f : Event) → In f k → Directly r.0 f → ⊥) → StandFor system (h ++ k) U (earlier ++ later)
 
 -- a respecting order of a run has the same tree and the same records
 abbrev pub OrdersHaveOneTree : Type 0

@@ -1,3 +1,4 @@
 pub mod Grown
 pub mod Laws
+pub mod View
 pub mod walking

@@ -1,9 +1,17 @@
-//! Events made on the tree with records, and taken back by them.
+//! Events made on the tree and the store with records, and taken back by them.
 #![tactic(auto)]
 
+mod applying;
+mod asks;
+mod inverting;
 mod laws;
+mod moves;
+mod record;
 
+pub use applying::apply;
+pub use inverting::invert;
 pub use laws::{
     neighbours_keep_records, orders_have_one_tree, records_revert, runs_have_trees,
     steps_are_applied, undone_by_records,
 };
+pub use record::Record;

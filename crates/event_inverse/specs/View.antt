@@ -1,0 +1,24 @@
+-- What a record in memory stands for, and a tree with its store.
+use Rattle.std.specs.Prelude.{List, [], ◌∷◌, Option}
+use Rattle.system.specs.Expression.{Store}
+use Rattle.calculus.specs.declared.event.Event.{Event}
+use Rattle.process_tree.specs.Part.{Part}
+use Rattle.process_tree.specs.View.{out_view, tree_view}
+use Rattle.process_tree.specs.declared.tree.Tree as process_tree
+use Rattle.event_inverse.specs.Grown.{Tree, Taken}
+use Rattle.event_inverse.specs.declared.record.Outs.{Outs}
+use Rattle.event_inverse.specs.declared.record.Outs.TheVariants.{One, Two}
+use Rattle.event_inverse.specs.declared.record.Record.{Record}
+
+-- a tree in memory, with the values of the variables
+abbrev pub both_view : process_tree.Tree → Store → Tree
+both_view tree store = record { part = tree_view tree; store = store }
+
+-- what the moves of an event took out, in their order
+abbrev pub outs_view : Outs → List (Option Part)
+outs_view (One out) = out_view out ∷ []
+outs_view (Two first second) = out_view first ∷ out_view second ∷ []
+
+-- an event with what its undo needs
+abbrev pub record_view : Record → Event × Taken
+record_view r = (r.event, record { parts = outs_view r.outs; old = r.overwritten })

@@ -1,0 +1,106 @@
+// The moves of an event, made on the tree and taken back.
+ghost use Rattle.std.specs.Prelude.{◌≡◌, [], ◌∷◌, Some, IsSome, IfOk, OnErr};
+ghost use Rattle.process_tree.specs.View.{ask_view, out_view, tree_view};
+ghost use Rattle.event_inverse.specs.Grown.{all_advanced};
+ghost use Rattle.event_inverse.specs.View.{outs_view};
+ghost use Rattle.event_inverse.specs.walking.Moved.{moved, moved_back, both_back};
+
+use crate::asks::{Asks, asks_of};
+use crate::record::Outs;
+use address::Entry;
+use calculus::Event;
+use process_tree::{Ask, Proc, Tree};
+use std::alloc::{AllocError, Global};
+
+/// Makes the moves that the event asks for. Without memory none is made.
+pub(crate) fn make(alloc: Global, tree: &mut Tree, event: &Event) -> Result<Outs, AllocError>
+    requires { IsSome (moved (tree_view tree.old) event.now) }
+    ensures made { IfOk result (λ outs. moved (tree_view tree.old) event.now ≡ Some (tree_view tree.new, outs_view outs)) }
+    ensures without_memory { OnErr result (tree_view tree.new ≡ tree_view tree.old) }
+{
+    match asks_of(event) {
+        Some(Asks::Alone(ask)) => make_one(alloc, tree, event.first.entries(), ask),
+        Some(Asks::Together(first, second)) => match &event.second {
+            Some(place) => make_two(
+                alloc,
+                tree,
+                event.first.entries(),
+                first,
+                place.entries(),
+                second,
+            ),
+            None => unreachable!(),
+        },
+        None => unreachable!(),
+    }
+}
+
+/// Makes the move that is asked for at the place.
+fn make_one(alloc: Global, tree: &mut Tree, place: &[Entry], ask: Ask) -> Result<Outs, AllocError>
+    requires { IsSome (all_advanced (tree_view tree.old) ((place.now, ask_view ask) ∷ [])) }
+    ensures made { IfOk result (λ outs. all_advanced (tree_view tree.old) ((place.now, ask_view ask) ∷ []) ≡ Some (tree_view tree.new, outs_view outs)) }
+    ensures without_memory { OnErr result (tree_view tree.new ≡ tree_view tree.old) }
+{
+    match tree.advance(alloc, place, ask) {
+        Ok(out) => Ok(Outs::One(out)),
+        Err(error) => Err(error),
+    }
+}
+
+/// Makes the two moves in their order. Where there is no memory for the second, the first is taken back.
+fn make_two(
+    alloc: Global,
+    tree: &mut Tree,
+    first: &[Entry],
+    first_ask: Ask,
+    second: &[Entry],
+    second_ask: Ask,
+) -> Result<Outs, AllocError>
+    requires { IsSome (all_advanced (tree_view tree.old) ((first.now, ask_view first_ask) ∷ (second.now, ask_view second_ask) ∷ [])) }
+    ensures made { IfOk result (λ outs. all_advanced (tree_view tree.old) ((first.now, ask_view first_ask) ∷ (second.now, ask_view second_ask) ∷ [])
+        ≡ Some (tree_view tree.new, outs_view outs)) }
+    ensures without_memory { OnErr result (tree_view tree.new ≡ tree_view tree.old) }
+{
+    match tree.advance(alloc, first, first_ask) {
+        Ok(out) => match tree.advance(alloc, second, second_ask) {
+            Ok(other) => Ok(Outs::Two(out, other)),
+            Err(error) => {
+                tree.retreat(first, out);
+                Err(error)
+            }
+        },
+        Err(error) => Err(error),
+    }
+}
+
+/// Takes the moves of the event back, the last first, and puts what they took out where it was.
+pub(crate) fn take_back(tree: &mut Tree, event: &Event, outs: Outs)
+    requires { IsSome (moved_back (tree_view tree.old) event.now (outs_view outs)) }
+    ensures { moved_back (tree_view tree.old) event.now (outs_view outs) ≡ Some (tree_view tree.new) }
+{
+    let first = event.first.entries();
+    match (asks_of(event), outs) {
+        (Some(Asks::Alone(_)), Outs::One(out)) => tree.retreat(first, out),
+        (Some(Asks::Alone(_)), Outs::Two(out, _)) => tree.retreat(first, out),
+        (Some(Asks::Together(_, _)), Outs::Two(out, other)) => match &event.second {
+            Some(second) => take_two_back(tree, first, out, second.entries(), other),
+            None => unreachable!(),
+        },
+        _ => unreachable!(),
+    }
+}
+
+/// Takes two moves back, the second first.
+fn take_two_back(
+    tree: &mut Tree,
+    first: &[Entry],
+    out: Option<Box<Proc>>,
+    second: &[Entry],
+    other: Option<Box<Proc>>,
+)
+    requires { IsSome (both_back (tree_view tree.old) first.now (out_view out) second.now (out_view other)) }
+    ensures { both_back (tree_view tree.old) first.now (out_view out) second.now (out_view other) ≡ Some (tree_view tree.new) }
+{
+    tree.retreat(second, other);
+    tree.retreat(first, out);
+}
