@@ -6,7 +6,8 @@ use Rattle.std.specs.Fmt.{decimal}
 use Rattle.address.specs.declared.Entry.{Entry}
 use Rattle.address.specs.declared.Entry.TheVariants.{Ordered, Branch}
 use Rattle.address.specs.Text.{entry_text, text_of}
-use Rattle.address.specs.Reading.{EntryFits, NumbersFit, IsTextOf, HasNoText, StartsNoDigit, IsDigitsEnd, ReadsNumber, IsNoNumber, ReadsEntry, BeginsNoEntry}
+use Rattle.address.specs.Reading.{EntryFits, NumbersFit, IsTextOf, HasNoText}
+use Rattle.address.specs.walking.Entries.{StartsNoDigit, IsDigitsEnd, ReadsNumber, ReadsNoNumber, ReadsEntry, BeginsNoEntry}
 use Rattle.address.proofs.Numbers.{heads, tails, digits-split, numbers-split, number-digits, not-empty}
 
 -- no entry has the empty text
@@ -22,7 +23,7 @@ same-digits i count rest after small d n e =
     (e ∙ sym (take-append-drop count rest))).0
 
 -- there is no entry where the digits are not those of a number
-pub no-entry-number : (m : ℕ) (rest : List ℕ) (count : ℕ) → IsDigitsEnd rest count → IsNoNumber (take count rest)
+pub no-entry-number : (m : ℕ) (rest : List ℕ) (count : ℕ) → IsDigitsEnd rest count → ReadsNoNumber (take count rest)
     → BeginsNoEntry (m ∷ rest)
 no-entry-number m rest count d none (Ordered i) after h =
     none i (h.0, same-digits i count rest after h.0 d h.2 (tails 46 m (decimal i ++ after) rest h.1))

@@ -8,30 +8,30 @@ use Rattle.std.proofs.lemmas.Bool.Decides.{nat_tests}
 use Rattle.std.proofs.lemmas.Fmt.{digits_decimal, decimal_injective}
 use Rattle.std.proofs.lemmas.Str.Parse.{IsNumeralModel, numerals_by_value, tells_digits}
 use Rattle.decimal.specs.Reading as wide
-use Rattle.address.specs.Reading.{StartsNoDigit, ReadsNumber, IsNoNumber}
+use Rattle.address.specs.walking.Entries.{StartsNoDigit, ReadsNumber, ReadsNoNumber}
 
 -- std's words for digits and their value
 own : IsNumeralModel (AllDigits 10) (digits_value 10)
 own = numerals_by_value (AllDigits 10) tells_digits
 
 -- what is not the text of a number of 64 bits is not that of one of 32 bits
-no-number-wide : (ds : List ℕ) → wide.IsNoNumber ds → IsNoNumber ds
+no-number-wide : (ds : List ℕ) → wide.IsNoNumber ds → ReadsNoNumber ds
 no-number-wide ds none n h = none n (omega (arith, h.0), h.1)
 
 -- the text of a number with more than 32 bits is not that of one of 32 bits
-no-number-large : (ds : List ℕ) (m : ℕ) → wide.Reads ds m → (m < 2 ^ 32 → ⊥) → IsNoNumber ds
+no-number-large : (ds : List ℕ) (m : ℕ) → wide.Reads ds m → (m < 2 ^ 32 → ⊥) → ReadsNoNumber ds
 no-number-large ds m reads large n h =
     let same : n ≡ m = decimal_injective n m (omega (arith, h.0)) reads.0 (h.1 ∙ sym reads.1) in
     large (subst (λ k. k < 2 ^ 32) same h.0)
 
 -- what is read where no number of 64 bits stands
-pub none-read : (r : Option ℕ) (ds : List ℕ) → r ≡ None → wide.IsNoNumber ds → MatchOption r (IsNoNumber ds) (λ n. ReadsNumber ds n)
+pub none-read : (r : Option ℕ) (ds : List ℕ) → r ≡ None → wide.IsNoNumber ds → MatchOption r (ReadsNoNumber ds) (λ n. ReadsNumber ds n)
 none-read None ds e none = no-number-wide ds none
 none-read (Some n) ds e none = cc
 
 -- the number that is read, where it has 32 bits
 pub number-read : (r : Option ℕ) (ds : List ℕ) (m : ℕ) → wide.Reads ds m → SomeIff r (m < 2 ^ 32) m
-    → MatchOption r (IsNoNumber ds) (λ n. ReadsNumber ds n)
+    → MatchOption r (ReadsNoNumber ds) (λ n. ReadsNumber ds n)
 number-read None ds m reads h = no-number-large ds m reads h
 number-read (Some n) ds m reads h = (subst (λ k. k < 2 ^ 32) (sym h.1) h.0, ap decimal h.1 ∙ reads.1)
 

@@ -3,8 +3,7 @@ use Rattle.std.proofs.Common.{◌≡◌, ◌≢◌, ℕ, ◌<◌, ◌⊎◌, ◌
 use Rattle.std.proofs.lemmas.Bool.{cases_order, cases_eq}
 use Rattle.address.specs.declared.Entry.{Entry}
 use Rattle.address.specs.declared.Entry.TheVariants.{Ordered, Branch}
-use Rattle.address.specs.Places.{Before, Apart, Standing, OrderedFork, BranchFork}
-use Rattle.address.specs.Places.Standing.{Same, Earlier, Later, Separate, Beginning, Continued, Crossed}
+use Rattle.address.specs.Places.{Before, Apart, OrderedFork, BranchFork}
 
 -- no place is before itself
 pub before-irreflexive : (a : List Entry) → Before a a → ⊥
@@ -259,44 +258,6 @@ apart? (Ordered i ∷ a) (Ordered j ∷ b) = under_equal (Apart a b) i j (apart?
 apart? (Branch i ∷ a) (Branch j ∷ b) = branch_cases (Apart a b) i j (apart? a b)
 apart? (Ordered i ∷ a) (Branch j ∷ b) = inr (λ h. h)
 apart? (Branch i ∷ a) (Ordered j ∷ b) = inr (λ h. h)
-
--- how two addresses stand to one another below one ordered number
-below-ordered : (i : ℕ) (a b : List Entry) → Standing a b → Standing (Ordered i ∷ a) (Ordered i ∷ b)
-below-ordered i a b (Same e) = Same (ap (λ c. Ordered i ∷ c) e)
-below-ordered i a b (Earlier h) = Earlier (inr (refl, h))
-below-ordered i a b (Later h) = Later (inr (refl, h))
-below-ordered i a b (Separate h) = Separate (refl, h)
-below-ordered i a b (Beginning h) = Beginning (h.0, h.1, ap (λ c. Ordered i ∷ c) h.2)
-below-ordered i a b (Continued h) = Continued (h.0, h.1, ap (λ c. Ordered i ∷ c) h.2)
-below-ordered i a b (Crossed h) = Crossed (refl, h)
-
--- how two addresses stand to one another below one branch
-below-branch : (i : ℕ) (a b : List Entry) → Standing a b → Standing (Branch i ∷ a) (Branch i ∷ b)
-below-branch i a b (Same e) = Same (ap (λ c. Branch i ∷ c) e)
-below-branch i a b (Earlier h) = Earlier (refl, h)
-below-branch i a b (Later h) = Later (refl, h)
-below-branch i a b (Separate h) = Separate (inr (refl, h))
-below-branch i a b (Beginning h) = Beginning (h.0, h.1, ap (λ c. Branch i ∷ c) h.2)
-below-branch i a b (Continued h) = Continued (h.0, h.1, ap (λ c. Branch i ∷ c) h.2)
-below-branch i a b (Crossed h) = Crossed (refl, h)
-
--- two addresses stand to one another in one of the seven ways
-pub trichotomy : (a b : List Entry) → Standing a b
-trichotomy [] [] = Same refl
-trichotomy [] (y ∷ b) = Beginning (y, b, refl)
-trichotomy (x ∷ a) [] = Continued (x, a, refl)
-trichotomy (Ordered i ∷ a) (Ordered j ∷ b) =
-    elim (cases_order i j) [
-      | inl e ↦ subst (λ k. Standing (Ordered i ∷ a) (Ordered k ∷ b)) e (below-ordered i a b (trichotomy a b))
-      | inr d ↦ elim d [ inl l ↦ Earlier (inl l) | inr l ↦ Later (inl l) ]
-    ]
-trichotomy (Branch i ∷ a) (Branch j ∷ b) =
-    elim (cases_eq i j) [
-      | inl e ↦ subst (λ k. Standing (Branch i ∷ a) (Branch k ∷ b)) e (below-branch i a b (trichotomy a b))
-      | inr n ↦ Separate (inl n)
-    ]
-trichotomy (Ordered i ∷ a) (Branch j ∷ b) = Crossed tt
-trichotomy (Branch i ∷ a) (Ordered j ∷ b) = Crossed tt
 
 -- one more common entry before the fork
 fork-below : (x : Entry) (a b : List Entry) → OrderedFork a b → OrderedFork (x ∷ a) (x ∷ b)

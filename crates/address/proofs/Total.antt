@@ -5,7 +5,7 @@ use Rattle.std.proofs.lemmas.Cmp.{nat_cmp_total, tied_itself, ranked}
 use Rattle.std.proofs.lemmas.Bool.Decides.{same_from_decides}
 use Rattle.address.specs.declared.Entry.{Entry}
 use Rattle.address.specs.declared.Entry.TheVariants.{Ordered, Branch}
-use Rattle.address.specs.OrderLaws.{order_of-total, less-not-equal, greater-not-equal}
+use Rattle.address.specs.walking.OrderLaws.{order_of-total, less-not-equal, greater-not-equal}
 use Rattle.address.specs.Order.{entry_order, order_of, TiesAreEqual, IsAntisymmetric, IsTransitive, IsTotal, ExtendsBefore}
 
 -- numbers that are tied are equal

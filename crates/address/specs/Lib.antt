@@ -1,7 +1,6 @@
 pub mod Places
 pub mod Order
-pub mod Common
 pub mod Text
 pub mod Reading
 pub mod Laws
-pub mod OrderLaws
+pub mod walking

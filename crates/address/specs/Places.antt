@@ -21,29 +21,6 @@ Apart (_ ∷ _) [] = ⊥
 Apart (Ordered _ ∷ _) (Branch _ ∷ _) = ⊥
 Apart (Branch _ ∷ _) (Ordered _ ∷ _) = ⊥
 
--- `a` is a beginning of `b`, and shorter
-abbrev pub Begins : List Entry → List Entry → Type 0
-Begins a b = (e : Entry) × (c : List Entry) × (b ≡ a ++ e ∷ c)
-
--- at the first place at which they differ one entry is ordered and the other is a branch number
-abbrev pub Mixed : List Entry → List Entry → Type 0
-Mixed (Ordered i ∷ a) (Ordered j ∷ b) = (i ≡ j) × Mixed a b
-Mixed (Branch i ∷ a) (Branch j ∷ b) = (i ≡ j) × Mixed a b
-Mixed (Ordered _ ∷ _) (Branch _ ∷ _) = Unit {0}
-Mixed (Branch _ ∷ _) (Ordered _ ∷ _) = Unit {0}
-Mixed [] _ = ⊥
-Mixed (_ ∷ _) [] = ⊥
-
--- the ways in which two addresses can stand to one another
-pub data Standing (a b : List Entry) : Type 0 where
-  Same : a ≡ b → Standing a b
-  Earlier : Before a b → Standing a b
-  Later : Before b a → Standing a b
-  Separate : Apart a b → Standing a b
-  Beginning : Begins a b → Standing a b
-  Continued : Begins b a → Standing a b
-  Crossed : Mixed a b → Standing a b
-
 -- two addresses with one beginning, after which both have an ordered entry, that of `a` with the lesser number
 pub record OrderedFork (a b : List Entry) : Type 0 where
   pub common : List Entry

@@ -1,11 +1,8 @@
--- What reading a text finds.
-use Rattle.std.specs.Prelude.{◌≡◌, ℕ, ◌<◌, ◌≤◌, ◌^◌, List, [], ◌∷◌, ◌++◌, length, take, drop}
-use Rattle.std.specs.Fmt.{decimal}
-use Rattle.std.specs.Char.{digit_value}
-use Rattle.std.specs.Str.Parse.{AllDigits}
+-- Which address has a text.
+use Rattle.std.specs.Prelude.{◌≡◌, ℕ, ◌<◌, ◌^◌, List, [], ◌∷◌}
 use Rattle.address.specs.declared.Entry.{Entry}
 use Rattle.address.specs.declared.Entry.TheVariants.{Ordered, Branch}
-use Rattle.address.specs.Text.{entry_text, text_of}
+use Rattle.address.specs.Text.{text_of}
 
 -- the number of an entry has 32 bits
 abbrev pub EntryFits : Entry → Type 0
@@ -24,29 +21,3 @@ IsTextOf a text = (text_of a ≡ text) × NumbersFit a
 -- no address whose numbers have 32 bits has this text
 abbrev pub HasNoText : List ℕ → Type 0
 HasNoText text = (a : List Entry) → IsTextOf a text → ⊥
-
--- the first byte, if there is one, is no decimal digit
-abbrev pub StartsNoDigit : List ℕ → Type 0
-StartsNoDigit [] = Unit {0}
-StartsNoDigit (c ∷ _) = 10 ≤ digit_value c
-
--- the first `count` bytes are digits, and the next one, if there is one, is not
-abbrev pub IsDigitsEnd : List ℕ → ℕ → Type 0
-IsDigitsEnd text count =
-    (count ≤ length text) × AllDigits 10 (take count text) × StartsNoDigit (drop count text)
-
--- `digits` are the decimal text of the number `n` of 32 bits
-abbrev pub ReadsNumber : List ℕ → ℕ → Type 0
-ReadsNumber digits n = (n < 2 ^ 32) × (decimal n ≡ digits)
-
--- `digits` are not the decimal text of a number of 32 bits
-abbrev pub IsNoNumber : List ℕ → Type 0
-IsNoNumber digits = (n : ℕ) → ReadsNumber digits n → ⊥
-
--- `text` is the entry `e` and then `after`, whose first byte does not go on with its number
-abbrev pub ReadsEntry : List ℕ → Entry → List ℕ → Type 0
-ReadsEntry text e after = EntryFits e × (entry_text e ++ after ≡ text) × StartsNoDigit after
-
--- no entry stands at the start of `text`
-abbrev pub BeginsNoEntry : List ℕ → Type 0
-BeginsNoEntry text = (e : Entry) (after : List ℕ) → ReadsEntry text e after → ⊥

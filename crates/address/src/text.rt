@@ -2,7 +2,8 @@
 ghost use Rattle.std.specs.Prelude.{Some, IfOk, MatchOption, length, ◌≡◌, ◌<◌, ◌^◌};
 ghost use Rattle.std.specs.Option.{SomeIff};
 ghost use Rattle.address.specs.Text.{entry_text, text_of};
-ghost use Rattle.address.specs.Reading.{HasNoText, IsTextOf, IsDigitsEnd, ReadsEntry, ReadsNumber, BeginsNoEntry, IsNoNumber};
+ghost use Rattle.address.specs.Reading.{HasNoText, IsTextOf};
+ghost use Rattle.address.specs.walking.Entries.{IsDigitsEnd, ReadsEntry, ReadsNumber, BeginsNoEntry, ReadsNoNumber};
 
 use crate::{Address, Entry};
 use std::alloc::{AllocError, Global};
@@ -75,7 +76,7 @@ fn count_digits(text: &[u8]) -> usize
 
 // The number of 32 bits that `digits` are the decimal text of, if there is one.
 fn read_number(digits: &[u8]) -> Option<u32>
-    ensures { MatchOption result (IsNoNumber digits.now) (λ n. ReadsNumber digits.now n) }
+    ensures { MatchOption result (ReadsNoNumber digits.now) (λ n. ReadsNumber digits.now n) }
 {
     narrow(decimal::read_number(digits)?)
 }

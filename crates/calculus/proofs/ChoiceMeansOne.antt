@@ -3,7 +3,7 @@ use Rattle.std.proofs.Common.{◌≡◌, ℕ, List, Bool, Option, Some, None, re
 use Rattle.std.specs.declared.cmp.Ordering.TheVariants.{Less}
 use Rattle.calculus.proofs.SharingWidths.{KeepsSharing}
 use Rattle.address.specs.Order.{order_of}
-use Rattle.address.specs.OrderLaws.{less-not-equal}
+use Rattle.address.specs.walking.OrderLaws.{less-not-equal}
 use Rattle.address.proofs.Total.{order-itself}
 use Rattle.calculus.specs.Events.{Located, Makes, assigning, testing, turning, meeting, opening, opening_without_data, shutting, syncing, acting}
 use Rattle.calculus.specs.Steps.{State, Allowed}

@@ -6,7 +6,7 @@ use Rattle.std.proofs.lemmas.Bool.{cases_order, cases_eq}
 use Rattle.system.specs.Lists.{In}
 use Rattle.system.specs.Expression.{Store}
 use Rattle.address.specs.Order.{order_of}
-use Rattle.address.specs.OrderLaws.{less-not-equal, greater-not-less}
+use Rattle.address.specs.walking.OrderLaws.{less-not-equal, greater-not-less}
 use Rattle.address.proofs.Total.{order-itself, order-antisymmetric, order-transitive, order-total}
 use Rattle.address.proofs.Places.{same?}
 use Rattle.calculus.specs.Moves.{Place}

@@ -5,7 +5,7 @@ use Rattle.std.specs.declared.cmp.Ordering.TheVariants.{Less}
 use Rattle.std.specs.Ordering.{ordering_reverse}
 use Rattle.std.proofs.lemmas.Bool.{eqb-true, eqb-false, ne_eqb, not-true, not_from_false, and_parts, and_from, or_cases, or_left, or_right}
 use Rattle.address.specs.Order.{order_of}
-use Rattle.address.specs.OrderLaws.{greater-not-less}
+use Rattle.address.specs.walking.OrderLaws.{greater-not-less}
 use Rattle.address.proofs.Total.{order-antisymmetric}
 use Rattle.system.specs.Lists.{In}
 use Rattle.calculus.specs.Choices.{choice_of}

@@ -1,4 +1,5 @@
--- What two addresses have in common.
+-- What is left of two addresses behind their longest common beginning.
+-- No reader has to believe it: `proofs/First.antt` ties it to `Before` of `Places.antt`.
 use Rattle.std.specs.Prelude.{ℕ, Option, Some, None, ◌≡◌, ◌≢◌, List, [], ◌∷◌, ◌++◌}
 use Rattle.address.specs.declared.Entry.{Entry}
 use Rattle.address.specs.declared.Entry.TheVariants.{Ordered, Branch}

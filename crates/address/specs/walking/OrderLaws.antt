@@ -1,4 +1,5 @@
 -- The order of addresses is total: the law that their comparison traits cite.
+-- No reader has to believe it: it is proofs, of `order_of` in `Order.antt`.
 use Rattle.std.specs.Prelude.{◌≡◌, List, [], ◌∷◌, refl}
 use Rattle.std.proofs.Common.{ap, subst, true≢false}
 use Rattle.std.specs.declared.cmp.Ordering.TheVariants.{Less, Equal, Greater}
