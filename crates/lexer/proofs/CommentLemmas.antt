@@ -2,7 +2,7 @@
 use Rattle.std.proofs.Common.{◌≡◌, ◌≢◌, ℕ, zero, suc, ◌+◌, ◌-◌, ◌≤◌, ◌<◌, Bool, true, false, ◌&&◌, cond, List, [], ◌∷◌, ◌++◌, length, take, drop, inl, inr, refl, sym, ◌∙◌, ap, arith}
 use Rattle.std.proofs.lemmas.Bool.{false≢true, both_ways, and_left, and_right, and_parts, cases_Bool, cases_lt}
 use Rattle.std.proofs.lemmas.List.{drop-drop, drop_all, length-drop}
-use Rattle.lexer.specs.Bytes.{Text}
+use Rattle.syntax.specs.Texts.{Text}
 use Rattle.lexer.specs.Comment.{is_opening, is_closing, closes, is_nested_comment, IsOpenComment}
 use Rattle.lexer.proofs.MarkLemmas.{mark_fits, short_of_mark}
 

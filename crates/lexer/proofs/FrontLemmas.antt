@@ -6,10 +6,12 @@ use Rattle.std.proofs.lemmas.Bool.{false≢true, both_ways, and_from, and_parts,
 use Rattle.std.proofs.lemmas.List.{append-nil, take_at, take_all, drop_all, take-append-drop, length-take-le, nil_from_length}
 use Rattle.std.proofs.lemmas.List.Folds.{list_all-append}
 use Rattle.std.proofs.lemmas.List.Sums.{prefix_len-le-length}
-use Rattle.lexer.specs.Bytes.{Text, is_blank}
+use Rattle.syntax.specs.Texts.{Text}
+use Rattle.lexer.specs.Bytes.{is_blank}
 use Rattle.lexer.specs.Comment.{is_opening, is_nested_comment, IsOpenComment}
-use Rattle.lexer.specs.Cut.{IsFront, IsLongest, Piece}
-use Rattle.lexer.specs.Spelling.{begins, may_hold, IsRun, Spells, class_at}
+use Rattle.lexer.specs.Cut.{IsLongest, Piece}
+use Rattle.lexer.specs.Spelling.{begins, may_hold, IsRun, Spells}
+use Rattle.lexer.specs.walking.Fronts.{class_at, IsFront}
 use Rattle.lexer.specs.declared.class.Class.{Class}
 use Rattle.lexer.specs.declared.class.Class.TheVariants.{Blank, LineComment, NestedComment, OpenComment, Word, Number, Symbol}
 use Rattle.lexer.proofs.CommentLemmas.{whole_once}

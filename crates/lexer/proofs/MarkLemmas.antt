@@ -4,7 +4,7 @@ use Rattle.std.specs.Prelude.{nat_eq, slice_index}
 use Rattle.std.specs.List.{starts_with}
 use Rattle.std.proofs.lemmas.Bool.{false≢true, and_parts, and_from, and_left, and_right, eqb-true, false_from_ne_true, ne_eqb}
 use Rattle.std.proofs.lemmas.List.{length-take, take_rest}
-use Rattle.lexer.specs.Bytes.{Text}
+use Rattle.syntax.specs.Texts.{Text}
 
 -- a mark is no front of a shorter text
 pub mark_fits : (mark text : Text) → starts_with nat_eq text mark ≡ true → length mark ≤ length text

@@ -5,9 +5,11 @@ use Rattle.std.specs.List.{list_all, prefix_len, starts_with}
 use Rattle.std.specs.Char.{is_ascii_alphabetic, is_ascii_digit}
 use Rattle.std.proofs.lemmas.Bool.{false≢true, and_parts, cases_Bool}
 use Rattle.std.proofs.lemmas.Bool.Decides.{nat_tests}
-use Rattle.lexer.specs.Bytes.{Text, is_blank, is_name_byte}
+use Rattle.syntax.specs.Texts.{Text}
+use Rattle.lexer.specs.Bytes.{is_blank, is_name_byte}
 use Rattle.lexer.specs.Comment.{is_opening, is_nested_comment, IsOpenComment}
-use Rattle.lexer.specs.Spelling.{begins, may_hold, is_dashes, IsRun, Spells, class_at}
+use Rattle.lexer.specs.Spelling.{begins, may_hold, is_dashes, IsRun, Spells}
+use Rattle.lexer.specs.walking.Fronts.{class_at}
 use Rattle.lexer.specs.declared.class.Class.{Class}
 use Rattle.lexer.specs.declared.class.Class.TheVariants.{Blank, LineComment, NestedComment, OpenComment, Word, Number, Symbol}
 use Rattle.lexer.proofs.MarkLemmas.{mark_extends, mark_first, other_mark}

@@ -10,9 +10,10 @@ use Rattle.lexer.specs.Comment.{is_opening, is_nested_comment, IsOpenComment}
 use Rattle.lexer.specs.declared.class.Class.TheVariants.{NestedComment, OpenComment, Number}
 use Rattle.refusals.specs.declared.lexer.Fault.TheVariants as fault
 use Rattle.lexer.proofs.MarkLemmas.{mark_extends}
-use Rattle.lexer.specs.Bytes.{Text}
-use Rattle.lexer.specs.Cut.{IsCut, IsFront, Piece, joined}
-use Rattle.lexer.specs.Refusal.{IsDueAt, IsPieceFault, IsRefused}
+use Rattle.syntax.specs.Texts.{Text}
+use Rattle.lexer.specs.Cut.{IsCut, Piece, joined}
+use Rattle.lexer.specs.Refusal.{IsDueAt, IsRefused}
+use Rattle.lexer.specs.walking.Fronts.{IsFront, IsPieceFault}
 use Rattle.lexer.specs.Tokens.{AreReadable, AreTokens, IsReadable, IsReadTo, behind, first_position, token_at, token_of, tokens_from}
 use Rattle.lexer.specs.declared.class.Class.{Class}
 use Rattle.refusals.specs.declared.lexer.Fault.{Fault}

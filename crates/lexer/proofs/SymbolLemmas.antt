@@ -5,9 +5,10 @@ use Rattle.std.specs.List.{list_all}
 use Rattle.std.specs.Cmp.Lexicographic.{pointwise, same_text}
 use Rattle.std.proofs.lemmas.Bool.{false≢true, both_ways, and_from, and_parts, cases_Bool, cases_eq, cases_lt, leb-true, le-leb}
 use Rattle.std.proofs.lemmas.List.{take_at, take-append-drop, length-take-le, nil_from_length}
-use Rattle.lexer.specs.Bytes.{Text}
-use Rattle.lexer.specs.Cut.{IsFront, IsLongest, Piece}
-use Rattle.lexer.specs.Spelling.{Spells, class_at, NoSymbolBeyond, NothingSpelled}
+use Rattle.syntax.specs.Texts.{Text}
+use Rattle.lexer.specs.Cut.{IsLongest, Piece}
+use Rattle.lexer.specs.Spelling.{Spells, NothingSpelled}
+use Rattle.lexer.specs.walking.Fronts.{class_at, NoSymbolBeyond, IsFront}
 use Rattle.lexer.specs.Table.{lookup, symbol, symbols}
 use Rattle.lexer.specs.declared.class.Class.{Class}
 use Rattle.lexer.specs.declared.class.Class.TheVariants.{Blank, LineComment, NestedComment, OpenComment, Word, Number, Symbol}

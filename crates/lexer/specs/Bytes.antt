@@ -1,10 +1,6 @@
 -- Bytes by what they may stand for.
-use Rattle.std.specs.Prelude.{ℕ, Bool, ◌||◌, ◌==◌, List}
+use Rattle.std.specs.Prelude.{ℕ, Bool, ◌||◌, ◌==◌}
 use Rattle.std.specs.Char.{is_ascii_alphanumeric}
-
--- a text, as the list of its bytes
-abbrev pub Text : Type 0
-Text = List ℕ
 
 -- a tab, the two ends of a line, a space
 abbrev pub is_blank : ℕ → Bool

@@ -1,7 +1,7 @@
 -- Comments that nest, from `(--` to the `--)` that closes it.
 use Rattle.std.specs.Prelude.{ℕ, zero, suc, Bool, true, false, ◌&&◌, if◌then◌else◌, nat_eq, [], ◌∷◌, take, drop, IsTrue}
 use Rattle.std.specs.List.{starts_with}
-use Rattle.lexer.specs.Bytes.{Text}
+use Rattle.syntax.specs.Texts.{Text}
 
 -- whether a text begins with `(--`
 abbrev pub is_opening : Text → Bool

@@ -1,6 +1,6 @@
 -- A source that is cut into the longest spellings.
-use Rattle.std.specs.Prelude.{◌≡◌, ◌≢◌, ℕ, ◌≤◌, List, [], ◌∷◌, ◌++◌, length, take, drop}
-use Rattle.lexer.specs.Bytes.{Text}
+use Rattle.std.specs.Prelude.{◌≡◌, ◌≢◌, List, [], ◌∷◌, ◌++◌}
+use Rattle.syntax.specs.Texts.{Text}
 use Rattle.lexer.specs.Spelling.{Spells}
 use Rattle.lexer.specs.declared.class.Class.{Class}
 
@@ -23,7 +23,3 @@ pub record IsLongest (piece : Piece) (after : Text) : Type 0 where
 abbrev pub IsCut : List Piece → Text → Type 0
 IsCut [] rest = Unit {0}
 IsCut (piece ∷ pieces) rest = IsLongest piece (joined pieces ++ rest) × IsCut pieces rest
-
--- the first `n` bytes are the longest spelling at the front, and are of this class
-abbrev pub IsFront : Class → ℕ → Text → Type 0
-IsFront class n rest = (n ≤ length rest) × IsLongest (record { class = class; text = take n rest }) (drop n rest)

@@ -2,7 +2,8 @@
 use Rattle.std.specs.Prelude.{Bool, ◌&&◌, not, is_some, slice_index}
 use Rattle.std.specs.List.{list_all}
 use Rattle.std.specs.Char.{is_ascii_alphabetic}
-use Rattle.lexer.specs.Bytes.{Text, is_name_byte}
+use Rattle.syntax.specs.Texts.{Text}
+use Rattle.lexer.specs.Bytes.{is_name_byte}
 use Rattle.lexer.specs.Table.{word}
 
 -- a letter, then letters, digits and `_`

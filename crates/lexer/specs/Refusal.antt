@@ -1,10 +1,9 @@
 -- Where a source is refused, and why.
 use Rattle.std.specs.Prelude.{◌≡◌, ◌≢◌, ℕ, ◌^◌, ◌≤◌, List, [], ◌++◌, length}
-use Rattle.lexer.specs.Bytes.{Text}
+use Rattle.syntax.specs.Texts.{Text}
 use Rattle.lexer.specs.Cut.{Piece, joined, IsLongest}
 use Rattle.lexer.specs.Spelling.{Spells, NothingSpelled}
 use Rattle.lexer.specs.Tokens.{IsReadTo, value_of}
-use Rattle.lexer.specs.declared.class.Class.{Class}
 use Rattle.lexer.specs.declared.class.Class.TheVariants as class
 use Rattle.refusals.specs.declared.lexer.Fault.{Fault}
 use Rattle.refusals.specs.declared.lexer.Fault.TheVariants.{Memory, BadCharacter, OpenComment, NumberTooLarge}
@@ -27,10 +26,3 @@ IsDueAt at rest (NumberTooLarge offset) = (offset ≡ at) × BeginsTooLarge rest
 -- the source is cut into readable pieces up to where the fault is due
 abbrev pub IsRefused : Text → Fault → Type 0
 IsRefused source fault = (pieces : List Piece) × (rest : Text) × IsReadTo source pieces rest × IsDueAt (length (joined pieces)) rest fault
-
--- the fault that a piece at the offset is in itself
-abbrev pub IsPieceFault : ℕ → Class → Text → Fault → Type 0
-IsPieceFault at kind text Memory = ⊥
-IsPieceFault at kind text (BadCharacter offset) = ⊥
-IsPieceFault at kind text (OpenComment offset) = (offset ≡ at) × (kind ≡ class.OpenComment)
-IsPieceFault at kind text (NumberTooLarge offset) = (offset ≡ at) × (kind ≡ class.Number) × (2 ^ 64 ≤ value_of text)

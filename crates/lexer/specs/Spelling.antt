@@ -1,9 +1,10 @@
 -- What is spelled: which texts are pieces of each class.
-use Rattle.std.specs.Prelude.{◌≡◌, ℕ, Bool, true, false, not, ◌&&◌, if◌then◌else◌, ◌==◌, nat_eq, ◌<◌, ◌≤◌, length, [], ◌∷◌, ◌++◌, take, slice_index, IsTrue, IsSome, is_some, Option, Some, None}
+use Rattle.std.specs.Prelude.{◌≡◌, ℕ, Bool, false, not, ◌&&◌, ◌==◌, nat_eq, [], ◌∷◌, ◌++◌, slice_index, IsTrue, IsSome}
 use Rattle.std.specs.List.{list_all, starts_with}
 use Rattle.std.specs.Char.{is_ascii_alphabetic, is_ascii_digit}
-use Rattle.lexer.specs.Bytes.{Text, is_blank, is_name_byte}
-use Rattle.lexer.specs.Comment.{is_opening, is_nested_comment, IsOpenComment}
+use Rattle.syntax.specs.Texts.{Text}
+use Rattle.lexer.specs.Bytes.{is_blank, is_name_byte}
+use Rattle.lexer.specs.Comment.{is_nested_comment, IsOpenComment}
 use Rattle.lexer.specs.Table.{symbol}
 use Rattle.lexer.specs.declared.class.Class.{Class}
 use Rattle.lexer.specs.declared.class.Class.TheVariants.{Blank, LineComment, NestedComment, OpenComment, Word, Number, Symbol}
@@ -49,17 +50,3 @@ Spells Symbol text = IsSome (symbol text)
 -- no front of the text is a spelling
 abbrev pub NothingSpelled : Text → Type 0
 NothingSpelled rest = (class : Class) (text after : Text) → rest ≡ text ++ after → ¬ Spells class text
-
--- the only class that a text with this beginning can have, where an open comment counts as a nested one
-abbrev pub class_at : Text → Class
-class_at text =
-    if begins Blank text then Blank
-    else (if begins Word text then Word
-    else (if begins Number text then Number
-    else (if begins LineComment text then LineComment
-    else (if is_opening text then NestedComment
-    else Symbol))))
-
--- no front of more than so many bytes is a symbol
-abbrev pub NoSymbolBeyond : ℕ → Text → Type 0
-NoSymbolBeyond n rest = (m : ℕ) → n < m → m ≤ length rest → ¬ IsSome (symbol (take m rest))

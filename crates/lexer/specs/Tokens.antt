@@ -2,7 +2,7 @@
 use Rattle.std.specs.Prelude.{◌≡◌, ℕ, ◌+◌, ◌-◌, ◌*◌, ◌^◌, ◌<◌, ◌==◌, List, [], ◌∷◌, ◌++◌, length, Option, Some, None, unwrap_or}
 use Rattle.std.specs.Option.{option_map, option_to_list}
 use Rattle.std.specs.List.{count_by}
-use Rattle.lexer.specs.Bytes.{Text}
+use Rattle.syntax.specs.Texts.{Text}
 use Rattle.lexer.specs.Cut.{Piece, joined, IsCut}
 use Rattle.lexer.specs.Table.{symbol, word}
 use Rattle.lexer.specs.declared.class.Class.{Class}

@@ -1,9 +1,9 @@
 ghost use Rattle.std.specs.Prelude.{◌≡◌, ◌+◌, ◌≤◌, length, take, drop, MatchOption, IsSome, IsTrue, is_some, nat_le, ◌&&◌};
 ghost use Rattle.std.specs.List.{prefix_len};
 ghost use Rattle.lexer.specs.Comment.{IsOpenComment, is_nested_comment, is_opening};
-ghost use Rattle.lexer.specs.Spelling.{NoSymbolBeyond, NothingSpelled, class_at, may_hold};
+ghost use Rattle.lexer.specs.Spelling.{NothingSpelled, may_hold};
 ghost use Rattle.lexer.specs.Table.{symbol};
-ghost use Rattle.lexer.specs.Cut.{IsFront};
+ghost use Rattle.lexer.specs.walking.Fronts.{IsFront, NoSymbolBeyond, class_at};
 
 use crate::class::{Class, is_blank};
 use crate::table::symbol;

@@ -1,7 +1,7 @@
 ghost use Rattle.std.specs.Prelude.{◌≡◌, ◌≤◌, ◌<◌, ◌+◌, ◌^◌, length, ◌++◌, ◌⊎◌, IfOk, IfErr, OnOk};
 ghost use Rattle.std.specs.Option.{option_to_list};
-ghost use Rattle.lexer.specs.Refusal.{IsPieceFault};
 ghost use Rattle.lexer.specs.Tokens.{IsReadable, token_at, token_of};
+ghost use Rattle.lexer.specs.walking.Fronts.{IsPieceFault};
 ghost use Rattle.refusals.specs.declared.lexer.Fault.TheVariants.{Memory};
 
 use crate::Fault;

@@ -3,9 +3,9 @@ use Rattle.std.specs.List.{count_by}
 use Rattle.std.proofs.lemmas.Bool.Decides.{nat_tests}
 use Rattle.std.proofs.lemmas.List.{nil_from_length}
 use Rattle.std.proofs.lemmas.List.Sums.{count_by-le-length}
-use Rattle.lexer.specs.Cut.{IsFront}
-use Rattle.lexer.specs.Refusal.{IsPieceFault, IsRefused}
+use Rattle.lexer.specs.Refusal.{IsRefused}
 use Rattle.lexer.specs.Spelling.{NothingSpelled}
+use Rattle.lexer.specs.walking.Fronts.{IsFront, IsPieceFault}
 use Rattle.lexer.specs.Tokens.{AreTokens, token_at}
 use Rattle.refusals.specs.declared.lexer.Fault.TheVariants.{Memory, BadCharacter}
 use Rattle.lexer.specs.declared.position.Position.{Position}

@@ -1,5 +1,5 @@
 use Rattle.std.proofs.Common.{◌≡◌, ◌≢◌, inl, inr, sym, ◌∙◌}
-use Rattle.lexer.specs.Spelling.{class_at, NoSymbolBeyond}
+use Rattle.lexer.specs.walking.Fronts.{class_at, NoSymbolBeyond}
 use Rattle.lexer.specs.declared.class.Class.TheVariants.{NestedComment, Symbol}
 use Rattle.lexer.proofs.FrontLemmas.{run_front}
 use Rattle.lexer.proofs.PieceLemmas.{class_begins}
