@@ -2,7 +2,8 @@
 use Rattle.std.proofs.Common.{◌≡◌, ◌≢◌, ◌⊎◌, inl, inr, ℕ, List, Result, Ok, Err, refl, sym, subst}
 use Rattle.std.specs.Result.{IfErr, IsErrAnd}
 use Rattle.elaborate.specs.Elaboration as elaboration
-use Rattle.stimulus.specs.StimulusText.{lines, AreEntries, FirstOther}
+use Rattle.syntax.specs.Texts.{lines}
+use Rattle.stimulus.specs.StimulusText.{AreEntries, FirstOther}
 use Rattle.refusals.specs.declared.elaborate.Fault as elaborate
 use Rattle.refusals.specs.declared.elaborate.Fault.TheVariants as no_system
 use Rattle.stimulus.specs.declared.stimulus.Entry.{Entry}

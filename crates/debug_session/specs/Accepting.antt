@@ -1,7 +1,8 @@
 -- What it is for a source and a stimulus to be accepted, and to be refused.
 use Rattle.std.specs.Prelude.{◌≡◌, ◌≢◌, ◌⊎◌, ℕ, List, Ok}
 use Rattle.elaborate.specs.Elaboration as elaboration
-use Rattle.stimulus.specs.StimulusText.{lines, AreEntries, FirstOther}
+use Rattle.syntax.specs.Texts.{lines}
+use Rattle.stimulus.specs.StimulusText.{AreEntries, FirstOther}
 use Rattle.refusals.specs.declared.elaborate.Fault as elaborate
 use Rattle.refusals.specs.declared.elaborate.Fault.TheVariants as no_system
 use Rattle.stimulus.specs.declared.stimulus.Entry.{Entry}

@@ -1,7 +1,7 @@
 -- Which lines of a stimulus fit the ports of the root.
 use Rattle.std.specs.Prelude.{ℕ, ◌+◌, ◌^◌, nat_lt, nat_eq, Bool, true, false, ◌&&◌, not, is_some, if◌then◌else◌, List, [], ◌∷◌, ◌++◌, Option, Some, None, length}
 use Rattle.std.specs.Cmp.Lexicographic.{pointwise}
-use Rattle.stimulus.specs.StimulusText.{Text}
+use Rattle.syntax.specs.Texts.{Text}
 use Rattle.stimulus.specs.declared.stimulus.Given.{Given}
 use Rattle.stimulus.specs.declared.stimulus.Given.TheVariants.{Values, Syncs}
 use Rattle.stimulus.specs.declared.stimulus.Entry.{Entry}

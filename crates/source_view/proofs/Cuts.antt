@@ -2,7 +2,7 @@
 use Rattle.std.proofs.Common.{◌≡◌, ◌≢◌, ℕ, suc, ◌+◌, ◌<◌, ◌≤◌, Bool, true, false, not, cond, List, [], ◌∷◌, length, take, drop, refl, ap, ◌∙◌, subst, arith}
 use Rattle.std.specs.List.{position_or_len, onto_first, count_by}
 use Rattle.std.proofs.lemmas.List.Recursion.{is_count_by}
-use Rattle.source_view.specs.View.{is_end, lines}
+use Rattle.syntax.specs.Texts.{is_end, lines}
 
 -- a byte before a cut
 cut-step : (t : Bool) (b place : ℕ) (s : List ℕ) → cond (not t) (1 + place) 0 < suc (length s)

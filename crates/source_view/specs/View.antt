@@ -1,7 +1,8 @@
 -- The view of a source.
 use Rattle.std.specs.Prelude.{◌≡◌, ℕ, suc, ◌-◌, ◌==◌, ◌&&◌, not, List, [], ◌∷◌, ◌++◌, Bool, false, if◌then◌else◌, Option, Some, None, codes, length, replicate}
-use Rattle.std.specs.List.{list_any, onto_first}
+use Rattle.std.specs.List.{list_any}
 use Rattle.std.specs.Fmt.{decimal}
+use Rattle.syntax.specs.Texts.{lines}
 use Rattle.system.specs.Expression.{is_in}
 use Rattle.calculus.specs.Choices.{choice_of}
 use Rattle.calculus.specs.Events.{acting}
@@ -43,15 +44,6 @@ is_conflict_on h es n = list_any (λ e. acts_on h n e && list_any (are_in_confli
 abbrev pub marks_on : Held → List Event → List ℕ → ℕ → Marks
 marks_on h es breaks n =
     record { is_ready = is_ready_on h es n; has_break = is_in n breaks; in_conflict = is_conflict_on h es n }
-
--- whether the byte ends a line
-abbrev pub is_end : ℕ → Bool
-is_end byte = byte == 10
-
--- the lines of a source: each ends at byte 10, the last one there or with the source
-abbrev pub lines : List ℕ → List (List ℕ)
-lines [] = []
-lines (byte ∷ source) = if is_end byte then [] ∷ lines source else onto_first byte (lines source)
 
 -- digits in 5 places, or in as many as they need
 abbrev pub right : List ℕ → List ℕ

@@ -1,6 +1,6 @@
 // The lines of a source, which end at byte 10 or with the source.
 ghost use Rattle.std.specs.Prelude.{◌≡◌, ◌≢◌, ◌<◌, ◌≤◌, ◌==◌, ℕ, List, [], ◌∷◌, length, position, count_by};
-ghost use Rattle.source_view.specs.View.{lines, is_end};
+ghost use Rattle.syntax.specs.Texts.{is_end, lines};
 
 /// The first line of a source that is not empty, and what stands behind its end.
 pub(crate) fn first_line(source: &[u8]) -> (&[u8], &[u8])

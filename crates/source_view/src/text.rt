@@ -1,7 +1,8 @@
 // The bytes of a view. Each function adds its text behind what is there; without memory a part of it may be there.
 ghost use Rattle.std.specs.Prelude.{◌≡◌, ◌≤◌, ◌++◌, length, replicate, IfOk, OnOk};
 ghost use Rattle.std.specs.Fmt.{decimal};
-ghost use Rattle.source_view.specs.View.{lines, lines_text, line_text, right, mark};
+ghost use Rattle.syntax.specs.Texts.{lines};
+ghost use Rattle.source_view.specs.View.{lines_text, line_text, right, mark};
 ghost use Rattle.source_view.specs.walking.Marking.{marks_at};
 
 use crate::lines::first_line;

@@ -1,9 +1,11 @@
 -- The lines of a text one after another.
 use Rattle.std.proofs.Common.{◌≡◌, ℕ, ◌+◌, ◌<◌, ◌≤◌, ◌==◌, List, [], ◌∷◌, ◌++◌, length, take, drop, refl, ap, sym, ◌∙◌, subst, true, false, arith, inl, inr, append_assoc, eq-eqb, ne_eqb, length-drop, add-one}
+use Rattle.std.specs.List.{onto_first}
 use Rattle.std.proofs.lemmas.List.{take-append-drop, append-nil}
-use Rattle.stimulus.specs.Words.{Without, StartsWith, IsBefore}
-use Rattle.stimulus.specs.StimulusText.{Text, begun_with, lines, Gives, HasForm, AreEntries, FirstOther}
-use Rattle.stimulus.specs.StimulusReading.{IsAdded}
+use Rattle.stimulus.specs.walking.CutAt.{Without, StartsWith, IsBefore}
+use Rattle.syntax.specs.Texts.{Text, lines}
+use Rattle.stimulus.specs.StimulusText.{Gives, HasForm, AreEntries, FirstOther}
+use Rattle.stimulus.specs.walking.LineParts.{IsAdded}
 use Rattle.stimulus.specs.declared.stimulus.Given.{Given}
 use Rattle.stimulus.specs.declared.stimulus.Entry.{Entry}
 
@@ -11,16 +13,16 @@ use Rattle.stimulus.specs.declared.stimulus.Entry.{Entry}
 lines_at : (y : ℕ) (r : Text) → y ≡ 10 → lines (y ∷ r) ≡ [] ∷ lines r
 lines_at y r e = let t : (y == 10) ≡ true = eq-eqb y 10 e in rw t
 
-lines_on : (x : ℕ) (r : Text) → (x ≡ 10 → ⊥) → lines (x ∷ r) ≡ begun_with x (lines r)
+lines_on : (x : ℕ) (r : Text) → (x ≡ 10 → ⊥) → lines (x ∷ r) ≡ onto_first x (lines r)
 lines_on x r n = let t : (x == 10) ≡ false = ne_eqb x 10 n in rw t
 
 lines_cut : (xs u : Text) → Without 10 xs → StartsWith 10 u → (xs ++ u ≡ [] → ⊥) → lines (xs ++ u) ≡ xs ∷ lines (drop 1 u)
 lines_cut [] [] h k some = absurd (some refl)
 lines_cut [] (y ∷ r) h k some = lines_at y r k
 lines_cut (x ∷ []) [] h k some = lines_on x [] h.0
-lines_cut (x ∷ []) (y ∷ r) h k some = lines_on x (y ∷ r) h.0 ∙ ap (begun_with x) (lines_at y r k)
+lines_cut (x ∷ []) (y ∷ r) h k some = lines_on x (y ∷ r) h.0 ∙ ap (onto_first x) (lines_at y r k)
 lines_cut (x ∷ z ∷ zs) u h k some =
-    lines_on x (z ∷ zs ++ u) h.0 ∙ ap (begun_with x) (lines_cut (z ∷ zs) u h.1 k (λ e. let f : z ∷ (zs ++ u) ≡ [] = e in cc))
+    lines_on x (z ∷ zs ++ u) h.0 ∙ ap (onto_first x) (lines_cut (z ∷ zs) u h.1 k (λ e. let f : z ∷ (zs ++ u) ≡ [] = e in cc))
 
 pub lines_step : (rest : Text) (count : ℕ) → IsBefore 10 rest count → (rest ≡ [] → ⊥)
     → lines rest ≡ take count rest ∷ lines (drop 1 (drop count rest))

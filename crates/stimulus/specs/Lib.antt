@@ -1,3 +1,2 @@
-pub mod StimulusReading
 pub mod StimulusText
-pub mod Words
+pub mod walking

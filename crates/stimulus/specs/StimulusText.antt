@@ -1,25 +1,12 @@
--- The text of a stimulus: which lines it may have, and what each gives.
-use Rattle.std.specs.Prelude.{◌≡◌, ℕ, suc, ◌<◌, ◌≤◌, ◌^◌, ◌==◌, if◌then◌else◌, List, [], ◌∷◌, ◌++◌, IsTrue, ◌⊎◌}
-use Rattle.syntax.specs.Lists.{Every}
+-- The lines of a stimulus: which it may have, and what each gives.
+use Rattle.std.specs.Prelude.{◌≡◌, ℕ, suc, ◌<◌, ◌≤◌, ◌^◌, List, [], ◌∷◌, ◌++◌, IsTrue, ◌⊎◌}
 use Rattle.std.specs.Fmt.{decimal}
+use Rattle.syntax.specs.Lists.{Every}
+use Rattle.syntax.specs.Texts.{Text}
 use Rattle.lexer.specs.Names.{is_name}
 use Rattle.stimulus.specs.declared.stimulus.Given.{Given}
 use Rattle.stimulus.specs.declared.stimulus.Given.TheVariants.{Values, Syncs}
 use Rattle.stimulus.specs.declared.stimulus.Entry.{Entry}
-
--- a text, as the list of its bytes
-abbrev pub Text : Type 0
-Text = List ℕ
-
--- one more byte before the first line
-abbrev pub begun_with : ℕ → List Text → List Text
-begun_with b [] = (b ∷ []) ∷ []
-begun_with b (line ∷ rest) = (b ∷ line) ∷ rest
-
--- the lines of a text: each ends with byte 10, which the last one may lack
-abbrev pub lines : Text → List Text
-lines [] = []
-lines (b ∷ rest) = if b == 10 then ([] ∷ lines rest) else begun_with b (lines rest)
 
 -- numbers in decimal, each behind a space
 abbrev pub numbers_text : List ℕ → Text

@@ -33,7 +33,8 @@ pub enum Given {
 }
 
 impl Stimulus {
-    ghost use Rattle.stimulus.specs.StimulusText.{lines, AreEntries, FirstOther};
+    ghost use Rattle.syntax.specs.Texts.{lines};
+    ghost use Rattle.stimulus.specs.StimulusText.{AreEntries, FirstOther};
 
     /// The stimulus that `text` spells. A line ends with byte 10, which the last one may lack. It is empty, or it is a
     /// name, ` =` and for each value a space and a number, or a name, ` * ` and a number up to 65,536. The first line of

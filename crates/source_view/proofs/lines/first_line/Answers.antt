@@ -2,7 +2,7 @@ use Rattle.std.proofs.Common.{◌≡◌, ℕ, ◌<◌, ◌≤◌, ◌+◌, Bool,
 use Rattle.std.specs.List.{position_or_len}
 use Rattle.std.proofs.lemmas.Bool.{ltb-true, ltb-false}
 use Rattle.std.proofs.lemmas.List.{take_rest}
-use Rattle.source_view.specs.View.{is_end, lines}
+use Rattle.syntax.specs.Texts.{is_end, lines}
 use Rattle.source_view.proofs.Cuts.{cut-at, whole}
 use Rattle.source_view.proofs.lines.first_line.Goals as goal
 

@@ -1,5 +1,6 @@
 use Rattle.std.proofs.Common.{◌≡◌, suc, ◌+◌, ◌≤◌, ◌++◌, length}
-use Rattle.source_view.specs.View.{lines, lines_text}
+use Rattle.syntax.specs.Texts.{lines}
+use Rattle.source_view.specs.View.{lines_text}
 use Rattle.source_view.specs.walking.Marking.{marks_at}
 use Rattle.source_view.proofs.text.write_lines.Given as goal
 

@@ -3,7 +3,8 @@ use Rattle.calculus.specs.InOrder.{InOrder}
 use Rattle.calculus.specs.Ready.{Sooner}
 use Rattle.calculus.specs.declared.event.Event.{Event}
 use Rattle.source_view.specs.walking.Marking.{AreMarks, marks_at}
-use Rattle.source_view.specs.View.{lines, lines_text, marks_on}
+use Rattle.syntax.specs.Texts.{lines}
+use Rattle.source_view.specs.View.{lines_text, marks_on}
 use Rattle.source_view.specs.declared.marks.Marks.{Marks}
 use Rattle.source_view.proofs.Agreeing.{shown}
 use Rattle.source_view.proofs.viewing.view.Goals as goal

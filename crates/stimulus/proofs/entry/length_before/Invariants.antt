@@ -1,5 +1,5 @@
 use Rattle.std.proofs.Common.{take}
-use Rattle.stimulus.specs.Words.{Without}
+use Rattle.stimulus.specs.walking.CutAt.{Without}
 use Rattle.stimulus.proofs.entry.length_before.Given as goal
 
 -- the byte is not among those passed

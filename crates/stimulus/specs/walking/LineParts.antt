@@ -1,9 +1,12 @@
 -- What reading the parts of a line of a stimulus finds.
+-- No reader has to believe it: `proofs/Entries.antt` ties it to `Gives`, and `proofs/Lines.antt` to `AreEntries` and `FirstOther`
+-- of `StimulusText.antt`.
 use Rattle.std.specs.Prelude.{◌≡◌, ℕ, ◌<◌, ◌^◌, List, [], ◌∷◌, ◌++◌, ◌⊎◌}
 use Rattle.std.specs.Fmt.{decimal}
 use Rattle.syntax.specs.Lists.{Every}
-use Rattle.stimulus.specs.Words.{StartsWith}
-use Rattle.stimulus.specs.StimulusText.{Text, numbers_text, given_text, IsWithin, Gives}
+use Rattle.syntax.specs.Texts.{Text}
+use Rattle.stimulus.specs.walking.CutAt.{StartsWith}
+use Rattle.stimulus.specs.StimulusText.{numbers_text, given_text, IsWithin, Gives}
 use Rattle.stimulus.specs.declared.stimulus.Given.{Given}
 use Rattle.stimulus.specs.declared.stimulus.Entry.{Entry}
 

@@ -1,0 +1,2 @@
+pub mod CutAt
+pub mod LineParts
