@@ -7,7 +7,7 @@ use Rattle.std.proofs.Math.Nat.{mod-eq_of_lt, mod-mod}
 use Rattle.std.proofs.Math.Pow.{pow_mono}
 use Rattle.value.specs.declared.Comparison.{Comparison}
 use Rattle.value.specs.Comparison.{holds}
-use Rattle.value.specs.Word.{Word, IsWord, common_width, sum_of, difference_of, and_of, or_of, xor_of, complement_of, comparison_of, resized, least_width_of}
+use Rattle.value.specs.Word.{Word, IsWidth, IsWord, common_width, sum_of, difference_of, and_of, or_of, xor_of, complement_of, comparison_of, resized, least_width_of}
 use Rattle.value.proofs.Numbers.{below_max_left, below_max_right, pow-succ_twice, sum_fits, difference_whole, difference_wrapped}
 
 -- ---- what each operation gives is a word
@@ -15,31 +15,31 @@ use Rattle.value.proofs.Numbers.{below_max_left, below_max_right, pow-succ_twice
 -- a sum of words, where one bit more is still at most 64
 pub IsWord-sum_of : (a b : Word) → IsWord a → IsWord b → common_width a b < 64 → IsWord (sum_of a b)
 IsWord-sum_of a b ha hb room =
-    (omega arith, omega arith, mod_below (a.bits + b.bits) (2 ^ (common_width a b + 1)) (pow_pos (common_width a b + 1)))
+    ((omega arith, omega arith), mod_below (a.bits + b.bits) (2 ^ (common_width a b + 1)) (pow_pos (common_width a b + 1)))
 
 -- a difference of words
 pub IsWord-difference_of : (a b : Word) → IsWord a → IsWord b → IsWord (difference_of a b)
-IsWord-difference_of a b ha hb = (omega arith, omega arith, mod_below _ (2 ^ common_width a b) (pow_pos (common_width a b)))
+IsWord-difference_of a b ha hb = ((omega arith, omega arith), mod_below _ (2 ^ common_width a b) (pow_pos (common_width a b)))
 
 -- the bits that both words have
 pub IsWord-and_of : (a b : Word) → IsWord a → IsWord b → IsWord (and_of a b)
 IsWord-and_of a b ha hb =
-    let fits : a.bits < 2 ^ max a.width b.width = below_max_left a.bits a.width b.width ha.2 in
-    (omega arith, omega arith, omega (arith, and_le_l a.bits b.bits))
+    let fits : a.bits < 2 ^ max a.width b.width = below_max_left a.bits a.width b.width ha.1 in
+    ((omega arith, omega arith), omega (arith, and_le_l a.bits b.bits))
 
 -- the bits that one or both words have
 pub IsWord-or_of : (a b : Word) → IsWord a → IsWord b → IsWord (or_of a b)
 IsWord-or_of a b ha hb =
-    (omega arith, omega arith, or_lt (common_width a b) a.bits b.bits (below_max_left a.bits a.width b.width ha.2) (below_max_right b.bits a.width b.width hb.2))
+    ((omega arith, omega arith), or_lt (common_width a b) a.bits b.bits (below_max_left a.bits a.width b.width ha.1) (below_max_right b.bits a.width b.width hb.1))
 
 -- the bits that just one word has
 pub IsWord-xor_of : (a b : Word) → IsWord a → IsWord b → IsWord (xor_of a b)
 IsWord-xor_of a b ha hb =
-    (omega arith, omega arith, xor_lt (common_width a b) a.bits b.bits (below_max_left a.bits a.width b.width ha.2) (below_max_right b.bits a.width b.width hb.2))
+    ((omega arith, omega arith), xor_lt (common_width a b) a.bits b.bits (below_max_left a.bits a.width b.width ha.1) (below_max_right b.bits a.width b.width hb.1))
 
 -- a word with each bit flipped
 pub IsWord-complement_of : (a : Word) → IsWord a → IsWord (complement_of a)
-IsWord-complement_of a h = (h.0, h.1, omega (arith, pow_pos a.width))
+IsWord-complement_of a h = (h.0, omega (arith, pow_pos a.width))
 
 -- a bit that is 1 or 0 fits one bit
 truth_fits : (b : Bool) → cond b 1 0 < 2 ^ 1
@@ -48,11 +48,11 @@ truth_fits false = omega arith
 
 -- a comparison, also of operands that are no words
 pub IsWord-comparison_of : (op : Comparison) (a b : Word) → IsWord (comparison_of op a b)
-IsWord-comparison_of op a b = (omega arith, omega arith, truth_fits (holds op a.bits b.bits))
+IsWord-comparison_of op a b = ((omega arith, omega arith), truth_fits (holds op a.bits b.bits))
 
 -- a resized number, also of a record that is no word
-pub IsWord-resized : (v : Word) (w : ℕ) → 1 ≤ w → w ≤ 64 → IsWord (resized v w)
-IsWord-resized v w low high = (low, high, mod_below v.bits (2 ^ w) (pow_pos w))
+pub IsWord-resized : (v : Word) (w : ℕ) → IsWidth w → IsWord (resized v w)
+IsWord-resized v w h = (h, mod_below v.bits (2 ^ w) (pow_pos w))
 
 -- ---- widths
 
@@ -92,23 +92,23 @@ width-resized v w = refl
 
 -- no carry is lost
 pub bits-sum_of : (a b : Word) → IsWord a → IsWord b → (sum_of a b).bits ≡ a.bits + b.bits
-bits-sum_of a b ha hb = mod-eq_of_lt (sum_fits a.bits b.bits a.width b.width ha.2 hb.2)
+bits-sum_of a b ha hb = mod-eq_of_lt (sum_fits a.bits b.bits a.width b.width ha.1 hb.1)
 
 -- the difference of words, with no second operand cut
 pub bits-difference_of : (a b : Word) → IsWord a → IsWord b → (difference_of a b).bits ≡ (a.bits + (2 ^ common_width a b - b.bits)) % 2 ^ common_width a b
 bits-difference_of a b ha hb =
-    ap (λ k. (a.bits + (2 ^ common_width a b - k)) % 2 ^ common_width a b) (mod-eq_of_lt (below_max_right b.bits a.width b.width hb.2))
+    ap (λ k. (a.bits + (2 ^ common_width a b - k)) % 2 ^ common_width a b) (mod-eq_of_lt (below_max_right b.bits a.width b.width hb.1))
 
 -- a difference that is not below zero is the true difference
 pub bits-difference_of_within : (a b : Word) → IsWord a → IsWord b → b.bits ≤ a.bits → (difference_of a b).bits ≡ a.bits - b.bits
 bits-difference_of_within a b ha hb within =
     bits-difference_of a b ha hb
-    ∙ difference_whole a.bits b.bits (2 ^ common_width a b) (below_max_left a.bits a.width b.width ha.2) within
+    ∙ difference_whole a.bits b.bits (2 ^ common_width a b) (below_max_left a.bits a.width b.width ha.1) within
 
 -- a difference below zero is two to the power of the width more than the true one
 pub bits-difference_of_wrapped : (a b : Word) → IsWord a → IsWord b → a.bits < b.bits → (difference_of a b).bits + b.bits ≡ a.bits + 2 ^ common_width a b
 bits-difference_of_wrapped a b ha hb below =
-    let fits : b.bits < 2 ^ common_width a b = below_max_right b.bits a.width b.width hb.2 in
+    let fits : b.bits < 2 ^ common_width a b = below_max_right b.bits a.width b.width hb.1 in
     let less : b.bits ≤ 2 ^ common_width a b = omega arith in
     let is : (difference_of a b).bits ≡ a.bits + (2 ^ common_width a b - b.bits) =
     bits-difference_of a b ha hb ∙ difference_wrapped a.bits b.bits (2 ^ common_width a b) less below in
@@ -126,7 +126,7 @@ resized-wider v w h wider = ap (λ k. record { bits = k; width = w }) (mod-eq_of
 
 -- a word at its own width is itself
 pub resized-own_width : (v : Word) → IsWord v → resized v v.width ≡ v
-resized-own_width v h = ap (λ k. record { bits = k; width = v.width }) (mod-eq_of_lt h.2)
+resized-own_width v h = ap (λ k. record { bits = k; width = v.width }) (mod-eq_of_lt h.1)
 
 -- to resize twice to one width is to resize once
 pub resized-resized : (v : Word) (w : ℕ) → resized (resized v w) w ≡ resized v w
@@ -145,8 +145,8 @@ least_from_digits n m w low high =
       | inr within ↦ within
     ]
 
--- from 1 to 64
-pub least_width_of-range : (n : ℕ) → (1 ≤ least_width_of n) × (least_width_of n ≤ 64)
+-- it is a width
+pub least_width_of-range : (n : ℕ) → IsWidth (least_width_of n)
 unfolding least_width_of
 least_width_of-range n = (omega arith, omega arith)
 
@@ -167,4 +167,4 @@ least_width_of-least n h w positive fits =
 
 -- a number at its least width is a word
 pub IsWord-least_width_of : (n : ℕ) → n < 2 ^ 64 → IsWord (record { bits = n; width = least_width_of n })
-IsWord-least_width_of n h = ((least_width_of-range n).0, (least_width_of-range n).1, least_width_of-fits n h)
+IsWord-least_width_of n h = (least_width_of-range n, least_width_of-fits n h)

@@ -1,3 +1,2 @@
 pub mod Comparison
 pub mod Word
-pub mod Width

@@ -14,9 +14,13 @@ pub record Word : Type 0 where
 abbrev pub most_bits : ℕ
 most_bits = 64
 
--- the width is from 1 to that, and the number fits it
+-- a number of bits from 1 to that
+abbrev pub IsWidth : ℕ → Type 0
+IsWidth n = (1 ≤ n) × (n ≤ most_bits)
+
+-- the width is one, and the number fits it
 abbrev pub IsWord : Word → Type 0
-IsWord w = (1 ≤ w.width) × (w.width ≤ most_bits) × (w.bits < 2 ^ w.width)
+IsWord w = IsWidth w.width × (w.bits < 2 ^ w.width)
 
 -- the wider of the two widths
 abbrev pub common_width : Word → Word → ℕ

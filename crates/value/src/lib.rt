@@ -67,7 +67,7 @@ impl Value {
         ensures word { IsSome result ↔ IsWord (record { bits = bits; width = width }) }
         ensures value { IfSome result (λ v. v ≡ record { bits = bits; width = width }) }
     {
-        if 1 <= width && width <= 64 && bits <= ones(width) {
+        if 1 <= width && width <= MOST_BITS && bits <= ones(width) {
             Some(Value::make(bits, width))
         } else {
             None

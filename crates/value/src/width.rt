@@ -1,6 +1,7 @@
 ghost use Rattle.std.specs.Prelude.{◌≡◌, ◌≤◌, ◌↔◌, IsSome, IfSome};
-ghost use Rattle.value.specs.Width.{IsWidth};
+ghost use Rattle.value.specs.Word.{IsWidth};
 
+use crate::MOST_BITS;
 use std::marker::Model;
 
 /// How many bits a value has, from 1 to 64. Contracts see it as that number.
@@ -11,7 +12,7 @@ pub struct Width {
 
 impl Model for Width {
     ghost use Rattle.std.specs.Prelude.{ℕ};
-    ghost use Rattle.value.specs.Width.{IsWidth};
+    ghost use Rattle.value.specs.Word.{IsWidth};
 
     ghost Value = { ℕ };
 
@@ -28,7 +29,7 @@ impl Width {
         ensures width { IsSome result ↔ IsWidth bits }
         ensures value { IfSome result (λ w. w ≡ bits) }
     {
-        if 1 <= bits && bits <= 64 {
+        if 1 <= bits && bits <= MOST_BITS {
             Some(Width { bits })
         } else {
             None

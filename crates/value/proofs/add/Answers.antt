@@ -8,10 +8,10 @@ pub invariant_of-result : goal.invariant_of-result
 invariant_of-result c =
     let left : c.a.inside.width ≡ c.args.a.width = ap (λ v. v.width) c.a.view_is in
     let right : c.b.inside.width ≡ c.args.b.width = ap (λ v. v.width) c.b.view_is in
-    (omega arith, omega arith, rw c.max.ensures (sum_fits _ _ _ _ c.a.invariant.2 c.b.invariant.2))
+    ((omega arith, omega arith), rw c.max.ensures (sum_fits _ _ _ _ c.a.invariant.1 c.b.invariant.1))
 
 pub returns-clause-value : goal.returns-clause-value
 returns-clause-value c =
     rw (← c.a.view_is, ← c.b.view_is, c.max.ensures)
     (ap (λ k. record { bits = k; width = max c.a.inside.width c.b.inside.width + 1 })
-    (sym (mod-eq_of_lt (sum_fits _ _ _ _ c.a.invariant.2 c.b.invariant.2))))
+    (sym (mod-eq_of_lt (sum_fits _ _ _ _ c.a.invariant.1 c.b.invariant.1))))

@@ -10,4 +10,4 @@ returns-clause-flipped c =
     rw (← c.a.view_is)
     (λ i within.
     ap (λ k. bit_at (k - c.a.inside.bits) i) mask
-    ∙ bit_at-flipped c.a.inside.width c.a.inside.bits i c.a.invariant.2 within)
+    ∙ bit_at-flipped c.a.inside.width c.a.inside.bits i c.a.invariant.1 within)

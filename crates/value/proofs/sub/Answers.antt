@@ -12,8 +12,8 @@ returns-clause-value c =
     let within : w ≤ 64 = omega arith in
     let cut = and-ones ((c.a.inside.bits + (18446744073709551616 - c.b.inside.bits)) % 18446744073709551616) c.ones.result w ones_is in
     let wraps = difference_cut c.a.inside.bits c.b.inside.bits w
-    (below_max_left c.a.inside.bits c.a.inside.width c.b.inside.width c.a.invariant.2)
-    (below_max_right c.b.inside.bits c.a.inside.width c.b.inside.width c.b.invariant.2) within in
+    (below_max_left c.a.inside.bits c.a.inside.width c.b.inside.width c.a.invariant.1)
+    (below_max_right c.b.inside.bits c.a.inside.width c.b.inside.width c.b.invariant.1) within in
     rw (← c.a.view_is, ← c.b.view_is, c.max-width.ensures)
     (ap (λ k. record { bits = k; width = w })
     (cut ∙ wraps ∙ sym (bits-difference_of _ _ c.a.invariant c.b.invariant)))
