@@ -3,8 +3,7 @@ use Rattle.std.specs.Prelude.{◌≡◌, ◌⊎◌, ℕ, List, [], ◌∷◌, �
 use Rattle.std.specs.Io.KnownBytes.{Appends}
 use Rattle.system.specs.declared.system.System.{System}
 use Rattle.debug_session.specs.Accepting.{Gives, IsRefused}
-use Rattle.debug_session.specs.Counting.{after_reading, after_writing}
-use Rattle.debug_session.specs.Pieces.{WritingStops}
+use Rattle.debug_session.specs.Counting.{after_reading, after_writing, WritingStops}
 use Rattle.debug_session.specs.Transcript.{Debugged}
 use Rattle.debug_session.specs.declared.fault.Fault.{Fault}
 use Rattle.debug_session.specs.declared.fault.Fault.TheVariants.{Memory, ReadFailed}

@@ -4,7 +4,7 @@ use Rattle.system.specs.declared.system.System.{System}
 use Rattle.debug_session.specs.AtLine.{AtLine}
 use Rattle.debug_session.specs.Accepting.{IsRefused}
 use Rattle.debug_session.specs.Counting.{fault_reads, fault_writes, after_reading, after_writing}
-use Rattle.debug_session.specs.Pieces.{LineStops}
+use Rattle.debug_session.specs.walking.OneLine.{LineStops}
 use Rattle.debug_session.specs.declared.fault.Fault.{Fault}
 use Rattle.debug_session.proofs.AskLemmas.{Unsaid}
 

@@ -11,7 +11,7 @@ use Rattle.std.proofs.lemmas.List.Elements.{All-head, All-tail, All-from_get_or}
 use Rattle.std.proofs.Math.Seq.{take-append_seam}
 use Rattle.debug_session.specs.Script.{IsNoEnd, IsLine}
 use Rattle.debug_session.specs.declared.fault.Fault.{Fault}
-use Rattle.debug_session.specs.Pieces.{TakesLine, ReadingStops}
+use Rattle.debug_session.specs.walking.OneLine.{TakesLine, ReadingStops}
 
 -- both tests hold
 both : (a b : Bool) → (a && b) ≡ true → (a ≡ true) × (b ≡ true)

@@ -7,7 +7,8 @@ use Rattle.debug_session.specs.declared.fault.Fault.{Fault}
 use Rattle.debug_session.specs.AtLine.{AtLine}
 use Rattle.debug_session.specs.Lines.{Asks, Says}
 use Rattle.debug_session.specs.Transcript.{SaidAnswered, LineAnswered}
-use Rattle.debug_session.specs.Pieces.{WritingStops, LineStops}
+use Rattle.debug_session.specs.Counting.{WritingStops}
+use Rattle.debug_session.specs.walking.OneLine.{LineStops}
 use Rattle.debug_session.proofs.AskLemmas.{Unsaid}
 use Rattle.debug_session.proofs.KnownLemmas.{Appends-none}
 

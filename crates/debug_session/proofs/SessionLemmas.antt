@@ -11,7 +11,7 @@ use Rattle.debug_session.specs.AtLine.{AtLine, first_line}
 use Rattle.debug_session.specs.declared.fault.Fault.{Fault}
 use Rattle.debug_session.specs.Script.{with_end, IsNoEnd, IsLine, IsEnding, EndWith}
 use Rattle.debug_session.specs.Transcript.{LineAnswered, Transcript, Stopped, Ends}
-use Rattle.debug_session.specs.Pieces.{TakesLine, ReadingStops, LineStops}
+use Rattle.debug_session.specs.walking.OneLine.{TakesLine, ReadingStops, LineStops}
 use Rattle.debug_session.proofs.KnownLemmas.{Appends-none, Consumes-none, Appends-then, Consumes-then, end-known}
 
 -- a transcript goes on with one more line

@@ -1,5 +1,5 @@
--- Devices that count how often they failed, and what their failures end a session with.
-use Rattle.std.specs.Prelude.{ℕ, ◌+◌, ◌%◌, ◌^◌, ◌≡◌, ◌⊎◌, Result, Ok, Err}
+-- Devices that count how often they failed, and what their failures leave behind.
+use Rattle.std.specs.Prelude.{ℕ, ◌+◌, ◌%◌, ◌^◌, ◌≡◌, ◌⊎◌, ◌++◌, List, Result, Ok, Err}
 use Rattle.debug_session.specs.declared.counted.Counted.{Counted}
 use Rattle.debug_session.specs.declared.fault.Fault.{Fault}
 
@@ -42,3 +42,7 @@ after_reading (Err fault) n = fault_reads fault n
 abbrev pub after_writing : {A : Type 0} → Result A Fault → ℕ → ℕ
 after_writing (Ok done) n = n
 after_writing (Err fault) n = fault_writes fault n
+
+-- a writer took a beginning of the bytes and failed
+abbrev pub WritingStops : List ℕ → List ℕ → Fault → Type 0
+WritingStops bytes given fault = (fault ≡ Fault.WriteFailed) × ((missing : List ℕ) × (bytes ≡ given ++ missing))

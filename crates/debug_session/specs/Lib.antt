@@ -6,9 +6,9 @@ pub mod FaultNumbers
 pub mod Fields
 pub mod Lines
 pub mod Meaning
-pub mod Pieces
 pub mod ReplyText
 pub mod Script
 pub mod Transcript
 pub mod Words
 pub mod Wrapping
+pub mod walking

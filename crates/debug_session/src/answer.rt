@@ -3,7 +3,7 @@ ghost use Rattle.std.specs.Io.KnownBytes.{Appends};
 ghost use Rattle.debug_session.specs.Counting.{device, failures, after_reading, after_writing};
 ghost use Rattle.debug_session.specs.Lines.{SaysSession};
 ghost use Rattle.debug_session.specs.declared.line.Line.{Line};
-ghost use Rattle.debug_session.specs.Pieces.{LineStops};
+ghost use Rattle.debug_session.specs.walking.OneLine.{LineStops};
 ghost use Rattle.debug_session.specs.Transcript.{SaidAnswered, LineAnswered, Ends};
 
 use crate::input::read_line;

@@ -2,7 +2,7 @@ ghost use Rattle.std.specs.Prelude.{◌≡◌, ◌≢◌, ◌⊎◌, ◌++◌, �
 ghost use Rattle.std.specs.IoError.{error_kind};
 ghost use Rattle.std.specs.Io.BufRead.{ends_with_byte};
 ghost use Rattle.debug_session.specs.Counting.{device, failures, after_reading};
-ghost use Rattle.debug_session.specs.Pieces.{TakesLine, ReadingStops};
+ghost use Rattle.debug_session.specs.walking.OneLine.{TakesLine, ReadingStops};
 ghost use Rattle.debug_session.specs.declared.fault.Fault.TheVariants.{Memory, ReadFailed};
 
 use crate::Fault;

@@ -2,8 +2,7 @@ ghost use Rattle.std.specs.Prelude.{◌≡◌, ◌≢◌, ◌<◌, ◌≤◌, �
 ghost use Rattle.std.specs.IoError.{error_kind};
 ghost use Rattle.std.specs.Io.KnownBytes.{Appends, Keeps};
 ghost use Rattle.debug_session.specs.declared.fault.Fault.TheVariants.{WriteFailed};
-ghost use Rattle.debug_session.specs.Counting.{device, failures, patience, after_writing};
-ghost use Rattle.debug_session.specs.Pieces.{WritingStops};
+ghost use Rattle.debug_session.specs.Counting.{device, failures, patience, after_writing, WritingStops};
 
 use crate::Fault;
 use crate::counted::Counted;

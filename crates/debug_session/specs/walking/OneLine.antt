@@ -1,4 +1,5 @@
--- One line taken from a reader, and one answer given to a writer.
+-- One line taken from a reader, and why it was not answered.
+-- No reader has to believe it: `proofs/SessionLemmas.antt` ties it to `Ends` of `Transcript.antt`.
 use Rattle.std.specs.Prelude.{ℕ, ◌≡◌, ◌≢◌, ◌⊎◌, ◌++◌, List, [], Bool, Option, IfSome, MatchBool}
 use Rattle.std.specs.Io.KnownBytes.{Consumes, IsAtEnd}
 use Rattle.system.specs.declared.system.System.{System}
@@ -16,10 +17,6 @@ TakesLine old new line complete =
 -- the reader gave a part of a line and stopped
 abbrev pub ReadingStops : Option (List ℕ) → Option (List ℕ) → List ℕ → Fault → Type 0
 ReadingStops old new line fault = IsLine line × Consumes old new line × ((fault ≡ Fault.Memory) ⊎ (fault ≡ Fault.ReadFailed))
-
--- a writer took a beginning of the bytes and failed
-abbrev pub WritingStops : List ℕ → List ℕ → Fault → Type 0
-WritingStops bytes given fault = (fault ≡ Fault.WriteFailed) × ((missing : List ℕ) × (bytes ≡ given ++ missing))
 
 -- why the line of this number was not answered, and what was given of its answer
 abbrev pub LineStops : System → AtLine → List ℕ → ℕ → List ℕ → Fault → Type 0
