@@ -1,4 +1,5 @@
--- The marks of lines, as they are gathered. No reader has to believe it: `proofs/` ties it to `View.antt`, which the contract of `view` cites.
+-- The marks of lines, as they are gathered.
+-- No reader has to believe it: `proofs/Agreeing.antt` ties it to `marks_on` of `View.antt`.
 use Rattle.std.specs.Prelude.{◌≡◌, ◌<◌, ℕ, zero, suc, ◌&&◌, ◌||◌, Bool, false, List, [], ◌∷◌, length, slice_index_or}
 use Rattle.system.specs.Expression.{is_in}
 use Rattle.calculus.specs.declared.event.Event.{Event}
