@@ -29,7 +29,7 @@ unfoldable pub take : List Kind → Rule Token
 take kinds = λ i token j. (is_one_of kinds token.kind ≡ true) × (i ≡ input j.levels (token ∷ j.tokens))
 
 -- one token of one of these kinds, which opens a level. What stands in the level may be written `depth` levels deep,
--- this one counted; a `depth` of as many levels as may be opened, or more, makes no difference.
+-- this one counted. A whole sentence is spelled at a depth of as many levels as may be opened (`Spells`).
 unfoldable pub take_open : ℕ → List Kind → Rule Token
 take_open zero kinds = λ i token j. ⊥
 take_open (suc depth) kinds = λ i token j. (is_one_of kinds token.kind ≡ true) × (i ≡ input (suc j.levels) (token ∷ j.tokens))

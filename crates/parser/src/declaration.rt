@@ -98,7 +98,7 @@ fn synced<D: Declared>(cursor: &mut Cursor<'_>) -> Result<D, Halt>
 impl Declared for Port {
     ghost typed = { by_sign.typed_port };
 
-    ghost sync = { by_sign.sync_port };
+    ghost sync = { by_sign.synced_port };
 
     fn typed(word: Kind, names: Items<Identifier>, given: TypeName) -> Port {
         let kind = match word {
@@ -156,7 +156,7 @@ fn ports(cursor: &mut Cursor<'_>) -> Result<Items<Port>, Halt>
 impl Declared for Local {
     ghost typed = { by_sign.typed_local };
 
-    ghost sync = { by_sign.sync_local };
+    ghost sync = { by_sign.synced_local };
 
     fn typed(word: Kind, names: Items<Identifier>, given: TypeName) -> Local {
         let kind = match word {

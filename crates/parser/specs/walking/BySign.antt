@@ -34,8 +34,8 @@ typed_local kind.VariableWord = λ names given. record { names = names; kind = l
 typed_local _ = λ names given. record { names = names; kind = local.Channel given }
 
 -- what names alone declare
-abbrev pub sync_port : List Identifier → Port
-sync_port names = record { names = names; kind = port.Sync }
+abbrev pub synced_port : List Identifier → Port
+synced_port names = record { names = names; kind = port.Sync }
 
-abbrev pub sync_local : List Identifier → Local
-sync_local names = record { names = names; kind = local.Sync }
+abbrev pub synced_local : List Identifier → Local
+synced_local names = record { names = names; kind = local.Sync }

@@ -1,4 +1,6 @@
 -- The words in which the grammar is written a second time: how it is read, with one token of lookahead.
+-- No reader has to believe it: `proofs/WholeLaws.antt` ties them to the words of `Rules.antt` and `Sentences.antt`, and `proofs/Parsed.antt` what they
+-- come to for a whole description to the clauses of `parse`.
 use Rattle.std.specs.Prelude.{ℕ, zero, suc, if◌then◌else◌, List, [], ◌∷◌, length}
 use Rattle.lexer.specs.declared.token.Kind.{Kind}
 use Rattle.lexer.specs.declared.token.Kind.TheVariants.{EndOfSource}

@@ -1,5 +1,5 @@
 -- The grammar a second time, word by word: how it is read, where each choice is made by the kind of the next token.
--- No reader has to believe it: the contract of `parse` cites `Accepted` and `Grammar` alone.
+-- No reader has to believe it: `proofs/Parsed.antt` ties it to the grammar, and the contract of `parse` cites that alone.
 use Rattle.std.specs.Prelude.{ℕ, zero, suc, List, [], ◌∷◌, ◌++◌, Option, Some, None}
 use Rattle.lexer.specs.declared.token.Kind.{Kind}
 use Rattle.lexer.specs.declared.token.Kind.TheVariants as kind
@@ -21,13 +21,11 @@ use Rattle.syntax.specs.declared.declaration.TypeDefinition.{TypeDefinition}
 use Rattle.syntax.specs.declared.declaration.TypeDefinition.TheVariants as definition
 use Rattle.syntax.specs.declared.declaration.TypeDeclaration.{TypeDeclaration}
 use Rattle.syntax.specs.declared.declaration.Port.{Port}
-use Rattle.syntax.specs.declared.declaration.PortKind.TheVariants as port
 use Rattle.syntax.specs.declared.declaration.Local.{Local}
-use Rattle.syntax.specs.declared.declaration.LocalKind.TheVariants as local
 use Rattle.syntax.specs.declared.declaration.Procedure.{Procedure}
 use Rattle.syntax.specs.declared.declaration.Description.{Description}
 use Rattle.parser.specs.Trees.{through, identifier_of, width_of, number_label, name_label, span_of, expression_at, in_parentheses, binary, command_span, command_at, over}
-use Rattle.parser.specs.walking.BySign.{given_by, typed_port, typed_local}
+use Rattle.parser.specs.walking.BySign.{given_by, typed_port, typed_local, synced_port, synced_local}
 use Rattle.parser.specs.walking.Readers.{Reader, ◌>>=◌, ◌>>◌, pure, take, take_open, branch, repeat, inside, nothing}
 use Rattle.parser.specs.Grammar.{sum_signs, comparison_signs, conjunct_words, expression_words}
 
@@ -475,7 +473,7 @@ output_port = typed kind.OutputWord (typed_port kind.OutputWord)
 
 -- "sync" names
 unfoldable pub sync_port : Reader Port
-sync_port = synced (λ declared. record { names = declared; kind = port.Sync })
+sync_port = synced synced_port
 
 unfoldable pub port_of : Reader Port
 port_of = branch (kind.InputWord ∷ []) input_port (branch (kind.OutputWord ∷ []) output_port sync_port)
@@ -501,7 +499,7 @@ channels = typed kind.ChannelWord (typed_local kind.ChannelWord)
 
 -- "sync" names
 unfoldable pub syncs : Reader Local
-syncs = synced (λ declared. record { names = declared; kind = local.Sync })
+syncs = synced synced_local
 
 unfoldable pub local_of : Reader Local
 local_of = branch (kind.VariableWord ∷ []) variables (branch (kind.ChannelWord ∷ []) channels syncs)
