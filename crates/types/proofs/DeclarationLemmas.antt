@@ -1,11 +1,11 @@
 -- A procedure's declarations stand behind the names that are visible before it.
 use Rattle.std.proofs.Common.{◌≡◌, ℕ, List, [], ◌∷◌, ◌++◌, length, take, true, false, is_some, if◌then◌else◌, map, Ok, refl, ap, sym, subst, ◌∙◌, append_assoc, append-nil}
 use Rattle.std.proofs.Math.Seq.{take-append_seam}
-use Rattle.types.specs.Commands.{Visible, judged_command}
+use Rattle.types.specs.Commands.{Scope, judged_command}
 use Rattle.types.specs.Findings.{Verdict, becomes, both, and}
 use Rattle.types.specs.Names.{VisibleNames, look_up, declared, is_fresh, port_meaning, local_meaning}
 use Rattle.types.specs.Declarations.{Declared, with_one, with_ports, with_locals, all_ports, all_locals, one_port, one_local, port_kind, local_kind, behind, port_types, local_types, judged_procedure, declarations_right, after_procedure, with_procedures, with_types, SoFar, types_of, judged_description}
-use Rattle.types.specs.Walking.{least}
+use Rattle.types.specs.walking.Least.{least}
 use Rattle.types.specs.declared.scope.Meaning.{Meaning}
 use Rattle.types.specs.declared.scope.Meaning.TheVariants as meaning
 use Rattle.typed.specs.declared.tree.Command.{Command}
@@ -62,7 +62,7 @@ all_locals-extends s (d ∷ rest) =
     extends-twice (with_locals-extends (local_kind s.names d.kind) s d.names)
     (all_locals-extends (with_locals least (local_kind s.names d.kind) s d.names) rest)
 
-module _ (v : Visible) (p : tree_procedure.Procedure)
+module _ (v : Scope) (p : tree_procedure.Procedure)
     (pn : VisibleNames) (ports : List Port) (pr : Verdict (Unit {0}))
     (ports_are : ◌≡◌ {A = Declared least Port} (record { names = pn; made = ports; right = pr }) (all_ports least (behind least v.names) p.ports))
     (ln : VisibleNames) (locals : List Local) (lr : Verdict (Unit {0}))
@@ -79,7 +79,7 @@ module _ (v : Visible) (p : tree_procedure.Procedure)
         (subst (λ x. Extends pn x) (sym ln_is) (all_locals-extends (behind least pn) p.locals)) in
         ap (λ x. take (length v.names) x) more.is ∙ take-append_seam v.names more.rest
 
-    -- what is visible behind the procedure
+    -- the scope behind the procedure
     pub visible_after :
         (names : VisibleNames) (procedures : List (List PortKind)) (kept : VisibleNames) (visible : ℕ) (signature : List PortKind)
         → visible ≡ length v.names
@@ -87,7 +87,7 @@ module _ (v : Visible) (p : tree_procedure.Procedure)
         → signature ≡ map (λ q. q.kind) ports
         → names ≡ declared kept p.name.name (meaning.Procedure (length v.procedures))
         → procedures ≡ v.procedures ++ signature ∷ []
-        → ◌≡◌ {A = Visible} (record { names = names; procedures = procedures }) (after_procedure least v p)
+        → ◌≡◌ {A = Scope} (record { names = names; procedures = procedures }) (after_procedure least v p)
     visible_after names procedures kept visible signature visible_is kept_is signature_is names_are procedures_are =
         let ports_is : ports ≡ (all_ports least (behind least v.names) p.ports).made = ap (λ (d : Declared least Port). d.made) ports_are in
         let kept_names : kept ≡ v.names = kept_is ∙ ap (λ n. take n ln) visible_is ∙ names_before in

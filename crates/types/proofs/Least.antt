@@ -1,9 +1,10 @@
 -- The answer to what is found: of all faults the least.
 use Rattle.std.proofs.Common.{◌≡◌, List, [], ◌∷◌, ◌++◌, map, Ok, Err, inl, inr, refl, ap, sym, subst, ◌∙◌}
-use Rattle.types.specs.Findings.{Verdict, Findings, becomes, if_right, both, and, with_next, with_all, all, and_all, found, every, IsOneOf, NoneBefore, IsRefused}
+use Rattle.types.specs.Findings.{Verdict, Findings, becomes, if_right, both, and, with_next, with_all, all, and_all, found, every, IsRefused}
 use Rattle.types.specs.Refusal.{lesser}
-use Rattle.types.specs.Walking.{least}
+use Rattle.types.specs.walking.Least.{least}
 use Rattle.refusals.specs.declared.types.Fault.{Fault}
+use Rattle.syntax.specs.Lists.{In, Every}
 use Rattle.types.proofs.Order.{lesser-lesser, lesser-same, lesser-again, lesser-one}
 
 -- the one of these faults that is answered
@@ -101,18 +102,22 @@ each_is P F G f g same (y ∷ ys) =
     ∙ ap (λ zs. g (G y.0) ∷ zs) (each_is P F G f g same ys)
 
 -- what is answered is one of the faults, and none is answered before it
-least_among : (f : Fault) (fs : List Fault) → IsOneOf (least_of f fs) (f ∷ fs)
+least_among : (f : Fault) (fs : List Fault) → In (least_of f fs) (f ∷ fs)
 least_among f [] = inl refl
 least_among f (g ∷ gs) = elim (lesser-one f (least_of g gs)) [
   | inl e ↦ inl e
-  | inr e ↦ inr (subst (λ x. IsOneOf x (g ∷ gs)) (sym e) (least_among g gs))
+  | inr e ↦ inr (subst (λ x. In x (g ∷ gs)) (sym e) (least_among g gs))
 ]
 
-none_before : (f r : Fault) (xs : List Fault) → NoneBefore r xs → NoneBefore (lesser f r) xs
+-- of the fault and any of these the fault is answered
+abbrev First : Fault → List Fault → Type 0
+First fault = Every (λ other. lesser fault other ≡ fault)
+
+none_before : (f r : Fault) (xs : List Fault) → First r xs → First (lesser f r) xs
 none_before f r [] none = tt
 none_before f r (x ∷ xs) none = (lesser-lesser f r x ∙ ap (lesser f) none.0, none_before f r xs none.1)
 
-least_first : (f : Fault) (fs : List Fault) → NoneBefore (least_of f fs) (f ∷ fs)
+least_first : (f : Fault) (fs : List Fault) → First (least_of f fs) (f ∷ fs)
 least_first f [] = (lesser-same f, tt)
 least_first f (g ∷ gs) = (lesser-again f (least_of g gs), none_before f (least_of g gs) (g ∷ gs) (least_first g gs))
 
@@ -124,6 +129,6 @@ pub refused_from : {A : Type 0} (x : Findings every A) (f : Fault) → answer x 
 refused_from (Ok b) f e = cc
 refused_from (Err fs) f e =
     let same : least_of fs.first fs.others ≡ f = cc in (
-      subst (λ x. IsOneOf x (fs.first ∷ fs.others)) same (least_among fs.first fs.others),
-      subst (λ x. NoneBefore x (fs.first ∷ fs.others)) same (least_first fs.first fs.others),
+      subst (λ x. In x (fs.first ∷ fs.others)) same (least_among fs.first fs.others),
+      subst (λ x. First x (fs.first ∷ fs.others)) same (least_first fs.first fs.others),
     )

@@ -2,12 +2,13 @@
 use Rattle.std.proofs.Common.{◌≡◌, ℕ, List, [], ◌∷◌, map, Option, Some, None, Ok, Err, refl, ap, sym, subst, ◌∙◌}
 use Rattle.types.specs.Arms.{guarded, one_bit, conditional, labelled, cased, arm_of, distinct, judged_label, judged_labels, all_new, new_labels, labels_own, with_seen, seen_after, width_of, different, different_channels, with_channel, new_label, new_channel, guarded_arm, labelled_arm, opened_arm, channel_of_arm}
 use Rattle.types.specs.Calls.{called, judged_argument}
-use Rattle.types.specs.Commands.{Visible, Judged, GuardedArm, LabelledArm, start_of, made, value, action_layer, arm_layer, case_arm_layer, command_layer, guarded_layer, each, guarded_arms, guards_own, labelled_arms, case_own, judged_action, judged_command, judged_guarded, judged_labelled, judged_arm, assignment, sending, receiving, guarded_loop, enclosing, target, sender, receiver, opened_by, channel_alone}
+use Rattle.types.specs.Commands.{Scope, Judged, GuardedArm, LabelledArm, start_of, made, value, action_layer, arm_layer, case_arm_layer, command_layer, guarded_layer, each, guarded_arms, guards_own, labelled_arms, case_own, judged_command, assignment, sending, receiving, guarded_loop, enclosing, target, sender, receiver, opened_by, channel_alone}
+use Rattle.types.specs.walking.CommandParts.{judged_action, judged_guarded, judged_labelled, judged_arm}
 use Rattle.types.specs.Expressions.{JudgedValue, judged_expression, shape_layer, expression_layer, binary, complement, cast, type_width}
 use Rattle.types.specs.Findings.{Verdict, Keeping, Findings, both, and, found, every}
 use Rattle.types.specs.Names.{VisibleNames, find}
 use Rattle.types.specs.Uses.{arm_use, procedure_use}
-use Rattle.types.specs.Walking.{least}
+use Rattle.types.specs.walking.Least.{least}
 use Rattle.types.specs.declared.arms.LabelUse.{LabelUse}
 use Rattle.types.specs.declared.expression.Valued.{Valued}
 use Rattle.typed.specs.declared.tree.Arm as typed_arm
@@ -140,21 +141,21 @@ distinct_is arms a x = if_right_is arms a _ _ x (λ these. becomes_is _ (differe
 -- ---- commands
 
 abbrev ActionAgrees : Action → Type 0
-ActionAgrees x = (scope : Visible) (opened : List Binding) → answer (judged_action every x scope opened) ≡ judged_action least x scope opened
+ActionAgrees x = (scope : Scope) (opened : List Binding) → answer (judged_action every x scope opened) ≡ judged_action least x scope opened
 
 abbrev ArmAgrees : Arm → Type 0
-ArmAgrees x = (scope : Visible) (opened : List Binding) → answer (judged_arm every x scope opened) ≡ judged_arm least x scope opened
+ArmAgrees x = (scope : Scope) (opened : List Binding) → answer (judged_arm every x scope opened) ≡ judged_arm least x scope opened
 
 abbrev LabelledAgrees : CaseArm → Type 0
-LabelledAgrees x = (scope : Visible) (opened : List Binding)
+LabelledAgrees x = (scope : Scope) (opened : List Binding)
     → (answer ((judged_labelled every x).arm scope opened) ≡ (judged_labelled least x).arm scope opened)
     × (answer ((judged_labelled every x).labels scope opened) ≡ (judged_labelled least x).labels scope opened)
 
 abbrev CommandAgrees : Command → Type 0
-CommandAgrees x = (scope : Visible) (opened : List Binding) → answer (judged_command every x scope opened) ≡ judged_command least x scope opened
+CommandAgrees x = (scope : Scope) (opened : List Binding) → answer (judged_command every x scope opened) ≡ judged_command least x scope opened
 
 abbrev GuardedAgrees : Guarded → Type 0
-GuardedAgrees x = (scope : Visible) (opened : List Binding)
+GuardedAgrees x = (scope : Scope) (opened : List Binding)
     → (answer ((judged_guarded every x).arm scope opened) ≡ (judged_guarded least x).arm scope opened)
     × (answer ((judged_guarded every x).own scope opened) ≡ (judged_guarded least x).own scope opened)
 
@@ -170,24 +171,24 @@ open_action k y = action_layer k (map-Action Action Arm CaseArm Command Guarded
     (Judged k typed_action.Action) (Judged k typed_arm.Arm) (LabelledArm k) (Judged k typed_command.Command) (GuardedArm k)
     (judged_action k) (judged_arm k) (judged_labelled k) (judged_command k) (judged_guarded k) y)
 
--- children that agree, where this is visible
-commands_are : (scope : Visible) (opened : List Binding) (ys : List (With CommandAgrees))
+-- children that agree, in this scope
+commands_are : (scope : Scope) (opened : List Binding) (ys : List (With CommandAgrees))
     → answer (each every (map (judged_command every) (map (λ y. y.0) ys)) scope opened) ≡ each least (map (judged_command least) (map (λ y. y.0) ys)) scope opened
 commands_are scope opened ys =
     all_is _ _ (each_is CommandAgrees (judged_command every) (judged_command least) (λ child. child scope opened) (λ child. child scope opened) (λ x same. same scope opened) ys)
 
-arms_are : (scope : Visible) (opened : List Binding) (ys : List (With ArmAgrees))
+arms_are : (scope : Scope) (opened : List Binding) (ys : List (With ArmAgrees))
     → answer (each every (map (judged_arm every) (map (λ y. y.0) ys)) scope opened) ≡ each least (map (judged_arm least) (map (λ y. y.0) ys)) scope opened
 arms_are scope opened ys =
     all_is _ _ (each_is ArmAgrees (judged_arm every) (judged_arm least) (λ child. child scope opened) (λ child. child scope opened) (λ x same. same scope opened) ys)
 
 -- the arms of a `case`, and what their labels owe
-case_arms_are : (scope : Visible) (opened : List Binding) (ys : List (With LabelledAgrees))
+case_arms_are : (scope : Scope) (opened : List Binding) (ys : List (With LabelledAgrees))
     → answer (labelled_arms every (map (judged_labelled every) (map (λ y. y.0) ys)) scope opened) ≡ labelled_arms least (map (judged_labelled least) (map (λ y. y.0) ys)) scope opened
 case_arms_are scope opened ys =
     all_is _ _ (each_is LabelledAgrees (judged_labelled every) (judged_labelled least) (λ a. a.arm scope opened) (λ a. a.arm scope opened) (λ x same. (same scope opened).0) ys)
 
-case_own_is : (subject : Expression) (scope : Visible) (opened : List Binding) (ys : List (With LabelledAgrees))
+case_own_is : (subject : Expression) (scope : Scope) (opened : List Binding) (ys : List (With LabelledAgrees))
     → answer (case_own every (width_of (value every subject scope opened)) (map (judged_labelled every) (map (λ y. y.0) ys)) scope opened)
     ≡ case_own least (width_of (value least subject scope opened)) (map (judged_labelled least) (map (λ y. y.0) ys)) scope opened
 case_own_is subject scope opened ys =
@@ -198,17 +199,17 @@ case_own_is subject scope opened ys =
     (each_is LabelledAgrees (judged_labelled every) (judged_labelled least) (λ a. a.labels scope opened) (λ a. a.labels scope opened) (λ x same. (same scope opened).1) ys))
 
 -- the arms of an `if`, and what their guards owe
-if_arms_are : (scope : Visible) (opened : List Binding) (ys : List (With GuardedAgrees))
+if_arms_are : (scope : Scope) (opened : List Binding) (ys : List (With GuardedAgrees))
     → answer (guarded_arms every (map (judged_guarded every) (map (λ y. y.0) ys)) scope opened) ≡ guarded_arms least (map (judged_guarded least) (map (λ y. y.0) ys)) scope opened
 if_arms_are scope opened ys =
     all_is _ _ (each_is GuardedAgrees (judged_guarded every) (judged_guarded least) (λ a. a.arm scope opened) (λ a. a.arm scope opened) (λ x same. (same scope opened).0) ys)
 
-guards_own_is : (scope : Visible) (opened : List Binding) (ys : List (With GuardedAgrees))
+guards_own_is : (scope : Scope) (opened : List Binding) (ys : List (With GuardedAgrees))
     → answer (guards_own every (map (judged_guarded every) (map (λ y. y.0) ys)) scope opened) ≡ guards_own least (map (judged_guarded least) (map (λ y. y.0) ys)) scope opened
 guards_own_is scope opened ys =
     and_all_is _ _ (each_is GuardedAgrees (judged_guarded every) (judged_guarded least) (λ a. a.own scope opened) (λ a. a.own scope opened) (λ x same. (same scope opened).1) ys)
 
-action_agrees : (y : Agreeing) (scope : Visible) (opened : List Binding) → answer (open_action every (plain y) scope opened) ≡ open_action least (plain y) scope opened
+action_agrees : (y : Agreeing) (scope : Scope) (opened : List Binding) → answer (open_action every (plain y) scope opened) ≡ open_action least (plain y) scope opened
 unfolding assignment sending receiving guarded_loop enclosing called
 action_agrees Action-F.Continue scope opened = refl
 action_agrees Action-F.Halt scope opened = refl
@@ -245,7 +246,7 @@ action_agrees (Action-F.Call p arguments) scope opened =
 action_agrees (Action-F.Sequence children) scope opened = becomes_is _ _ _ (commands_are scope opened children)
 action_agrees (Action-F.Parallel children) scope opened = becomes_is _ _ _ (commands_are scope opened children)
 
-arm_agrees : (a : Arm-F (With ActionAgrees) (With ArmAgrees) (With LabelledAgrees) (With CommandAgrees) (With GuardedAgrees)) (scope : Visible) (opened : List Binding)
+arm_agrees : (a : Arm-F (With ActionAgrees) (With ArmAgrees) (With LabelledAgrees) (With CommandAgrees) (With GuardedAgrees)) (scope : Scope) (opened : List Binding)
     → let channel = arm_use (find scope.names opened a.channel.name) a.channel.span.start in
     answer (arm_of every channel (judged_command every a.body.0 scope (opened_by opened channel)))
     ≡ arm_of least channel (judged_command least a.body.0 scope (opened_by opened channel))
@@ -255,14 +256,14 @@ arm_agrees a scope opened =
     joined_is opened_arm (found channel) (judged_command every a.body.0 scope (opened_by opened channel)) channel _ (answer-found channel)
     (a.body.1 scope (opened_by opened channel))
 
-guarded_agrees : (guard : Expression) (body : With CommandAgrees) (scope : Visible) (opened : List Binding)
+guarded_agrees : (guard : Expression) (body : With CommandAgrees) (scope : Scope) (opened : List Binding)
     → answer (guarded every (value every guard scope opened) (judged_command every body.0 scope opened))
     ≡ guarded least (value least guard scope opened) (judged_command least body.0 scope opened)
 unfolding guarded
 guarded_agrees guard body scope opened =
     joined_is guarded_arm (value every guard scope opened) (judged_command every body.0 scope opened) _ _ (expression_agrees guard scope.names opened) (body.1 scope opened)
 
-labelled_agrees : (labels : List Label) (body : With CommandAgrees) (scope : Visible) (opened : List Binding)
+labelled_agrees : (labels : List Label) (body : With CommandAgrees) (scope : Scope) (opened : List Binding)
     → answer (labelled every (judged_labels every scope.names opened labels) (judged_command every body.0 scope opened))
     ≡ labelled least (judged_labels least scope.names opened labels) (judged_command least body.0 scope opened)
 unfolding labelled

@@ -1,11 +1,11 @@
 -- What is answered of a description is the least of all its faults.
 use Rattle.std.proofs.Common.{◌≡◌, ℕ, suc, List, [], ◌∷◌, length, Ok, Err, IfOk, IfErr, ◌⊎◌, inr, refl, ap, sym, ◌∙◌}
-use Rattle.types.specs.Commands.{Visible, judged_command}
+use Rattle.types.specs.Commands.{Scope, judged_command}
 use Rattle.types.specs.Declarations.{SoFar, with_name, with_elements, with_definition, with_demand, with_types, enumeration_width, width_or_one, demanded, Declared, with_one, with_ports, with_locals, all_ports, all_locals, one_port, one_local, port_kind, local_kind, port_type, local_type, port_types, local_types, behind, ports_of, locals_of, inside, after_procedure, types_of, declarations_right, judged_procedure, with_procedures, judged_description, found_description}
 use Rattle.types.specs.Expressions.{declared_width}
 use Rattle.types.specs.Findings.{Verdict, Findings, becomes, both, and, with_next, found, every, IsRefused}
 use Rattle.types.specs.Names.{VisibleNames, declared, is_fresh, port_meaning, local_meaning}
-use Rattle.types.specs.Walking.{least}
+use Rattle.types.specs.walking.Least.{least}
 use Rattle.refusals.specs.declared.types.Fault.TheVariants.{Memory}
 use Rattle.types.specs.declared.scope.Meaning.{Meaning}
 use Rattle.types.specs.declared.scope.Meaning.TheVariants as meaning
@@ -122,29 +122,29 @@ locals_of_is names p =
     all_locals_are (behind every (ports_of every names p).names) p.locals
     ∙ ap (λ (z : Declared least Port). all_locals least (behind least z.names) p.locals) (ports_of_is names p)
 
-inside_is : (scope : Visible) (p : tree_procedure.Procedure) → inside every scope p ≡ inside least scope p
+inside_is : (scope : Scope) (p : tree_procedure.Procedure) → inside every scope p ≡ inside least scope p
 inside_is scope p = ap (λ (z : Declared least Local). record { names = z.names; procedures = scope.procedures }) (locals_of_is scope.names p)
 
-after_is : (scope : Visible) (p : tree_procedure.Procedure) → after_procedure every scope p ≡ after_procedure least scope p
+after_is : (scope : Scope) (p : tree_procedure.Procedure) → after_procedure every scope p ≡ after_procedure least scope p
 after_is scope p = rw (← ports_of_is scope.names p) refl
 
-declarations_are : (scope : Visible) (p : tree_procedure.Procedure) → answer (declarations_right every scope p) ≡ declarations_right least scope p
+declarations_are : (scope : Scope) (p : tree_procedure.Procedure) → answer (declarations_right every scope p) ≡ declarations_right least scope p
 unfolding declarations_right
 declarations_are scope p =
     and_is _ _ _ _ (answer-found _)
     (and_is _ _ _ _
     (and_is _ _ _ _ (ap (λ (z : Declared least Port). z.right) (ports_of_is scope.names p)) (ap (λ (z : Declared least Local). z.right) (locals_of_is scope.names p)))
     (and_is _ _ _ _
-    (port_types_are (inside every scope p).names (Ok tt) p.ports ∙ ap (λ (z : Visible). port_types least z.names (Ok tt) p.ports) (inside_is scope p))
-    (local_types_are (inside every scope p).names (Ok tt) p.locals ∙ ap (λ (z : Visible). local_types least z.names (Ok tt) p.locals) (inside_is scope p))))
+    (port_types_are (inside every scope p).names (Ok tt) p.ports ∙ ap (λ (z : Scope). port_types least z.names (Ok tt) p.ports) (inside_is scope p))
+    (local_types_are (inside every scope p).names (Ok tt) p.locals ∙ ap (λ (z : Scope). local_types least z.names (Ok tt) p.locals) (inside_is scope p))))
 
 -- the procedure with these ports and these locals
-abbrev procedure_with : Visible → tree_procedure.Procedure → List Port → VisibleNames → List Local → Verdict Procedure
+abbrev procedure_with : Scope → tree_procedure.Procedure → List Port → VisibleNames → List Local → Verdict Procedure
 procedure_with scope p ports names locals =
     becomes (λ q. record { name = p.name.name; ports = ports; locals = locals; body = q.1 })
     (both least (declarations_right least scope p) (judged_command least p.body (record { names = names; procedures = scope.procedures }) []))
 
-procedure_is : (scope : Visible) (p : tree_procedure.Procedure) → answer (judged_procedure every scope p) ≡ judged_procedure least scope p
+procedure_is : (scope : Scope) (p : tree_procedure.Procedure) → answer (judged_procedure every scope p) ≡ judged_procedure least scope p
 unfolding judged_procedure
 procedure_is scope p =
     joined_is _ (declarations_right every scope p) (judged_command every p.body (inside every scope p) []) _ _ (declarations_are scope p)
@@ -153,7 +153,7 @@ procedure_is scope p =
     (ports_of_is scope.names p)
     ∙ ap (λ (z : Declared least Local). procedure_with scope p (ports_of least scope.names p).made z.names z.made) (locals_of_is scope.names p)
 
-procedures_are : (scope : Visible) (done : Findings every (List Procedure)) (ps : List tree_procedure.Procedure)
+procedures_are : (scope : Scope) (done : Findings every (List Procedure)) (ps : List tree_procedure.Procedure)
     → answer (with_procedures every scope done ps) ≡ with_procedures least scope (answer done) ps
 procedures_are scope done [] = refl
 procedures_are scope done (p ∷ rest) =

@@ -16,27 +16,27 @@ use Rattle.typed.specs.declared.tree.PortKind.TheVariants as port
 use Rattle.syntax.specs.declared.name.Identifier.{Identifier}
 
 -- an input port takes an input port or a channel of its width
-abbrev pub receives : ℕ → Meaning → Bool
-receives width (meaning.Input p given) = nat_eq width given
-receives width (meaning.Channel l given) = nat_eq width given
-receives width _ = false
+abbrev pub fits_input : ℕ → Meaning → Bool
+fits_input width (meaning.Input p given) = nat_eq width given
+fits_input width (meaning.Channel l given) = nat_eq width given
+fits_input width _ = false
 
 -- an output port takes an output port or a channel of its width
-abbrev pub sends : ℕ → Meaning → Bool
-sends width (meaning.Output p given) = nat_eq width given
-sends width (meaning.Channel l given) = nat_eq width given
-sends width _ = false
+abbrev pub fits_output : ℕ → Meaning → Bool
+fits_output width (meaning.Output p given) = nat_eq width given
+fits_output width (meaning.Channel l given) = nat_eq width given
+fits_output width _ = false
 
 -- a port without data takes a port or a channel without data
-abbrev pub is_sync : Meaning → Bool
-is_sync (meaning.SyncPort p) = true
-is_sync (meaning.Sync l) = true
-is_sync _ = false
+abbrev pub fits_sync : Meaning → Bool
+fits_sync (meaning.SyncPort p) = true
+fits_sync (meaning.Sync l) = true
+fits_sync _ = false
 
 abbrev pub is_fit : PortKind → Meaning → Bool
-is_fit (port.Input width) m = receives width m
-is_fit (port.Output width) m = sends width m
-is_fit port.Sync m = is_sync m
+is_fit (port.Input width) m = fits_input width m
+is_fit (port.Output width) m = fits_output width m
+is_fit port.Sync m = fits_sync m
 
 abbrev pub fits_port : PortKind → Option Meaning → Bool
 fits_port kind (Some m) = is_fit kind m

@@ -19,18 +19,14 @@ use Rattle.typed.specs.declared.tree.Labelled.{Labelled}
 use Rattle.typed.specs.declared.tree.Binding.{Binding}
 use Rattle.typed.specs.declared.tree.PortKind.{PortKind}
 use Rattle.typed.specs.declared.tree.VariableUse.{VariableUse}
-use Rattle.syntax.specs.declared.command.Action as syntax_action
-use Rattle.syntax.specs.declared.command.Action.TheFolds.{fold-Action, fold-Arm, fold-CaseArm, fold-Command, fold-Guarded}
+use Rattle.syntax.specs.declared.command.Action.TheFolds.{fold-Command}
 use Rattle.syntax.specs.declared.command.Action.TheOpen.{Action-F, Arm-F, CaseArm-F, Command-F, Guarded-F}
-use Rattle.syntax.specs.declared.command.Arm as arm_of_select
-use Rattle.syntax.specs.declared.command.CaseArm as arm_of_case
 use Rattle.syntax.specs.declared.command.Command as syntax
-use Rattle.syntax.specs.declared.command.Guarded as arm_of_if
 use Rattle.syntax.specs.declared.expression.Expression.{Expression, out-Expression}
 use Rattle.syntax.specs.declared.name.Identifier.{Identifier}
 
 -- the visible names, and the ports of the visible procedures
-pub record Visible : Type 0 where
+pub record Scope : Type 0 where
   pub names : VisibleNames
   pub procedures : List (List PortKind)
 
@@ -40,13 +36,13 @@ start_of e = (out-Expression e).span.start
 
 -- ---- names
 
-abbrev pub target : Identifier → Visible → List Binding → Verdict (VariableUse × ℕ)
+abbrev pub target : Identifier → Scope → List Binding → Verdict (VariableUse × ℕ)
 target name scope opened = target_use (find scope.names opened name.name) name.span.start
 
-abbrev pub sender : Identifier → Visible → List Binding → Verdict (ChannelUse × ℕ)
+abbrev pub sender : Identifier → Scope → List Binding → Verdict (ChannelUse × ℕ)
 sender name scope opened = sending_use (find scope.names opened name.name) name.span.start
 
-abbrev pub receiver : Identifier → Visible → List Binding → Verdict (ChannelUse × ℕ)
+abbrev pub receiver : Identifier → Scope → List Binding → Verdict (ChannelUse × ℕ)
 receiver name scope opened = receiving_use (find scope.names opened name.name) name.span.start
 
 -- the channels that are open inside an arm on the channel; what is no such channel opens none
@@ -64,9 +60,9 @@ made line action = roll-Command (record { line = line; action = action })
 -- ---- what a command is, whatever way its faults are kept
 
 module _ (k : Keeping) where
-  -- what a command is where this is visible and these channels are open
+  -- what a command is in this scope where these channels are open
   abbrev pub Judged : Type 0 → Type 0
-  Judged A = Visible → List Binding → Findings k A
+  Judged A = Scope → List Binding → Findings k A
 
   abbrev pub value : Expression → Judged Valued
   value e scope opened = judged_expression k e scope.names opened
@@ -173,23 +169,3 @@ module _ (k : Keeping) where
   abbrev pub judged_command : syntax.Command → Judged Command
   judged_command =
       fold-Command (Judged Action) (Judged Arm) LabelledArm (Judged Command) GuardedArm action_layer arm_layer case_arm_layer command_layer guarded_layer
-
-  -- what a command does
-  abbrev pub judged_action : syntax_action.Action → Judged Action
-  judged_action =
-      fold-Action (Judged Action) (Judged Arm) LabelledArm (Judged Command) GuardedArm action_layer arm_layer case_arm_layer command_layer guarded_layer
-
-  -- an arm of `if`
-  abbrev pub judged_guarded : arm_of_if.Guarded → GuardedArm
-  judged_guarded =
-      fold-Guarded (Judged Action) (Judged Arm) LabelledArm (Judged Command) GuardedArm action_layer arm_layer case_arm_layer command_layer guarded_layer
-
-  -- an arm of `case`
-  abbrev pub judged_labelled : arm_of_case.CaseArm → LabelledArm
-  judged_labelled =
-      fold-CaseArm (Judged Action) (Judged Arm) LabelledArm (Judged Command) GuardedArm action_layer arm_layer case_arm_layer command_layer guarded_layer
-
-  -- an arm of `select` or `arbitrate`
-  abbrev pub judged_arm : arm_of_select.Arm → Judged Arm
-  judged_arm =
-      fold-Arm (Judged Action) (Judged Arm) LabelledArm (Judged Command) GuardedArm action_layer arm_layer case_arm_layer command_layer guarded_layer

@@ -1,7 +1,7 @@
 -- What a description declares: types, and procedures with their ports and locals.
 use Rattle.std.specs.Prelude.{ℕ, suc, ◌-◌, List, [], ◌∷◌, ◌++◌, length, map, Ok, Err}
 use Rattle.value.specs.Word.{least_width_of}
-use Rattle.types.specs.Commands.{Visible, judged_command}
+use Rattle.types.specs.Commands.{Scope, judged_command}
 use Rattle.types.specs.Expressions.{declared_width, type_width}
 use Rattle.types.specs.Findings.{Verdict, Keeping, Findings, every, becomes, both, and, with_next}
 use Rattle.types.specs.Names.{VisibleNames, declared, is_fresh, port_meaning, local_meaning}
@@ -42,17 +42,17 @@ abbrev pub enumeration_width : ℕ → ℕ
 enumeration_width count = least_width_of (count - 1)
 
 -- the width of a type, or one bit where it has a fault
-abbrev pub visible_width : VisibleNames → TypeName → ℕ
-visible_width names type = width_or_one (type_width names [] type)
+abbrev pub type_width_or_one : VisibleNames → TypeName → ℕ
+type_width_or_one names type = width_or_one (type_width names [] type)
 
 abbrev pub port_kind : VisibleNames → tree_port_kind.PortKind → PortKind
-port_kind names (port_of.Input type) = port.Input (visible_width names type)
-port_kind names (port_of.Output type) = port.Output (visible_width names type)
+port_kind names (port_of.Input type) = port.Input (type_width_or_one names type)
+port_kind names (port_of.Output type) = port.Output (type_width_or_one names type)
 port_kind names port_of.Sync = port.Sync
 
 abbrev pub local_kind : VisibleNames → tree_local_kind.LocalKind → LocalKind
-local_kind names (local_of.Variable type) = local.Variable (visible_width names type)
-local_kind names (local_of.Channel type) = local.Channel (visible_width names type)
+local_kind names (local_of.Variable type) = local.Variable (type_width_or_one names type)
+local_kind names (local_of.Channel type) = local.Channel (type_width_or_one names type)
 local_kind names local_of.Sync = local.Sync
 
 abbrev pub one_port : PortKind → Identifier → Port
@@ -166,8 +166,8 @@ module _ (k : Keeping) where
   abbrev pub locals_of : VisibleNames → tree_procedure.Procedure → Declared Local
   locals_of names p = all_locals (behind (ports_of names p).names) p.locals
 
-  -- what is visible in the body: all ports and locals, but not the procedure itself
-  abbrev pub inside : Visible → tree_procedure.Procedure → Visible
+  -- the scope of the body: all ports and locals, but not the procedure itself
+  abbrev pub inside : Scope → tree_procedure.Procedure → Scope
   inside scope p = record { names = (locals_of scope.names p).names; procedures = scope.procedures }
 
   -- what the types of the ports and locals owe, where all of these are visible
@@ -175,27 +175,27 @@ module _ (k : Keeping) where
   types_right names p = and k (port_types names (Ok tt) p.ports) (local_types names (Ok tt) p.locals)
 
   -- what the declarations of a procedure owe
-  unfoldable pub declarations_right : Visible → tree_procedure.Procedure → Findings k (Unit {0})
+  unfoldable pub declarations_right : Scope → tree_procedure.Procedure → Findings k (Unit {0})
   declarations_right scope p =
       and k (k.alone (is_fresh scope.names p.name.name p.name.span.start))
       (and k (and k (ports_of scope.names p).right (locals_of scope.names p).right) (types_right (inside scope p).names p))
 
-  -- a procedure where this is visible before it
-  unfoldable pub judged_procedure : Visible → tree_procedure.Procedure → Findings k Procedure
+  -- a procedure with this scope before it
+  unfoldable pub judged_procedure : Scope → tree_procedure.Procedure → Findings k Procedure
   judged_procedure scope p =
       becomes
       (λ q. record { name = p.name.name; ports = (ports_of scope.names p).made; locals = (locals_of scope.names p).made; body = q.1 })
       (both k (declarations_right scope p) (judged_command k p.body (inside scope p) []))
 
-  -- what is visible behind the end of a procedure: the procedure, and nothing that it declares
-  abbrev pub after_procedure : Visible → tree_procedure.Procedure → Visible
+  -- the scope behind the end of a procedure: the procedure, and nothing that it declares
+  abbrev pub after_procedure : Scope → tree_procedure.Procedure → Scope
   after_procedure scope p = record {
     names = declared scope.names p.name.name (meaning.Procedure (length scope.procedures));
     procedures = scope.procedures ++ map (λ q. q.kind) (ports_of scope.names p).made ∷ [];
   }
 
   -- procedures one after another, behind those that are judged already
-  abbrev pub with_procedures : Visible → Findings k (List Procedure) → List tree_procedure.Procedure → Findings k (List Procedure)
+  abbrev pub with_procedures : Scope → Findings k (List Procedure) → List tree_procedure.Procedure → Findings k (List Procedure)
   with_procedures scope done [] = done
   with_procedures scope done (p ∷ rest) = with_procedures (after_procedure scope p) (with_next k done (judged_procedure scope p)) rest
 

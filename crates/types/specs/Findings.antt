@@ -1,8 +1,9 @@
 -- What is found of a construct: it is right, with what it becomes, or it has faults, those of the construct itself only where
 -- its parts have none. Of all faults one is answered.
-use Rattle.std.specs.Prelude.{◌≡◌, ◌⊎◌, List, [], ◌∷◌, ◌++◌, Result, Ok, Err}
+use Rattle.std.specs.Prelude.{◌≡◌, List, [], ◌∷◌, ◌++◌, Result, Ok, Err}
 use Rattle.types.specs.Refusal.{lesser}
 use Rattle.refusals.specs.declared.types.Fault.{Fault}
+use Rattle.syntax.specs.Lists.{In, Every}
 
 -- what one thing owes alone: it is right, or has a fault
 abbrev pub Verdict : Type 0 → Type 0
@@ -83,17 +84,7 @@ every = record {
   together = λ fs gs. record { first = fs.first; others = fs.others ++ gs.first ∷ gs.others };
 }
 
--- the fault is one of these
-abbrev pub IsOneOf : Fault → List Fault → Type 0
-IsOneOf fault [] = ⊥
-IsOneOf fault (one ∷ rest) = (fault ≡ one) ⊎ IsOneOf fault rest
-
--- of the fault and any of these the fault is answered
-abbrev pub NoneBefore : Fault → List Fault → Type 0
-NoneBefore fault [] = Unit {0}
-NoneBefore fault (one ∷ rest) = (lesser fault one ≡ fault) × NoneBefore fault rest
-
 -- the fault is one of those found, and of all of them it is answered: that of the least offset, at one offset of the least number
 abbrev pub IsRefused : {A : Type 0} → Findings every A → Fault → Type 0
 IsRefused (Ok a) fault = ⊥
-IsRefused (Err faults) fault = IsOneOf fault (listed faults) × NoneBefore fault (listed faults)
+IsRefused (Err faults) fault = In fault (listed faults) × Every (λ other. lesser fault other ≡ fault) (listed faults)

@@ -7,4 +7,4 @@ pub mod Arms
 pub mod Calls
 pub mod Commands
 pub mod Declarations
-pub mod Walking
+pub mod walking

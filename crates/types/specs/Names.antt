@@ -1,5 +1,5 @@
 -- What the names mean that are visible at a place.
-use Rattle.std.specs.Prelude.{ℕ, List, [], ◌∷◌, ◌++◌, Option, Some, None, Bool, false, nat_eq, map, is_some, if◌then◌else◌, Ok, Err}
+use Rattle.std.specs.Prelude.{ℕ, List, [], ◌∷◌, ◌++◌, Option, Some, None, Bool, false, nat_eq, is_some, if◌then◌else◌, Ok, Err}
 use Rattle.std.specs.Cmp.Lexicographic.{pointwise}
 use Rattle.std.specs.List.{list_any}
 use Rattle.types.specs.Findings.{Verdict}
@@ -7,9 +7,8 @@ use Rattle.refusals.specs.declared.types.Fault.TheVariants.{NameTwice}
 use Rattle.types.specs.declared.scope.Meaning.{Meaning}
 use Rattle.types.specs.declared.scope.Meaning.TheVariants as meaning
 use Rattle.types.specs.declared.scope.Found.{Found}
-use Rattle.types.specs.declared.scope.Found.TheVariants.{Nothing, Opened, Visible}
+use Rattle.types.specs.declared.scope.Found.TheVariants.{Nothing, Opened, Means}
 use Rattle.types.specs.declared.scope.Channel.{Channel}
-use Rattle.types.specs.declared.scope.Names.{Names}
 use Rattle.typed.specs.declared.tree.LocalKind.{LocalKind}
 use Rattle.typed.specs.declared.tree.LocalKind.TheVariants as local
 use Rattle.typed.specs.declared.tree.Binding.{Binding}
@@ -50,8 +49,8 @@ is_among bindings channel = list_any (same_binding channel) bindings
 
 -- what a name is that means this, and is this channel, where these channels are open
 abbrev pub seen_as : List Binding → Meaning → Option Channel → Found
-seen_as opened m None = Visible m
-seen_as opened m (Some channel) = if is_among opened channel.binding then Opened channel else Visible m
+seen_as opened m None = Means m
+seen_as opened m (Some channel) = if is_among opened channel.binding then Opened channel else Means m
 
 abbrev pub seen : List Binding → Option Meaning → Found
 seen opened None = Nothing
@@ -68,10 +67,6 @@ declared names name m = if is_some (look_up names name) then names else names ++
 -- a name that is visible already may not be declared
 abbrev pub is_fresh : VisibleNames → List ℕ → ℕ → Verdict (Unit {0})
 is_fresh names name offset = if is_some (look_up names name) then Err (NameTwice offset) else Ok tt
-
--- the names that an index holds
-abbrev pub entries : Names → VisibleNames
-entries names = map (λ e. (e.0.items, e.1)) names.index.entries
 
 -- the port at a place of its procedure
 abbrev pub port_meaning : ℕ → PortKind → Meaning

@@ -6,7 +6,7 @@ use Rattle.refusals.specs.declared.types.Fault.TheVariants.{UnknownName, WrongKi
 use Rattle.types.specs.declared.scope.Meaning.{Meaning}
 use Rattle.types.specs.declared.scope.Meaning.TheVariants.{TypeName, Element, Procedure, Input, Output, SyncPort, Variable, Channel, Sync}
 use Rattle.types.specs.declared.scope.Found.{Found}
-use Rattle.types.specs.declared.scope.Found.TheVariants.{Nothing, Opened, Visible}
+use Rattle.types.specs.declared.scope.Found.TheVariants.{Nothing, Opened, Means}
 use Rattle.typed.specs.declared.tree.Binding.{Binding}
 use Rattle.typed.specs.declared.tree.Binding.TheVariants.{Port, Local}
 use Rattle.typed.specs.declared.tree.ChannelUse.{ChannelUse}
@@ -14,11 +14,11 @@ use Rattle.typed.specs.declared.tree.VariableUse.{VariableUse}
 use Rattle.types.specs.declared.uses.Named.{Named}
 use Rattle.types.specs.declared.uses.Named.TheVariants as named
 
--- a name that is not visible, or is a channel that is open around it, is neither of any kind
-abbrev pub visible : Found → ℕ → Verdict Meaning
-visible Nothing offset = Err (UnknownName offset)
-visible (Opened c) offset = Err (EnclosedTwice offset)
-visible (Visible m) offset = Ok m
+-- what a name means; one that is not visible, or is a channel that is open around it, may stand nowhere
+abbrev pub meaning_of : Found → ℕ → Verdict Meaning
+meaning_of Nothing offset = Err (UnknownName offset)
+meaning_of (Opened c) offset = Err (EnclosedTwice offset)
+meaning_of (Means m) offset = Ok m
 
 abbrev pub at : Binding → ℕ → ChannelUse
 at binding offset = record { channel = binding; offset = offset }
@@ -29,7 +29,7 @@ type_by offset _ = Err (WrongKind offset)
 
 -- a type, by its width
 unfoldable pub type_use : Found → ℕ → Verdict ℕ
-type_use found offset = if_right (visible found offset) (type_by offset)
+type_use found offset = if_right (meaning_of found offset) (type_by offset)
 
 abbrev pub target_by : ℕ → Meaning → Verdict (VariableUse × ℕ)
 target_by offset (Variable l w) = Ok (record { variable = l; offset = offset }, w)
@@ -37,7 +37,7 @@ target_by offset _ = Err (WrongKind offset)
 
 -- a variable to write, and its width
 unfoldable pub target_use : Found → ℕ → Verdict (VariableUse × ℕ)
-target_use found offset = if_right (visible found offset) (target_by offset)
+target_use found offset = if_right (meaning_of found offset) (target_by offset)
 
 abbrev pub sending_by : ℕ → Meaning → Verdict (ChannelUse × ℕ)
 sending_by offset (Output p w) = Ok (at (Port p) offset, w)
@@ -46,7 +46,7 @@ sending_by offset _ = Err (WrongKind offset)
 
 -- a channel to send on, and its width
 unfoldable pub sending_use : Found → ℕ → Verdict (ChannelUse × ℕ)
-sending_use found offset = if_right (visible found offset) (sending_by offset)
+sending_use found offset = if_right (meaning_of found offset) (sending_by offset)
 
 abbrev pub receiving_by : ℕ → Meaning → Verdict (ChannelUse × ℕ)
 receiving_by offset (Input p w) = Ok (at (Port p) offset, w)
@@ -55,7 +55,7 @@ receiving_by offset _ = Err (WrongKind offset)
 
 -- a channel to receive from, and its width
 unfoldable pub receiving_use : Found → ℕ → Verdict (ChannelUse × ℕ)
-receiving_use found offset = if_right (visible found offset) (receiving_by offset)
+receiving_use found offset = if_right (meaning_of found offset) (receiving_by offset)
 
 abbrev pub sync_by : ℕ → Meaning → Verdict ChannelUse
 sync_by offset (SyncPort p) = Ok (at (Port p) offset)
@@ -64,7 +64,7 @@ sync_by offset _ = Err (WrongKind offset)
 
 -- a channel without data
 unfoldable pub sync_use : Found → ℕ → Verdict ChannelUse
-sync_use found offset = if_right (visible found offset) (sync_by offset)
+sync_use found offset = if_right (meaning_of found offset) (sync_by offset)
 
 abbrev pub arm_by : ℕ → Meaning → Verdict ChannelUse
 arm_by offset (Input p w) = Ok (at (Port p) offset)
@@ -75,7 +75,7 @@ arm_by offset _ = Err (WrongKind offset)
 
 -- a channel for an arm of `select` or `arbitrate`: one to receive from, or one without data
 unfoldable pub arm_use : Found → ℕ → Verdict ChannelUse
-arm_use found offset = if_right (visible found offset) (arm_by offset)
+arm_use found offset = if_right (meaning_of found offset) (arm_by offset)
 
 abbrev pub procedure_by : ℕ → Meaning → Verdict ℕ
 procedure_by offset (Procedure p) = Ok p
@@ -83,7 +83,7 @@ procedure_by offset _ = Err (WrongKind offset)
 
 -- a procedure, by its place in the description
 unfoldable pub procedure_use : Found → ℕ → Verdict ℕ
-procedure_use found offset = if_right (visible found offset) (procedure_by offset)
+procedure_use found offset = if_right (meaning_of found offset) (procedure_by offset)
 
 abbrev pub label_by : ℕ → Meaning → Verdict Word
 label_by offset (Element v) = Ok v
@@ -91,7 +91,7 @@ label_by offset _ = Err (WrongKind offset)
 
 -- a label that is a name: an element of an enumeration
 unfoldable pub label_use : Found → ℕ → Verdict Word
-label_use found offset = if_right (visible found offset) (label_by offset)
+label_use found offset = if_right (meaning_of found offset) (label_by offset)
 
 abbrev pub argument_by : ℕ → Meaning → Verdict ChannelUse
 argument_by offset (Input p w) = Ok (at (Port p) offset)
@@ -103,7 +103,7 @@ argument_by offset _ = Err (WrongKind offset)
 
 -- an argument of a call: a channel or a port
 unfoldable pub argument_use : Found → ℕ → Verdict ChannelUse
-argument_use found offset = if_right (visible found offset) (argument_by offset)
+argument_use found offset = if_right (meaning_of found offset) (argument_by offset)
 
 abbrev pub received_by : ℕ → Binding → Option ℕ → Verdict Named
 received_by offset binding (Some w) = Ok (named.Received binding w)
@@ -118,4 +118,4 @@ value_by offset _ = Err (WrongKind offset)
 unfoldable pub value_use : Found → ℕ → Verdict Named
 value_use Nothing offset = Err (UnknownName offset)
 value_use (Opened c) offset = received_by offset c.binding c.width
-value_use (Visible m) offset = value_by offset m
+value_use (Means m) offset = value_by offset m

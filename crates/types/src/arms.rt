@@ -1,8 +1,8 @@
 // What the arms of `if`, `case`, `select` and `arbitrate` owe as a whole, beside what each of them is.
 ghost use Rattle.std.specs.Prelude.{◌≡◌, [], ◌∷◌, Ok, IfOk, OnOk, map};
 ghost use Rattle.types.specs.Arms as spec;
-ghost use Rattle.types.specs.Names.{entries};
-ghost use Rattle.types.specs.Walking.{least};
+ghost use Rattle.types.specs.walking.Scopes.{entries};
+ghost use Rattle.types.specs.walking.Least.{least};
 
 use crate::expression::{Valued, least_value};
 use crate::scope::{Names, Scope};

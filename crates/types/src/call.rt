@@ -1,7 +1,8 @@
 ghost use Rattle.std.specs.Prelude.{◌≡◌, [], slice_get, IfOk};
 ghost use Rattle.types.specs.Calls as calls;
-ghost use Rattle.types.specs.Names.{entries, look_up};
-ghost use Rattle.types.specs.Walking.{least};
+ghost use Rattle.types.specs.walking.Scopes.{entries};
+ghost use Rattle.types.specs.Names.{look_up};
+ghost use Rattle.types.specs.walking.Least.{least};
 
 use crate::scope::{Meaning, Names, Scope};
 use crate::verdict::{Settled, both, with_next};
@@ -105,14 +106,14 @@ fn is_fit(port: PortKind, meaning: &Meaning) -> bool
     ensures { result ≡ calls.is_fit port meaning.now }
 {
     match port {
-        PortKind::Input(width) => receives(width, meaning),
-        PortKind::Output(width) => sends(width, meaning),
-        PortKind::Sync => is_sync(meaning),
+        PortKind::Input(width) => fits_input(width, meaning),
+        PortKind::Output(width) => fits_output(width, meaning),
+        PortKind::Sync => fits_sync(meaning),
     }
 }
 
-fn receives(width: Width, meaning: &Meaning) -> bool
-    ensures { result ≡ calls.receives width meaning.now }
+fn fits_input(width: Width, meaning: &Meaning) -> bool
+    ensures { result ≡ calls.fits_input width meaning.now }
 {
     match meaning {
         Meaning::Input(_, given) => width == *given,
@@ -121,8 +122,8 @@ fn receives(width: Width, meaning: &Meaning) -> bool
     }
 }
 
-fn sends(width: Width, meaning: &Meaning) -> bool
-    ensures { result ≡ calls.sends width meaning.now }
+fn fits_output(width: Width, meaning: &Meaning) -> bool
+    ensures { result ≡ calls.fits_output width meaning.now }
 {
     match meaning {
         Meaning::Output(_, given) => width == *given,
@@ -131,8 +132,8 @@ fn sends(width: Width, meaning: &Meaning) -> bool
     }
 }
 
-fn is_sync(meaning: &Meaning) -> bool
-    ensures { result ≡ calls.is_sync meaning.now }
+fn fits_sync(meaning: &Meaning) -> bool
+    ensures { result ≡ calls.fits_sync meaning.now }
 {
     match meaning {
         Meaning::SyncPort(_) => true,

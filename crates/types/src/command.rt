@@ -2,9 +2,11 @@ ghost use Rattle.std.specs.Prelude.{◌≡◌, [], ◌∷◌, Ok, IfOk, OnOk, ma
 ghost use Rattle.std.specs.Option.{option_map};
 ghost use Rattle.types.specs.Arms as arms_of;
 ghost use Rattle.types.specs.Commands as spec;
-ghost use Rattle.types.specs.Commands.{judged_action, judged_command, judged_guarded, judged_labelled, judged_arm};
+ghost use Rattle.types.specs.walking.CommandParts.{judged_action, judged_guarded, judged_labelled, judged_arm};
+ghost use Rattle.types.specs.Commands.{judged_command};
 ghost use Rattle.types.specs.Findings as findings;
-ghost use Rattle.types.specs.Walking.{least, visible_in};
+ghost use Rattle.types.specs.walking.Least.{least};
+ghost use Rattle.types.specs.walking.Scopes.{scope_of};
 ghost use Rattle.syntax.specs.declared.command.Action.TheVariants as form;
 ghost use Rattle.typed.specs.declared.tree.Action.TheVariants as typed;
 
@@ -34,7 +36,7 @@ pub(crate) fn settled_command(
     opened: &[Binding],
     command: &syntax::Command,
 ) -> Settled<Command>
-    ensures { IfOk result (λ made. made ≡ judged_command least command.now (visible_in scope.now) opened.now) }
+    ensures { IfOk result (λ made. made ≡ judged_command least command.now (scope_of scope.now) opened.now) }
 {
     let action = settled_action(alloc, scope, opened, command.action.get())?;
     made(alloc, command.span.line, action)
@@ -59,7 +61,7 @@ fn settled_action(
     opened: &[Binding],
     action: &syntax::Action,
 ) -> Settled<Action>
-    ensures { IfOk result (λ made. made ≡ judged_action least action.now (visible_in scope.now) opened.now) }
+    ensures { IfOk result (λ made. made ≡ judged_action least action.now (scope_of scope.now) opened.now) }
 {
     match action {
         syntax::Action::Continue => Ok(Ok(Action::Continue)),
@@ -108,7 +110,7 @@ fn settled_assign(
     variable: &Identifier,
     value: &Expression,
 ) -> Settled<Action>
-    ensures { IfOk result (λ made. made ≡ spec.assignment least (spec.target variable.now (visible_in scope.now) opened.now) (spec.value least value.now (visible_in scope.now) opened.now) (spec.start_of value.now)) }
+    ensures { IfOk result (λ made. made ≡ spec.assignment least (spec.target variable.now (scope_of scope.now) opened.now) (spec.value least value.now (scope_of scope.now) opened.now) (spec.start_of value.now)) }
 {
     let settled = settled_expression(alloc, &scope.names, opened, value)?;
     let target = target(scope, opened, variable);
@@ -122,7 +124,7 @@ fn settled_send(
     channel: &Identifier,
     value: &Expression,
 ) -> Settled<Action>
-    ensures { IfOk result (λ made. made ≡ spec.sending least (spec.sender channel.now (visible_in scope.now) opened.now) (spec.value least value.now (visible_in scope.now) opened.now) (spec.start_of value.now)) }
+    ensures { IfOk result (λ made. made ≡ spec.sending least (spec.sender channel.now (scope_of scope.now) opened.now) (spec.value least value.now (scope_of scope.now) opened.now) (spec.start_of value.now)) }
 {
     let settled = settled_expression(alloc, &scope.names, opened, value)?;
     let channel = sender(scope, opened, channel);
@@ -136,7 +138,7 @@ fn settled_loop(
     opened: &[Binding],
     body: &syntax::Command,
 ) -> Settled<Action>
-    ensures { IfOk result (λ made. made ≡ judged_action least (form.Loop body.now) (visible_in scope.now) opened.now) }
+    ensures { IfOk result (λ made. made ≡ judged_action least (form.Loop body.now) (scope_of scope.now) opened.now) }
 {
     Ok(settled_command(alloc, scope, opened, body)?.map(Action::Loop))
 }
@@ -149,7 +151,7 @@ fn settled_while(
     body: &syntax::Command,
     guard: &Expression,
 ) -> Settled<Action>
-    ensures { IfOk result (λ made. made ≡ judged_action least (form.While guard.now body.now) (visible_in scope.now) opened.now) }
+    ensures { IfOk result (λ made. made ≡ judged_action least (form.While guard.now body.now) (scope_of scope.now) opened.now) }
 {
     let start = guard.span.start;
     let guard = settled_expression(alloc, &scope.names, opened, guard)?;
@@ -165,7 +167,7 @@ fn settled_if(
     arms: &[syntax::Guarded],
     last: Verdict<Option<Command>>,
 ) -> Settled<Action>
-    ensures { IfOk result (λ made. made ≡ arms_of.conditional least (spec.guarded_arms least (map (judged_guarded least) arms.now) (visible_in scope.now) opened.now) (spec.guards_own least (map (judged_guarded least) arms.now) (visible_in scope.now) opened.now) last) }
+    ensures { IfOk result (λ made. made ≡ arms_of.conditional least (spec.guarded_arms least (map (judged_guarded least) arms.now) (scope_of scope.now) opened.now) (spec.guards_own least (map (judged_guarded least) arms.now) (scope_of scope.now) opened.now) last) }
 {
     let arms = settled_guarded(alloc, scope, opened, arms)?;
     Ok(conditional(arms, last))
@@ -180,7 +182,7 @@ fn settled_case(
     last: Verdict<Option<Command>>,
     subject: &Expression,
 ) -> Settled<Action>
-    ensures { IfOk result (λ made. made ≡ arms_of.cased least (spec.value least subject.now (visible_in scope.now) opened.now) (spec.labelled_arms least (map (judged_labelled least) arms.now) (visible_in scope.now) opened.now) (spec.case_own least (arms_of.width_of (spec.value least subject.now (visible_in scope.now) opened.now)) (map (judged_labelled least) arms.now) (visible_in scope.now) opened.now) last) }
+    ensures { IfOk result (λ made. made ≡ arms_of.cased least (spec.value least subject.now (scope_of scope.now) opened.now) (spec.labelled_arms least (map (judged_labelled least) arms.now) (scope_of scope.now) opened.now) (spec.case_own least (arms_of.width_of (spec.value least subject.now (scope_of scope.now) opened.now)) (map (judged_labelled least) arms.now) (scope_of scope.now) opened.now) last) }
 {
     let subject = settled_expression(alloc, &scope.names, opened, subject)?;
     let arms = settled_labelled(alloc, scope, opened, width_of(&subject), arms)?;
@@ -195,7 +197,7 @@ fn settled_input(
     body: &syntax::Command,
     channel: &Identifier,
 ) -> Settled<Action>
-    ensures { IfOk result (λ made. made ≡ judged_action least (form.Input channel.now body.now) (visible_in scope.now) opened.now) }
+    ensures { IfOk result (λ made. made ≡ judged_action least (form.Input channel.now body.now) (scope_of scope.now) opened.now) }
 {
     let channel = receiver(scope, opened, channel);
     let inner = opened_by(alloc, opened, &channel_alone(&channel))?;
@@ -210,7 +212,7 @@ fn settled_select(
     opened: &[Binding],
     arms: &[syntax::Arm],
 ) -> Settled<Action>
-    ensures { IfOk result (λ made. made ≡ judged_action least (form.Select arms.now) (visible_in scope.now) opened.now) }
+    ensures { IfOk result (λ made. made ≡ judged_action least (form.Select arms.now) (scope_of scope.now) opened.now) }
 {
     let arms = settled_arms(alloc, scope, opened, arms)?;
     Ok(distinct(alloc, arms)?.map(Action::Select))
@@ -224,7 +226,7 @@ fn settled_arbitrate(
     second: &syntax::Arm,
     first: Verdict<Arm>,
 ) -> Settled<Action>
-    ensures { IfOk result (λ made. made ≡ findings.becomes (λ these. typed.Arbitrate these) (arms_of.distinct least (findings.all least (first ∷ judged_arm least second.now (visible_in scope.now) opened.now ∷ [])))) }
+    ensures { IfOk result (λ made. made ≡ findings.becomes (λ these. typed.Arbitrate these) (arms_of.distinct least (findings.all least (first ∷ judged_arm least second.now (scope_of scope.now) opened.now ∷ [])))) }
 {
     let second = settled_arm(alloc, scope, opened, second)?;
     let arms = with_next(with_next(Ok(Items::new(alloc)), first)?, second)?;
@@ -238,7 +240,7 @@ fn settled_sequence(
     opened: &[Binding],
     children: &[syntax::Command],
 ) -> Settled<Action>
-    ensures { IfOk result (λ made. made ≡ judged_action least (form.Sequence children.now) (visible_in scope.now) opened.now) }
+    ensures { IfOk result (λ made. made ≡ judged_action least (form.Sequence children.now) (scope_of scope.now) opened.now) }
 {
     Ok(settled_commands(alloc, scope, opened, children)?.map(Action::Sequence))
 }
@@ -250,7 +252,7 @@ fn settled_parallel(
     opened: &[Binding],
     children: &[syntax::Command],
 ) -> Settled<Action>
-    ensures { IfOk result (λ made. made ≡ judged_action least (form.Parallel children.now) (visible_in scope.now) opened.now) }
+    ensures { IfOk result (λ made. made ≡ judged_action least (form.Parallel children.now) (scope_of scope.now) opened.now) }
 {
     Ok(settled_commands(alloc, scope, opened, children)?.map(Action::Parallel))
 }
@@ -263,7 +265,7 @@ fn settled_commands(
     opened: &[Binding],
     commands: &[syntax::Command],
 ) -> Settled<Items<Command>>
-    ensures { IfOk result (λ made. made ≡ spec.each least (map (judged_command least) commands.now) (visible_in scope.now) opened.now) }
+    ensures { IfOk result (λ made. made ≡ spec.each least (map (judged_command least) commands.now) (scope_of scope.now) opened.now) }
 {
     let mut settled = Ok(Items::new(alloc));
     for command in commands {
@@ -281,7 +283,7 @@ fn settled_last(
     opened: &[Binding],
     last: &Option<syntax::Command>,
 ) -> Settled<Option<Command>>
-    ensures { IfOk result (λ made. made ≡ spec.last_of least (option_map (judged_command least) last.now) (visible_in scope.now) opened.now) }
+    ensures { IfOk result (λ made. made ≡ spec.last_of least (option_map (judged_command least) last.now) (scope_of scope.now) opened.now) }
 {
     match last {
         Some(body) => Ok(settled_command(alloc, scope, opened, body)?.map(Some)),
@@ -297,8 +299,8 @@ fn settled_guarded(
     opened: &[Binding],
     arms: &[syntax::Guarded],
 ) -> Result<Arms<Guarded>, AllocError>
-    ensures arms { IfOk result (λ made. made.arms ≡ spec.guarded_arms least (map (judged_guarded least) arms.now) (visible_in scope.now) opened.now) }
-    ensures own { IfOk result (λ made. made.own ≡ spec.guards_own least (map (judged_guarded least) arms.now) (visible_in scope.now) opened.now) }
+    ensures arms { IfOk result (λ made. made.arms ≡ spec.guarded_arms least (map (judged_guarded least) arms.now) (scope_of scope.now) opened.now) }
+    ensures own { IfOk result (λ made. made.own ≡ spec.guards_own least (map (judged_guarded least) arms.now) (scope_of scope.now) opened.now) }
 {
     let mut settled = Ok(Items::new(alloc));
     let mut own = Ok(());
@@ -318,8 +320,8 @@ fn settled_guarded_arm(
     opened: &[Binding],
     arm: &syntax::Guarded,
 ) -> Result<(Verdict<Guarded>, Verdict<()>), AllocError>
-    ensures arm { IfOk result (λ made. made.0 ≡ (judged_guarded least arm.now).arm (visible_in scope.now) opened.now) }
-    ensures own { IfOk result (λ made. made.1 ≡ (judged_guarded least arm.now).own (visible_in scope.now) opened.now) }
+    ensures arm { IfOk result (λ made. made.0 ≡ (judged_guarded least arm.now).arm (scope_of scope.now) opened.now) }
+    ensures own { IfOk result (λ made. made.1 ≡ (judged_guarded least arm.now).own (scope_of scope.now) opened.now) }
 {
     let guard = settled_expression(alloc, &scope.names, opened, &arm.guard)?;
     let own = one_bit(&guard, arm.guard.span.start);
@@ -336,8 +338,8 @@ fn settled_labelled(
     width: u8,
     arms: &[syntax::CaseArm],
 ) -> Result<Arms<Labelled>, AllocError>
-    ensures arms { IfOk result (λ made. made.arms ≡ spec.labelled_arms least (map (judged_labelled least) arms.now) (visible_in scope.now) opened.now) }
-    ensures own { IfOk result (λ made. made.own ≡ spec.case_own least width (map (judged_labelled least) arms.now) (visible_in scope.now) opened.now) }
+    ensures arms { IfOk result (λ made. made.arms ≡ spec.labelled_arms least (map (judged_labelled least) arms.now) (scope_of scope.now) opened.now) }
+    ensures own { IfOk result (λ made. made.own ≡ spec.case_own least width (map (judged_labelled least) arms.now) (scope_of scope.now) opened.now) }
 {
     let mut seen = IndexSet::new(alloc);
     let mut settled = Ok(Items::new(alloc));
@@ -360,9 +362,9 @@ fn settled_labelled_arm(
     arm: &syntax::CaseArm,
     seen: &mut IndexSet<u64>,
 ) -> Result<(Verdict<Labelled>, Verdict<()>), AllocError>
-    ensures arm { IfOk result (λ made. made.0 ≡ (judged_labelled least arm.now).arm (visible_in scope.now) opened.now) }
-    ensures own { IfOk result (λ made. made.1 ≡ arms_of.new_labels least width seen.old.keys ((judged_labelled least arm.now).labels (visible_in scope.now) opened.now)) }
-    ensures seen { OnOk result (seen.new.keys ≡ arms_of.seen_after seen.old.keys ((judged_labelled least arm.now).labels (visible_in scope.now) opened.now)) }
+    ensures arm { IfOk result (λ made. made.0 ≡ (judged_labelled least arm.now).arm (scope_of scope.now) opened.now) }
+    ensures own { IfOk result (λ made. made.1 ≡ arms_of.new_labels least width seen.old.keys ((judged_labelled least arm.now).labels (scope_of scope.now) opened.now)) }
+    ensures seen { OnOk result (seen.new.keys ≡ arms_of.seen_after seen.old.keys ((judged_labelled least arm.now).labels (scope_of scope.now) opened.now)) }
 {
     let labels = settled_labels(alloc, scope, opened, arm.labels.as_slice())?;
     let own = new_labels(seen, width, &labels)?;
@@ -378,7 +380,7 @@ fn settled_arms(
     opened: &[Binding],
     arms: &[syntax::Arm],
 ) -> Settled<Items<Arm>>
-    ensures { IfOk result (λ made. made ≡ spec.each least (map (judged_arm least) arms.now) (visible_in scope.now) opened.now) }
+    ensures { IfOk result (λ made. made ≡ spec.each least (map (judged_arm least) arms.now) (scope_of scope.now) opened.now) }
 {
     let mut settled = Ok(Items::new(alloc));
     for arm in arms {
@@ -391,7 +393,7 @@ fn settled_arms(
 /// An arm of a `select` or an `arbitrate`.
 #[cycle(settled_command)]
 fn settled_arm(alloc: Global, scope: &Scope, opened: &[Binding], arm: &syntax::Arm) -> Settled<Arm>
-    ensures { IfOk result (λ made. made ≡ judged_arm least arm.now (visible_in scope.now) opened.now) }
+    ensures { IfOk result (λ made. made ≡ judged_arm least arm.now (scope_of scope.now) opened.now) }
 {
     let found = scope.names.find(opened, &arm.channel.name);
     let channel = uses::arm_use(found, arm.channel.span.start);

@@ -2,8 +2,9 @@
 ghost use Rattle.std.specs.Prelude.{◌≡◌, ◌≤◌, ◌^◌, [], ◌∷◌, ◌++◌, length, map, Ok, IfOk, IfErr, OnOk};
 ghost use Rattle.types.specs.Declarations as spec;
 ghost use Rattle.types.specs.Findings as findings;
-ghost use Rattle.types.specs.Names.{entries, declared, is_fresh};
-ghost use Rattle.types.specs.Walking.{least, visible_in};
+ghost use Rattle.types.specs.walking.Scopes.{entries, scope_of};
+ghost use Rattle.types.specs.Names.{declared, is_fresh};
+ghost use Rattle.types.specs.walking.Least.{least};
 ghost use Rattle.types.specs.declared.scope.Meaning.TheVariants as meaning;
 
 use crate::Fault;
@@ -123,7 +124,7 @@ pub(crate) fn settled_procedures(
     scope: &mut Scope,
     procedures: &[syntax::Procedure],
 ) -> Settled<Items<Procedure>>
-    ensures { IfOk result (λ made. made ≡ spec.with_procedures least (visible_in scope.old) (Ok []) procedures.now) }
+    ensures { IfOk result (λ made. made ≡ spec.with_procedures least (scope_of scope.old) (Ok []) procedures.now) }
 {
     let mut settled = Ok(Items::new(alloc));
     for procedure in procedures {
@@ -140,8 +141,8 @@ fn settled_procedure(
     scope: &mut Scope,
     procedure: &syntax::Procedure,
 ) -> Settled<Procedure>
-    ensures made { IfOk result (λ made. made ≡ spec.judged_procedure least (visible_in scope.old) procedure.now) }
-    ensures visible { OnOk result (visible_in scope.new ≡ spec.after_procedure least (visible_in scope.old) procedure.now) }
+    ensures made { IfOk result (λ made. made ≡ spec.judged_procedure least (scope_of scope.old) procedure.now) }
+    ensures visible { OnOk result (scope_of scope.new ≡ spec.after_procedure least (scope_of scope.old) procedure.now) }
 {
     let visible = scope.names.len();
     let (ports, new_ports) = declare_ports(alloc, &mut scope.names, procedure.ports.as_slice())?;
@@ -275,8 +276,10 @@ fn port_kind(names: &Names, kind: &syntax::PortKind) -> PortKind
     ensures { result ≡ spec.port_kind (entries names.now) kind.now }
 {
     match kind {
-        syntax::PortKind::Input(type_name) => PortKind::Input(visible_width(names, type_name)),
-        syntax::PortKind::Output(type_name) => PortKind::Output(visible_width(names, type_name)),
+        syntax::PortKind::Input(type_name) => PortKind::Input(type_width_or_one(names, type_name)),
+        syntax::PortKind::Output(type_name) => PortKind::Output(type_width_or_one(
+            names, type_name,
+        )),
         syntax::PortKind::Sync => PortKind::Sync,
     }
 }
@@ -287,18 +290,18 @@ fn local_kind(names: &Names, kind: &syntax::LocalKind) -> LocalKind
 {
     match kind {
         syntax::LocalKind::Variable(type_name) => {
-            LocalKind::Variable(visible_width(names, type_name))
+            LocalKind::Variable(type_width_or_one(names, type_name))
         }
         syntax::LocalKind::Channel(type_name) => {
-            LocalKind::Channel(visible_width(names, type_name))
+            LocalKind::Channel(type_width_or_one(names, type_name))
         }
         syntax::LocalKind::Sync => LocalKind::Sync,
     }
 }
 
 /// The width of the type, or one bit where it has a fault.
-fn visible_width(names: &Names, type_name: &TypeName) -> Width
-    ensures { result ≡ spec.visible_width (entries names.now) type_name.now }
+fn type_width_or_one(names: &Names, type_name: &TypeName) -> Width
+    ensures { result ≡ spec.type_width_or_one (entries names.now) type_name.now }
 {
     width_or_one(type_width(names, &[], type_name))
 }

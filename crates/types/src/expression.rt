@@ -1,10 +1,11 @@
 ghost use Rattle.std.specs.Prelude.{◌≡◌, ◌+◌, ◌≤◌, max, IfOk, Ok};
 ghost use Rattle.types.specs.Expressions as expressions;
 ghost use Rattle.types.specs.Findings as findings;
-ghost use Rattle.types.specs.Names.{entries, find};
+ghost use Rattle.types.specs.walking.Scopes.{entries};
+ghost use Rattle.types.specs.Names.{find};
 ghost use Rattle.typed.specs.declared.tree.Expression.TheVariants as typed;
 ghost use Rattle.types.specs.Uses as uses;
-ghost use Rattle.types.specs.Walking.{least};
+ghost use Rattle.types.specs.walking.Least.{least};
 
 use crate::Fault;
 use crate::scope::Names;

@@ -2,9 +2,10 @@
 ghost use Rattle.std.specs.Prelude.{◌≡◌, IfOk};
 ghost use Rattle.types.specs.Commands as spec;
 ghost use Rattle.types.specs.Findings.{becomes};
-ghost use Rattle.types.specs.Names.{entries, find};
+ghost use Rattle.types.specs.walking.Scopes.{entries, scope_of};
+ghost use Rattle.types.specs.Names.{find};
 ghost use Rattle.types.specs.Uses as uses;
-ghost use Rattle.types.specs.Walking.{least, visible_in};
+ghost use Rattle.types.specs.walking.Least.{least};
 ghost use Rattle.typed.specs.declared.tree.Action.TheVariants as typed;
 
 use crate::expression::Valued;
@@ -21,7 +22,7 @@ pub(crate) fn target(
     opened: &[Binding],
     variable: &Identifier,
 ) -> Verdict<(VariableUse, Width)>
-    ensures { result ≡ spec.target variable.now (visible_in scope.now) opened.now }
+    ensures { result ≡ spec.target variable.now (scope_of scope.now) opened.now }
 {
     uses::target_use(
         scope.names.find(opened, &variable.name),
@@ -34,7 +35,7 @@ pub(crate) fn sender(
     opened: &[Binding],
     channel: &Identifier,
 ) -> Verdict<(ChannelUse, Width)>
-    ensures { result ≡ spec.sender channel.now (visible_in scope.now) opened.now }
+    ensures { result ≡ spec.sender channel.now (scope_of scope.now) opened.now }
 {
     uses::sending_use(scope.names.find(opened, &channel.name), channel.span.start)
 }
@@ -44,7 +45,7 @@ pub(crate) fn receiver(
     opened: &[Binding],
     channel: &Identifier,
 ) -> Verdict<(ChannelUse, Width)>
-    ensures { result ≡ spec.receiver channel.now (visible_in scope.now) opened.now }
+    ensures { result ≡ spec.receiver channel.now (scope_of scope.now) opened.now }
 {
     uses::receiving_use(scope.names.find(opened, &channel.name), channel.span.start)
 }

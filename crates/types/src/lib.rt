@@ -4,7 +4,7 @@
 ghost use Rattle.std.specs.Prelude.{◌≡◌, ◌⊎◌, Ok, IfOk, IfErr};
 ghost use Rattle.types.specs.Declarations.{found_description, judged_description};
 ghost use Rattle.types.specs.Findings.{IsRefused, becomes, both};
-ghost use Rattle.types.specs.Walking.{least};
+ghost use Rattle.types.specs.walking.Least.{least};
 ghost use Rattle.refusals.specs.declared.types.Fault.TheVariants.{Memory};
 
 mod arms;

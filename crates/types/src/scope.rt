@@ -2,7 +2,7 @@
 ghost use Rattle.std.specs.Prelude.{◌≡◌, [], length, take, IfOk, OnOk};
 ghost use Rattle.std.specs.Option.{option_copied};
 ghost use Rattle.types.specs.Names as names;
-ghost use Rattle.types.specs.Names.{entries};
+ghost use Rattle.types.specs.walking.Scopes.{entries};
 
 use crate::Fault;
 use crate::verdict::Settled;
@@ -63,7 +63,7 @@ pub(crate) enum Found {
     Nothing,
     /// a channel that is open around the place
     Opened(Channel),
-    Visible(Meaning),
+    Means(Meaning),
 }
 
 /// The visible names, in order of declaration, each with what it means.
@@ -159,10 +159,10 @@ fn found_as(opened: &[Binding], meaning: &Meaning) -> Found
             if is_open(opened, channel.binding) {
                 Found::Opened(channel)
             } else {
-                Found::Visible(*meaning)
+                Found::Means(*meaning)
             }
         }
-        None => Found::Visible(*meaning),
+        None => Found::Means(*meaning),
     }
 }
 

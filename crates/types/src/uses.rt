@@ -9,13 +9,13 @@ use typed::{Binding, ChannelUse, VariableUse};
 use value::{Value, Width};
 
 /// What the name means, if it is visible and no channel that is open.
-fn visible(found: Found, offset: u64) -> Verdict<Meaning>
-    ensures { result ≡ uses.visible found offset }
+fn meaning_of(found: Found, offset: u64) -> Verdict<Meaning>
+    ensures { result ≡ uses.meaning_of found offset }
 {
     match found {
         Found::Nothing => Err(Fault::UnknownName(offset)),
         Found::Opened(_) => Err(Fault::EnclosedTwice(offset)),
-        Found::Visible(meaning) => Ok(meaning),
+        Found::Means(meaning) => Ok(meaning),
     }
 }
 
@@ -24,7 +24,7 @@ fn visible(found: Found, offset: u64) -> Verdict<Meaning>
 pub(crate) fn type_use(found: Found, offset: u64) -> Verdict<Width>
     ensures { result ≡ uses.type_use found offset }
 {
-    match visible(found, offset)? {
+    match meaning_of(found, offset)? {
         Meaning::TypeName(width) => Ok(width),
         _ => Err(Fault::WrongKind(offset)),
     }
@@ -35,7 +35,7 @@ pub(crate) fn type_use(found: Found, offset: u64) -> Verdict<Width>
 pub(crate) fn target_use(found: Found, offset: u64) -> Verdict<(VariableUse, Width)>
     ensures { result ≡ uses.target_use found offset }
 {
-    match visible(found, offset)? {
+    match meaning_of(found, offset)? {
         Meaning::Variable(variable, width) => Ok((VariableUse { variable, offset }, width)),
         _ => Err(Fault::WrongKind(offset)),
     }
@@ -46,7 +46,7 @@ pub(crate) fn target_use(found: Found, offset: u64) -> Verdict<(VariableUse, Wid
 pub(crate) fn sending_use(found: Found, offset: u64) -> Verdict<(ChannelUse, Width)>
     ensures { result ≡ uses.sending_use found offset }
 {
-    match visible(found, offset)? {
+    match meaning_of(found, offset)? {
         Meaning::Output(port, width) => Ok((at(Binding::Port(port), offset), width)),
         Meaning::Channel(local, width) => Ok((at(Binding::Local(local), offset), width)),
         _ => Err(Fault::WrongKind(offset)),
@@ -58,7 +58,7 @@ pub(crate) fn sending_use(found: Found, offset: u64) -> Verdict<(ChannelUse, Wid
 pub(crate) fn receiving_use(found: Found, offset: u64) -> Verdict<(ChannelUse, Width)>
     ensures { result ≡ uses.receiving_use found offset }
 {
-    match visible(found, offset)? {
+    match meaning_of(found, offset)? {
         Meaning::Input(port, width) => Ok((at(Binding::Port(port), offset), width)),
         Meaning::Channel(local, width) => Ok((at(Binding::Local(local), offset), width)),
         _ => Err(Fault::WrongKind(offset)),
@@ -70,7 +70,7 @@ pub(crate) fn receiving_use(found: Found, offset: u64) -> Verdict<(ChannelUse, W
 pub(crate) fn sync_use(found: Found, offset: u64) -> Verdict<ChannelUse>
     ensures { result ≡ uses.sync_use found offset }
 {
-    match visible(found, offset)? {
+    match meaning_of(found, offset)? {
         Meaning::SyncPort(port) => Ok(at(Binding::Port(port), offset)),
         Meaning::Sync(local) => Ok(at(Binding::Local(local), offset)),
         _ => Err(Fault::WrongKind(offset)),
@@ -82,7 +82,7 @@ pub(crate) fn sync_use(found: Found, offset: u64) -> Verdict<ChannelUse>
 pub(crate) fn arm_use(found: Found, offset: u64) -> Verdict<ChannelUse>
     ensures { result ≡ uses.arm_use found offset }
 {
-    match visible(found, offset)? {
+    match meaning_of(found, offset)? {
         Meaning::Input(port, _) => Ok(at(Binding::Port(port), offset)),
         Meaning::SyncPort(port) => Ok(at(Binding::Port(port), offset)),
         Meaning::Channel(local, _) => Ok(at(Binding::Local(local), offset)),
@@ -96,7 +96,7 @@ pub(crate) fn arm_use(found: Found, offset: u64) -> Verdict<ChannelUse>
 pub(crate) fn procedure_use(found: Found, offset: u64) -> Verdict<u32>
     ensures { result ≡ uses.procedure_use found offset }
 {
-    match visible(found, offset)? {
+    match meaning_of(found, offset)? {
         Meaning::Procedure(procedure) => Ok(procedure),
         _ => Err(Fault::WrongKind(offset)),
     }
@@ -107,7 +107,7 @@ pub(crate) fn procedure_use(found: Found, offset: u64) -> Verdict<u32>
 pub(crate) fn label_use(found: Found, offset: u64) -> Verdict<Value>
     ensures { result ≡ uses.label_use found offset }
 {
-    match visible(found, offset)? {
+    match meaning_of(found, offset)? {
         Meaning::Element(value) => Ok(value),
         _ => Err(Fault::WrongKind(offset)),
     }
@@ -118,7 +118,7 @@ pub(crate) fn label_use(found: Found, offset: u64) -> Verdict<Value>
 pub(crate) fn argument_use(found: Found, offset: u64) -> Verdict<ChannelUse>
     ensures { result ≡ uses.argument_use found offset }
 {
-    match visible(found, offset)? {
+    match meaning_of(found, offset)? {
         Meaning::Input(port, _) => Ok(at(Binding::Port(port), offset)),
         Meaning::Output(port, _) => Ok(at(Binding::Port(port), offset)),
         Meaning::SyncPort(port) => Ok(at(Binding::Port(port), offset)),
@@ -146,7 +146,7 @@ pub(crate) fn value_use(found: Found, offset: u64) -> Verdict<Named>
     match found {
         Found::Nothing => Err(Fault::UnknownName(offset)),
         Found::Opened(channel) => received(channel, offset),
-        Found::Visible(meaning) => match meaning {
+        Found::Means(meaning) => match meaning {
             Meaning::Element(value) => Ok(Named::Element(value)),
             Meaning::Variable(variable, width) => {
                 Ok(Named::Variable(VariableUse { variable, offset }, width))

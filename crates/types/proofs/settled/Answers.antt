@@ -1,5 +1,5 @@
 use Rattle.std.proofs.Common.{◌∙◌}
-use Rattle.types.specs.Names.{entries}
+use Rattle.types.specs.walking.Scopes.{entries}
 use Rattle.types.proofs.DeclarationLemmas.{description_is}
 use Rattle.types.proofs.settled.Goals as goal
 

@@ -1,6 +1,6 @@
 use Rattle.std.proofs.Common.{◌≡◌, drop, Ok}
 use Rattle.types.specs.Arms.{all_new, with_all_seen}
-use Rattle.types.specs.Walking.{least}
+use Rattle.types.specs.walking.Least.{least}
 use Rattle.types.proofs.arms.all_new.Given as goal
 
 -- with the labels that are left, the outcome and the values seen are those of all

@@ -1,6 +1,6 @@
 use Rattle.std.proofs.Common.{◌≡◌, drop, map, Ok}
 use Rattle.types.specs.Arms.{different, channel_of_arm}
-use Rattle.types.specs.Walking.{least}
+use Rattle.types.specs.walking.Least.{least}
 use Rattle.types.proofs.arms.different.Given as goal
 
 -- with the arms that are left, the outcome is that of all

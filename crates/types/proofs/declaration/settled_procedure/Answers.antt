@@ -1,13 +1,13 @@
 use Rattle.std.proofs.Common.{rules, ◌∙◌, ap, map}
-use Rattle.types.specs.Walking.{least, visible_in}
-use Rattle.types.specs.Names.{entries}
+use Rattle.types.specs.walking.Least.{least}
+use Rattle.types.specs.walking.Scopes.{entries, scope_of}
 use Rattle.types.specs.Findings.{and}
 use Rattle.types.proofs.DeclarationLemmas.{procedure_is, visible_after}
 use Rattle.types.proofs.declaration.settled_procedure.Goals as goal
 
 pub returns-clause-made : goal.returns-clause-made
 returns-clause-made c =
-    procedure_is (visible_in c.args.scope.now) c.args.procedure.now
+    procedure_is (scope_of c.args.scope.now) c.args.procedure.now
     (entries c.declare_ports.new.names) c.in_ok-ports.ports c.in_ok-ports.new_ports (rw (← c.as_slice.ensures) c.in_ok-ports.ensures)
     (entries c.declare_locals.new.names) c.in_ok-locals.locals c.in_ok-locals.new_locals (rw (← c.as_slice-2.ensures) c.in_ok-locals.ensures)
     c.and-types.result c.in_ok-body.body c.in_ok-named.named c.and-right.result c.in_ok-name.name c.whole.result
@@ -19,7 +19,7 @@ returns-clause-made c =
 
 pub returns-clause-visible : goal.returns-clause-visible
 returns-clause-visible c =
-    visible_after (visible_in c.args.scope.now) c.args.procedure.now
+    visible_after (scope_of c.args.scope.now) c.args.procedure.now
     (entries c.declare_ports.new.names) c.in_ok-ports.ports c.in_ok-ports.new_ports (rw (← c.as_slice.ensures) c.in_ok-ports.ensures)
     (entries c.declare_locals.new.names) c.in_ok-locals.locals c.in_ok-locals.new_locals (rw (← c.as_slice-2.ensures) c.in_ok-locals.ensures)
     (entries c.declare_name.new.scope.names) c.declare_name.new.scope.signatures (entries c.keep_first.new.self) c.len-visible.result c.in_ok-signature.signature

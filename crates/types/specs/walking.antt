@@ -1,0 +1,3 @@
+pub mod CommandParts
+pub mod Least
+pub mod Scopes
