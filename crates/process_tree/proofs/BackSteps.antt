@@ -3,7 +3,7 @@ use Rattle.std.proofs.Common.{◌≡◌, ℕ, zero, suc, ◌+◌, ◌≤◌, ◌
 use Rattle.address.specs.declared.Entry.TheVariants.{Ordered, Branch}
 use Rattle.calculus.specs.Moves.{Place}
 use Rattle.calculus.proofs.Options.{none-some, some-injective}
-use Rattle.process_tree.specs.Code.{Code, continues, halts, acts, offers, repeats, decides, awaits, in_turn, side_by_side, drains, Codes, no_code, code}
+use Rattle.process_tree.specs.Code.{Code, continues, halts, moves_once, may_be_held, repeats, decides, awaits, in_turn, side_by_side, drains, Codes, no_code, code}
 use Rattle.process_tree.specs.Part.{Part, once, Parts, no_parts, part, sequence, parallel, started, all_started}
 use Rattle.process_tree.specs.View.{part_view, begun_of}
 use Rattle.process_tree.specs.declared.part.Proc.{Proc}
@@ -85,8 +85,8 @@ mutual
   stays : (c : Code) (a : Place) (out : Option Part) (x : Part) → retreated (started c) a out ≡ Some x → x ≡ started c
   stays continues a out x h = none-some x h
   stays halts a out x h = none-some x h
-  stays (acts o) a out x h = here-elim a (Some (once o false)) x (λ _. x ≡ once o false) h (λ e. sym (some-injective (once o false) x e))
-  stays (offers s) a out x h = none-some x h
+  stays (moves_once o) a out x h = here-elim a (Some (once o false)) x (λ _. x ≡ once o false) h (λ e. sym (some-injective (once o false) x e))
+  stays (may_be_held s) a out x h = none-some x h
   stays (repeats g c) a out x h = none-some x h
   stays (decides d cs) a out x h = none-some x h
   stays (awaits ds cs) a out x h = none-some x h

@@ -5,7 +5,7 @@ use Rattle.system.specs.Residual.{Residual, done, within, along, put_residual}
 use Rattle.calculus.specs.walking.Passed.{is_done}
 use Rattle.calculus.specs.WellFormed.{StartsFrom, BranchesFrom, WellFormed, WellFormedArms}
 use Rattle.calculus.proofs.WellFormed.{starts-within, formed-within, branches-along, formed-along, starts-put, formed-put}
-use Rattle.process_tree.specs.Code.{Once, assigning, receiving, Sender, sending, syncing, Code, continues, halts, acts, offers, repeats, decides, awaits, in_turn, side_by_side, drains, Codes, no_code, code}
+use Rattle.process_tree.specs.Code.{Once, assigning, receiving, Sender, sending, syncing, Code, continues, halts, moves_once, may_be_held, repeats, decides, awaits, in_turn, side_by_side, drains, Codes, no_code, code}
 use Rattle.process_tree.specs.Part.{waiting, holding, past, Part, idle, stopped, once, sender, fresh, turn, ended_at_once, ended, untested, skipped, took, shut, entered, closed, sequence, parallel, drained, Parts, no_parts, part, finished, all_finished}
 use Rattle.process_tree.specs.Left.{Received, with_value, puts, residual_once, residual_sender, again, residual, residual_arms, residual_sequence, residual_parallel, left, left_sequence, left_parallel}
 
@@ -34,8 +34,8 @@ mutual
   pub residual-formed : (c : Code) → WellFormed (residual c)
   residual-formed continues = tt
   residual-formed halts = tt
-  residual-formed (acts o) = once-formed o
-  residual-formed (offers s) = sender-formed s
+  residual-formed (moves_once o) = once-formed o
+  residual-formed (may_be_held s) = sender-formed s
   residual-formed (repeats g c) = again-formed 0 g (residual c) (residual-formed c)
   residual-formed (decides d cs) = residual_arms-formed cs
   residual-formed (awaits ds cs) = residual_arms-formed cs

@@ -3,7 +3,7 @@ use Rattle.std.proofs.Common.{◌≡◌, ℕ, zero, suc, ◌+◌, sym, List, [],
 use Rattle.value.specs.Word.{Word}
 use Rattle.system.specs.Expression.{Expression, Decision, put_value, put_decision}
 use Rattle.system.specs.Residual.{Residual, done, halted, test, choose, drain, Arms, no_arms, arm, within, along, arm_at, put_residual, put_arms}
-use Rattle.process_tree.specs.Code.{Once, assigning, receiving, Sender, sending, syncing, Code, continues, halts, acts, offers, repeats, decides, awaits, in_turn, side_by_side, drains, Codes, no_code, code, code_at}
+use Rattle.process_tree.specs.Code.{Once, assigning, receiving, Sender, sending, syncing, Code, continues, halts, moves_once, may_be_held, repeats, decides, awaits, in_turn, side_by_side, drains, Codes, no_code, code, code_at}
 use Rattle.process_tree.specs.Part.{started, all_started}
 use Rattle.process_tree.specs.Left.{Received, puts, residual_once, residual_sender, again, residual, residual_arms, residual_sequence, residual_parallel, left, left_sequence, left_parallel}
 
@@ -115,8 +115,8 @@ mutual
   pub left-started : (c : Code) (env : Received) → left env (started c) ≡ puts env (residual c)
   left-started continues env = sym (puts-done env)
   left-started halts env = sym (puts-halted env)
-  left-started (acts o) env = refl
-  left-started (offers s) env = refl
+  left-started (moves_once o) env = refl
+  left-started (may_be_held s) env = refl
   left-started (repeats g c) env = refl
   left-started (decides d cs) env = refl
   left-started (awaits ds cs) env = refl

@@ -6,7 +6,7 @@ use Rattle.system.specs.Expression.{constant, variable, received, word, by_guard
 use Rattle.system.specs.Residual.{Residual, done, inside, beside, receive, send, held, loop, closing, drain}
 use Rattle.calculus.specs.Moves.{Place}
 use Rattle.calculus.specs.walking.After.{Ask, to_assign, to_test, to_turn, to_send, to_hold, to_receive, to_open, to_release, to_close}
-use Rattle.process_tree.specs.Code.{assigning, receiving, sending, Code, continues, acts, offers, repeats, decides, awaits, in_turn, side_by_side, drains, no_code, code}
+use Rattle.process_tree.specs.Code.{assigning, receiving, sending, Code, continues, moves_once, may_be_held, repeats, decides, awaits, in_turn, side_by_side, drains, no_code, code}
 use Rattle.process_tree.specs.Part.{Part, once, turn, started, finished}
 use Rattle.process_tree.specs.Advanced.{Moved, advanced}
 use Rattle.process_tree.specs.Left.{left}
@@ -23,13 +23,13 @@ to_do p ms = option_and_then (λ q. Some (left [] q)) (made p ms)
 
 -- the buffer: channel 0 is i, channel 1 is o, variable 0 is x
 abbrev body : Code
-body = in_turn (code (acts (receiving 0 0)) (code (offers (sending 1 8 (variable 0 8))) no_code))
+body = in_turn (code (moves_once (receiving 0 0)) (code (may_be_held (sending 1 8 (variable 0 8))) no_code))
 
 abbrev body_left : Residual
 body_left = inside 0 (receive 0 0) (inside 1 (send 1 8 (variable 0 8)) done)
 
 abbrev feed : Code
-feed = in_turn (code (offers (sending 0 8 (constant (word 5 8)))) (code (offers (sending 0 8 (constant (word 7 8)))) no_code))
+feed = in_turn (code (may_be_held (sending 0 8 (constant (word 5 8)))) (code (may_be_held (sending 0 8 (constant (word 7 8)))) no_code))
 
 abbrev buffer : Part
 buffer = started (side_by_side (code (repeats None body) (code feed (code (drains 1) no_code))))
@@ -67,8 +67,8 @@ abbrev fork : Part
 fork =
     started (side_by_side (code
     (in_turn (code
-    (awaits (0 ∷ []) (code (side_by_side (code (offers (sending 1 8 (received 0 8))) (code (offers (sending 2 8 (received 0 8))) no_code))) no_code))
-    (code (acts (receiving 0 0)) no_code)))
+    (awaits (0 ∷ []) (code (side_by_side (code (may_be_held (sending 1 8 (received 0 8))) (code (may_be_held (sending 2 8 (received 0 8))) no_code))) no_code))
+    (code (moves_once (receiving 0 0)) no_code)))
     (code feed (code (drains 1) (code (drains 2) no_code)))))
 
 -- the open and the first meeting
@@ -111,13 +111,13 @@ after-all = refl
 
 -- a while loop: its test of turn 0 at .0, its body at .1, its second test at .2, which takes the finished body out or ends the loop
 abbrev counter : Part
-counter = started (repeats (Some (variable 0 1)) (acts (assigning 0 8 (constant (word 1 8)))))
+counter = started (repeats (Some (variable 0 1)) (moves_once (assigning 0 8 (constant (word 1 8)))))
 
 abbrev first_turn : Option Part
 first_turn = made counter ((Ordered 0 ∷ [], to_test (Some 0)) ∷ (Ordered 1 ∷ [], to_assign) ∷ [])
 
 takes-out : option_and_then (λ p. advanced p (Ordered 2 ∷ []) (to_test (Some 0))) first_turn
-    ≡ Some (turn (Some (variable 0 1)) (acts (assigning 0 8 (constant (word 1 8)))) 1 (once (assigning 0 8 (constant (word 1 8))) false), Some (once (assigning 0 8 (constant (word 1 8))) true))
+    ≡ Some (turn (Some (variable 0 1)) (moves_once (assigning 0 8 (constant (word 1 8)))) 1 (once (assigning 0 8 (constant (word 1 8))) false), Some (once (assigning 0 8 (constant (word 1 8))) true))
 unfolding made
 takes-out = refl
 
@@ -127,7 +127,7 @@ ends = refl
 
 -- an `if`: its test at .0, the arm at .1
 abbrev branching : Part
-branching = started (decides (by_guards (variable 0 1 ∷ []) true) (code continues (code (acts (assigning 0 8 (constant (word 1 8)))) no_code)))
+branching = started (decides (by_guards (variable 0 1 ∷ []) true) (code continues (code (moves_once (assigning 0 8 (constant (word 1 8)))) no_code)))
 
 takes-the-else : option_and_then (λ q. Some (finished q)) (made branching ((Ordered 0 ∷ [], to_test (Some 1)) ∷ (Ordered 1 ∷ [], to_assign) ∷ [])) ≡ Some true
 unfolding made

@@ -4,17 +4,17 @@ use Rattle.std.specs.Global.{Vec}
 use Rattle.system.specs.Translation.{expression_of, decision_of}
 use Rattle.system.specs.declared.command.Command.{Command}
 use Rattle.process_tree.specs.Code as model
-use Rattle.process_tree.specs.Code.{acts, offers, repeats, decides, awaits, in_turn, side_by_side, code}
+use Rattle.process_tree.specs.Code.{moves_once, may_be_held, repeats, decides, awaits, in_turn, side_by_side, code}
 use Rattle.process_tree.specs.Part.{idle, parallel, part, started, all_started}
 use Rattle.process_tree.specs.Translation.{code_of, row_of, row_with}
-use Rattle.process_tree.specs.View.{act_view, offer_view, code_view, repeat_view, row_view, part_view, parts_of}
-use Rattle.process_tree.specs.declared.code.Act.{Act}
+use Rattle.process_tree.specs.View.{once_view, sender_view, code_view, repeat_view, row_view, part_view, parts_of}
+use Rattle.process_tree.specs.declared.code.Once.{Once}
 use Rattle.process_tree.specs.declared.code.Await.{Await}
 use Rattle.process_tree.specs.declared.code.Code as made_code
 use Rattle.process_tree.specs.declared.code.Code.{Code}
 use Rattle.process_tree.specs.declared.code.Code.TheFolds.{the_lemmas}
 use Rattle.process_tree.specs.declared.code.Decide.{Decide}
-use Rattle.process_tree.specs.declared.code.Offer.{Offer}
+use Rattle.process_tree.specs.declared.code.Sender.{Sender}
 use Rattle.process_tree.specs.declared.code.Repeat.{Repeat}
 use Rattle.process_tree.specs.declared.code.Row.{Row}
 use Rattle.process_tree.specs.declared.part.Proc as made_part
@@ -27,12 +27,12 @@ parts_started [] = refl
 parts_started (c ∷ cs) = ap (part (started (code_view c))) (parts_started cs)
 
 -- what makes one move
-pub code_act : (a : Act) → code_view (made_code.Act a) ≡ acts (act_view a)
-code_act a = search (rules, the_lemmas)
+pub code_once : (o : Once) → code_view (made_code.Once o) ≡ moves_once (once_view o)
+code_once o = search (rules, the_lemmas)
 
 -- what may be held
-pub code_offer : (o : Offer) → code_view (made_code.Offer o) ≡ offers (offer_view o)
-code_offer o = search (rules, the_lemmas)
+pub code_sender : (s : Sender) → code_view (made_code.Sender s) ≡ may_be_held (sender_view s)
+code_sender s = search (rules, the_lemmas)
 
 -- a loop
 pub code_repeat : (r : Repeat) → code_view (made_code.Repeat r) ≡ repeats (option_map expression_of r.guard) (code_view r.body)

@@ -23,8 +23,8 @@ mutual
     continues : Code
     -- `halt`
     halts : Code
-    acts : Once → Code
-    offers : Sender → Code
+    moves_once : Once → Code
+    may_be_held : Sender → Code
     -- a loop; with a guard where it is a `loop while`
     repeats : Option Expression → Code → Code
     -- an `if` or `case`: what it decides by, and its arms, the else last

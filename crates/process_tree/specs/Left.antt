@@ -3,7 +3,7 @@ use Rattle.std.specs.Prelude.{ℕ, ◌+◌, ◌*◌, true, false, List, [], ◌�
 use Rattle.value.specs.Word.{Word}
 use Rattle.system.specs.Expression.{Expression}
 use Rattle.system.specs.Residual.{Residual, done, halted, assign, send, receive, sync, held, loop, while, test, choose, closing, drain, Arms, no_arms, arm, within, along, put_residual}
-use Rattle.process_tree.specs.Code.{Once, assigning, receiving, Sender, sending, syncing, Code, continues, halts, acts, offers, repeats, decides, awaits, in_turn, side_by_side, drains, Codes, no_code, code}
+use Rattle.process_tree.specs.Code.{Once, assigning, receiving, Sender, sending, syncing, Code, continues, halts, moves_once, may_be_held, repeats, decides, awaits, in_turn, side_by_side, drains, Codes, no_code, code}
 use Rattle.process_tree.specs.Part.{waiting, holding, past, Part, idle, stopped, once, sender, fresh, turn, ended_at_once, ended, untested, skipped, took, shut, entered, closed, sequence, parallel, drained, Parts, no_parts, part}
 
 -- an assignment or a receive
@@ -31,8 +31,8 @@ abbrev mutual
   pub residual : Code → Residual
   residual continues = done
   residual halts = halted
-  residual (acts o) = residual_once o
-  residual (offers s) = residual_sender s
+  residual (moves_once o) = residual_once o
+  residual (may_be_held s) = residual_sender s
   residual (repeats g c) = again 0 g (residual c)
   residual (decides d cs) = test d (residual_arms cs)
   residual (awaits ds cs) = choose ds (residual_arms cs)

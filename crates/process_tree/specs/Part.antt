@@ -2,7 +2,7 @@
 use Rattle.std.specs.Prelude.{ℕ, Bool, true, false, ◌&&◌, List, Option}
 use Rattle.value.specs.Word.{Word}
 use Rattle.system.specs.Expression.{Expression, Decision}
-use Rattle.process_tree.specs.Code.{Once, Sender, Code, continues, halts, acts, offers, repeats, decides, awaits, in_turn, side_by_side, drains, Codes, no_code, code}
+use Rattle.process_tree.specs.Code.{Once, Sender, Code, continues, halts, moves_once, may_be_held, repeats, decides, awaits, in_turn, side_by_side, drains, Codes, no_code, code}
 
 -- how far a send or sync is; it holds from the open that took it until the close
 pub data Phase : Type 0 where
@@ -57,8 +57,8 @@ abbrev mutual
   pub started : Code → Part
   started continues = idle
   started halts = stopped
-  started (acts o) = once o false
-  started (offers s) = sender s waiting
+  started (moves_once o) = once o false
+  started (may_be_held s) = sender s waiting
   started (repeats g c) = fresh g c
   started (decides d cs) = untested d cs
   started (awaits ds cs) = shut ds cs

@@ -12,7 +12,7 @@ use Rattle.system.specs.declared.command.Action.TheFolds.{fold-Arm, fold-Command
 use Rattle.system.specs.declared.system.System.{System}
 use Rattle.system.specs.declared.system.Branch.{Branch}
 use Rattle.system.specs.declared.system.Branch.TheVariants.{Feed, Drain, Syncs}
-use Rattle.process_tree.specs.Code.{assigning, receiving, sending, syncing, Code, continues, halts, acts, offers, repeats, decides, awaits, in_turn, side_by_side, drains, Codes, no_code, code}
+use Rattle.process_tree.specs.Code.{assigning, receiving, sending, syncing, Code, continues, halts, moves_once, may_be_held, repeats, decides, awaits, in_turn, side_by_side, drains, Codes, no_code, code}
 
 -- commands in a row
 abbrev pub row_of : List Code → Codes
@@ -53,10 +53,10 @@ case_of e arms last = decides (by_labels e (map (λ a. a.0) arms) (is_some last)
 abbrev pub action_code : Action-F Code OnChannel Code OnGuard OnLabels → Code
 action_code Action-F.Continue = continues
 action_code Action-F.Halt = halts
-action_code (Action-F.Assign x w e) = acts (assigning x.number w (expression_of e))
-action_code (Action-F.Send c w e) = offers (sending c.number w (expression_of e))
-action_code (Action-F.Receive c x) = acts (receiving c.number x.number)
-action_code (Action-F.Sync c) = offers (syncing c.number)
+action_code (Action-F.Assign x w e) = moves_once (assigning x.number w (expression_of e))
+action_code (Action-F.Send c w e) = may_be_held (sending c.number w (expression_of e))
+action_code (Action-F.Receive c x) = moves_once (receiving c.number x.number)
+action_code (Action-F.Sync c) = may_be_held (syncing c.number)
 action_code (Action-F.Loop body) = repeats None body
 action_code (Action-F.While e body) = repeats (Some (expression_of e)) body
 action_code (Action-F.If arms last) = if_of arms last
@@ -102,12 +102,12 @@ arm_of = fold-Arm Code OnChannel Code OnGuard OnLabels action_code arm_code comm
 -- sends of the values, in order
 abbrev pub feed_of : ℕ → ℕ → List Word → Codes
 feed_of c w [] = no_code
-feed_of c w (v ∷ vs) = code (offers (sending c w (constant v))) (feed_of c w vs)
+feed_of c w (v ∷ vs) = code (may_be_held (sending c w (constant v))) (feed_of c w vs)
 
 -- so many syncs
 abbrev pub syncs_of : ℕ → ℕ → Codes
 syncs_of c zero = no_code
-syncs_of c (suc n) = code (offers (syncing c)) (syncs_of c n)
+syncs_of c (suc n) = code (may_be_held (syncing c)) (syncs_of c n)
 
 -- what the environment does on one port
 abbrev pub port_of : Branch → Code

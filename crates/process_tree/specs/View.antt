@@ -11,10 +11,10 @@ use Rattle.process_tree.specs.Part.{all_started}
 use Rattle.process_tree.specs.Translation.{row_of}
 use Rattle.process_tree.specs.declared.ask.Ask.{Ask}
 use Rattle.process_tree.specs.declared.ask.Ask.TheVariants as ask
-use Rattle.process_tree.specs.declared.code.Act.{Act}
-use Rattle.process_tree.specs.declared.code.Act.TheVariants as act
-use Rattle.process_tree.specs.declared.code.Offer.{Offer}
-use Rattle.process_tree.specs.declared.code.Offer.TheVariants as offer
+use Rattle.process_tree.specs.declared.code.Once.{Once}
+use Rattle.process_tree.specs.declared.code.Once.TheVariants as once
+use Rattle.process_tree.specs.declared.code.Sender.{Sender}
+use Rattle.process_tree.specs.declared.code.Sender.TheVariants as sender
 use Rattle.process_tree.specs.declared.code.Code.{Code}
 use Rattle.process_tree.specs.declared.code.Await.{Await}
 use Rattle.process_tree.specs.declared.code.Decide.{Decide}
@@ -33,14 +33,14 @@ use Rattle.process_tree.specs.declared.part.Turns.{Turns}
 use Rattle.process_tree.specs.declared.tree.Tree.{Tree}
 
 -- what makes one move
-abbrev pub act_view : Act → model.Once
-act_view (act.Assign x w e) = model.assigning x w (expression_of e)
-act_view (act.Receive c x) = model.receiving c x
+abbrev pub once_view : Once → model.Once
+once_view (once.Assign x w e) = model.assigning x w (expression_of e)
+once_view (once.Receive c x) = model.receiving c x
 
 -- what may be held
-abbrev pub offer_view : Offer → model.Sender
-offer_view (offer.Send c w e) = model.sending c w (expression_of e)
-offer_view (offer.Sync c) = model.syncing c
+abbrev pub sender_view : Sender → model.Sender
+sender_view (sender.Send c w e) = model.sending c w (expression_of e)
+sender_view (sender.Sync c) = model.syncing c
 
 -- arms that wait: their channels, and the arms
 abbrev pub Waiting : Type 0
@@ -62,8 +62,8 @@ await_layer a = (a.channels, row_of a.arms)
 abbrev pub code_layer : Code-F model.Code Waiting Testing Looping model.Codes → model.Code
 code_layer Code-F.Continue = model.continues
 code_layer Code-F.Halt = model.halts
-code_layer (Code-F.Act a) = model.acts (act_view a)
-code_layer (Code-F.Offer o) = model.offers (offer_view o)
+code_layer (Code-F.Once o) = model.moves_once (once_view o)
+code_layer (Code-F.Sender s) = model.may_be_held (sender_view s)
 code_layer (Code-F.Repeat r) = model.repeats r.0 r.1
 code_layer (Code-F.Decide d) = model.decides d.0 d.1
 code_layer (Code-F.Await a) = model.awaits a.0 a.1
@@ -159,8 +159,8 @@ gate_layer (Gate-F.Opened c v over q) = λ ds cs. opened_of over ds cs c v q.val
 abbrev pub part_layer : Proc-F OfArms model_part.Part OfTest OfLoop → model_part.Part
 part_layer Proc-F.Idle = model_part.idle
 part_layer Proc-F.Stopped = model_part.stopped
-part_layer (Proc-F.Act a made) = model_part.once (act_view a) made
-part_layer (Proc-F.Offer o p) = model_part.sender (offer_view o) (phase_view p)
+part_layer (Proc-F.Once o made) = model_part.once (once_view o) made
+part_layer (Proc-F.Sender s p) = model_part.sender (sender_view s) (phase_view p)
 part_layer (Proc-F.Loop r t) = t (repeat_view r).0 (repeat_view r).1
 part_layer (Proc-F.Test d t) = t (decide_view d).0 (decide_view d).1
 part_layer (Proc-F.Arms a g) = g (await_view a).0 (await_view a).1

@@ -35,11 +35,11 @@ pub(crate) fn advance(
 {
     match part {
         Proc::Idle | Proc::Stopped => Ok(None),
-        Proc::Act(_, made) => {
+        Proc::Once(_, made) => {
             *made = true;
             Ok(None)
         }
-        Proc::Offer(_, phase) => {
+        Proc::Sender(_, phase) => {
             *phase = phase_after(*phase, ask);
             Ok(None)
         }

@@ -8,8 +8,8 @@ use value::Width;
 pub enum Code {
     Continue,
     Halt,
-    Act(Shared<Act>),
-    Offer(Shared<Offer>),
+    Once(Shared<Once>),
+    Sender(Shared<Sender>),
     Repeat(Shared<Repeat>),
     Decide(Shared<Decide>),
     Await(Shared<Await>),
@@ -28,7 +28,7 @@ pub struct Row {
 
 /// What makes one move.
 #[derive(Drop)]
-pub enum Act {
+pub enum Once {
     /// to the variable, at this width, the value of the expression
     Assign(u32, Width, Expression),
     /// on the channel, into the variable
@@ -37,7 +37,7 @@ pub enum Act {
 
 /// What may be held.
 #[derive(Drop)]
-pub enum Offer {
+pub enum Sender {
     /// on the channel, at this width, the value of the expression
     Send(u32, Width, Expression),
     Sync(u32),

@@ -5,8 +5,8 @@ ghost use Rattle.process_tree.specs.Code as model;
 ghost use Rattle.process_tree.specs.Translation as translation;
 ghost use Rattle.process_tree.specs.View.{code_view};
 
-use crate::code::{Code, Offer};
-use crate::translate::{code_of, in_turn, offer, side_by_side};
+use crate::code::{Code, Sender};
+use crate::translate::{code_of, in_turn, sender, side_by_side};
 use std::alloc::{AllocError, Global};
 use syntax::Items;
 use system::{Branch, Expression, System};
@@ -66,7 +66,7 @@ fn sends_of(
     width: Width,
     values: &[Value],
 ) -> Result<Items<Code>, AllocError>
-    ensures { IfOk result (λ made. map code_view made ≡ map (λ v. model.offers (model.sending channel width (constant v))) values.now) }
+    ensures { IfOk result (λ made. map code_view made ≡ map (λ v. model.may_be_held (model.sending channel width (constant v))) values.now) }
 {
     let mut sends = Items::with_capacity(alloc, values.len())?;
     for value in values {
@@ -77,11 +77,11 @@ fn sends_of(
 
 /// A send of the value.
 fn send_of(alloc: Global, channel: u32, width: Width, value: Value) -> Result<Code, AllocError>
-    ensures { IfOk result (λ made. code_view made ≡ model.offers (model.sending channel width (constant value))) }
+    ensures { IfOk result (λ made. code_view made ≡ model.may_be_held (model.sending channel width (constant value))) }
 {
-    offer(
+    sender(
         alloc,
-        Offer::Send(channel, width, Expression::Constant(value)),
+        Sender::Send(channel, width, Expression::Constant(value)),
     )
 }
 
@@ -96,12 +96,12 @@ fn syncs(alloc: Global, channel: u32, count: u32) -> Result<Code, AllocError>
 
 /// So many handshakes.
 fn handshakes_of(alloc: Global, channel: u32, count: u32) -> Result<Items<Code>, AllocError>
-    ensures { IfOk result (λ made. map code_view made ≡ replicate count (model.offers (model.syncing channel))) }
+    ensures { IfOk result (λ made. map code_view made ≡ replicate count (model.may_be_held (model.syncing channel))) }
 {
     let mut codes = Items::with_capacity(alloc, count as usize)?;
     let mut made = 0;
     while made < count {
-        codes.push(offer(alloc, Offer::Sync(channel))?)?;
+        codes.push(sender(alloc, Sender::Sync(channel))?)?;
         made += 1;
     }
     Ok(codes)

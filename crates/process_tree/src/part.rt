@@ -2,7 +2,7 @@ ghost use Rattle.std.specs.Prelude.{◌≡◌, map, IfOk};
 ghost use Rattle.process_tree.specs.Part.{started};
 ghost use Rattle.process_tree.specs.View.{code_view, part_view};
 
-use crate::code::{Act, Await, Code, Decide, Offer, Repeat, Row};
+use crate::code::{Await, Code, Decide, Once, Repeat, Row, Sender};
 use std::alloc::{AllocError, Global};
 use syntax::Shared;
 use value::Value;
@@ -23,8 +23,8 @@ pub enum Proc {
     Idle,
     Stopped,
     /// whether it has made its move
-    Act(Shared<Act>, bool),
-    Offer(Shared<Offer>, Phase),
+    Once(Shared<Once>, bool),
+    Sender(Shared<Sender>, Phase),
     Loop(Shared<Repeat>, Turns),
     Test(Shared<Decide>, Tested),
     /// arms that wait on their channels
@@ -77,8 +77,8 @@ pub fn start(alloc: Global, code: &Code) -> Result<Proc, AllocError>
     match code {
         Code::Continue => Ok(Proc::Idle),
         Code::Halt => Ok(Proc::Stopped),
-        Code::Act(act) => Ok(Proc::Act(act.clone()?, false)),
-        Code::Offer(offer) => Ok(Proc::Offer(offer.clone()?, Phase::Waiting)),
+        Code::Once(once) => Ok(Proc::Once(once.clone()?, false)),
+        Code::Sender(sender) => Ok(Proc::Sender(sender.clone()?, Phase::Waiting)),
         Code::Repeat(repeat) => Ok(Proc::Loop(repeat.clone()?, Turns::Fresh)),
         Code::Decide(decide) => Ok(Proc::Test(decide.clone()?, Tested::Untested)),
         Code::Await(waiting) => Ok(Proc::Arms(waiting.clone()?, Gate::Shut)),

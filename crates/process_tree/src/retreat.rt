@@ -21,8 +21,8 @@ pub(crate) fn retreat(part: &mut Proc, place: &[Entry], out: Option<Box<Proc>>)
 {
     match part {
         Proc::Idle | Proc::Stopped => {}
-        Proc::Act(_, made) => *made = false,
-        Proc::Offer(_, phase) => *phase = phase_before(*phase, place),
+        Proc::Once(_, made) => *made = false,
+        Proc::Sender(_, phase) => *phase = phase_before(*phase, place),
         Proc::Loop(repeat, turns) => from_loop(repeat.get(), turns, place, out),
         Proc::Test(decide, tested) => from_test(decide.get(), tested, place, out),
         Proc::Arms(waiting, gate) => from_arms(waiting.get(), gate, place, out),

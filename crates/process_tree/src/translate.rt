@@ -6,9 +6,9 @@ ghost use Rattle.system.specs.Translation.{expression_of, decision_of};
 ghost use Rattle.process_tree.specs.Code as model;
 ghost use Rattle.process_tree.specs.Translation as translation;
 ghost use Rattle.process_tree.specs.Translation.{guarded_of, labelled_of, arm_of, row_of, row_with};
-ghost use Rattle.process_tree.specs.View.{act_view, offer_view, code_view};
+ghost use Rattle.process_tree.specs.View.{once_view, sender_view, code_view};
 
-use crate::code::{Act, Await, Code, Decide, Offer, Repeat, Row};
+use crate::code::{Await, Code, Decide, Once, Repeat, Row, Sender};
 use std::alloc::{AllocError, Global};
 use syntax::{Items, Shared};
 use system::{Action, Arm, Command, Decision, Expression, Guarded, Labelled};
@@ -24,11 +24,11 @@ pub fn code_of(alloc: Global, command: &Command) -> Result<Code, AllocError>
         Action::Halt => Ok(Code::Halt),
         Action::Assign(variable, width, value) => assign(alloc, variable.number, *width, value),
         Action::Send(channel, width, value) => send(alloc, channel.number, *width, value),
-        Action::Receive(channel, variable) => act(
+        Action::Receive(channel, variable) => once(
             alloc,
-            Act::Receive(channel.number, variable.number),
+            Once::Receive(channel.number, variable.number),
         ),
-        Action::Sync(channel) => offer(alloc, Offer::Sync(channel.number)),
+        Action::Sync(channel) => sender(alloc, Sender::Sync(channel.number)),
         Action::Loop(body) => {
             let body = code_of(alloc, body)?;
             repeat(alloc, None, body)
@@ -134,11 +134,11 @@ fn with_last(
 }
 
 /// What makes one move.
-#[tactic(auto, using(crate::proofs::Views::code_act))]
-fn act(alloc: Global, act: Act) -> Result<Code, AllocError>
-    ensures { IfOk result (λ made. code_view made ≡ model.acts (act_view act)) }
+#[tactic(auto, using(crate::proofs::Views::code_once))]
+fn once(alloc: Global, once: Once) -> Result<Code, AllocError>
+    ensures { IfOk result (λ made. code_view made ≡ model.moves_once (once_view once)) }
 {
-    Ok(Code::Act(Shared::new(alloc, act)?))
+    Ok(Code::Once(Shared::new(alloc, once)?))
 }
 
 /// An assignment.
@@ -148,26 +148,26 @@ fn assign(
     width: Width,
     value: &Expression,
 ) -> Result<Code, AllocError>
-    ensures { IfOk result (λ made. code_view made ≡ model.acts (model.assigning variable width (expression_of value.now))) }
+    ensures { IfOk result (λ made. code_view made ≡ model.moves_once (model.assigning variable width (expression_of value.now))) }
 {
     let value = value.copy(alloc)?;
-    act(alloc, Act::Assign(variable, width, value))
+    once(alloc, Once::Assign(variable, width, value))
 }
 
 /// What may be held.
-#[tactic(auto, using(crate::proofs::Views::code_offer))]
-pub(crate) fn offer(alloc: Global, offer: Offer) -> Result<Code, AllocError>
-    ensures { IfOk result (λ made. code_view made ≡ model.offers (offer_view offer)) }
+#[tactic(auto, using(crate::proofs::Views::code_sender))]
+pub(crate) fn sender(alloc: Global, sender: Sender) -> Result<Code, AllocError>
+    ensures { IfOk result (λ made. code_view made ≡ model.may_be_held (sender_view sender)) }
 {
-    Ok(Code::Offer(Shared::new(alloc, offer)?))
+    Ok(Code::Sender(Shared::new(alloc, sender)?))
 }
 
 /// A send.
 fn send(alloc: Global, channel: u32, width: Width, value: &Expression) -> Result<Code, AllocError>
-    ensures { IfOk result (λ made. code_view made ≡ model.offers (model.sending channel width (expression_of value.now))) }
+    ensures { IfOk result (λ made. code_view made ≡ model.may_be_held (model.sending channel width (expression_of value.now))) }
 {
     let value = value.copy(alloc)?;
-    offer(alloc, Offer::Send(channel, width, value))
+    sender(alloc, Sender::Send(channel, width, value))
 }
 
 /// A loop.
