@@ -7,7 +7,7 @@ use Rattle.calculus.specs.Moves.{Place}
 use Rattle.calculus.specs.walking.After.{Ask, to_assign, to_test, to_turn, to_send, to_hold, to_receive, to_open, to_sync, to_release, to_close}
 use Rattle.calculus.proofs.Options.{none-some, cond-some}
 use Rattle.process_tree.specs.Code.{Once, assigning, receiving, Sender, sending, syncing, Code, Codes, code_at}
-use Rattle.process_tree.specs.Part.{waiting, holding, past, Part, idle, stopped, once, sender, fresh, turn, ended_at_once, ended, untested, skipped, took, shut, entered, closed, sequence, parallel, drained, Parts, no_parts, part, started, finished}
+use Rattle.process_tree.specs.Part.{waiting, holding, past, Part, idle, stopped, once, sender, fresh, turn, ended_at_once, ended, untested, skipped, took, unopened, entered, closed, sequence, parallel, drained, Parts, no_parts, part, started, finished}
 use Rattle.process_tree.specs.Places.{if_act, if_child, if_child_or, wrap}
 use Rattle.process_tree.specs.Advanced.{Moved, MovedIn, once_after, sender_after, holding_after, again_after, test_after, open_on, open_after, close_after, drain_after, advanced, advanced_sequence, advanced_parallel}
 use Rattle.process_tree.specs.walking.Retreated.{before_turn, before_drain, retreated, retreated_sequence, retreated_parallel}
@@ -65,13 +65,13 @@ test-back d cs _ x h = none-some x h
 
 -- an arm that opens
 on-back : (ds : List ℕ) (cs : Codes) (o : Option ℕ) (j : ℕ) (v : Option Word) (x : Moved) → open_on ds cs o j v ≡ Some x
-    → retreated x.0 (Ordered 0 ∷ []) x.1 ≡ Some (shut ds cs)
+    → retreated x.0 (Ordered 0 ∷ []) x.1 ≡ Some (unopened ds cs)
 on-back ds cs None j v x h = none-some x h
 on-back ds cs (Some c) j v x h =
-    some-elim (entered ds cs c v (started (code_at cs j)), None) x (λ x. retreated x.0 (Ordered 0 ∷ []) x.1 ≡ Some (shut ds cs)) h refl
+    some-elim (entered ds cs c v (started (code_at cs j)), None) x (λ x. retreated x.0 (Ordered 0 ∷ []) x.1 ≡ Some (unopened ds cs)) h refl
 
 -- arms that wait
-open-back : (ds : List ℕ) (cs : Codes) (k : Ask) (x : Moved) → open_after ds cs k ≡ Some x → retreated x.0 (Ordered 0 ∷ []) x.1 ≡ Some (shut ds cs)
+open-back : (ds : List ℕ) (cs : Codes) (k : Ask) (x : Moved) → open_after ds cs k ≡ Some x → retreated x.0 (Ordered 0 ∷ []) x.1 ≡ Some (unopened ds cs)
 open-back ds cs (to_open j v) x h = on-back ds cs (slice_get ds j) j v x h
 open-back ds cs _ x h = none-some x h
 
@@ -138,14 +138,14 @@ mutual
       (λ t e. child-elim 1 a (λ b. wrap (took d cs j) (advanced q b k)) x (λ a. retreated x.0 a x.1 ≡ Some (took d cs j q)) e
       (λ b i. wrap-elim (took d cs j) (advanced q b k) x (λ x. retreated x.0 (Ordered 1 ∷ b) x.1 ≡ Some (took d cs j q)) i
       (λ y z. in_child-back 1 b (took d cs j) q y.0 y.1 None 0 (λ b. Some (untested d cs)) (λ d. omega arith) (back q b k y z))))
-  back (shut ds cs) a k x h = act-elim 0 a (open_after ds cs k) x (λ a. retreated x.0 a x.1 ≡ Some (shut ds cs)) h (open-back ds cs k x)
+  back (unopened ds cs) a k x h = act-elim 0 a (open_after ds cs k) x (λ a. retreated x.0 a x.1 ≡ Some (unopened ds cs)) h (open-back ds cs k x)
   back (entered ds cs c v q) a k x h =
       cond-elim (finished q) (if_act 2 a (close_after ds cs c v q k)) (if_child 1 a (λ b. wrap (entered ds cs c v) (advanced q b k))) x
       (retreated x.0 a x.1 ≡ Some (entered ds cs c v q)) h
       (λ t e. act-elim 2 a (close_after ds cs c v q k) x (λ a. retreated x.0 a x.1 ≡ Some (entered ds cs c v q)) e (close-back ds cs c v q k x))
       (λ t e. child-elim 1 a (λ b. wrap (entered ds cs c v) (advanced q b k)) x (λ a. retreated x.0 a x.1 ≡ Some (entered ds cs c v q)) e
       (λ b i. wrap-elim (entered ds cs c v) (advanced q b k) x (λ x. retreated x.0 (Ordered 1 ∷ b) x.1 ≡ Some (entered ds cs c v q)) i
-      (λ y z. in_child-back 1 b (entered ds cs c v) q y.0 y.1 None 0 (λ b. Some (shut ds cs)) (λ d. omega arith) (back q b k y z))))
+      (λ y z. in_child-back 1 b (entered ds cs c v) q y.0 y.1 None 0 (λ b. Some (unopened ds cs)) (λ d. omega arith) (back q b k y z))))
   back (closed ds cs c v q) a k x h = none-some x h
   back (sequence ps) a k x h =
       wrap-elim sequence (advanced_sequence 0 ps a k) x (λ x. retreated x.0 a x.1 ≡ Some (sequence ps)) h

@@ -6,7 +6,7 @@ use Rattle.calculus.specs.walking.Passed.{is_done}
 use Rattle.calculus.specs.WellFormed.{StartsFrom, BranchesFrom, WellFormed, WellFormedArms}
 use Rattle.calculus.proofs.WellFormed.{starts-within, formed-within, branches-along, formed-along, starts-put, formed-put}
 use Rattle.process_tree.specs.Code.{Once, assigning, receiving, Sender, sending, syncing, Code, continues, halts, moves_once, may_be_held, repeats, decides, awaits, in_turn, side_by_side, drains, Codes, no_code, code}
-use Rattle.process_tree.specs.Part.{waiting, holding, past, Part, idle, stopped, once, sender, fresh, turn, ended_at_once, ended, untested, skipped, took, shut, entered, closed, sequence, parallel, drained, Parts, no_parts, part, finished, all_finished}
+use Rattle.process_tree.specs.Part.{waiting, holding, past, Part, idle, stopped, once, sender, fresh, turn, ended_at_once, ended, untested, skipped, took, unopened, entered, closed, sequence, parallel, drained, Parts, no_parts, part, finished, all_finished}
 use Rattle.process_tree.specs.Left.{Received, with_value, puts, residual_once, residual_sender, again, residual, residual_arms, residual_sequence, residual_parallel, left, left_sequence, left_parallel}
 
 -- a loop is well formed where its body is
@@ -96,7 +96,7 @@ mutual
   left-formed (untested d cs) env = puts-formed env (residual (decides d cs)) (residual-formed (decides d cs))
   left-formed (skipped d cs) env = tt
   left-formed (took d cs j q) env = formed-within 1 (left env q) done (left-formed q env) tt tt
-  left-formed (shut ds cs) env = puts-formed env (residual (awaits ds cs)) (residual-formed (awaits ds cs))
+  left-formed (unopened ds cs) env = puts-formed env (residual (awaits ds cs)) (residual-formed (awaits ds cs))
   left-formed (entered ds cs c v q) env =
       formed-within 1 (left (with_value c v env) q) (Rattle.system.specs.Residual.closing c) (left-formed q (with_value c v env)) tt (omega arith)
   left-formed (closed ds cs c v q) env = tt
@@ -183,7 +183,7 @@ mutual
   finished-left (untested d cs) env = puts-is_done env (residual (decides d cs))
   finished-left (skipped d cs) env = refl
   finished-left (took d cs j q) env = within-done 1 (left env q) done ∙ and-true (is_done (left env q)) ∙ finished-left q env
-  finished-left (shut ds cs) env = puts-is_done env (residual (awaits ds cs))
+  finished-left (unopened ds cs) env = puts-is_done env (residual (awaits ds cs))
   finished-left (entered ds cs c v q) env =
       within-done 1 (left (with_value c v env) q) (Rattle.system.specs.Residual.closing c) ∙ and-false (is_done (left (with_value c v env) q))
   finished-left (closed ds cs c v q) env = refl

@@ -12,7 +12,7 @@ use Rattle.calculus.proofs.After.{found, only}
 use Rattle.calculus.proofs.Kept.{branches-place}
 use Rattle.calculus.proofs.Options.{none-some, some-injective}
 use Rattle.process_tree.specs.Code.{Once, assigning, receiving, Sender, sending, syncing, Code, Codes, code_at}
-use Rattle.process_tree.specs.Part.{waiting, holding, past, Part, idle, stopped, once, sender, fresh, turn, ended_at_once, ended, untested, skipped, took, shut, entered, closed, sequence, parallel, drained, Parts, no_parts, part, started, finished}
+use Rattle.process_tree.specs.Part.{waiting, holding, past, Part, idle, stopped, once, sender, fresh, turn, ended_at_once, ended, untested, skipped, took, unopened, entered, closed, sequence, parallel, drained, Parts, no_parts, part, started, finished}
 use Rattle.process_tree.specs.Places.{if_here, if_act, if_child, if_branch, wrap}
 use Rattle.process_tree.specs.Advanced.{Moved, once_after, sender_after, holding_after, again_after, test_after, open_on, open_after, close_after, drain_after, advanced, advanced_sequence, advanced_parallel}
 use Rattle.process_tree.specs.Left.{Received, with_value, puts, residual_once, residual_sender, channel_of, again, residual, residual_arms, left, left_sequence, left_parallel}
@@ -235,7 +235,7 @@ open-sim ds cs (Some c) j v env = ap (λ r. Some (within 1 r (closing c))) (open
 
 -- arms that wait
 choose-sim : (ds : List ℕ) (cs : Codes) (env : Received) (a : Place) (k : Ask)
-    → residual_after (after k (left env (shut ds cs)) a) ≡ left_after (left env) (if_act 0 a (open_after ds cs k))
+    → residual_after (after k (left env (unopened ds cs)) a) ≡ left_after (left env) (if_act 0 a (open_after ds cs k))
 choose-sim ds cs env a k =
     ap (λ r. residual_after (after k r a)) (puts-choose env ds (residual_arms cs)) ∙ act-sim 0 a _ (open_after ds cs k) (left env) (leaf k)
   where
@@ -283,7 +283,7 @@ mutual
   simulates (untested d cs) env a k = test-sim d cs env a k
   simulates (skipped d cs) env a k = refl
   simulates (took d cs j q) env a k = node-sim 1 env q done a k (left env) (took d cs j) None (λ z. refl) (λ e. refl) (λ b. simulates q env b k)
-  simulates (shut ds cs) env a k = choose-sim ds cs env a k
+  simulates (unopened ds cs) env a k = choose-sim ds cs env a k
   simulates (entered ds cs c v q) env a k =
       node-sim 1 (with_value c v env) q (closing c) a k (left env) (entered ds cs c v) (if_act 2 a (close_after ds cs c v q k)) (λ z. refl)
       (λ e. close-sim ds cs c v q env a k) (λ b. simulates q (with_value c v env) b k)

@@ -8,7 +8,7 @@ use Rattle.calculus.specs.Moves.{Place}
 use Rattle.calculus.specs.walking.After.{Ask, to_assign, to_test, to_turn, to_send, to_hold, to_receive, to_open, to_sync, to_release, to_close}
 use Rattle.calculus.proofs.Options.{none-some, cond-some}
 use Rattle.process_tree.specs.Code.{Once, assigning, receiving, Sender, sending, syncing, Code, Codes, code_at}
-use Rattle.process_tree.specs.Part.{waiting, holding, past, Part, idle, stopped, once, sender, fresh, turn, ended_at_once, ended, untested, skipped, took, shut, entered, closed, sequence, parallel, drained, Parts, no_parts, part, started, finished}
+use Rattle.process_tree.specs.Part.{waiting, holding, past, Part, idle, stopped, once, sender, fresh, turn, ended_at_once, ended, untested, skipped, took, unopened, entered, closed, sequence, parallel, drained, Parts, no_parts, part, started, finished}
 use Rattle.process_tree.specs.Places.{if_act, if_child, wrap}
 use Rattle.process_tree.specs.Advanced.{Moved, MovedIn, once_after, sender_after, holding_after, again_after, test_after, open_on, open_after, close_after, drain_after, advanced, advanced_sequence, advanced_parallel}
 use Rattle.process_tree.specs.Laws.{Swapped}
@@ -195,7 +195,7 @@ mutual
       cond-elim (finished q) None (if_child 1 a (λ b. wrap (took d cs j) (advanced q b k))) x (Swapped advanced (took d cs j q) a k x b l y) h
       (λ t e. none-some x e)
       (λ t e. in_node advanced (took d cs j) 1 (λ q a k. None) (λ q a k. refl) (λ q b l y r c. none-some y r) q (swap q) a k x b l y e g n)
-  swap (shut ds cs) a k x b l y h g n =
+  swap (unopened ds cs) a k x b l y h g n =
       absurd (n (act-elim 0 a (open_after ds cs k) x (λ a. Before a b) h (λ e. open-behind ds cs k x e b l y g)))
   swap (entered ds cs c v q) a k x b l y h g n =
       cond-elim (finished q) (if_act 2 a (close_after ds cs c v q k)) (if_child 1 a (λ b. wrap (entered ds cs c v) (advanced q b k))) x

@@ -5,7 +5,7 @@ use Rattle.system.specs.Expression.{Expression, Decision}
 use Rattle.calculus.specs.Moves.{Place}
 use Rattle.calculus.specs.walking.After.{Ask, to_assign, to_test, to_turn, to_send, to_hold, to_receive, to_open, to_sync, to_release, to_close}
 use Rattle.process_tree.specs.Code.{Once, assigning, receiving, Sender, sending, syncing, Code, Codes, code_at}
-use Rattle.process_tree.specs.Part.{waiting, holding, past, Part, idle, stopped, once, sender, fresh, turn, ended_at_once, ended, untested, skipped, took, shut, entered, closed, sequence, parallel, drained, Parts, no_parts, part, started, finished}
+use Rattle.process_tree.specs.Part.{waiting, holding, past, Part, idle, stopped, once, sender, fresh, turn, ended_at_once, ended, untested, skipped, took, unopened, entered, closed, sequence, parallel, drained, Parts, no_parts, part, started, finished}
 use Rattle.process_tree.specs.Places.{if_here, if_act, if_child, if_branch, wrap}
 
 -- the part after a move, and what the move took out: the body of the turn before it, where a loop turns again
@@ -86,7 +86,7 @@ abbrev mutual
   advanced (untested d cs) a k = if_act 0 a (test_after d cs k)
   advanced (skipped d cs) a k = None
   advanced (took d cs j q) a k = cond (finished q) None (if_child 1 a (λ b. wrap (took d cs j) (advanced q b k)))
-  advanced (shut ds cs) a k = if_act 0 a (open_after ds cs k)
+  advanced (unopened ds cs) a k = if_act 0 a (open_after ds cs k)
   advanced (entered ds cs c v q) a k =
       cond (finished q) (if_act 2 a (close_after ds cs c v q k)) (if_child 1 a (λ b. wrap (entered ds cs c v) (advanced q b k)))
   advanced (closed ds cs c v q) a k = None

@@ -4,7 +4,7 @@ use Rattle.value.specs.Word.{Word}
 use Rattle.system.specs.Expression.{Expression}
 use Rattle.system.specs.Residual.{Residual, done, halted, assign, send, receive, sync, held, loop, while, test, choose, closing, drain, Arms, no_arms, arm, within, along, put_residual}
 use Rattle.process_tree.specs.Code.{Once, assigning, receiving, Sender, sending, syncing, Code, continues, halts, moves_once, may_be_held, repeats, decides, awaits, in_turn, side_by_side, drains, Codes, no_code, code}
-use Rattle.process_tree.specs.Part.{waiting, holding, past, Part, idle, stopped, once, sender, fresh, turn, ended_at_once, ended, untested, skipped, took, shut, entered, closed, sequence, parallel, drained, Parts, no_parts, part}
+use Rattle.process_tree.specs.Part.{waiting, holding, past, Part, idle, stopped, once, sender, fresh, turn, ended_at_once, ended, untested, skipped, took, unopened, entered, closed, sequence, parallel, drained, Parts, no_parts, part}
 
 -- an assignment or a receive
 abbrev pub residual_once : Once → Residual
@@ -86,7 +86,7 @@ abbrev mutual
   left env (untested d cs) = puts env (test d (residual_arms cs))
   left env (skipped d cs) = done
   left env (took d cs j q) = within 1 (left env q) done
-  left env (shut ds cs) = puts env (choose ds (residual_arms cs))
+  left env (unopened ds cs) = puts env (choose ds (residual_arms cs))
   left env (entered ds cs c v q) = within 1 (left (with_value c v env) q) (closing c)
   left env (closed ds cs c v q) = done
   left env (sequence ps) = left_sequence env 0 ps

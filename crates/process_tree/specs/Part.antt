@@ -35,7 +35,7 @@ mutual
     -- one that took this arm
     took : Decision → Codes → ℕ → Part → Part
     -- arms that wait on their channels
-    shut : List ℕ → Codes → Part
+    unopened : List ℕ → Codes → Part
     -- arms of which one has opened on this channel, with what was received if anything
     entered : List ℕ → Codes → ℕ → Option Word → Part → Part
     -- the same after the close
@@ -61,7 +61,7 @@ abbrev mutual
   started (may_be_held s) = sender s waiting
   started (repeats g c) = fresh g c
   started (decides d cs) = untested d cs
-  started (awaits ds cs) = shut ds cs
+  started (awaits ds cs) = unopened ds cs
   started (in_turn cs) = sequence (all_started cs)
   started (side_by_side cs) = parallel (all_started cs)
   started (drains c) = drained c 0
@@ -91,7 +91,7 @@ abbrev mutual
   finished (untested d cs) = false
   finished (skipped d cs) = true
   finished (took d cs j q) = finished q
-  finished (shut ds cs) = false
+  finished (unopened ds cs) = false
   finished (entered ds cs c v q) = false
   finished (closed ds cs c v q) = true
   finished (sequence ps) = all_finished ps

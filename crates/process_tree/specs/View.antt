@@ -152,7 +152,7 @@ tested_layer (Tested-F.Took j q) = λ d cs. model_part.took d cs j q.value
 
 -- how far arms are that wait
 abbrev pub gate_layer : Gate-F OfArms model_part.Part OfTest OfLoop → OfArms
-gate_layer Gate-F.Shut = model_part.shut
+gate_layer Gate-F.Unopened = model_part.unopened
 gate_layer (Gate-F.Opened c v over q) = λ ds cs. opened_of over ds cs c v q.value
 
 -- one layer of a part

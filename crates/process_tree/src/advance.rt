@@ -248,7 +248,7 @@ fn in_arms(
     ensures err { OnErr result (gate_view gate.new (await_view waiting.now).0 (await_view waiting.now).1 ≡ gate_view gate.old (await_view waiting.now).0 (await_view waiting.now).1) }
 {
     match gate {
-        Gate::Shut => {
+        Gate::Unopened => {
             *gate = open(alloc, waiting, ask)?;
             Ok(None)
         }
@@ -296,13 +296,13 @@ fn open(alloc: Global, waiting: &Await, ask: Ask) -> Result<Gate, AllocError>
 {
     match ask {
         Ask::Open(arm, value) => match waiting.channels.get(arm as usize) {
-            None => Ok(Gate::Shut),
+            None => Ok(Gate::Unopened),
             Some(channel) => {
                 let body = begin_arm(alloc, &waiting.arms, arm)?;
                 Ok(Gate::Opened(*channel, value, false, body))
             }
         },
-        _ => Ok(Gate::Shut),
+        _ => Ok(Gate::Unopened),
     }
 }
 

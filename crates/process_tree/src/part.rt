@@ -63,7 +63,7 @@ pub enum Tested {
 #[cycle(part)]
 #[derive(Drop)]
 pub enum Gate {
-    Shut,
+    Unopened,
     /// One opened on this channel, with what was received if anything; whether it has been closed; and the arm.
     Opened(u32, Option<Value>, bool, Box<Proc>),
 }
@@ -81,7 +81,7 @@ pub fn start(alloc: Global, code: &Code) -> Result<Proc, AllocError>
         Code::Sender(sender) => Ok(Proc::Sender(sender.clone()?, Phase::Waiting)),
         Code::Repeat(repeat) => Ok(Proc::Loop(repeat.clone()?, Turns::Fresh)),
         Code::Decide(decide) => Ok(Proc::Test(decide.clone()?, Tested::Untested)),
-        Code::Await(waiting) => Ok(Proc::Arms(waiting.clone()?, Gate::Shut)),
+        Code::Await(waiting) => Ok(Proc::Arms(waiting.clone()?, Gate::Unopened)),
         Code::InTurn(row) => Ok(Proc::Sequence(row.clone()?, Vec::new(alloc))),
         Code::SideBySide(row) => {
             let parts = start_all(alloc, row.get().codes.as_slice())?;

@@ -1,7 +1,7 @@
 // Moves taken back.
 ghost use Rattle.std.specs.Prelude.{◌≡◌, ℕ, Option, Some, map, cond, IsSome};
 ghost use Rattle.process_tree.specs.Code.{Sender, Code};
-ghost use Rattle.process_tree.specs.Part.{Part, sender, drained, fresh, untested, took, shut, sequence, parallel};
+ghost use Rattle.process_tree.specs.Part.{Part, sender, drained, fresh, untested, took, unopened, sequence, parallel};
 ghost use Rattle.process_tree.specs.View.{repeat_view, decide_view, await_view, row_view, phase_view, part_view, turns_view, turn_of, tested_view, gate_view, opened_of, out_view, parts_of, begun_of};
 ghost use Rattle.process_tree.specs.walking.Retreated.{retreated, before_turn};
 ghost use Rattle.process_tree.specs.Part as model;
@@ -186,10 +186,10 @@ fn from_arms(waiting: &Await, gate: &mut Gate, place: &[Entry], out: Option<Box<
         ≡ Some (gate_view gate.new (await_view waiting.now).0 (await_view waiting.now).1) }
 {
     match gate {
-        Gate::Shut => {}
+        Gate::Unopened => {}
         Gate::Opened(channel, value, over, body) => {
             if from_opened(waiting, *channel, *value, over, body, place, out) {
-                *gate = Gate::Shut;
+                *gate = Gate::Unopened;
             }
         }
     }
@@ -208,7 +208,7 @@ fn from_opened(
 ) -> bool
     requires { IsSome (retreated (opened_of over.old (await_view waiting.now).0 (await_view waiting.now).1 channel value (part_view body.old.value)) place.now (out_view out)) }
     ensures { retreated (opened_of over.old (await_view waiting.now).0 (await_view waiting.now).1 channel value (part_view body.old.value)) place.now (out_view out)
-        ≡ Some (cond result (shut (await_view waiting.now).0 (await_view waiting.now).1)
+        ≡ Some (cond result (unopened (await_view waiting.now).0 (await_view waiting.now).1)
         (opened_of over.new (await_view waiting.now).0 (await_view waiting.now).1 channel value (part_view body.new.value))) }
 {
     if *over {

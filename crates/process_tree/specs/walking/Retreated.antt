@@ -4,7 +4,7 @@ use Rattle.std.specs.Prelude.{ℕ, zero, suc, ◌+◌, ◌*◌, false, Option, S
 use Rattle.system.specs.Expression.{Expression}
 use Rattle.calculus.specs.Moves.{Place}
 use Rattle.process_tree.specs.Code.{Code}
-use Rattle.process_tree.specs.Part.{waiting, holding, past, Part, idle, stopped, once, sender, fresh, turn, ended_at_once, ended, untested, skipped, took, shut, entered, closed, sequence, parallel, drained, Parts, no_parts, part}
+use Rattle.process_tree.specs.Part.{waiting, holding, past, Part, idle, stopped, once, sender, fresh, turn, ended_at_once, ended, untested, skipped, took, unopened, entered, closed, sequence, parallel, drained, Parts, no_parts, part}
 use Rattle.process_tree.specs.Places.{if_here, if_act, if_child, if_child_or, if_branch}
 
 -- a loop before turn n, with the body that the turn took out
@@ -36,9 +36,9 @@ abbrev mutual
   retreated (skipped d cs) a old = Some (untested d cs)
   retreated (took d cs j q) a old =
       if_child_or 0 a (λ b. Some (untested d cs)) (if_child 1 a (λ b. option_map (took d cs j) (retreated q b old)))
-  retreated (shut ds cs) a old = None
+  retreated (unopened ds cs) a old = None
   retreated (entered ds cs c v q) a old =
-      if_child_or 0 a (λ b. Some (shut ds cs)) (if_child 1 a (λ b. option_map (entered ds cs c v) (retreated q b old)))
+      if_child_or 0 a (λ b. Some (unopened ds cs)) (if_child 1 a (λ b. option_map (entered ds cs c v) (retreated q b old)))
   retreated (closed ds cs c v q) a old = Some (entered ds cs c v q)
   retreated (sequence ps) a old = option_map sequence (retreated_sequence 0 ps a old)
   retreated (parallel ps) a old = option_map parallel (retreated_parallel 0 ps a old)
