@@ -10,7 +10,7 @@ use Rattle.calculus.proofs.Lists.{every-of}
 use Rattle.calculus.proofs.Orders.{run-join}
 use Rattle.process_tree.proofs.Asking.{some-elim}
 use Rattle.process_tree.proofs.Translated.{systems-open-alike}
-use Rattle.event_inverse.specs.Grown.{Tree, Taken, Records, state_of, opening_tree, applied, grown, StandFor}
+use Rattle.event_inverse.specs.Grown.{TreeAndStore, Taken, Records, state_of, opening_tree, applied, grown, StandFor}
 use Rattle.event_inverse.specs.Laws.{TreesOpenAlike, RunsHaveTrees, OneMore, UndoneByRecords, OrdersHaveOneTree}
 use Rattle.event_inverse.proofs.Neighbours.{applies}
 use Rattle.event_inverse.proofs.Undoing.{undone-in, grown-onwards, grows, respecting-grows}
@@ -23,7 +23,7 @@ from-tree : (system : System) (h : List Event) (U : State) → Run (opening syst
 from-tree system h U r = subst (λ (S : State). Run S h U) (sym (trees-open-alike system)) r
 
 -- what a list that runs has grown stands for its run
-stands : (system : System) (h : List Event) (U : State) (T : Tree) (records : Records) → Run (opening system) h U
+stands : (system : System) (h : List Event) (U : State) (T : TreeAndStore) (records : Records) → Run (opening system) h U
     → grown (opening_tree system) h ≡ Some (T, records) → StandFor system h T records
 stands system h U T records r g =
     let x = grows h (opening_tree system) U (from-tree system h U r) in
@@ -60,6 +60,6 @@ pub orders-have-one-tree : OrdersHaveOneTree
 orders-have-one-tree system h g T records s o =
     let z = respecting-grows h g (opening_tree system) (state_of T) (T, records) (from-tree system h (state_of T) s.runs) s.grows o in (
       z.0.1,
-      stands system g (state_of T) T z.0.1 (respecting_orders system h g (state_of T) s.runs o) (z.1 ∙ ap (λ (t : Tree). Some (t, z.0.1)) z.2),
+      stands system g (state_of T) T z.0.1 (respecting_orders system h g (state_of T) s.runs o) (z.1 ∙ ap (λ (t : TreeAndStore). Some (t, z.0.1)) z.2),
       z.3,
     )

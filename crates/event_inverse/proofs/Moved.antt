@@ -16,7 +16,7 @@ use Rattle.process_tree.specs.walking.Retreated.{retreated}
 use Rattle.process_tree.specs.declared.ask.Ask.TheVariants as ask
 use Rattle.process_tree.proofs.Back.{back}
 use Rattle.process_tree.proofs.Steps.{none-is, is-some}
-use Rattle.event_inverse.specs.Grown.{Tree, Taken, all_advanced, after_moves, applied}
+use Rattle.event_inverse.specs.Grown.{TreeAndStore, Taken, all_advanced, after_moves, applied}
 use Rattle.event_inverse.specs.walking.Reverted.{all_retreated, written_back, reverted}
 use Rattle.event_inverse.specs.walking.Moved.{placed, moved, moved_back, both_back}
 use Rattle.event_inverse.specs.declared.asks.Asks.TheVariants.{Alone, Together}
@@ -39,12 +39,12 @@ then-some f None h = absurd (none-is h)
 then-some f (Some x) h = refl
 
 -- an event that can be applied can make its moves
-pub can-move : (T : Tree) (e : Event) → IsSome (applied T e) → IsSome (moved T.part e)
+pub can-move : (T : TreeAndStore) (e : Event) → IsSome (applied T e) → IsSome (moved T.part e)
 can-move T e h =
     mapped-some (after_moves T e) (moved T.part e) (subst (λ o. IsSome o) (then-mapped (after_moves T e) (all_advanced T.part) (asked e)) h)
 
 -- its moves, its write and the value that it overwrote apply it
-pub applied-by : (T : Tree) (e : Event) (x : Walked) (s : Store) (o : Option Word) → moved T.part e ≡ Some x → s ≡ store_after e T.store
+pub applied-by : (T : TreeAndStore) (e : Event) (x : Walked) (s : Store) (o : Option Word) → moved T.part e ≡ Some x → s ≡ store_after e T.store
     → o ≡ option_map (get T.store) e.written → applied T e ≡ Some (record { part = x.0; store = s }, record { parts = x.1; old = o })
 applied-by T e x s o h w v =
     then-mapped (after_moves T e) (all_advanced T.part) (asked e)
@@ -52,16 +52,16 @@ applied-by T e x s o h w v =
     ∙ ap₂ (λ (s : Store) (o : Option Word). Some (record { part = x.0; store = s }, record { parts = x.1; old = o })) (sym w) (sym v)
 
 -- an event that can be taken back can take its moves back
-pub can-move-back : (T : Tree) (e : Event) (r : Taken) → IsSome (reverted T e r) → IsSome (moved_back T.part e r.parts)
+pub can-move-back : (T : TreeAndStore) (e : Event) (r : Taken) → IsSome (reverted T e r) → IsSome (moved_back T.part e r.parts)
 can-move-back T e r h =
-    let to : Part → Tree = λ p. record { part = p; store = written_back e.written r.old T.store } in
+    let to : Part → TreeAndStore = λ p. record { part = p; store = written_back e.written r.old T.store } in
     mapped-some to (moved_back T.part e r.parts) (subst (λ o. IsSome o) (then-mapped to (λ ks. all_retreated T.part ks r.parts) (asked e)) h)
 
 -- its moves and its write taken back revert it
-pub reverted-by : (T : Tree) (e : Event) (r : Taken) (p : Part) (s : Store) → moved_back T.part e r.parts ≡ Some p → s ≡ written_back e.written r.old T.store
+pub reverted-by : (T : TreeAndStore) (e : Event) (r : Taken) (p : Part) (s : Store) → moved_back T.part e r.parts ≡ Some p → s ≡ written_back e.written r.old T.store
     → reverted T e r ≡ Some (record { part = p; store = s })
 reverted-by T e r p s h w =
-    let to : Part → Tree = λ p. record { part = p; store = written_back e.written r.old T.store } in
+    let to : Part → TreeAndStore = λ p. record { part = p; store = written_back e.written r.old T.store } in
     then-mapped to (λ ks. all_retreated T.part ks r.parts) (asked e)
     ∙ ap (option_map to) h
     ∙ ap (λ (s : Store). Some (record { part = p; store = s })) (sym w)

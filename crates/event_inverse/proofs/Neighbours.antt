@@ -20,12 +20,12 @@ use Rattle.calculus.proofs.Options.{none-some, and_then-at}
 use Rattle.calculus.proofs.Stores.{get-after, after-other}
 use Rattle.process_tree.specs.Part.{Part}
 use Rattle.process_tree.proofs.Asking.{some-elim, map-elim, then-elim}
-use Rattle.event_inverse.specs.Grown.{Tree, Taken, state_of, all_advanced, after_moves, applied}
+use Rattle.event_inverse.specs.Grown.{TreeAndStore, Taken, state_of, all_advanced, after_moves, applied}
 use Rattle.event_inverse.specs.walking.Reverted.{all_retreated, written_back, reverted}
 use Rattle.event_inverse.proofs.Moving.{Walked, all-does, all-back, all-past}
 
 -- a step of the state is made by the tree
-pub applies : (T : Tree) (e : Event) (U : State) → Step (state_of T) e U → (x : Tree × Taken) × (applied T e ≡ Some x) × (state_of x.0 ≡ U)
+pub applies : (T : TreeAndStore) (e : Event) (U : State) → Step (state_of T) e U → (x : TreeAndStore × Taken) × (applied T e ≡ Some x) × (state_of x.0 ≡ U)
 applies T e U s =
     let d = all-does T.part s.moves U.residual s.moved in (
       after_moves T e d.0,
@@ -45,12 +45,12 @@ store-back s (Some x) None = set-get_or s x (word 0 1)
 store-back s (Some x) (Some v) = value-back s x v
 
 -- the record of an event takes it back
-pub reverts : (T : Tree) (e : Event) (x : Tree × Taken) → applied T e ≡ Some x → reverted x.0 e x.1 ≡ Some T
+pub reverts : (T : TreeAndStore) (e : Event) (x : TreeAndStore × Taken) → applied T e ≡ Some x → reverted x.0 e x.1 ≡ Some T
 reverts T e x h =
     then-elim (λ ks. option_map (after_moves T e) (all_advanced T.part ks)) (asked e) x (reverted x.0 e x.1 ≡ Some T) h
     (λ ks i g. map-elim (after_moves T e) (all_advanced T.part ks) x (λ x. reverted x.0 e x.1 ≡ Some T) g
     (λ u c. let back = written_back e.written (option_map (get T.store) e.written) (store_after e T.store) in
-    let to : Part → Tree = λ p. record { part = p; store = back } in
+    let to : Part → TreeAndStore = λ p. record { part = p; store = back } in
     and_then-at (λ ks. option_map to (all_retreated u.0 ks u.1)) (asked e) ks i
     ∙ ap (option_map to) (all-back T.part ks u c)
     ∙ (λ j. Some (record { part = T.part; store = store-back T.store e.written e.value j }))))
@@ -86,18 +86,18 @@ old-same s t None h = refl
 old-same s t (Some x) h = ap Some (h x refl)
 
 -- a tree, and a record, of their parts
-abbrev tree_of : Part → Store → Tree
+abbrev tree_of : Part → Store → TreeAndStore
 tree_of p s = record { part = p; store = s }
 
 abbrev taken_of : List (Option Part) → Option Word → Taken
 taken_of ps o = record { parts = ps; old = o }
 
 -- two events made the other way round
-abbrev pub TurnedRound : Tree → Event → Tree × Taken → Event → Tree × Taken → Type 0
-TurnedRound T e x f y = (z : Tree × Taken) × (applied T f ≡ Some z) × (applied z.0 e ≡ Some (y.0, x.1)) × (z.1 ≡ y.1)
+abbrev pub TurnedRound : TreeAndStore → Event → TreeAndStore × Taken → Event → TreeAndStore × Taken → Type 0
+TurnedRound T e x f y = (z : TreeAndStore × Taken) × (applied T f ≡ Some z) × (applied z.0 e ≡ Some (y.0, x.1)) × (z.1 ≡ y.1)
 
 -- they can be, unless the second depends directly on the first
-pub neighbours : (T : Tree) (e f : Event) (x y : Tree × Taken) → applied T e ≡ Some x → applied x.0 f ≡ Some y → (Directly e f → ⊥) → TurnedRound T e x f y
+pub neighbours : (T : TreeAndStore) (e f : Event) (x y : TreeAndStore × Taken) → applied T e ≡ Some x → applied x.0 f ≡ Some y → (Directly e f → ⊥) → TurnedRound T e x f y
 neighbours T e f x y h g free =
     then-elim (λ ks. option_map (after_moves T e) (all_advanced T.part ks)) (asked e) x (TurnedRound T e x f y) h
     (λ ks asks d. map-elim (after_moves T e) (all_advanced T.part ks) x (λ x. applied x.0 f ≡ Some y → TurnedRound T e x f y) d
@@ -106,11 +106,11 @@ neighbours T e f x y h g free =
     turned : (ks : List (Place × Ask)) → asked e ≡ Some ks → (u : Walked) → all_advanced T.part ks ≡ Some u
         → applied (after_moves T e u).0 f ≡ Some y → TurnedRound T e (after_moves T e u) f y
     turned ks asks u i g =
-        let S : Tree = (after_moves T e u).0 in
+        let S : TreeAndStore = (after_moves T e u).0 in
         then-elim (λ js. option_map (after_moves S f) (all_advanced u.0 js)) (asked f) y (TurnedRound T e (after_moves T e u) f y) g
         (λ js also d. map-elim (after_moves S f) (all_advanced u.0 js) y (TurnedRound T e (after_moves T e u) f) d
         (λ w c. let s = all-past T.part ks u js w i c (none-before e f ks js asks also free) in
-        let R : Tree = (after_moves T f s.0).0 in (
+        let R : TreeAndStore = (after_moves T f s.0).0 in (
           after_moves T f s.0,
           and_then-at (λ js. option_map (after_moves T f) (all_advanced T.part js)) (asked f) js also ∙ ap (option_map (after_moves T f)) s.1,
           and_then-at (λ ks. option_map (after_moves R e) (all_advanced s.0.0 ks)) (asked e) ks asks ∙ ap (option_map (after_moves R e)) s.2

@@ -11,36 +11,36 @@ use Rattle.calculus.proofs.Orders.{Woven}
 use Rattle.calculus.proofs.Respecting.{woven, run-distinct}
 use Rattle.process_tree.proofs.Asking.{some-elim, map-elim, then-elim}
 use Rattle.process_tree.proofs.Formed.{left-formed}
-use Rattle.event_inverse.specs.Grown.{Tree, Taken, state_of, applied, Records, grown}
+use Rattle.event_inverse.specs.Grown.{TreeAndStore, Taken, state_of, applied, Records, grown}
 use Rattle.event_inverse.specs.walking.Reverted.{reverted}
 use Rattle.event_inverse.proofs.Neighbours.{applies, reverts, neighbours}
 
 -- a tree, and the records on the way to it
 abbrev pub Grew : Type 0
-Grew = Tree × Records
+Grew = TreeAndStore × Records
 
 -- an event, and then others
-abbrev and_others : Event → List Event → Tree × Taken → Option Grew
+abbrev and_others : Event → List Event → TreeAndStore × Taken → Option Grew
 and_others e h x = option_map (λ y. (y.0, (e, x.1) ∷ y.1)) (grown x.0 h)
 
 -- what leads on from an event
-first-grown : (T : Tree) (e : Event) (h : List Event) (x : Tree × Taken) (y : Grew) → applied T e ≡ Some x → grown x.0 h ≡ Some y
+first-grown : (T : TreeAndStore) (e : Event) (h : List Event) (x : TreeAndStore × Taken) (y : Grew) → applied T e ≡ Some x → grown x.0 h ≡ Some y
     → grown T (e ∷ h) ≡ Some (y.0, (e, x.1) ∷ y.1)
 first-grown T e h x y d g = and_then-at (and_others e h) (applied T e) x d ∙ ap (option_map (λ y. (y.0, (e, x.1) ∷ y.1))) g
 
 -- a list that has grown, by its first event
-grown-elim : (T : Tree) (e : Event) (h : List Event) (y : Grew) (P : Grew → Type 0) → grown T (e ∷ h) ≡ Some y
-    → ((x : Tree × Taken) (w : Grew) → applied T e ≡ Some x → grown x.0 h ≡ Some w → P (w.0, (e, x.1) ∷ w.1)) → P y
+grown-elim : (T : TreeAndStore) (e : Event) (h : List Event) (y : Grew) (P : Grew → Type 0) → grown T (e ∷ h) ≡ Some y
+    → ((x : TreeAndStore × Taken) (w : Grew) → applied T e ≡ Some x → grown x.0 h ≡ Some w → P (w.0, (e, x.1) ∷ w.1)) → P y
 grown-elim T e h y P d f =
     then-elim (and_others e h) (applied T e) y (P y) d
     (λ x i g. map-elim (λ y. (y.0, (e, x.1) ∷ y.1)) (grown x.0 h) y P g (λ w j. f x w i j))
 
 -- an event made after others
-abbrev MadeLast : Tree → Event → Tree × Taken → List Event → Grew → Type 0
+abbrev MadeLast : TreeAndStore → Event → TreeAndStore × Taken → List Event → Grew → Type 0
 MadeLast T e x k y = (z : Grew) × (grown T k ≡ Some z) × (applied z.0 e ≡ Some (y.0, x.1)) × (z.1 ≡ y.1)
 
 -- it can be, where none of them depends directly on it
-made-last : (T : Tree) (e : Event) (x : Tree × Taken) (k : List Event) (y : Grew) → applied T e ≡ Some x → grown x.0 k ≡ Some y
+made-last : (T : TreeAndStore) (e : Event) (x : TreeAndStore × Taken) (k : List Event) (y : Grew) → applied T e ≡ Some x → grown x.0 k ≡ Some y
     → Every (λ f. Directly e f → ⊥) k → MadeLast T e x k y
 made-last T e x [] y d g none = some-elim (x.0, []) y (MadeLast T e x []) g ((T, []), refl, d, refl)
 made-last T e x (f ∷ k) y d g none =
@@ -54,18 +54,18 @@ made-last T e x (f ∷ k) y d g none =
     ))
 
 -- the undo of e behind h and in front of k
-pub record UndoneIn (h k : List Event) (T : Tree) (e : Event) (y : Grew) : Type 0 where
+pub record UndoneIn (h k : List Event) (T : TreeAndStore) (e : Event) (y : Grew) : Type 0 where
   pub taken : Taken
   pub earlier : Records
   pub later : Records
-  pub tree : Tree
+  pub tree : TreeAndStore
   pub found : y.1 ≡ earlier ++ (e, taken) ∷ later
   pub placed : length earlier ≡ length h
   pub reverts : reverted y.0 e taken ≡ Some tree
   pub grows : grown T (h ++ k) ≡ Some (tree, earlier ++ later)
 
 -- an event in the middle is undone by its record
-pub undone-in : (h k : List Event) (T : Tree) (e : Event) (y : Grew) → grown T (h ++ e ∷ k) ≡ Some y → Every (λ f. Directly e f → ⊥) k → UndoneIn h k T e y
+pub undone-in : (h k : List Event) (T : TreeAndStore) (e : Event) (y : Grew) → grown T (h ++ e ∷ k) ≡ Some y → Every (λ f. Directly e f → ⊥) k → UndoneIn h k T e y
 undone-in [] k T e y g none =
     grown-elim T e k y (UndoneIn [] k T e) g
     (λ x w i j. let s = made-last T e x k w i j none in
@@ -94,7 +94,7 @@ undone-in (f ∷ h) k T e y g none =
     })
 
 -- one more event
-pub grown-onwards : (T : Tree) (h : List Event) (y : Grew) (e : Event) (x : Tree × Taken) → grown T h ≡ Some y → applied y.0 e ≡ Some x
+pub grown-onwards : (T : TreeAndStore) (h : List Event) (y : Grew) (e : Event) (x : TreeAndStore × Taken) → grown T h ≡ Some y → applied y.0 e ≡ Some x
     → grown T (h ++ e ∷ []) ≡ Some (x.0, y.1 ++ (e, x.1) ∷ [])
 grown-onwards T [] y e x g d =
     some-elim (T, []) y (λ y. applied y.0 e ≡ Some x → grown T (e ∷ []) ≡ Some (x.0, y.1 ++ (e, x.1) ∷ [])) g
@@ -104,7 +104,7 @@ grown-onwards T (f ∷ h) y e x g d =
     (λ u w i j d. first-grown T f (h ++ e ∷ []) u (x.0, w.1 ++ (e, x.1) ∷ []) i (grown-onwards u.0 h w e x j d)) d
 
 -- what runs grows
-pub grows : (h : List Event) (T : Tree) (U : State) → Run (state_of T) h U → (x : Grew) × (grown T h ≡ Some x) × (state_of x.0 ≡ U)
+pub grows : (h : List Event) (T : TreeAndStore) (U : State) → Run (state_of T) h U → (x : Grew) × (grown T h ≡ Some x) × (state_of x.0 ≡ U)
 grows [] T U r = ((T, []), refl, r)
 grows (e ∷ h) T U r =
     let s = applies T e r.0 r.1 in
@@ -112,14 +112,14 @@ grows (e ∷ h) T U r =
     ((rest.0.0, (e, s.0.1) ∷ rest.0.1), first-grown T e h s.0 rest.0 s.1 rest.1, rest.2)
 
 -- an event made before others: its record among theirs
-record Inserted (T : Tree) (e : Event) (x : Tree × Taken) (before after : List Event) (v : Grew) : Type 0 where
+record Inserted (T : TreeAndStore) (e : Event) (x : TreeAndStore × Taken) (before after : List Event) (v : Grew) : Type 0 where
   first : Records
   second : Records
   apart : v.1 ≡ first ++ second
   grows : grown T (before ++ e ∷ after) ≡ Some (v.0, first ++ (e, x.1) ∷ second)
 
 -- it can be, where it depends on none of them
-insert : (T : Tree) (e : Event) (x : Tree × Taken) (before after : List Event) (v : Grew) → applied T e ≡ Some x → grown x.0 (before ++ after) ≡ Some v
+insert : (T : TreeAndStore) (e : Event) (x : TreeAndStore × Taken) (before after : List Event) (v : Grew) → applied T e ≡ Some x → grown x.0 (before ++ after) ≡ Some v
     → Every (λ f. Directly e f → ⊥) before → Inserted T e x before after v
 insert T e x [] after v d g none = record { first = []; second = v.1; apart = refl; grows = first-grown T e after x v d g }
 insert T e x (f ∷ before) after v d g none =
@@ -151,11 +151,11 @@ among x r first second = (
 )
 
 -- the same tree, and the same records
-abbrev Alike : Tree → List Event → Grew → Type 0
+abbrev Alike : TreeAndStore → List Event → Grew → Type 0
 Alike T g y = (z : Grew) × (grown T g ≡ Some z) × (z.0 ≡ y.0) × ((r : Event × Taken) → In r y.1 ↔ In r z.1)
 
 -- events moved to places in front of which nothing depends on them
-woven-grows : (T : Tree) (h g : List Event) (y : Grew) → grown T h ≡ Some y → Woven h g → Alike T g y
+woven-grows : (T : TreeAndStore) (h g : List Event) (y : Grew) → grown T h ≡ Some y → Woven h g → Alike T g y
 woven-grows T [] g y d o = (y, subst (λ (l : List Event). grown T l ≡ Some y) (sym o) d, refl, λ r. (λ i. i, λ i. i))
 woven-grows T (e ∷ h) g y d o =
     grown-elim T e h y (Alike T g) d
@@ -175,5 +175,5 @@ woven-grows T (e ∷ h) g y d o =
     )
 
 -- respecting orders of a run grow the same
-pub respecting-grows : (h g : List Event) (T : Tree) (U : State) (y : Grew) → Run (state_of T) h U → grown T h ≡ Some y → Respecting h g → Alike T g y
+pub respecting-grows : (h g : List Event) (T : TreeAndStore) (U : State) (y : Grew) → Run (state_of T) h U → grown T h ≡ Some y → Respecting h g → Alike T g y
 respecting-grows h g T U y r d o = woven-grows T h g y d (woven h g (run-distinct (state_of T) U h (left-formed T.part []) r) o.rearranged o.keeps)

@@ -2,7 +2,7 @@
 use Rattle.std.proofs.Common.{◌≡◌, List, [], ◌∷◌, ◌++◌, length, Some, sym, ap, subst, ◌∙◌, arith}
 use Rattle.calculus.specs.declared.event.Event.{Event}
 use Rattle.calculus.proofs.Options.{some-injective}
-use Rattle.event_inverse.specs.Grown.{Tree, Taken, StandFor}
+use Rattle.event_inverse.specs.Grown.{TreeAndStore, Taken, StandFor}
 use Rattle.event_inverse.specs.Laws.{UndoneBy}
 use Rattle.event_inverse.specs.walking.Reverted.{reverted}
 use Rattle.event_inverse.proofs.FromOpening.{undone-by-records}
@@ -27,9 +27,9 @@ at-place P (u ∷ us) v vs (x ∷ xs) y ys l e p =
     subst (λ z. P (z ∷ xs) y ys) (sym (ap (first_or x) e))
     (at-place (λ before z behind. P (u ∷ before) z behind) us v vs xs y ys (omega (arith, l)) (ap others e) p)
 
-pub undone-by : (T U : Tree) (r : Event × Taken) → reverted T r.0 r.1 ≡ Some U → UndoneBy T r U
+pub undone-by : (T U : TreeAndStore) (r : Event × Taken) → reverted T r.0 r.1 ≡ Some U → UndoneBy T r U
 undone-by T U r back system h k earlier later s l none =
     let u = undone-by-records system h k r.0 T (earlier ++ r ∷ later) s none in
     at-place (λ first x rest. reverted T r.0 x.1 ≡ Some U → StandFor system (h ++ k) U (first ++ rest)) u.earlier (r.0, u.taken) u.later earlier r later
     (u.placed ∙ sym l) u.found
-    (λ e. subst (λ (S : Tree). StandFor system (h ++ k) S (u.earlier ++ u.later)) (some-injective u.tree U (sym u.reverts ∙ e)) u.stands) back
+    (λ e. subst (λ (S : TreeAndStore). StandFor system (h ++ k) S (u.earlier ++ u.later)) (some-injective u.tree U (sym u.reverts ∙ e)) u.stands) back

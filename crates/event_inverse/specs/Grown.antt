@@ -17,7 +17,7 @@ use Rattle.process_tree.specs.Translation.{system_code}
 use Rattle.process_tree.specs.Advanced.{advanced}
 
 -- what every command has done, and the values of the variables
-pub record Tree : Type 0 where
+pub record TreeAndStore : Type 0 where
   pub part : Part
   pub store : Store
 
@@ -27,11 +27,11 @@ pub record Taken : Type 0 where
   pub old : Option Word
 
 -- the state that the tree stands for
-abbrev pub state_of : Tree → State
+abbrev pub state_of : TreeAndStore → State
 state_of T = record { residual = left [] T.part; store = T.store }
 
 -- the tree of a system before its first event
-abbrev pub opening_tree : System → Tree
+abbrev pub opening_tree : System → TreeAndStore
 opening_tree system = record { part = started (system_code system); store = opening_store system }
 
 -- the part after the moves that are asked for in turn, and what each took out
@@ -40,11 +40,11 @@ all_advanced p [] = Some (p, [])
 all_advanced p (k ∷ ks) = option_and_then (λ x. option_map (λ y. (y.0, x.1 ∷ y.1)) (all_advanced x.0 ks)) (advanced p k.0 k.1)
 
 -- the tree and the record after an event, whose moves lead to this part and take these parts out
-abbrev pub after_moves : Tree → Event → Part × List (Option Part) → Tree × Taken
+abbrev pub after_moves : TreeAndStore → Event → Part × List (Option Part) → TreeAndStore × Taken
 after_moves T e x = (record { part = x.0; store = store_after e T.store }, record { parts = x.1; old = option_map (get T.store) e.written })
 
 -- the tree after an event, and its record, where the moves that the event asks for are possible; its value is taken as it is
-abbrev pub applied : Tree → Event → Option (Tree × Taken)
+abbrev pub applied : TreeAndStore → Event → Option (TreeAndStore × Taken)
 applied T e = option_and_then (λ ks. option_map (after_moves T e) (all_advanced T.part ks)) (asked e)
 
 -- each event with its record
@@ -52,12 +52,12 @@ abbrev pub Records : Type 0
 Records = List (Event × Taken)
 
 -- the tree after the events of h in their order, and their records
-abbrev pub grown : Tree → List Event → Option (Tree × Records)
+abbrev pub grown : TreeAndStore → List Event → Option (TreeAndStore × Records)
 grown T [] = Some (T, [])
 grown T (e ∷ h) = option_and_then (λ x. option_map (λ y. (y.0, (e, x.1) ∷ y.1)) (grown x.0 h)) (applied T e)
 
 -- the tree and the records stand for the run of the list h: it runs to the state of the tree, and tree and records are what its events
 -- leave, the finished parts as they were left
-pub record StandFor (system : System) (h : List Event) (T : Tree) (records : Records) : Type 0 where
+pub record StandFor (system : System) (h : List Event) (T : TreeAndStore) (records : Records) : Type 0 where
   pub runs : Run (opening system) h (state_of T)
   pub grows : grown (opening_tree system) h ≡ Some (T, records)

@@ -5,7 +5,7 @@ use Rattle.system.specs.declared.system.System.{System}
 use Rattle.calculus.specs.Dependence.{Directly, Respecting}
 use Rattle.calculus.specs.Steps.{State, Step, Allowed, Run, opening}
 use Rattle.calculus.specs.declared.event.Event.{Event}
-use Rattle.event_inverse.specs.Grown.{Tree, Taken, state_of, opening_tree, applied, Records, StandFor}
+use Rattle.event_inverse.specs.Grown.{TreeAndStore, Taken, state_of, opening_tree, applied, Records, StandFor}
 use Rattle.event_inverse.specs.walking.Reverted.{reverted}
 
 -- the tree of a system opens in the state in which the system opens
@@ -14,36 +14,36 @@ TreesOpenAlike = (system : System) → state_of (opening_tree system) ≡ openin
 
 -- a step of the state is made by the tree, which then stands for the state after it
 abbrev pub StepsAreApplied : Type 0
-StepsAreApplied = (T : Tree) (e : Event) (U : State) → Step (state_of T) e U → (x : Tree × Taken) × (applied T e ≡ Some x) × (state_of x.0 ≡ U)
+StepsAreApplied = (T : TreeAndStore) (e : Event) (U : State) → Step (state_of T) e U → (x : TreeAndStore × Taken) × (applied T e ≡ Some x) × (state_of x.0 ≡ U)
 
 -- the record of an event takes it back: tree and store are as they were, finished parts included
 abbrev pub RecordsRevert : Type 0
-RecordsRevert = (T : Tree) (e : Event) (x : Tree × Taken) → applied T e ≡ Some x → reverted x.0 e x.1 ≡ Some T
+RecordsRevert = (T : TreeAndStore) (e : Event) (x : TreeAndStore × Taken) → applied T e ≡ Some x → reverted x.0 e x.1 ≡ Some T
 
 -- two events in turn can be made the other way round, to the same tree and with the same records, unless the second depends directly on the first
 abbrev pub NeighboursKeepRecords : Type 0
 NeighboursKeepRecords =
-    (T : Tree) (e f : Event) (x y : Tree × Taken) → applied T e ≡ Some x → applied x.0 f ≡ Some y → (Directly e f → ⊥) →
-    (z : Tree × Taken) × (applied T f ≡ Some z) × (applied z.0 e ≡ Some (y.0, x.1)) × (z.1 ≡ y.1)
+    (T : TreeAndStore) (e f : Event) (x y : TreeAndStore × Taken) → applied T e ≡ Some x → applied x.0 f ≡ Some y → (Directly e f → ⊥) →
+    (z : TreeAndStore × Taken) × (applied T f ≡ Some z) × (applied z.0 e ≡ Some (y.0, x.1)) × (z.1 ≡ y.1)
 
 -- a list that runs has a tree and records that stand for it, and the tree stands for the state to which it runs
 abbrev pub RunsHaveTrees : Type 0
 RunsHaveTrees =
     (system : System) (h : List Event) (U : State) → Run (opening system) h U →
-    (T : Tree) × (records : Records) × StandFor system h T records × (state_of T ≡ U)
+    (T : TreeAndStore) × (records : Records) × StandFor system h T records × (state_of T ≡ U)
 
 -- one more event that is possible puts its record behind the others
 abbrev pub OneMore : Type 0
 OneMore =
-    (system : System) (h : List Event) (T : Tree) (records : Records) (e : Event) (x : Tree × Taken) →
+    (system : System) (h : List Event) (T : TreeAndStore) (records : Records) (e : Event) (x : TreeAndStore × Taken) →
     StandFor system h T records → Allowed (state_of T) e → applied T e ≡ Some x → StandFor system (h ++ e ∷ []) x.0 (records ++ (e, x.1) ∷ [])
 
 -- the undo of e, behind h and in front of k: its record leads from T to a tree that stands, with the other records, for the run without e
-pub record Undone (system : System) (h k : List Event) (e : Event) (T : Tree) (records : Records) : Type 0 where
+pub record Undone (system : System) (h k : List Event) (e : Event) (T : TreeAndStore) (records : Records) : Type 0 where
   pub taken : Taken
   pub earlier : Records
   pub later : Records
-  pub tree : Tree
+  pub tree : TreeAndStore
   pub found : records ≡ earlier ++ (e, taken) ∷ later
   pub placed : length earlier ≡ length h
   pub reverts : reverted T e taken ≡ Some tree
@@ -52,11 +52,11 @@ pub record Undone (system : System) (h k : List Event) (e : Event) (T : Tree) (r
 -- an event on which no later one depends directly is undone by its record, wherever it stands
 abbrev pub UndoneByRecords : Type 0
 UndoneByRecords =
-    (system : System) (h k : List Event) (e : Event) (T : Tree) (records : Records) →
+    (system : System) (h k : List Event) (e : Event) (T : TreeAndStore) (records : Records) →
     StandFor system (h ++ e ∷ k) T records → ((f : Event) → In f k → Directly e f → ⊥) → Undone system h k e T records
 
 -- r leads from T to U as an undo: where T stands for a run with its event, on which no later one depends directly, U stands for the run without it
-abbrev pub UndoneBy : Tree → Event × Taken → Tree → Type 0
+abbrev pub UndoneBy : TreeAndStore → Event × Taken → TreeAndStore → Type 0
 UndoneBy T r U =
     (system : System) (h k : List Event) (earlier later : Records) → StandFor system (h ++ r.0 ∷ k) T (earlier ++ r ∷ later) → length earlier ≡ length h →
     ((f : Event) → In f k → Directly r.0 f → ⊥) → StandFor system (h ++ k) U (earlier ++ later)
@@ -64,5 +64,5 @@ UndoneBy T r U =
 -- a respecting order of a run has the same tree and the same records
 abbrev pub OrdersHaveOneTree : Type 0
 OrdersHaveOneTree =
-    (system : System) (h g : List Event) (T : Tree) (records : Records) → StandFor system h T records → Respecting h g →
+    (system : System) (h g : List Event) (T : TreeAndStore) (records : Records) → StandFor system h T records → Respecting h g →
     (others : Records) × StandFor system g T others × ((r : Event × Taken) → In r records ↔ In r others)

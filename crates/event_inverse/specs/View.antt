@@ -5,13 +5,13 @@ use Rattle.calculus.specs.declared.event.Event.{Event}
 use Rattle.process_tree.specs.Part.{Part}
 use Rattle.process_tree.specs.View.{out_view, tree_view}
 use Rattle.process_tree.specs.declared.tree.Tree as process_tree
-use Rattle.event_inverse.specs.Grown.{Tree, Taken}
+use Rattle.event_inverse.specs.Grown.{TreeAndStore, Taken}
 use Rattle.event_inverse.specs.declared.record.Outs.{Outs}
 use Rattle.event_inverse.specs.declared.record.Outs.TheVariants.{One, Two}
 use Rattle.event_inverse.specs.declared.record.Record.{Record}
 
 -- a tree in memory, with the values of the variables
-abbrev pub both_view : process_tree.Tree → Store → Tree
+abbrev pub both_view : process_tree.Tree → Store → TreeAndStore
 both_view tree store = record { part = tree_view tree; store = store }
 
 -- what the moves of an event took out, in their order

@@ -10,7 +10,7 @@ use Rattle.calculus.specs.walking.Made.{asked}
 use Rattle.calculus.specs.declared.event.Event.{Event}
 use Rattle.process_tree.specs.Part.{Part}
 use Rattle.process_tree.specs.walking.Retreated.{retreated}
-use Rattle.event_inverse.specs.Grown.{Tree, Taken}
+use Rattle.event_inverse.specs.Grown.{TreeAndStore, Taken}
 
 -- the part before the moves, which took these out: the last is taken back first
 abbrev pub all_retreated : Part → List (Place × Ask) → List (Option Part) → Option Part
@@ -25,6 +25,6 @@ written_back (Some x) None s = s
 written_back (Some x) (Some v) s = slice_set s x v
 
 -- the tree before an event that left this record
-abbrev pub reverted : Tree → Event → Taken → Option Tree
+abbrev pub reverted : TreeAndStore → Event → Taken → Option TreeAndStore
 reverted T e r =
     option_and_then (λ ks. option_map (λ p. record { part = p; store = written_back e.written r.old T.store }) (all_retreated T.part ks r.parts)) (asked e)
