@@ -20,24 +20,16 @@ use Rattle.process_tree.specs.Code.{Code}
 use Rattle.process_tree.specs.Part.{started}
 use Rattle.process_tree.specs.Left.{again, residual, residual_arms, residual_sequence, residual_parallel, left}
 use Rattle.process_tree.specs.Translation.{row_of, row_with, OnChannel, OnGuard, OnLabels, action_code, arm_code, command_code, guarded_code, labelled_code, code_of, feed_of, syncs_of, port_of, system_code}
+use Rattle.process_tree.specs.walking.Arms.{guarded_of, labelled_of, arm_of}
 use Rattle.process_tree.proofs.Puts.{left-started}
 
 -- one more
 next : (n : ℕ) → n + 1 ≡ suc n
 next n = omega arith
 
--- the parts of a command in the tree
+-- an action in the tree
 abbrev action_of : Action → Code
 action_of = fold-Action Code OnChannel Code OnGuard OnLabels action_code arm_code command_code guarded_code labelled_code
-
-abbrev arm_of : Arm → OnChannel
-arm_of = fold-Arm Code OnChannel Code OnGuard OnLabels action_code arm_code command_code guarded_code labelled_code
-
-abbrev guarded_of : Guarded → OnGuard
-guarded_of = fold-Guarded Code OnChannel Code OnGuard OnLabels action_code arm_code command_code guarded_code labelled_code
-
-abbrev labelled_of : Labelled → OnLabels
-labelled_of = fold-Labelled Code OnChannel Code OnGuard OnLabels action_code arm_code command_code guarded_code labelled_code
 
 -- what the parts of a command are to do
 abbrev to_do_action : Action → Residual

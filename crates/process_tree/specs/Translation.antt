@@ -3,12 +3,9 @@ use Rattle.std.specs.Prelude.{ℕ, zero, suc, List, [], ◌∷◌, Option, None,
 use Rattle.value.specs.Word.{Word}
 use Rattle.system.specs.Expression.{Expression, constant, by_guards, by_labels}
 use Rattle.system.specs.Translation.{expression_of}
-use Rattle.system.specs.declared.command.Arm.{Arm}
 use Rattle.system.specs.declared.command.Command.{Command}
-use Rattle.system.specs.declared.command.Guarded.{Guarded}
-use Rattle.system.specs.declared.command.Labelled.{Labelled}
 use Rattle.system.specs.declared.command.Action.TheOpen.{Action-F, Arm-F, Command-F, Guarded-F, Labelled-F}
-use Rattle.system.specs.declared.command.Action.TheFolds.{fold-Arm, fold-Command, fold-Guarded, fold-Labelled}
+use Rattle.system.specs.declared.command.Action.TheFolds.{fold-Command}
 use Rattle.system.specs.declared.system.System.{System}
 use Rattle.system.specs.declared.system.Branch.{Branch}
 use Rattle.system.specs.declared.system.Branch.TheVariants.{Feed, Drain, Syncs}
@@ -86,18 +83,6 @@ labelled_code a = (a.labels, a.body)
 -- the command that the tree holds
 abbrev pub code_of : Command → Code
 code_of = fold-Command Code OnChannel Code OnGuard OnLabels action_code arm_code command_code guarded_code labelled_code
-
--- an arm of `if`
-abbrev pub guarded_of : Guarded → OnGuard
-guarded_of = fold-Guarded Code OnChannel Code OnGuard OnLabels action_code arm_code command_code guarded_code labelled_code
-
--- an arm of `case`
-abbrev pub labelled_of : Labelled → OnLabels
-labelled_of = fold-Labelled Code OnChannel Code OnGuard OnLabels action_code arm_code command_code guarded_code labelled_code
-
--- an arm of `select` or `arbitrate`
-abbrev pub arm_of : Arm → OnChannel
-arm_of = fold-Arm Code OnChannel Code OnGuard OnLabels action_code arm_code command_code guarded_code labelled_code
 
 -- sends of the values, in order
 abbrev pub feed_of : ℕ → ℕ → List Word → Codes

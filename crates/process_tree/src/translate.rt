@@ -5,7 +5,8 @@ ghost use Rattle.system.specs.Expression as expression;
 ghost use Rattle.system.specs.Translation.{expression_of, decision_of};
 ghost use Rattle.process_tree.specs.Code as model;
 ghost use Rattle.process_tree.specs.Translation as translation;
-ghost use Rattle.process_tree.specs.Translation.{guarded_of, labelled_of, arm_of, row_of, row_with};
+ghost use Rattle.process_tree.specs.Translation.{row_of, row_with};
+ghost use Rattle.process_tree.specs.walking.Arms.{guarded_of, labelled_of, arm_of};
 ghost use Rattle.process_tree.specs.View.{once_view, sender_view, code_view};
 
 use crate::code::{Await, Code, Decide, Once, Repeat, Row, Sender};
