@@ -9,7 +9,7 @@ use Rattle.calculus.specs.walking.Made.{asked}
 use Rattle.calculus.specs.Events.{store_after}
 use Rattle.calculus.specs.declared.event.Event.{Event}
 use Rattle.calculus.proofs.Options.{some-injective}
-use Rattle.process_tree.specs.Part.{Part}
+use Rattle.process_tree.specs.Proc.{Proc}
 use Rattle.process_tree.specs.Advanced.{Moved, advanced}
 use Rattle.process_tree.specs.walking.Retreated.{retreated}
 use Rattle.process_tree.proofs.Back.{back}
@@ -26,26 +26,26 @@ then-mapped f g None = refl
 then-mapped f g (Some x) = refl
 
 -- the moves of an event, its write and the value that it overwrote apply it
-pub applied-by : (T : TreeAndStore) (e : Event) (x : Walked) (s : Store) (o : Option Word) → moved T.part e ≡ Some x → s ≡ store_after e T.store
-    → o ≡ option_map (get T.store) e.written → applied T e ≡ Some (record { part = x.0; store = s }, record { parts = x.1; old = o })
+pub applied-by : (T : TreeAndStore) (e : Event) (x : Walked) (s : Store) (o : Option Word) → moved T.proc e ≡ Some x → s ≡ store_after e T.store
+    → o ≡ option_map (get T.store) e.written → applied T e ≡ Some (record { proc = x.0; store = s }, record { procs = x.1; old = o })
 applied-by T e x s o h w v =
-    then-mapped (after_moves T e) (all_advanced T.part) (asked e)
+    then-mapped (after_moves T e) (all_advanced T.proc) (asked e)
     ∙ ap (option_map (after_moves T e)) h
-    ∙ ap₂ (λ (s : Store) (o : Option Word). Some (record { part = x.0; store = s }, record { parts = x.1; old = o })) (sym w) (sym v)
+    ∙ ap₂ (λ (s : Store) (o : Option Word). Some (record { proc = x.0; store = s }, record { procs = x.1; old = o })) (sym w) (sym v)
 
 -- the moves of an event and its write taken back revert it
-pub reverted-by : (T : TreeAndStore) (e : Event) (r : Taken) (p : Part) (s : Store) → moved_back T.part e r.parts ≡ Some p → s ≡ written_back e.written r.old T.store
-    → reverted T e r ≡ Some (record { part = p; store = s })
+pub reverted-by : (T : TreeAndStore) (e : Event) (r : Taken) (p : Proc) (s : Store) → moved_back T.proc e r.procs ≡ Some p → s ≡ written_back e.written r.old T.store
+    → reverted T e r ≡ Some (record { proc = p; store = s })
 reverted-by T e r p s h w =
-    let to : Part → TreeAndStore = λ p. record { part = p; store = written_back e.written r.old T.store } in
-    then-mapped to (λ ks. all_retreated T.part ks r.parts) (asked e)
+    let to : Proc → TreeAndStore = λ p. record { proc = p; store = written_back e.written r.old T.store } in
+    then-mapped to (λ ks. all_retreated T.proc ks r.procs) (asked e)
     ∙ ap (option_map to) h
-    ∙ ap (λ (s : Store). Some (record { part = p; store = s })) (sym w)
+    ∙ ap (λ (s : Store). Some (record { proc = p; store = s })) (sym w)
 
 -- a move after which nothing was changed can be taken back
-pub can-go-back : (p : Part) (a : Place) (k : Ask) (x : Moved) (q : Part) → advanced p a k ≡ Some x → q ≡ x.0 → IsSome (retreated q a x.1)
+pub can-go-back : (p : Proc) (a : Place) (k : Ask) (x : Moved) (q : Proc) → advanced p a k ≡ Some x → q ≡ x.0 → IsSome (retreated q a x.1)
 can-go-back p a k x q e s = is-some (retreated q a x.1) p (ap (λ q. retreated q a x.1) s ∙ back p a k x e)
 
--- and then the part is as it was
-pub goes-back : (p : Part) (a : Place) (k : Ask) (x : Moved) (q r : Part) → advanced p a k ≡ Some x → q ≡ x.0 → retreated q a x.1 ≡ Some r → r ≡ p
+-- and then the process is as it was
+pub goes-back : (p : Proc) (a : Place) (k : Ask) (x : Moved) (q r : Proc) → advanced p a k ≡ Some x → q ≡ x.0 → retreated q a x.1 ≡ Some r → r ≡ p
 goes-back p a k x q r e s h = some-injective r p (sym h ∙ ap (λ q. retreated q a x.1) s ∙ back p a k x e)

@@ -9,7 +9,7 @@ use Rattle.calculus.specs.Events.{Located}
 use Rattle.calculus.specs.walking.Made.{all_ask}
 use Rattle.calculus.specs.Steps.{Moves}
 use Rattle.calculus.proofs.Options.{and_then-at}
-use Rattle.process_tree.specs.Part.{Part}
+use Rattle.process_tree.specs.Proc.{Proc}
 use Rattle.process_tree.specs.Left.{left}
 use Rattle.process_tree.specs.Advanced.{Moved, advanced}
 use Rattle.process_tree.specs.walking.Retreated.{retreated}
@@ -20,16 +20,16 @@ use Rattle.process_tree.proofs.Swap.{swap}
 use Rattle.event_inverse.specs.Grown.{all_advanced}
 use Rattle.event_inverse.specs.walking.Reverted.{all_retreated}
 
--- a part, and what moves took out on the way to it
+-- a process, and what moves took out on the way to it
 abbrev pub Walked : Type 0
-Walked = Part × List (Option Part)
+Walked = Proc × List (Option Proc)
 
 -- a move, and then others
 abbrev and_others : List (Place × Ask) → Moved → Option Walked
 and_others ks x = option_map (λ y. (y.0, x.1 ∷ y.1)) (all_advanced x.0 ks)
 
 -- the moves of what is left are made by the tree
-pub all-does : (p : Part) (ls : List Located) (q : Residual) → Moves (left [] p) ls q → (x : Walked) × (all_advanced p (all_ask ls) ≡ Some x) × (left [] x.0 ≡ q)
+pub all-does : (p : Proc) (ls : List Located) (q : Residual) → Moves (left [] p) ls q → (x : Walked) × (all_advanced p (all_ask ls) ≡ Some x) × (left [] x.0 ≡ q)
 all-does p [] q h = ((p, []), refl, h)
 all-does p (l ∷ ls) q h =
     let d = does p [] l.place l.move h.0 h.1 in
@@ -40,7 +40,7 @@ all-does p (l ∷ ls) q h =
     )
 
 -- moves taken back, the last first
-pub all-back : (p : Part) (ks : List (Place × Ask)) (y : Walked) → all_advanced p ks ≡ Some y → all_retreated y.0 ks y.1 ≡ Some p
+pub all-back : (p : Proc) (ks : List (Place × Ask)) (y : Walked) → all_advanced p ks ≡ Some y → all_retreated y.0 ks y.1 ≡ Some p
 all-back p [] y h = some-elim (p, []) y (λ y. all_retreated y.0 [] y.1 ≡ Some p) h refl
 all-back p (k ∷ ks) y h =
     then-elim (and_others ks) (advanced p k.0 k.1) y (all_retreated y.0 (k ∷ ks) y.1 ≡ Some p) h
@@ -48,11 +48,11 @@ all-back p (k ∷ ks) y h =
     (λ z i. and_then-at (λ q. retreated q k.0 x.1) (all_retreated z.0 ks z.1) x.0 (all-back x.0 ks z i) ∙ back p k.0 k.1 x e))
 
 -- a move made after others
-abbrev PastAll : Part → Place → Ask → Moved → List (Place × Ask) → Walked → Type 0
+abbrev PastAll : Proc → Place → Ask → Moved → List (Place × Ask) → Walked → Type 0
 PastAll p a k x ks y = (z : Walked) × (all_advanced p ks ≡ Some z) × (advanced z.0 a k ≡ Some (y.0, x.1)) × (z.1 ≡ y.1)
 
 -- it can be, where its place is before none of theirs
-one-past : (p : Part) (a : Place) (k : Ask) (x : Moved) (ks : List (Place × Ask)) (y : Walked) → advanced p a k ≡ Some x → all_advanced x.0 ks ≡ Some y
+one-past : (p : Proc) (a : Place) (k : Ask) (x : Moved) (ks : List (Place × Ask)) (y : Walked) → advanced p a k ≡ Some x → all_advanced x.0 ks ≡ Some y
     → Every (λ m. Before a m.0 → ⊥) ks → PastAll p a k x ks y
 one-past p a k x [] y e h none = some-elim (x.0, []) y (PastAll p a k x []) h ((p, []), refl, e, refl)
 one-past p a k x (m ∷ ks) y e h none =
@@ -67,11 +67,11 @@ one-past p a k x (m ∷ ks) y e h none =
     )))
 
 -- moves made after others
-abbrev pub AllPast : Part → List (Place × Ask) → Walked → List (Place × Ask) → Walked → Type 0
+abbrev pub AllPast : Proc → List (Place × Ask) → Walked → List (Place × Ask) → Walked → Type 0
 AllPast p js x ks y = (z : Walked) × (all_advanced p ks ≡ Some z) × (all_advanced z.0 js ≡ Some (y.0, x.1)) × (z.1 ≡ y.1)
 
 -- they can be, where no place of theirs is before one of the others
-pub all-past : (p : Part) (js : List (Place × Ask)) (x : Walked) (ks : List (Place × Ask)) (y : Walked) → all_advanced p js ≡ Some x → all_advanced x.0 ks ≡ Some y
+pub all-past : (p : Proc) (js : List (Place × Ask)) (x : Walked) (ks : List (Place × Ask)) (y : Walked) → all_advanced p js ≡ Some x → all_advanced x.0 ks ≡ Some y
     → Every (λ j. Every (λ k. Before j.0 k.0 → ⊥) ks) js → AllPast p js x ks y
 all-past p [] x ks y e h none =
     some-elim (p, []) x (λ x. all_advanced x.0 ks ≡ Some y → AllPast p [] x ks y) e (λ h. (y, h, refl, refl)) h

@@ -18,7 +18,7 @@ use Rattle.calculus.proofs.Lists.{every-map}
 use Rattle.calculus.proofs.Made.{asked-is}
 use Rattle.calculus.proofs.Options.{none-some, and_then-at}
 use Rattle.calculus.proofs.Stores.{get-after, after-other}
-use Rattle.process_tree.specs.Part.{Part}
+use Rattle.process_tree.specs.Proc.{Proc}
 use Rattle.process_tree.proofs.Asking.{some-elim, map-elim, then-elim}
 use Rattle.event_inverse.specs.Grown.{TreeAndStore, Taken, state_of, all_advanced, after_moves, applied}
 use Rattle.event_inverse.specs.walking.Reverted.{all_retreated, written_back, reverted}
@@ -27,9 +27,9 @@ use Rattle.event_inverse.proofs.Moving.{Walked, all-does, all-back, all-past}
 -- a step of the state is made by the tree
 pub applies : (T : TreeAndStore) (e : Event) (U : State) → Step (state_of T) e U → (x : TreeAndStore × Taken) × (applied T e ≡ Some x) × (state_of x.0 ≡ U)
 applies T e U s =
-    let d = all-does T.part s.moves U.residual s.moved in (
+    let d = all-does T.proc s.moves U.residual s.moved in (
       after_moves T e d.0,
-      and_then-at (λ ks. option_map (after_moves T e) (all_advanced T.part ks)) (asked e) (all_ask s.moves) (asked-is T.store s.moves e s.makes)
+      and_then-at (λ ks. option_map (after_moves T e) (all_advanced T.proc ks)) (asked e) (all_ask s.moves) (asked-is T.store s.moves e s.makes)
           ∙ ap (option_map (after_moves T e)) d.1,
       λ i. record { residual = d.2 i; store = sym s.stored i },
     )
@@ -47,13 +47,13 @@ store-back s (Some x) (Some v) = value-back s x v
 -- the record of an event takes it back
 pub reverts : (T : TreeAndStore) (e : Event) (x : TreeAndStore × Taken) → applied T e ≡ Some x → reverted x.0 e x.1 ≡ Some T
 reverts T e x h =
-    then-elim (λ ks. option_map (after_moves T e) (all_advanced T.part ks)) (asked e) x (reverted x.0 e x.1 ≡ Some T) h
-    (λ ks i g. map-elim (after_moves T e) (all_advanced T.part ks) x (λ x. reverted x.0 e x.1 ≡ Some T) g
+    then-elim (λ ks. option_map (after_moves T e) (all_advanced T.proc ks)) (asked e) x (reverted x.0 e x.1 ≡ Some T) h
+    (λ ks i g. map-elim (after_moves T e) (all_advanced T.proc ks) x (λ x. reverted x.0 e x.1 ≡ Some T) g
     (λ u c. let back = written_back e.written (option_map (get T.store) e.written) (store_after e T.store) in
-    let to : Part → TreeAndStore = λ p. record { part = p; store = back } in
+    let to : Proc → TreeAndStore = λ p. record { proc = p; store = back } in
     and_then-at (λ ks. option_map to (all_retreated u.0 ks u.1)) (asked e) ks i
-    ∙ ap (option_map to) (all-back T.part ks u c)
-    ∙ (λ j. Some (record { part = T.part; store = store-back T.store e.written e.value j }))))
+    ∙ ap (option_map to) (all-back T.proc ks u c)
+    ∙ (λ j. Some (record { proc = T.proc; store = store-back T.store e.written e.value j }))))
 
 -- an event asks for moves at its places
 asked_by-places : (kind : Kind) (a : Place) (b : Option Place) (k : Option ℕ) (v : Option Word) (ks : List (Place × Ask)) → asked_by kind a b k v ≡ Some ks
@@ -86,11 +86,11 @@ old-same s t None h = refl
 old-same s t (Some x) h = ap Some (h x refl)
 
 -- a tree, and a record, of their parts
-abbrev tree_of : Part → Store → TreeAndStore
-tree_of p s = record { part = p; store = s }
+abbrev tree_of : Proc → Store → TreeAndStore
+tree_of p s = record { proc = p; store = s }
 
-abbrev taken_of : List (Option Part) → Option Word → Taken
-taken_of ps o = record { parts = ps; old = o }
+abbrev taken_of : List (Option Proc) → Option Word → Taken
+taken_of ps o = record { procs = ps; old = o }
 
 -- two events made the other way round
 abbrev pub TurnedRound : TreeAndStore → Event → TreeAndStore × Taken → Event → TreeAndStore × Taken → Type 0
@@ -99,20 +99,20 @@ TurnedRound T e x f y = (z : TreeAndStore × Taken) × (applied T f ≡ Some z) 
 -- they can be, unless the second depends directly on the first
 pub neighbours : (T : TreeAndStore) (e f : Event) (x y : TreeAndStore × Taken) → applied T e ≡ Some x → applied x.0 f ≡ Some y → (Directly e f → ⊥) → TurnedRound T e x f y
 neighbours T e f x y h g free =
-    then-elim (λ ks. option_map (after_moves T e) (all_advanced T.part ks)) (asked e) x (TurnedRound T e x f y) h
-    (λ ks asks d. map-elim (after_moves T e) (all_advanced T.part ks) x (λ x. applied x.0 f ≡ Some y → TurnedRound T e x f y) d
+    then-elim (λ ks. option_map (after_moves T e) (all_advanced T.proc ks)) (asked e) x (TurnedRound T e x f y) h
+    (λ ks asks d. map-elim (after_moves T e) (all_advanced T.proc ks) x (λ x. applied x.0 f ≡ Some y → TurnedRound T e x f y) d
     (λ u i g. turned ks asks u i g) g)
   where
-    turned : (ks : List (Place × Ask)) → asked e ≡ Some ks → (u : Walked) → all_advanced T.part ks ≡ Some u
+    turned : (ks : List (Place × Ask)) → asked e ≡ Some ks → (u : Walked) → all_advanced T.proc ks ≡ Some u
         → applied (after_moves T e u).0 f ≡ Some y → TurnedRound T e (after_moves T e u) f y
     turned ks asks u i g =
         let S : TreeAndStore = (after_moves T e u).0 in
         then-elim (λ js. option_map (after_moves S f) (all_advanced u.0 js)) (asked f) y (TurnedRound T e (after_moves T e u) f y) g
         (λ js also d. map-elim (after_moves S f) (all_advanced u.0 js) y (TurnedRound T e (after_moves T e u) f) d
-        (λ w c. let s = all-past T.part ks u js w i c (none-before e f ks js asks also free) in
+        (λ w c. let s = all-past T.proc ks u js w i c (none-before e f ks js asks also free) in
         let R : TreeAndStore = (after_moves T f s.0).0 in (
           after_moves T f s.0,
-          and_then-at (λ js. option_map (after_moves T f) (all_advanced T.part js)) (asked f) js also ∙ ap (option_map (after_moves T f)) s.1,
+          and_then-at (λ js. option_map (after_moves T f) (all_advanced T.proc js)) (asked f) js also ∙ ap (option_map (after_moves T f)) s.1,
           and_then-at (λ ks. option_map (after_moves R e) (all_advanced s.0.0 ks)) (asked e) ks asks ∙ ap (option_map (after_moves R e)) s.2
               ∙ ap₂ (λ (t : Store) (o : Option Word). Some (tree_of w.0 t, taken_of u.1 o))
               (sym (after-other T.store e f (λ x we wf. free (inr (inr (inl (x, we, inr wf)))))))

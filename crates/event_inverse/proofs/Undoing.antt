@@ -176,4 +176,4 @@ woven-grows T (e ∷ h) g y d o =
 
 -- respecting orders of a run grow the same
 pub respecting-grows : (h g : List Event) (T : TreeAndStore) (U : State) (y : Grew) → Run (state_of T) h U → grown T h ≡ Some y → Respecting h g → Alike T g y
-respecting-grows h g T U y r d o = woven-grows T h g y d (woven h g (run-distinct (state_of T) U h (left-formed T.part []) r) o.rearranged o.keeps)
+respecting-grows h g T U y r d o = woven-grows T h g y d (woven h g (run-distinct (state_of T) U h (left-formed T.proc []) r) o.rearranged o.keeps)

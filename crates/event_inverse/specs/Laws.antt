@@ -16,7 +16,7 @@ TreesOpenAlike = (system : System) → state_of (opening_tree system) ≡ openin
 abbrev pub StepsAreApplied : Type 0
 StepsAreApplied = (T : TreeAndStore) (e : Event) (U : State) → Step (state_of T) e U → (x : TreeAndStore × Taken) × (applied T e ≡ Some x) × (state_of x.0 ≡ U)
 
--- the record of an event takes it back: tree and store are as they were, finished parts included
+-- the record of an event takes it back: tree and store are as they were, finished processes included
 abbrev pub RecordsRevert : Type 0
 RecordsRevert = (T : TreeAndStore) (e : Event) (x : TreeAndStore × Taken) → applied T e ≡ Some x → reverted x.0 e x.1 ≡ Some T
 

@@ -2,7 +2,7 @@
 use Rattle.std.specs.Prelude.{List, [], ◌∷◌, Option}
 use Rattle.system.specs.Expression.{Store}
 use Rattle.calculus.specs.declared.event.Event.{Event}
-use Rattle.process_tree.specs.Part.{Part}
+use Rattle.process_tree.specs.Proc.{Proc}
 use Rattle.process_tree.specs.View.{out_view, tree_view}
 use Rattle.process_tree.specs.declared.tree.Tree as process_tree
 use Rattle.event_inverse.specs.Grown.{TreeAndStore, Taken}
@@ -12,13 +12,13 @@ use Rattle.event_inverse.specs.declared.record.Record.{Record}
 
 -- a tree in memory, with the values of the variables
 abbrev pub both_view : process_tree.Tree → Store → TreeAndStore
-both_view tree store = record { part = tree_view tree; store = store }
+both_view tree store = record { proc = tree_view tree; store = store }
 
 -- what the moves of an event took out, in their order
-abbrev pub outs_view : Outs → List (Option Part)
+abbrev pub outs_view : Outs → List (Option Proc)
 outs_view (One out) = out_view out ∷ []
 outs_view (Two first second) = out_view first ∷ out_view second ∷ []
 
 -- an event with what its undo needs
 abbrev pub record_view : Record → Event × Taken
-record_view r = (r.event, record { parts = outs_view r.outs; old = r.overwritten })
+record_view r = (r.event, record { procs = outs_view r.outs; old = r.overwritten })

@@ -7,7 +7,7 @@ pub fn steps_are_applied()
     ensures step { StepsAreApplied }
 {}
 
-/// The record of an event takes it back: tree and store are as they were, finished parts included.
+/// The record of an event takes it back: tree and store are as they were, finished processes included.
 pub fn records_revert()
     ensures { RecordsRevert }
 {}

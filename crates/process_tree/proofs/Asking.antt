@@ -4,7 +4,7 @@ use Rattle.std.specs.Option.{option_and_then}
 use Rattle.address.specs.declared.Entry.TheVariants.{Ordered, Branch}
 use Rattle.calculus.specs.Moves.{Place}
 use Rattle.calculus.proofs.Options.{none-some, some-injective, cond-some}
-use Rattle.process_tree.specs.Part.{Part}
+use Rattle.process_tree.specs.Proc.{Proc}
 use Rattle.process_tree.specs.Places.{if_here, if_act, if_child, if_child_or, if_branch, wrap}
 
 -- a number equals itself
@@ -71,8 +71,8 @@ branch-elim n (Ordered i ∷ a) f rest x P e h k = k e (λ Y g r. refl)
 branch-elim n (Branch i ∷ a) f rest x P e h k = branch-cases n i a (i == n) refl f rest x P e h k
 
 -- an answer with the rest put around it
-pub wrap-elim : {X Y : Type 0} (w : X → Y) (o : Option (X × Option Part)) (y : Y × Option Part) (P : Y × Option Part → Type 0) → wrap w o ≡ Some y
-    → ((x : X × Option Part) → o ≡ Some x → P (w x.0, x.1)) → P y
+pub wrap-elim : {X Y : Type 0} (w : X → Y) (o : Option (X × Option Proc)) (y : Y × Option Proc) (P : Y × Option Proc → Type 0) → wrap w o ≡ Some y
+    → ((x : X × Option Proc) → o ≡ Some x → P (w x.0, x.1)) → P y
 wrap-elim w None y P e h = none-some y e
 wrap-elim w (Some x) y P e h = some-elim (w x.0, x.1) y P e (h x refl)
 

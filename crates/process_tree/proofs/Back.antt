@@ -1,4 +1,4 @@
--- A move that is taken back leaves the part as it was, finished parts included.
+-- A move that is taken back leaves the process as it was, finished processes included.
 use Rattle.std.proofs.Common.{◌≡◌, ◌≢◌, ℕ, suc, ◌+◌, ◌*◌, ◌<◌, ◌==◌, List, [], ◌∷◌, Bool, true, false, Option, Some, None, option_map, slice_get, refl, ap, ◌∙◌, arith}
 use Rattle.address.specs.declared.Entry.TheVariants.{Ordered, Branch}
 use Rattle.value.specs.Word.{Word}
@@ -7,7 +7,7 @@ use Rattle.calculus.specs.Moves.{Place}
 use Rattle.calculus.specs.walking.After.{Ask, to_assign, to_test, to_turn, to_send, to_hold, to_receive, to_open, to_sync, to_release, to_close}
 use Rattle.calculus.proofs.Options.{none-some, cond-some}
 use Rattle.process_tree.specs.Code.{Once, assigning, receiving, Sender, sending, syncing, Code, Codes, code_at}
-use Rattle.process_tree.specs.Part.{waiting, holding, past, Part, idle, stopped, once, sender, fresh, turn, ended_at_once, ended, untested, skipped, took, unopened, entered, closed, sequence, parallel, drained, Parts, no_parts, part, started, finished}
+use Rattle.process_tree.specs.Proc.{waiting, holding, past, Proc, idle, stopped, once, sender, fresh, turn, ended_at_once, ended, untested, skipped, took, unopened, entered, closed, sequence, parallel, drained, Procs, no_procs, proc, started, finished}
 use Rattle.process_tree.specs.Places.{if_act, if_child, if_child_or, wrap}
 use Rattle.process_tree.specs.Advanced.{Moved, MovedIn, once_after, sender_after, holding_after, again_after, test_after, open_on, open_after, close_after, drain_after, advanced, advanced_sequence, advanced_parallel}
 use Rattle.process_tree.specs.walking.Retreated.{before_turn, before_drain, retreated, retreated_sequence, retreated_parallel}
@@ -36,8 +36,8 @@ holding-back : (s : Sender) (k : Ask) (x : Moved) → holding_after s k ≡ Some
 holding-back s to_release x h = some-elim (sender s past, None) x (λ x. retreated x.0 (Ordered 1 ∷ []) x.1 ≡ Some (sender s holding)) h refl
 holding-back s _ x h = none-some x h
 
--- a loop that goes on or ends: back to the part p before it
-again-back : (g : Option Expression) (c : Code) (n : ℕ) (over : Part) (out : Option Part) (p : Part) (k : Ask) (x : Moved) → again_after g c n over out k ≡ Some x
+-- a loop that goes on or ends: back to the process p before it
+again-back : (g : Option Expression) (c : Code) (n : ℕ) (over : Proc) (out : Option Proc) (p : Proc) (k : Ask) (x : Moved) → again_after g c n over out k ≡ Some x
     → retreated over (Ordered (2 * n) ∷ []) None ≡ Some p → before_turn g c n out ≡ Some p → retreated x.0 (Ordered (2 * n) ∷ []) x.1 ≡ Some p
 again-back None c n over out p to_turn x h i j =
     some-elim (turn None c n (started c), out) x (λ x. retreated x.0 (Ordered (2 * n) ∷ []) x.1 ≡ Some p) h
@@ -53,7 +53,7 @@ next : (n : ℕ) → n + 1 ≡ suc n
 next n = omega arith
 
 -- the turn before the next
-turn-before : (g : Option Expression) (c : Code) (n : ℕ) (q : Part) → before_turn g c (n + 1) (Some q) ≡ Some (turn g c n q)
+turn-before : (g : Option Expression) (c : Code) (n : ℕ) (q : Proc) → before_turn g c (n + 1) (Some q) ≡ Some (turn g c n q)
 turn-before g c n q = ap (λ m. before_turn g c m (Some q)) (next n)
 
 -- an `if` or `case`
@@ -76,7 +76,7 @@ open-back ds cs (to_open j v) x h = on-back ds cs (slice_get ds j) j v x h
 open-back ds cs _ x h = none-some x h
 
 -- the close
-close-back : (ds : List ℕ) (cs : Codes) (c : ℕ) (v : Option Word) (q : Part) (k : Ask) (x : Moved) → close_after ds cs c v q k ≡ Some x
+close-back : (ds : List ℕ) (cs : Codes) (c : ℕ) (v : Option Word) (q : Proc) (k : Ask) (x : Moved) → close_after ds cs c v q k ≡ Some x
     → retreated x.0 (Ordered 2 ∷ []) x.1 ≡ Some (entered ds cs c v q)
 close-back ds cs c v q to_close x h = some-elim (closed ds cs c v q, None) x (λ x. retreated x.0 (Ordered 2 ∷ []) x.1 ≡ Some (entered ds cs c v q)) h refl
 close-back ds cs c v q _ x h = none-some x h
@@ -92,25 +92,25 @@ drain-back c n _ x h = none-some x h
 abbrev pub NotInChild : ℕ → Place → Type 1
 NotInChild n a = (Y : Type 0) (g : Place → Option Y) (r : Option Y) → if_child_or n a g r ≡ r
 
-pub sequence-later : (n m : ℕ) (ps : Parts) (a : Place) (k : Ask) (x : MovedIn) → n < m → advanced_sequence m ps a k ≡ Some x → NotInChild n a
-sequence-later n m no_parts a k x l h = λ Y g r. none-some x h
-sequence-later n m (part p ps) a k x l h =
-    λ Y g r. cond-elim (finished p) (wrap (part p) (advanced_sequence (m + 1) ps a k)) (if_child m a (λ b. wrap (λ q. part q ps) (advanced p b k))) x
+pub sequence-later : (n m : ℕ) (ps : Procs) (a : Place) (k : Ask) (x : MovedIn) → n < m → advanced_sequence m ps a k ≡ Some x → NotInChild n a
+sequence-later n m no_procs a k x l h = λ Y g r. none-some x h
+sequence-later n m (proc p ps) a k x l h =
+    λ Y g r. cond-elim (finished p) (wrap (proc p) (advanced_sequence (m + 1) ps a k)) (if_child m a (λ b. wrap (λ q. proc q ps) (advanced p b k))) x
     (if_child_or n a g r ≡ r) h
-    (λ t e. wrap-elim (part p) (advanced_sequence (m + 1) ps a k) x (λ x. if_child_or n a g r ≡ r) e (λ y i. sequence-later n (m + 1) ps a k y (omega arith) i Y g r))
-    (λ t e. child-elim m a (λ b. wrap (λ q. part q ps) (advanced p b k)) x (λ a. if_child_or n a g r ≡ r) e
+    (λ t e. wrap-elim (proc p) (advanced_sequence (m + 1) ps a k) x (λ x. if_child_or n a g r ≡ r) e (λ y i. sequence-later n (m + 1) ps a k y (omega arith) i Y g r))
+    (λ t e. child-elim m a (λ b. wrap (λ q. proc q ps) (advanced p b k)) x (λ a. if_child_or n a g r ≡ r) e
     (λ b i. child_or-other n m b g r (λ d. omega arith)))
 
 -- a node that moved in child i goes back there
-in_child-back : (i : ℕ) (b : Place) (w : Part → Part) (p q : Part) (out : Option Part) (rest : Option Part) (j : ℕ) (f : Place → Option Part) → i ≢ j
+in_child-back : (i : ℕ) (b : Place) (w : Proc → Proc) (p q : Proc) (out : Option Proc) (rest : Option Proc) (j : ℕ) (f : Place → Option Proc) → i ≢ j
     → retreated q b out ≡ Some p → if_child_or j (Ordered i ∷ b) f (if_child i (Ordered i ∷ b) (λ b. option_map w (retreated q b out))) ≡ Some (w p)
 in_child-back i b w p q out rest j f d e =
     child_or-other j i b f (if_child i (Ordered i ∷ b) (λ b. option_map w (retreated q b out))) d
     ∙ child-at i b (λ b. option_map w (retreated q b out)) ∙ ap (option_map w) e
 
 mutual
-  -- a move and its undo leave the part as it was
-  pub back : (p : Part) (a : Place) (k : Ask) (x : Moved) → advanced p a k ≡ Some x → retreated x.0 a x.1 ≡ Some p
+  -- a move and its undo leave the process as it was
+  pub back : (p : Proc) (a : Place) (k : Ask) (x : Moved) → advanced p a k ≡ Some x → retreated x.0 a x.1 ≡ Some p
   back idle a k x h = none-some x h
   back stopped a k x h = none-some x h
   back (once o made) a k x h = here-elim a (once_after o made k) x (λ a. retreated x.0 a x.1 ≡ Some (once o made)) h (once-back o made k x)
@@ -155,28 +155,28 @@ mutual
       (λ y i. ap (option_map parallel) (back_parallel ps 0 a k y i))
   back (drained c n) a k x h = act-elim n a (drain_after c n k) x (λ a. retreated x.0 a x.1 ≡ Some (drained c n)) h (drain-back c n k x)
 
-  back_sequence : (ps : Parts) (n : ℕ) (a : Place) (k : Ask) (x : MovedIn) → advanced_sequence n ps a k ≡ Some x → retreated_sequence n x.0 a x.1 ≡ Some ps
-  back_sequence no_parts n a k x h = none-some x h
-  back_sequence (part p ps) n a k x h =
-      cond-elim (finished p) (wrap (part p) (advanced_sequence (n + 1) ps a k)) (if_child n a (λ b. wrap (λ q. part q ps) (advanced p b k))) x
-      (retreated_sequence n x.0 a x.1 ≡ Some (part p ps)) h
-      (λ t e. wrap-elim (part p) (advanced_sequence (n + 1) ps a k) x (λ x. retreated_sequence n x.0 a x.1 ≡ Some (part p ps)) e
-      (λ y i. sequence-later n (n + 1) ps a k y (omega arith) i Parts (λ b. option_map (λ q. part q y.0) (retreated p b y.1))
-      (option_map (part p) (retreated_sequence (n + 1) y.0 a y.1))
-      ∙ ap (option_map (part p)) (back_sequence ps (n + 1) a k y i)))
-      (λ t e. child-elim n a (λ b. wrap (λ q. part q ps) (advanced p b k)) x (λ a. retreated_sequence n x.0 a x.1 ≡ Some (part p ps)) e
-      (λ b i. wrap-elim (λ q. part q ps) (advanced p b k) x (λ x. retreated_sequence n x.0 (Ordered n ∷ b) x.1 ≡ Some (part p ps)) i
-      (λ y j. child_or-at n b (λ b. option_map (λ q. part q ps) (retreated y.0 b y.1)) (option_map (part y.0) (retreated_sequence (n + 1) ps (Ordered n ∷ b) y.1))
-      ∙ ap (option_map (λ q. part q ps)) (back p b k y j))))
+  back_sequence : (ps : Procs) (n : ℕ) (a : Place) (k : Ask) (x : MovedIn) → advanced_sequence n ps a k ≡ Some x → retreated_sequence n x.0 a x.1 ≡ Some ps
+  back_sequence no_procs n a k x h = none-some x h
+  back_sequence (proc p ps) n a k x h =
+      cond-elim (finished p) (wrap (proc p) (advanced_sequence (n + 1) ps a k)) (if_child n a (λ b. wrap (λ q. proc q ps) (advanced p b k))) x
+      (retreated_sequence n x.0 a x.1 ≡ Some (proc p ps)) h
+      (λ t e. wrap-elim (proc p) (advanced_sequence (n + 1) ps a k) x (λ x. retreated_sequence n x.0 a x.1 ≡ Some (proc p ps)) e
+      (λ y i. sequence-later n (n + 1) ps a k y (omega arith) i Procs (λ b. option_map (λ q. proc q y.0) (retreated p b y.1))
+      (option_map (proc p) (retreated_sequence (n + 1) y.0 a y.1))
+      ∙ ap (option_map (proc p)) (back_sequence ps (n + 1) a k y i)))
+      (λ t e. child-elim n a (λ b. wrap (λ q. proc q ps) (advanced p b k)) x (λ a. retreated_sequence n x.0 a x.1 ≡ Some (proc p ps)) e
+      (λ b i. wrap-elim (λ q. proc q ps) (advanced p b k) x (λ x. retreated_sequence n x.0 (Ordered n ∷ b) x.1 ≡ Some (proc p ps)) i
+      (λ y j. child_or-at n b (λ b. option_map (λ q. proc q ps) (retreated y.0 b y.1)) (option_map (proc y.0) (retreated_sequence (n + 1) ps (Ordered n ∷ b) y.1))
+      ∙ ap (option_map (λ q. proc q ps)) (back p b k y j))))
 
-  back_parallel : (ps : Parts) (n : ℕ) (a : Place) (k : Ask) (x : MovedIn) → advanced_parallel n ps a k ≡ Some x → retreated_parallel n x.0 a x.1 ≡ Some ps
-  back_parallel no_parts n a k x h = none-some x h
-  back_parallel (part p ps) n a k x h =
-      branch-elim n a (λ b. wrap (λ q. part q ps) (advanced p b k)) (wrap (part p) (advanced_parallel (n + 1) ps a k)) x
-      (λ a. retreated_parallel n x.0 a x.1 ≡ Some (part p ps)) h
-      (λ b i. wrap-elim (λ q. part q ps) (advanced p b k) x (λ x. retreated_parallel n x.0 (Branch n ∷ b) x.1 ≡ Some (part p ps)) i
-      (λ y j. branch-at n b (λ b. option_map (λ q. part q ps) (retreated y.0 b y.1)) (option_map (part y.0) (retreated_parallel (n + 1) ps (Branch n ∷ b) y.1))
-      ∙ ap (option_map (λ q. part q ps)) (back p b k y j)))
-      (λ i other. wrap-elim (part p) (advanced_parallel (n + 1) ps a k) x (λ x. retreated_parallel n x.0 a x.1 ≡ Some (part p ps)) i
-      (λ y j. other Parts (λ b. option_map (λ q. part q y.0) (retreated p b y.1)) (option_map (part p) (retreated_parallel (n + 1) y.0 a y.1))
-      ∙ ap (option_map (part p)) (back_parallel ps (n + 1) a k y j)))
+  back_parallel : (ps : Procs) (n : ℕ) (a : Place) (k : Ask) (x : MovedIn) → advanced_parallel n ps a k ≡ Some x → retreated_parallel n x.0 a x.1 ≡ Some ps
+  back_parallel no_procs n a k x h = none-some x h
+  back_parallel (proc p ps) n a k x h =
+      branch-elim n a (λ b. wrap (λ q. proc q ps) (advanced p b k)) (wrap (proc p) (advanced_parallel (n + 1) ps a k)) x
+      (λ a. retreated_parallel n x.0 a x.1 ≡ Some (proc p ps)) h
+      (λ b i. wrap-elim (λ q. proc q ps) (advanced p b k) x (λ x. retreated_parallel n x.0 (Branch n ∷ b) x.1 ≡ Some (proc p ps)) i
+      (λ y j. branch-at n b (λ b. option_map (λ q. proc q ps) (retreated y.0 b y.1)) (option_map (proc y.0) (retreated_parallel (n + 1) ps (Branch n ∷ b) y.1))
+      ∙ ap (option_map (λ q. proc q ps)) (back p b k y j)))
+      (λ i other. wrap-elim (proc p) (advanced_parallel (n + 1) ps a k) x (λ x. retreated_parallel n x.0 a x.1 ≡ Some (proc p ps)) i
+      (λ y j. other Procs (λ b. option_map (λ q. proc q y.0) (retreated p b y.1)) (option_map (proc p) (retreated_parallel (n + 1) y.0 a y.1))
+      ∙ ap (option_map (proc p)) (back_parallel ps (n + 1) a k y j)))

@@ -1,4 +1,4 @@
--- What is left of any part is well formed, and is done exactly where the part is finished.
+-- What is left of any process is well formed, and is done exactly where the process is finished.
 use Rattle.std.proofs.Common.{◌≡◌, ◌↔◌, ℕ, ◌+◌, ◌*◌, ◌≤◌, Bool, true, false, ◌&&◌, [], ◌∷◌, Option, Some, None, refl, sym, ap, ap₂, ◌∙◌, arith}
 use Rattle.system.specs.Expression.{Expression}
 use Rattle.system.specs.Residual.{Residual, done, within, along, put_residual}
@@ -6,7 +6,7 @@ use Rattle.calculus.specs.walking.Passed.{is_done}
 use Rattle.calculus.specs.WellFormed.{StartsFrom, BranchesFrom, WellFormed, WellFormedArms}
 use Rattle.calculus.proofs.WellFormed.{starts-within, formed-within, branches-along, formed-along, starts-put, formed-put}
 use Rattle.process_tree.specs.Code.{Once, assigning, receiving, Sender, sending, syncing, Code, continues, halts, moves_once, may_be_held, repeats, decides, awaits, in_turn, side_by_side, drains, Codes, no_code, code}
-use Rattle.process_tree.specs.Part.{waiting, holding, past, Part, idle, stopped, once, sender, fresh, turn, ended_at_once, ended, untested, skipped, took, unopened, entered, closed, sequence, parallel, drained, Parts, no_parts, part, finished, all_finished}
+use Rattle.process_tree.specs.Proc.{waiting, holding, past, Proc, idle, stopped, once, sender, fresh, turn, ended_at_once, ended, untested, skipped, took, unopened, entered, closed, sequence, parallel, drained, Procs, no_procs, proc, finished, all_finished}
 use Rattle.process_tree.specs.Left.{Received, with_value, puts, residual_once, residual_sender, again, residual, residual_arms, residual_sequence, residual_parallel, left, left_sequence, left_parallel}
 
 -- a loop is well formed where its body is
@@ -77,8 +77,8 @@ puts-starts [] n r s = s
 puts-starts (x ∷ env) n r s = starts-put n x.0 x.1 (puts env r) (puts-starts env n r s)
 
 mutual
-  -- what is left of a part is well formed
-  pub left-formed : (p : Part) (env : Received) → WellFormed (left env p)
+  -- what is left of a process is well formed
+  pub left-formed : (p : Proc) (env : Received) → WellFormed (left env p)
   left-formed idle env = tt
   left-formed stopped env = tt
   left-formed (once o true) env = tt
@@ -105,18 +105,18 @@ mutual
   left-formed (drained c n) env = tt
 
   -- so are children one after another, and they start from the first
-  pub left_sequence-formed : (ps : Parts) (env : Received) (n : ℕ) → WellFormed (left_sequence env n ps) × StartsFrom n (left_sequence env n ps)
-  left_sequence-formed no_parts env n = (tt, tt)
-  left_sequence-formed (part p ps) env n =
+  pub left_sequence-formed : (ps : Procs) (env : Received) (n : ℕ) → WellFormed (left_sequence env n ps) × StartsFrom n (left_sequence env n ps)
+  left_sequence-formed no_procs env n = (tt, tt)
+  left_sequence-formed (proc p ps) env n =
       let rest = left_sequence-formed ps env (n + 1) in (
         formed-within n (left env p) (left_sequence env (n + 1) ps) (left-formed p env) rest.0 rest.1,
         starts-within n n (left env p) (left_sequence env (n + 1) ps) (omega arith) rest.1,
       )
 
   -- and children side by side
-  pub left_parallel-formed : (ps : Parts) (env : Received) (n : ℕ) → WellFormed (left_parallel env n ps) × BranchesFrom n (left_parallel env n ps)
-  left_parallel-formed no_parts env n = (tt, tt)
-  left_parallel-formed (part p ps) env n =
+  pub left_parallel-formed : (ps : Procs) (env : Received) (n : ℕ) → WellFormed (left_parallel env n ps) × BranchesFrom n (left_parallel env n ps)
+  left_parallel-formed no_procs env n = (tt, tt)
+  left_parallel-formed (proc p ps) env n =
       let rest = left_parallel-formed ps env (n + 1) in (
         formed-along n (left env p) (left_parallel env (n + 1) ps) (left-formed p env) rest.0 rest.1,
         branches-along n n (left env p) (left_parallel env (n + 1) ps) (omega arith) rest.1,
@@ -164,8 +164,8 @@ and-true true = refl
 and-true false = refl
 
 mutual
-  -- what is left is done exactly where the part is finished
-  pub finished-left : (p : Part) (env : Received) → is_done (left env p) ≡ finished p
+  -- what is left is done exactly where the process is finished
+  pub finished-left : (p : Proc) (env : Received) → is_done (left env p) ≡ finished p
   finished-left idle env = refl
   finished-left stopped env = refl
   finished-left (once o true) env = refl
@@ -191,14 +191,14 @@ mutual
   finished-left (parallel ps) env = finished-left_parallel ps env 0
   finished-left (drained c n) env = refl
 
-  finished-left_sequence : (ps : Parts) (env : Received) (n : ℕ) → is_done (left_sequence env n ps) ≡ all_finished ps
-  finished-left_sequence no_parts env n = refl
-  finished-left_sequence (part p ps) env n =
+  finished-left_sequence : (ps : Procs) (env : Received) (n : ℕ) → is_done (left_sequence env n ps) ≡ all_finished ps
+  finished-left_sequence no_procs env n = refl
+  finished-left_sequence (proc p ps) env n =
       within-done n (left env p) (left_sequence env (n + 1) ps) ∙ ap₂ (λ b c. b && c) (finished-left p env) (finished-left_sequence ps env (n + 1))
 
-  finished-left_parallel : (ps : Parts) (env : Received) (n : ℕ) → is_done (left_parallel env n ps) ≡ all_finished ps
-  finished-left_parallel no_parts env n = refl
-  finished-left_parallel (part p ps) env n =
+  finished-left_parallel : (ps : Procs) (env : Received) (n : ℕ) → is_done (left_parallel env n ps) ≡ all_finished ps
+  finished-left_parallel no_procs env n = refl
+  finished-left_parallel (proc p ps) env n =
       along-done n (left env p) (left_parallel env (n + 1) ps) ∙ ap₂ (λ b c. b && c) (finished-left p env) (finished-left_parallel ps env (n + 1))
 
 -- only what is done is done
@@ -206,6 +206,6 @@ pub is_done-done : (r : Residual) → is_done r ≡ true → r ≡ done
 is_done-done done e = refl
 is_done-done r e = cc
 
--- a part is finished exactly where nothing is left of it
-pub finished-done : (p : Part) (env : Received) → (finished p ≡ true) ↔ (left env p ≡ done)
+-- a process is finished exactly where nothing is left of it
+pub finished-done : (p : Proc) (env : Received) → (finished p ≡ true) ↔ (left env p ≡ done)
 finished-done p env = (λ e. is_done-done (left env p) (finished-left p env ∙ e), λ e. sym (finished-left p env) ∙ ap is_done e)

@@ -4,7 +4,7 @@ use Rattle.value.specs.Word.{Word}
 use Rattle.system.specs.Expression.{Expression, Decision, put_value, put_decision}
 use Rattle.system.specs.Residual.{Residual, done, halted, test, choose, drain, Arms, no_arms, arm, within, along, arm_at, put_residual, put_arms}
 use Rattle.process_tree.specs.Code.{Once, assigning, receiving, Sender, sending, syncing, Code, continues, halts, moves_once, may_be_held, repeats, decides, awaits, in_turn, side_by_side, drains, Codes, no_code, code, code_at}
-use Rattle.process_tree.specs.Part.{started, all_started}
+use Rattle.process_tree.specs.Proc.{started, all_started}
 use Rattle.process_tree.specs.Left.{Received, puts, residual_once, residual_sender, again, residual, residual_arms, residual_sequence, residual_parallel, left, left_sequence, left_parallel}
 
 -- the values put in an expression

@@ -7,17 +7,17 @@ use Rattle.system.specs.Residual.{Residual, done, inside, beside, receive, send,
 use Rattle.calculus.specs.Moves.{Place}
 use Rattle.calculus.specs.walking.After.{Ask, to_assign, to_test, to_turn, to_send, to_hold, to_receive, to_open, to_release, to_close}
 use Rattle.process_tree.specs.Code.{assigning, receiving, sending, Code, continues, moves_once, may_be_held, repeats, decides, awaits, in_turn, side_by_side, drains, no_code, code}
-use Rattle.process_tree.specs.Part.{Part, once, turn, started, finished}
+use Rattle.process_tree.specs.Proc.{Proc, once, turn, started, finished}
 use Rattle.process_tree.specs.Advanced.{Moved, advanced}
 use Rattle.process_tree.specs.Left.{left}
 
--- the part after moves in turn
-made : Part → List (Place × Ask) → Option Part
+-- the process after moves in turn
+made : Proc → List (Place × Ask) → Option Proc
 made p [] = Some p
 made p (m ∷ ms) = option_and_then (λ (x : Moved). made x.0 ms) (advanced p m.0 m.1)
 
 -- what is left after moves in turn
-to_do : Part → List (Place × Ask) → Option Residual
+to_do : Proc → List (Place × Ask) → Option Residual
 unfolding made
 to_do p ms = option_and_then (λ q. Some (left [] q)) (made p ms)
 
@@ -31,7 +31,7 @@ body_left = inside 0 (receive 0 0) (inside 1 (send 1 8 (variable 0 8)) done)
 abbrev feed : Code
 feed = in_turn (code (may_be_held (sending 0 8 (constant (word 5 8)))) (code (may_be_held (sending 0 8 (constant (word 7 8)))) no_code))
 
-abbrev buffer : Part
+abbrev buffer : Proc
 buffer = started (side_by_side (code (repeats None body) (code feed (code (drains 1) no_code))))
 
 -- its first three events, and the fourth to seventh
@@ -63,7 +63,7 @@ unfolding to_do made
 after-three-turns = refl
 
 -- the fork: channel 0 is i, 1 is a, 2 is b
-abbrev fork : Part
+abbrev fork : Proc
 fork =
     started (side_by_side (code
     (in_turn (code
@@ -85,7 +85,7 @@ unfolding to_do made
 after-open = refl
 
 -- then i -> x cannot be reached, and the close neither
-abbrev and_then : Place × Ask → Option Part
+abbrev and_then : Place × Ask → Option Proc
 and_then m = option_and_then (λ p. made p (m ∷ [])) (made fork opened_fork)
 
 not-reached : and_then (Branch 0 ∷ Ordered 1 ∷ [], to_receive) ≡ None
@@ -110,10 +110,10 @@ unfolding to_do made
 after-all = refl
 
 -- a while loop: its test of turn 0 at .0, its body at .1, its second test at .2, which takes the finished body out or ends the loop
-abbrev counter : Part
+abbrev counter : Proc
 counter = started (repeats (Some (variable 0 1)) (moves_once (assigning 0 8 (constant (word 1 8)))))
 
-abbrev first_turn : Option Part
+abbrev first_turn : Option Proc
 first_turn = made counter ((Ordered 0 ∷ [], to_test (Some 0)) ∷ (Ordered 1 ∷ [], to_assign) ∷ [])
 
 takes-out : option_and_then (λ p. advanced p (Ordered 2 ∷ []) (to_test (Some 0))) first_turn
@@ -126,7 +126,7 @@ unfolding made
 ends = refl
 
 -- an `if`: its test at .0, the arm at .1
-abbrev branching : Part
+abbrev branching : Proc
 branching = started (decides (by_guards (variable 0 1 ∷ []) true) (code continues (code (moves_once (assigning 0 8 (constant (word 1 8)))) no_code)))
 
 takes-the-else : option_and_then (λ q. Some (finished q)) (made branching ((Ordered 0 ∷ [], to_test (Some 1)) ∷ (Ordered 1 ∷ [], to_assign) ∷ [])) ≡ Some true

@@ -12,7 +12,7 @@ use Rattle.calculus.proofs.After.{found, only}
 use Rattle.calculus.proofs.Kept.{branches-place}
 use Rattle.calculus.proofs.Options.{none-some, some-injective}
 use Rattle.process_tree.specs.Code.{Once, assigning, receiving, Sender, sending, syncing, Code, Codes, code_at}
-use Rattle.process_tree.specs.Part.{waiting, holding, past, Part, idle, stopped, once, sender, fresh, turn, ended_at_once, ended, untested, skipped, took, unopened, entered, closed, sequence, parallel, drained, Parts, no_parts, part, started, finished}
+use Rattle.process_tree.specs.Proc.{waiting, holding, past, Proc, idle, stopped, once, sender, fresh, turn, ended_at_once, ended, untested, skipped, took, unopened, entered, closed, sequence, parallel, drained, Procs, no_procs, proc, started, finished}
 use Rattle.process_tree.specs.Places.{if_here, if_act, if_child, if_branch, wrap}
 use Rattle.process_tree.specs.Advanced.{Moved, once_after, sender_after, holding_after, again_after, test_after, open_on, open_after, close_after, drain_after, advanced, advanced_sequence, advanced_parallel}
 use Rattle.process_tree.specs.Left.{Received, with_value, puts, residual_once, residual_sender, channel_of, again, residual, residual_arms, left, left_sequence, left_parallel}
@@ -25,25 +25,25 @@ residual_after None = None
 residual_after (Some x) = Some x.1
 
 -- what is left after a move of the tree
-abbrev pub left_after : {X : Type 0} → (X → Residual) → Option (X × Option Part) → Option Residual
+abbrev pub left_after : {X : Type 0} → (X → Residual) → Option (X × Option Proc) → Option Residual
 left_after f None = None
 left_after f (Some x) = Some (f x.0)
 
 -- answers that agree, under one test
-cond-sim : {X : Type 0} (b : Bool) (x u : Answer) (y v : Option (X × Option Part)) (f : X → Residual)
+cond-sim : {X : Type 0} (b : Bool) (x u : Answer) (y v : Option (X × Option Proc)) (f : X → Residual)
     → (b ≡ true → residual_after x ≡ left_after f y) → residual_after u ≡ left_after f v
     → residual_after (cond b x u) ≡ left_after f (cond b y v)
 cond-sim true x u y v f h k = h refl
 cond-sim false x u y v f h k = k
 
 -- at the own place
-here-sim : {X : Type 0} (a : Place) (x : Answer) (y : Option (X × Option Part)) (f : X → Residual) → residual_after x ≡ left_after f y
+here-sim : {X : Type 0} (a : Place) (x : Answer) (y : Option (X × Option Proc)) (f : X → Residual) → residual_after x ≡ left_after f y
     → residual_after (at_place a x) ≡ left_after f (if_here a y)
 here-sim [] x y f h = h
 here-sim (z ∷ a) x y f h = refl
 
 -- at an act
-act-sim : {X : Type 0} (n : ℕ) (a : Place) (x : Answer) (y : Option (X × Option Part)) (f : X → Residual) → residual_after x ≡ left_after f y
+act-sim : {X : Type 0} (n : ℕ) (a : Place) (x : Answer) (y : Option (X × Option Proc)) (f : X → Residual) → residual_after x ≡ left_after f y
     → residual_after (at_act n a x) ≡ left_after f (if_act n a y)
 act-sim n [] x y f h = refl
 act-sim n (Ordered i ∷ []) x y f h = cond-sim (i == n) x None y None f (λ e. h) refl
@@ -51,14 +51,14 @@ act-sim n (Ordered i ∷ z ∷ a) x y f h = refl
 act-sim n (Branch i ∷ a) x y f h = refl
 
 -- in a child
-child-sim : {X : Type 0} (n : ℕ) (a : Place) (x : Place → Answer) (y : Place → Option (X × Option Part)) (f : X → Residual)
+child-sim : {X : Type 0} (n : ℕ) (a : Place) (x : Place → Answer) (y : Place → Option (X × Option Proc)) (f : X → Residual)
     → ((b : Place) → residual_after (x b) ≡ left_after f (y b)) → residual_after (in_child n a x) ≡ left_after f (if_child n a y)
 child-sim n [] x y f h = refl
 child-sim n (Ordered i ∷ a) x y f h = cond-sim (i == n) (x a) None (y a) None f (λ e. h a) refl
 child-sim n (Branch i ∷ a) x y f h = refl
 
 -- in a branch, or in the rest
-branch-sim : {X : Type 0} (n : ℕ) (a : Place) (x : Place → Answer) (y : Place → Option (X × Option Part)) (u : Answer) (v : Option (X × Option Part))
+branch-sim : {X : Type 0} (n : ℕ) (a : Place) (x : Place → Answer) (y : Place → Option (X × Option Proc)) (u : Answer) (v : Option (X × Option Proc))
     (f : X → Residual) → ((b : Place) → residual_after (x b) ≡ left_after f (y b)) → residual_after u ≡ left_after f v
     → residual_after (in_branch n a x u) ≡ left_after f (if_branch n a y v)
 branch-sim n [] x y u v f h k = k
@@ -66,15 +66,15 @@ branch-sim n (Ordered i ∷ a) x y u v f h k = k
 branch-sim n (Branch i ∷ a) x y u v f h k = cond-sim (i == n) (x a) u (y a) v f (λ e. h a) k
 
 -- with the rest around it
-around-sim : {X Y : Type 0} (r : Residual → Residual) (w : X → Y) (x : Answer) (y : Option (X × Option Part)) (f : X → Residual) (g : Y → Residual)
+around-sim : {X Y : Type 0} (r : Residual → Residual) (w : X → Y) (x : Answer) (y : Option (X × Option Proc)) (f : X → Residual) (g : Y → Residual)
     → ((z : X) → g (w z) ≡ r (f z)) → residual_after x ≡ left_after f y → residual_after (around r x) ≡ left_after g (wrap w y)
 around-sim r w None None f g e h = refl
 around-sim r w None (Some y) f g e h = none-some (f y.0) h
 around-sim r w (Some x) None f g e h = none-some x.1 (sym h)
 around-sim r w (Some x) (Some y) f g e h = ap Some (ap r (some-injective x.1 (f y.0) h) ∙ sym (e y.0))
 
--- what is put around finished parts leaves what is left
-wrap-left : {X Y : Type 0} (w : X → Y) (y : Option (X × Option Part)) (f : X → Residual) (g : Y → Residual) → ((z : X) → g (w z) ≡ f z)
+-- what is put around finished processes leaves what is left
+wrap-left : {X Y : Type 0} (w : X → Y) (y : Option (X × Option Proc)) (f : X → Residual) (g : Y → Residual) → ((z : X) → g (w z) ≡ f z)
     → left_after g (wrap w y) ≡ left_after f y
 wrap-left w None f g e = refl
 wrap-left w (Some y) f g e = ap Some (e y.0)
@@ -86,8 +86,8 @@ after-within k n done q a = refl
 after-within k n r q a = refl
 
 -- a node that moves in one child until that is finished
-node-sim : {Y : Type 0} (i : ℕ) (env : Received) (q : Part) (rest : Residual) (a : Place) (k : Ask) (f : Y → Residual) (w : Part → Y) (o : Option (Y × Option Part))
-    → ((z : Part) → f (w z) ≡ within i (left env z) rest) → (finished q ≡ true → residual_after (after k rest a) ≡ left_after f o)
+node-sim : {Y : Type 0} (i : ℕ) (env : Received) (q : Proc) (rest : Residual) (a : Place) (k : Ask) (f : Y → Residual) (w : Proc → Y) (o : Option (Y × Option Proc))
+    → ((z : Proc) → f (w z) ≡ within i (left env z) rest) → (finished q ≡ true → residual_after (after k rest a) ≡ left_after f o)
     → ((b : Place) → residual_after (after k (left env q) b) ≡ left_after (left env) (advanced q b k))
     → residual_after (after k (within i (left env q) rest) a) ≡ left_after f (cond (finished q) o (if_child i a (λ b. wrap w (advanced q b k))))
 node-sim i env q rest a k f w o e h g =
@@ -187,7 +187,7 @@ turn-started : (env : Received) (g : Option Expression) (c : Code) (n : ℕ)
 turn-started env g c n = sym (ap₂ (within (2 * n + 1)) (left-started c env) (puts-again env (n + 1) g (residual c)))
 
 -- a loop before turn n
-again-sim : (g : Option Expression) (c : Code) (n : ℕ) (over : Part) (out : Option Part) (env : Received) (a : Place) (k : Ask) → left env over ≡ done
+again-sim : (g : Option Expression) (c : Code) (n : ℕ) (over : Proc) (out : Option Proc) (env : Received) (a : Place) (k : Ask) → left env over ≡ done
     → residual_after (after k (puts env (again n g (residual c))) a) ≡ left_after (left env) (if_act (2 * n) a (again_after g c n over out k))
 again-sim None c n over out env a k h =
     ap (λ r. residual_after (after k r a)) (puts-again env n None (residual c))
@@ -244,7 +244,7 @@ choose-sim ds cs env a k =
     leaf _ = refl
 
 -- the close
-close-sim : (ds : List ℕ) (cs : Codes) (c : ℕ) (v : Option Word) (q : Part) (env : Received) (a : Place) (k : Ask)
+close-sim : (ds : List ℕ) (cs : Codes) (c : ℕ) (v : Option Word) (q : Proc) (env : Received) (a : Place) (k : Ask)
     → residual_after (after k (closing c) a) ≡ left_after (left env) (if_act 2 a (close_after ds cs c v q k))
 close-sim ds cs c v q env a k = act-sim 2 a _ (close_after ds cs c v q k) (left env) (leaf k)
   where
@@ -263,7 +263,7 @@ drain-sim c n env a k = act-sim n a _ (drain_after c n k) (left env) (leaf k)
 
 mutual
   -- the residual after a move of what is left is what is left after that move
-  pub simulates : (p : Part) (env : Received) (a : Place) (k : Ask) → residual_after (after k (left env p) a) ≡ left_after (left env) (advanced p a k)
+  pub simulates : (p : Proc) (env : Received) (a : Place) (k : Ask) → residual_after (after k (left env p) a) ≡ left_after (left env) (advanced p a k)
   simulates idle env a k = refl
   simulates stopped env a k = refl
   simulates (once (assigning x w e) true) env [] k = refl
@@ -294,26 +294,26 @@ mutual
       simulates_parallel ps env 0 a k ∙ sym (wrap-left parallel (advanced_parallel 0 ps a k) (left_parallel env 0) (left env) (λ z. refl))
   simulates (drained c n) env a k = drain-sim c n env a k
 
-  simulates_sequence : (ps : Parts) (env : Received) (n : ℕ) (a : Place) (k : Ask)
+  simulates_sequence : (ps : Procs) (env : Received) (n : ℕ) (a : Place) (k : Ask)
       → residual_after (after k (left_sequence env n ps) a) ≡ left_after (left_sequence env n) (advanced_sequence n ps a k)
-  simulates_sequence no_parts env n a k = refl
-  simulates_sequence (part p ps) env n a k =
-      node-sim n env p (left_sequence env (n + 1) ps) a k (left_sequence env n) (λ q. part q ps) (wrap (part p) (advanced_sequence (n + 1) ps a k)) (λ z. refl)
+  simulates_sequence no_procs env n a k = refl
+  simulates_sequence (proc p ps) env n a k =
+      node-sim n env p (left_sequence env (n + 1) ps) a k (left_sequence env n) (λ q. proc q ps) (wrap (proc p) (advanced_sequence (n + 1) ps a k)) (λ z. refl)
       (λ e. simulates_sequence ps env (n + 1) a k
-      ∙ sym (wrap-left (part p) (advanced_sequence (n + 1) ps a k) (left_sequence env (n + 1)) (left_sequence env n)
+      ∙ sym (wrap-left (proc p) (advanced_sequence (n + 1) ps a k) (left_sequence env (n + 1)) (left_sequence env n)
       (λ z. ap (λ r. within n r (left_sequence env (n + 1) z)) (is_done-done (left env p) (finished-left p env ∙ e)))))
       (λ b. simulates p env b k)
 
-  simulates_parallel : (ps : Parts) (env : Received) (n : ℕ) (a : Place) (k : Ask)
+  simulates_parallel : (ps : Procs) (env : Received) (n : ℕ) (a : Place) (k : Ask)
       → residual_after (after k (left_parallel env n ps) a) ≡ left_after (left_parallel env n) (advanced_parallel n ps a k)
-  simulates_parallel no_parts env n a k = refl
-  simulates_parallel (part p ps) env n a k =
+  simulates_parallel no_procs env n a k = refl
+  simulates_parallel (proc p ps) env n a k =
       let rest = left_parallel env (n + 1) ps in
       ap residual_after (after-along k n (left env p) rest a (left_parallel-formed ps env (n + 1)).0 (left_parallel-formed ps env (n + 1)).1)
-      ∙ branch-sim n a (λ b. around (λ t. along n t rest) (after k (left env p) b)) (λ b. wrap (λ q. part q ps) (advanced p b k))
-      (around (λ t. along n (left env p) t) (after k rest a)) (wrap (part p) (advanced_parallel (n + 1) ps a k)) (left_parallel env n)
-      (λ b. around-sim (λ t. along n t rest) (λ q. part q ps) (after k (left env p) b) (advanced p b k) (left env) (left_parallel env n) (λ z. refl) (simulates p env b k))
-      (around-sim (λ t. along n (left env p) t) (part p) (after k rest a) (advanced_parallel (n + 1) ps a k) (left_parallel env (n + 1)) (left_parallel env n) (λ z. refl)
+      ∙ branch-sim n a (λ b. around (λ t. along n t rest) (after k (left env p) b)) (λ b. wrap (λ q. proc q ps) (advanced p b k))
+      (around (λ t. along n (left env p) t) (after k rest a)) (wrap (proc p) (advanced_parallel (n + 1) ps a k)) (left_parallel env n)
+      (λ b. around-sim (λ t. along n t rest) (λ q. proc q ps) (after k (left env p) b) (advanced p b k) (left env) (left_parallel env n) (λ z. refl) (simulates p env b k))
+      (around-sim (λ t. along n (left env p) t) (proc p) (after k rest a) (advanced_parallel (n + 1) ps a k) (left_parallel env (n + 1)) (left_parallel env n) (λ z. refl)
       (simulates_parallel ps env (n + 1) a k))
 
 -- an answer that has a residual
@@ -322,19 +322,19 @@ answered None q e = none-some q e
 answered (Some x) q e = (x.0, ap (λ t. Some (x.0, t)) (some-injective x.1 q e))
 
 -- a move that leaves something
-moved : (y : Option Moved) (f : Part → Residual) (q : Residual) → left_after f y ≡ Some q → (x : Moved) × (y ≡ Some x) × (f x.0 ≡ q)
+moved : (y : Option Moved) (f : Proc → Residual) (q : Residual) → left_after f y ≡ Some q → (x : Moved) × (y ≡ Some x) × (f x.0 ≡ q)
 moved None f q e = none-some q e
 moved (Some y) f q e = (y, refl, some-injective (f y.0) q e)
 
 -- a local move of what is left is one of the tree
-pub does : (p : Part) (env : Received) (a : Place) (m : Move) (q : Residual) → Local (left env p) a m q
+pub does : (p : Proc) (env : Received) (a : Place) (m : Move) (q : Residual) → Local (left env p) a m q
     → (x : Moved) × (advanced p a (asks m) ≡ Some x) × (left env x.0 ≡ q)
 does p env a m q l =
     moved (advanced p a (asks m)) (left env) q
     (sym (simulates p env a (asks m)) ∙ ap residual_after (found (left env p) a m q (left-formed p env) l))
 
 -- a move of the tree is a local move of what is left
-pub did : (p : Part) (env : Received) (a : Place) (k : Ask) (x : Moved) → advanced p a k ≡ Some x
+pub did : (p : Proc) (env : Received) (a : Place) (k : Ask) (x : Moved) → advanced p a k ≡ Some x
     → (m : Move) × Local (left env p) a m (left env x.0) × (asks m ≡ k)
 did p env a k x e =
     let d = answered (after k (left env p) a) (left env x.0) (simulates p env a k ∙ ap (left_after (left env)) e) in
@@ -342,12 +342,12 @@ did p env a k x e =
     (d.0, o.0, o.1)
 
 -- by whether it is
-open-cases : (p : Part) (b : Bool) → finished p ≡ b → (r : Residual) → r ≡ left [] p → (a : Place) (m : Move) (q : Residual) → Local r a m q → finished p ≡ false
+open-cases : (p : Proc) (b : Bool) → finished p ≡ b → (r : Residual) → r ≡ left [] p → (a : Place) (m : Move) (q : Residual) → Local r a m q → finished p ≡ false
 open-cases p true e r i a m q l = absurd (subst (λ t. Local t a m q) (i ∙ is_done-done (left [] p) (finished-left p [] ∙ e)) l)
 open-cases p false e r i a m q l = e
 
 -- what moves is not finished
-pub unfinished : (p : Part) (a : Place) (k : Ask) (x : Moved) → advanced p a k ≡ Some x → finished p ≡ false
+pub unfinished : (p : Proc) (a : Place) (k : Ask) (x : Moved) → advanced p a k ≡ Some x → finished p ≡ false
 unfinished p a k x e =
     let d = did p [] a k x e in
     open-cases p (finished p) refl (left [] p) refl a d.0 (left [] x.0) d.1

@@ -8,14 +8,14 @@ use Rattle.calculus.specs.walking.After.{Ask, to_test, to_turn, to_close}
 use Rattle.calculus.proofs.Options.{none-some, some-injective, cond-some}
 use Rattle.process_tree.specs.Advanced.{Moved, MovedIn, again_after, close_after, advanced, advanced_sequence, advanced_parallel}
 use Rattle.process_tree.specs.Code.{Code as MCode, Codes, no_code, code, code_at, continues}
-use Rattle.process_tree.specs.Part.{Part, turn, ended, entered, closed, took, Parts, no_parts, part, sequence, parallel, started, all_started, finished}
+use Rattle.process_tree.specs.Proc.{Proc, turn, ended, entered, closed, took, Procs, no_procs, proc, sequence, parallel, started, all_started, finished}
 use Rattle.process_tree.specs.Places.{if_act, if_child, wrap}
 use Rattle.process_tree.specs.Translation.{row_of}
-use Rattle.process_tree.specs.View.{code_view, row_view, part_view, parts_of, begun_of, turn_of, opened_of}
+use Rattle.process_tree.specs.View.{code_view, row_view, proc_view, procs_of, begun_of, turn_of, opened_of}
 use Rattle.process_tree.specs.declared.code.Code.{Code}
 use Rattle.process_tree.specs.declared.code.Row.{Row}
-use Rattle.process_tree.specs.declared.part.Proc.{Proc}
-use Rattle.process_tree.specs.Children.{part_at, with_part, MovedChild}
+use Rattle.process_tree.specs.declared.proc.Proc.{Proc}
+use Rattle.process_tree.specs.Children.{proc_at, with_proc, MovedChild}
 use Rattle.process_tree.specs.walking.Steps.{ordered_step, branch_step, takes_none}
 use Rattle.process_tree.proofs.Asking.{some-elim, wrap-elim}
 use Rattle.process_tree.proofs.Views.{row_codes}
@@ -84,17 +84,17 @@ child-number n (Ordered j ∷ a) f i b e h =
 child-number n (Branch j ∷ a) f i b e h = absurd (none-is h)
 
 -- what has something put around it was there
-pub wrapped : {X Y : Type 0} (w : X → Y) (o : Option (X × Option Part)) → IsSome (wrap w o) → IsSome o
+pub wrapped : {X Y : Type 0} (w : X → Y) (o : Option (X × Option Proc)) → IsSome (wrap w o) → IsSome o
 wrapped w None h = h
 wrapped w (Some x) h = refl
 
 -- a move in the arm that a test took
-pub took-inside : (d : Decision) (cs : Codes) (j : ℕ) (q : Part) (a : Place) (k : Ask) (i : ℕ) (b : Place) → ordered_step a ≡ Some (i, b) → IsSome (advanced (took d cs j q) a k)
+pub took-inside : (d : Decision) (cs : Codes) (j : ℕ) (q : Proc) (a : Place) (k : Ask) (i : ℕ) (b : Place) → ordered_step a ≡ Some (i, b) → IsSome (advanced (took d cs j q) a k)
     → advanced (took d cs j q) a k ≡ wrap (took d cs j) (advanced q b k)
 took-inside d cs j q a k i b e h = inside (finished q) None 1 a (λ b. wrap (took d cs j) (advanced q b k)) i b e none-is h
 
 -- a move in an arm that opened
-pub opened-inside : (over : Bool) (ds : List ℕ) (cs : Codes) (c : ℕ) (v : Option Word) (q : Part) (a : Place) (k : Ask) (i : ℕ) (b : Place) → ordered_step a ≡ Some (i, b) → i ≡ 1
+pub opened-inside : (over : Bool) (ds : List ℕ) (cs : Codes) (c : ℕ) (v : Option Word) (q : Proc) (a : Place) (k : Ask) (i : ℕ) (b : Place) → ordered_step a ≡ Some (i, b) → i ≡ 1
     → IsSome (advanced (opened_of over ds cs c v q) a k) → (over ≡ false) × (advanced (opened_of over ds cs c v q) a k ≡ wrap (entered ds cs c v) (advanced q b k))
 opened-inside true ds cs c v q a k i b e one h = absurd (none-is h)
 opened-inside false ds cs c v q a k i b e one h = (
@@ -107,11 +107,11 @@ opened-inside false ds cs c v q a k i b e one h = (
     not-2 i d e = omega (arith, d, e)
 
 -- the close of an arm
-closes : (ds : List ℕ) (cs : Codes) (c : ℕ) (v : Option Word) (q : Part) (k : Ask) → IsSome (close_after ds cs c v q k) → close_after ds cs c v q k ≡ Some (closed ds cs c v q, None)
+closes : (ds : List ℕ) (cs : Codes) (c : ℕ) (v : Option Word) (q : Proc) (k : Ask) → IsSome (close_after ds cs c v q k) → close_after ds cs c v q k ≡ Some (closed ds cs c v q, None)
 closes ds cs c v q to_close h = refl
 closes ds cs c v q _ h = absurd (none-is h)
 
-pub opened-closes : (over : Bool) (ds : List ℕ) (cs : Codes) (c : ℕ) (v : Option Word) (q : Part) (a : Place) (k : Ask) (i : ℕ) (b : Place) → ordered_step a ≡ Some (i, b)
+pub opened-closes : (over : Bool) (ds : List ℕ) (cs : Codes) (c : ℕ) (v : Option Word) (q : Proc) (a : Place) (k : Ask) (i : ℕ) (b : Place) → ordered_step a ≡ Some (i, b)
     → (i ≡ 1 → ⊥) → IsSome (advanced (opened_of over ds cs c v q) a k) → advanced (opened_of over ds cs c v q) a k ≡ Some (closed ds cs c v q, None)
 opened-closes true ds cs c v q a k i b e un h = absurd (none-is h)
 opened-closes false ds cs c v q a k i b e un h =
@@ -123,7 +123,7 @@ opened-closes false ds cs c v q a k i b e un h =
     ] h
 
 -- another turn of a loop
-again-next : (g : Option Expression) (c : MCode) (n : ℕ) (over : Part) (out : Option Part) (k : Ask) → takes_none k ≡ false → IsSome (again_after g c n over out k)
+again-next : (g : Option Expression) (c : MCode) (n : ℕ) (over : Proc) (out : Option Proc) (k : Ask) → takes_none k ≡ false → IsSome (again_after g c n over out k)
     → again_after g c n over out k ≡ Some (turn g c n (started c), out)
 again-next None c n over out to_turn t h = refl
 again-next (Some e) c n over out (to_test None) t h = absurd (not-both t)
@@ -137,7 +137,7 @@ again-next (Some e) c n over out (to_test (Some j)) t h = first (j == 0) (Some (
     first false o h = absurd (none-is h)
 again-next _ c n over out _ t h = absurd (none-is h)
 
-pub turn-next : (over : Bool) (g : Option Expression) (c : MCode) (n : ℕ) (q : Part) (a : Place) (k : Ask) (i : ℕ) (b : Place) → ordered_step a ≡ Some (i, b)
+pub turn-next : (over : Bool) (g : Option Expression) (c : MCode) (n : ℕ) (q : Proc) (a : Place) (k : Ask) (i : ℕ) (b : Place) → ordered_step a ≡ Some (i, b)
     → (i % 2 ≡ 1 → ⊥) → takes_none k ≡ false → IsSome (advanced (turn_of over g c n q) a k)
     → (over ≡ false) × (i / 2 ≡ n + 1) × (advanced (turn_of over g c n q) a k ≡ Some (turn g c (n + 1) (started c), Some q))
 turn-next true g c n q a k i b e un t h = absurd (none-is h)
@@ -161,46 +161,46 @@ turn-next false g c n q a k i b e un t h =
     odd i n e = omega (arith, e)
 
 -- a sequence moves at places in a sequence only
-pub sequence-steps : (n : ℕ) (ps : Parts) (a : Place) (k : Ask) (x : MovedIn) → ordered_step a ≡ None → advanced_sequence n ps a k ≡ Some x → ⊥
-sequence-steps n no_parts a k x e h = none-some x h
-sequence-steps n (part p ps) (Ordered j ∷ a) k x e h = none-some (j, a) (sym e)
-sequence-steps n (part p ps) [] k x e h =
-    elim (finished p) as (λ t. cond t (wrap (part p) (advanced_sequence (n + 1) ps [] k)) None ≡ Some x → ⊥) [
-      | true ↦ λ h. wrap-elim (part p) (advanced_sequence (n + 1) ps [] k) x (λ _. ⊥) h (λ y d. sequence-steps (n + 1) ps [] k y e d)
+pub sequence-steps : (n : ℕ) (ps : Procs) (a : Place) (k : Ask) (x : MovedIn) → ordered_step a ≡ None → advanced_sequence n ps a k ≡ Some x → ⊥
+sequence-steps n no_procs a k x e h = none-some x h
+sequence-steps n (proc p ps) (Ordered j ∷ a) k x e h = none-some (j, a) (sym e)
+sequence-steps n (proc p ps) [] k x e h =
+    elim (finished p) as (λ t. cond t (wrap (proc p) (advanced_sequence (n + 1) ps [] k)) None ≡ Some x → ⊥) [
+      | true ↦ λ h. wrap-elim (proc p) (advanced_sequence (n + 1) ps [] k) x (λ _. ⊥) h (λ y d. sequence-steps (n + 1) ps [] k y e d)
       | false ↦ λ h. none-some x h
     ] h
-sequence-steps n (part p ps) (Branch j ∷ a) k x e h =
-    elim (finished p) as (λ t. cond t (wrap (part p) (advanced_sequence (n + 1) ps (Branch j ∷ a) k)) None ≡ Some x → ⊥) [
-      | true ↦ λ h. wrap-elim (part p) (advanced_sequence (n + 1) ps (Branch j ∷ a) k) x (λ _. ⊥) h (λ y d. sequence-steps (n + 1) ps (Branch j ∷ a) k y e d)
+sequence-steps n (proc p ps) (Branch j ∷ a) k x e h =
+    elim (finished p) as (λ t. cond t (wrap (proc p) (advanced_sequence (n + 1) ps (Branch j ∷ a) k)) None ≡ Some x → ⊥) [
+      | true ↦ λ h. wrap-elim (proc p) (advanced_sequence (n + 1) ps (Branch j ∷ a) k) x (λ _. ⊥) h (λ y d. sequence-steps (n + 1) ps (Branch j ∷ a) k y e d)
       | false ↦ λ h. none-some x h
     ] h
 
 -- a parallel moves at places in a parallel only
-pub parallel-steps : (n : ℕ) (ps : Parts) (a : Place) (k : Ask) (x : MovedIn) → branch_step a ≡ None → advanced_parallel n ps a k ≡ Some x → ⊥
-parallel-steps n no_parts a k x e h = none-some x h
-parallel-steps n (part p ps) (Branch j ∷ a) k x e h = none-some (j, a) (sym e)
-parallel-steps n (part p ps) [] k x e h = wrap-elim (part p) (advanced_parallel (n + 1) ps [] k) x (λ _. ⊥) h (λ y d. parallel-steps (n + 1) ps [] k y e d)
-parallel-steps n (part p ps) (Ordered j ∷ a) k x e h =
-    wrap-elim (part p) (advanced_parallel (n + 1) ps (Ordered j ∷ a) k) x (λ _. ⊥) h (λ y d. parallel-steps (n + 1) ps (Ordered j ∷ a) k y e d)
+pub parallel-steps : (n : ℕ) (ps : Procs) (a : Place) (k : Ask) (x : MovedIn) → branch_step a ≡ None → advanced_parallel n ps a k ≡ Some x → ⊥
+parallel-steps n no_procs a k x e h = none-some x h
+parallel-steps n (proc p ps) (Branch j ∷ a) k x e h = none-some (j, a) (sym e)
+parallel-steps n (proc p ps) [] k x e h = wrap-elim (proc p) (advanced_parallel (n + 1) ps [] k) x (λ _. ⊥) h (λ y d. parallel-steps (n + 1) ps [] k y e d)
+parallel-steps n (proc p ps) (Ordered j ∷ a) k x e h =
+    wrap-elim (proc p) (advanced_parallel (n + 1) ps (Ordered j ∷ a) k) x (λ _. ⊥) h (λ y d. parallel-steps (n + 1) ps (Ordered j ∷ a) k y e d)
 
 -- the child of a row at this number, if there are so many
-abbrev pub IsChild : Parts → ℕ → Part → Type 0
-IsChild row i child = (p : Part) → part_at row i ≡ Some p → p ≡ child
+abbrev pub IsChild : Procs → ℕ → Proc → Type 0
+IsChild row i child = (p : Proc) → proc_at row i ≡ Some p → p ≡ child
 
 -- a sequence that moves at a place in child i has that child, which moves
-pub record Moves (row : Parts) (i : ℕ) (b : Place) (k : Ask) (answer : Option MovedIn) : Type 0 where
+pub record Moves (row : Procs) (i : ℕ) (b : Place) (k : Ask) (answer : Option MovedIn) : Type 0 where
   pub x : MovedIn
   pub is : answer ≡ Some x
   pub child : MovedChild row i b k x
 
-pub sequence-moves : (row : Parts) (a : Place) (i : ℕ) (b : Place) (k : Ask) → ordered_step a ≡ Some (i, b) → IsSome (advanced (sequence row) a k)
+pub sequence-moves : (row : Procs) (a : Place) (i : ℕ) (b : Place) (k : Ask) → ordered_step a ≡ Some (i, b) → IsSome (advanced (sequence row) a k)
     → Moves row i b k (advanced_sequence 0 row a k)
 sequence-moves row a i b k e h =
     let x = some-of (wrap sequence (advanced_sequence 0 row a k)) h in
     wrap-elim sequence (advanced_sequence 0 row a k) x.0 (λ _. Moves row i b k (advanced_sequence 0 row a k)) x.1
     (λ y d. record { x = y; is = d; child = (in-sequence row 0 i i b k y (from-0 i) (subst (λ a. advanced_sequence 0 row a k ≡ Some y) (ordered_is a i b e) d)).0 })
 
-pub parallel-moves : (row : Parts) (a : Place) (i : ℕ) (b : Place) (k : Ask) → branch_step a ≡ Some (i, b) → IsSome (advanced (parallel row) a k)
+pub parallel-moves : (row : Procs) (a : Place) (i : ℕ) (b : Place) (k : Ask) → branch_step a ≡ Some (i, b) → IsSome (advanced (parallel row) a k)
     → Moves row i b k (advanced_parallel 0 row a k)
 parallel-moves row a i b k e h =
     let x = some-of (wrap parallel (advanced_parallel 0 row a k)) h in
@@ -208,94 +208,94 @@ parallel-moves row a i b k e h =
     (λ y d. record { x = y; is = d; child = in-parallel row 0 i i b k y (from-0 i) (subst (λ a. advanced_parallel 0 row a k ≡ Some y) (branch_is a i b e) d) })
 
 -- it is somewhere
-pub sequence-somewhere : (row : Parts) (a : Place) (k : Ask) → ordered_step a ≡ None → IsSome (advanced (sequence row) a k) → ⊥
+pub sequence-somewhere : (row : Procs) (a : Place) (k : Ask) → ordered_step a ≡ None → IsSome (advanced (sequence row) a k) → ⊥
 sequence-somewhere row a k e h =
     let x = some-of (wrap sequence (advanced_sequence 0 row a k)) h in
     wrap-elim sequence (advanced_sequence 0 row a k) x.0 (λ _. ⊥) x.1 (λ y d. sequence-steps 0 row a k y e d)
 
-pub parallel-somewhere : (row : Parts) (a : Place) (k : Ask) → branch_step a ≡ None → IsSome (advanced (parallel row) a k) → ⊥
+pub parallel-somewhere : (row : Procs) (a : Place) (k : Ask) → branch_step a ≡ None → IsSome (advanced (parallel row) a k) → ⊥
 parallel-somewhere row a k e h =
     let x = some-of (wrap parallel (advanced_parallel 0 row a k)) h in
     wrap-elim parallel (advanced_parallel 0 row a k) x.0 (λ _. ⊥) x.1 (λ y d. parallel-steps 0 row a k y e d)
 
 -- what moves is the child
-pub child-asked : (row : Parts) (i : ℕ) (b : Place) (k : Ask) (o : Option MovedIn) (child : Part) → Moves row i b k o → IsChild row i child → IsSome (advanced child b k)
+pub child-asked : (row : Procs) (i : ℕ) (b : Place) (k : Ask) (o : Option MovedIn) (child : Proc) → Moves row i b k o → IsChild row i child → IsSome (advanced child b k)
 child-asked row i b k o child m c =
     is-some (advanced child b k) m.child.moved (subst (λ p. advanced p b k ≡ Some m.child.moved) (c m.child.child m.child.is) m.child.moves)
 
 -- and the row is that with the child moved
-pub child-moved : (row : Parts) (i : ℕ) (b : Place) (k : Ask) (o : Option MovedIn) (child next : Part) (out : Option Part) → Moves row i b k o → IsChild row i child
-    → advanced child b k ≡ Some (next, out) → o ≡ Some (with_part row i next, out)
+pub child-moved : (row : Procs) (i : ℕ) (b : Place) (k : Ask) (o : Option MovedIn) (child next : Proc) (out : Option Proc) → Moves row i b k o → IsChild row i child
+    → advanced child b k ≡ Some (next, out) → o ≡ Some (with_proc row i next, out)
 child-moved row i b k o child next out m c d =
     let same = subst (λ p. advanced p b k ≡ Some m.child.moved) (c m.child.child m.child.is) m.child.moves in
     m.is ∙ ap Some (m.child.row_is)
-    ∙ ap (λ y. Some (with_part row i y.0, y.1)) (some-injective m.child.moved (next, out) (sym same ∙ d))
+    ∙ ap (λ y. Some (with_proc row i y.0, y.1)) (some-injective m.child.moved (next, out) (sym same ∙ d))
 
 -- the children of a parallel in memory
-pub branch-at : (xs : List Proc) (i : ℕ) (x : Proc) → i < length xs → x ≡ slice_index_or xs i x → IsChild (parts_of (map part_view xs)) i (part_view x)
+pub branch-at : (xs : List Proc) (i : ℕ) (x : Proc) → i < length xs → x ≡ slice_index_or xs i x → IsChild (procs_of (map proc_view xs)) i (proc_view x)
 branch-at [] i x l e p h = none-some p h
-branch-at (y ∷ xs) zero x l e p h = sym (some-injective (part_view y) p h) ∙ sym (ap part_view e)
+branch-at (y ∷ xs) zero x l e p h = sym (some-injective (proc_view y) p h) ∙ sym (ap proc_view e)
 branch-at (y ∷ xs) (suc i) x l e p h = branch-at xs i x (omega (arith, l)) e p h
 
-pub branch-set : (xs : List Proc) (i : ℕ) (w : Proc) → with_part (parts_of (map part_view xs)) i (part_view w) ≡ parts_of (map part_view (slice_set xs i w))
+pub branch-set : (xs : List Proc) (i : ℕ) (w : Proc) → with_proc (procs_of (map proc_view xs)) i (proc_view w) ≡ procs_of (map proc_view (slice_set xs i w))
 branch-set [] i w = refl
 branch-set (x ∷ xs) zero w = refl
-branch-set (x ∷ xs) (suc i) w = ap (part (part_view x)) (branch-set xs i w)
+branch-set (x ∷ xs) (suc i) w = ap (proc (proc_view x)) (branch-set xs i w)
 
-pub branch-within : (xs : List Proc) (i : ℕ) (p : Part) → part_at (parts_of (map part_view xs)) i ≡ Some p → i < length xs
+pub branch-within : (xs : List Proc) (i : ℕ) (p : Proc) → proc_at (procs_of (map proc_view xs)) i ≡ Some p → i < length xs
 branch-within [] i p h = none-some p h
 branch-within (x ∷ xs) zero p h = omega arith
 branch-within (x ∷ xs) (suc i) p h = let l = branch-within xs i p h in omega arith
 
 -- the children of a sequence in memory that have begun
-pub begun-at : (xs : List Proc) (cs : Codes) (i : ℕ) (x : Proc) → i < length xs → x ≡ slice_index_or xs i x → IsChild (begun_of (map part_view xs) cs) i (part_view x)
+pub begun-at : (xs : List Proc) (cs : Codes) (i : ℕ) (x : Proc) → i < length xs → x ≡ slice_index_or xs i x → IsChild (begun_of (map proc_view xs) cs) i (proc_view x)
 begun-at [] cs i x l e p h = absurd (omega (arith, l))
 begun-at (y ∷ xs) no_code i x l e p h = none-some p h
-begun-at (y ∷ xs) (code c cs) zero x l e p h = sym (some-injective (part_view y) p h) ∙ sym (ap part_view e)
+begun-at (y ∷ xs) (code c cs) zero x l e p h = sym (some-injective (proc_view y) p h) ∙ sym (ap proc_view e)
 begun-at (y ∷ xs) (code c cs) (suc i) x l e p h = begun-at xs cs i x (omega (arith, l)) e p h
 
-pub begun-set : (xs : List Proc) (cs : Codes) (i : ℕ) (w : Proc) → i < length xs → with_part (begun_of (map part_view xs) cs) i (part_view w) ≡ begun_of (map part_view (slice_set xs i w)) cs
+pub begun-set : (xs : List Proc) (cs : Codes) (i : ℕ) (w : Proc) → i < length xs → with_proc (begun_of (map proc_view xs) cs) i (proc_view w) ≡ begun_of (map proc_view (slice_set xs i w)) cs
 begun-set [] cs i w l = absurd (omega (arith, l))
 begun-set (x ∷ xs) no_code zero w l = refl
 begun-set (x ∷ xs) no_code (suc i) w l = refl
 begun-set (x ∷ xs) (code c cs) zero w l = refl
-begun-set (x ∷ xs) (code c cs) (suc i) w l = ap (part (part_view x)) (begun-set xs cs i w (omega (arith, l)))
+begun-set (x ∷ xs) (code c cs) (suc i) w l = ap (proc (proc_view x)) (begun-set xs cs i w (omega (arith, l)))
 
 -- a child that there is has its command
-started-within : (cs : List Code) (i : ℕ) (p : Part) → part_at (all_started (row_of (map code_view cs))) i ≡ Some p → i < length cs
+started-within : (cs : List Code) (i : ℕ) (p : Proc) → proc_at (all_started (row_of (map code_view cs))) i ≡ Some p → i < length cs
 started-within [] i p h = none-some p h
 started-within (c ∷ cs) zero p h = omega arith
 started-within (c ∷ cs) (suc i) p h = let l = started-within cs i p h in omega arith
 
-pub begun-within : (xs : List Proc) (cs : List Code) (i : ℕ) (p : Part) → part_at (begun_of (map part_view xs) (row_of (map code_view cs))) i ≡ Some p → i < length cs
+pub begun-within : (xs : List Proc) (cs : List Code) (i : ℕ) (p : Proc) → proc_at (begun_of (map proc_view xs) (row_of (map code_view cs))) i ≡ Some p → i < length cs
 begun-within [] cs i p h = started-within cs i p h
 begun-within (x ∷ xs) [] i p h = none-some p h
 begun-within (x ∷ xs) (c ∷ cs) zero p h = omega arith
 begun-within (x ∷ xs) (c ∷ cs) (suc i) p h = let l = begun-within xs cs i p h in omega arith
 
 -- one child more has begun, and made no move
-one-more : (xs : List Proc) (cs : List Code) (x : Proc) (c : Code) → slice_get cs (length xs) ≡ Some c → part_view x ≡ started (code_view c)
-    → begun_of (map part_view (xs ++ x ∷ [])) (row_of (map code_view cs)) ≡ begun_of (map part_view xs) (row_of (map code_view cs))
+one-more : (xs : List Proc) (cs : List Code) (x : Proc) (c : Code) → slice_get cs (length xs) ≡ Some c → proc_view x ≡ started (code_view c)
+    → begun_of (map proc_view (xs ++ x ∷ [])) (row_of (map code_view cs)) ≡ begun_of (map proc_view xs) (row_of (map code_view cs))
 one-more xs [] x c h e = none-some c h
 one-more [] (d ∷ cs) x c h e =
-    ap (λ p. part p (all_started (row_of (map code_view cs)))) (e ∙ ap (λ (c : Code). started (code_view c)) (sym (some-injective d c h)))
-one-more (y ∷ xs) (d ∷ cs) x c h e = ap (part (part_view y)) (one-more xs cs x c h e)
+    ap (λ p. proc p (all_started (row_of (map code_view cs)))) (e ∙ ap (λ (c : Code). started (code_view c)) (sym (some-injective d c h)))
+one-more (y ∷ xs) (d ∷ cs) x c h e = ap (proc (proc_view y)) (one-more xs cs x c h e)
 
-pub begun-more : (xs : List Proc) (row : Row) (x : Proc) (c : Code) → slice_get row.codes (length xs) ≡ Some c → part_view x ≡ started (code_view c)
-    → begun_of (map part_view (xs ++ x ∷ [])) (row_view row) ≡ begun_of (map part_view xs) (row_view row)
+pub begun-more : (xs : List Proc) (row : Row) (x : Proc) (c : Code) → slice_get row.codes (length xs) ≡ Some c → proc_view x ≡ started (code_view c)
+    → begun_of (map proc_view (xs ++ x ∷ [])) (row_view row) ≡ begun_of (map proc_view xs) (row_view row)
 begun-more xs row x c h e =
-    ap (begun_of (map part_view (xs ++ x ∷ []))) (row_codes row) ∙ one-more xs row.codes x c h e ∙ sym (ap (begun_of (map part_view xs)) (row_codes row))
+    ap (begun_of (map proc_view (xs ++ x ∷ []))) (row_codes row) ∙ one-more xs row.codes x c h e ∙ sym (ap (begun_of (map proc_view xs)) (row_codes row))
 
-pub begun-in-row : (xs : List Proc) (row : Row) (i : ℕ) → IsSome (part_at (begun_of (map part_view xs) (row_view row)) i) → i < length row.codes
+pub begun-in-row : (xs : List Proc) (row : Row) (i : ℕ) → IsSome (proc_at (begun_of (map proc_view xs) (row_view row)) i) → i < length row.codes
 begun-in-row xs row i h =
-    let p = some-of (part_at (begun_of (map part_view xs) (row_view row)) i) h in
-    begun-within xs row.codes i p.0 (subst (λ cs. part_at (begun_of (map part_view xs) cs) i ≡ Some p.0) (row_codes row) p.1)
+    let p = some-of (proc_at (begun_of (map proc_view xs) (row_view row)) i) h in
+    begun-within xs row.codes i p.0 (subst (λ cs. proc_at (begun_of (map proc_view xs) cs) i ≡ Some p.0) (row_codes row) p.1)
 
 -- a list of children with one that is seen as before
-pub view-same : (xs : List Proc) (i : ℕ) (x w : Proc) → x ≡ slice_index_or xs i x → part_view w ≡ part_view x → map part_view (slice_set xs i w) ≡ map part_view xs
+pub view-same : (xs : List Proc) (i : ℕ) (x w : Proc) → x ≡ slice_index_or xs i x → proc_view w ≡ proc_view x → map proc_view (slice_set xs i w) ≡ map proc_view xs
 view-same [] i x w e h = refl
-view-same (y ∷ xs) zero x w e h = ap (λ p. p ∷ map part_view xs) (h ∙ ap part_view e)
-view-same (y ∷ xs) (suc i) x w e h = ap (λ ps. part_view y ∷ ps) (view-same xs i x w e h)
+view-same (y ∷ xs) zero x w e h = ap (λ p. p ∷ map proc_view xs) (h ∙ ap proc_view e)
+view-same (y ∷ xs) (suc i) x w e h = ap (λ ps. proc_view y ∷ ps) (view-same xs i x w e h)
 
 -- an arm by its number
 pub arm-at : (cs : List Code) (j : ℕ) (c : Code) → slice_get cs j ≡ Some c → code_at (row_of (map code_view cs)) j ≡ code_view c
@@ -315,7 +315,7 @@ get-past (c ∷ cs) zero h = none-some c (sym h)
 get-past (c ∷ cs) (suc n) h = let l = get-past cs n h in omega arith
 
 -- the next turn, as it stands in memory
-pub turn-is : (over : Bool) (g : Option Expression) (c : MCode) (n m : ℕ) (q old new : Part) → over ≡ false → m ≡ n + 1 → new ≡ started c → old ≡ q
+pub turn-is : (over : Bool) (g : Option Expression) (c : MCode) (n m : ℕ) (q old new : Proc) → over ≡ false → m ≡ n + 1 → new ≡ started c → old ≡ q
     → ◌≡◌ {A = Option Moved} (Some (turn g c (n + 1) (started c), Some q)) (Some (turn_of over g c m new, Some old))
 turn-is true g c n m q old new o d e f = absurd (none-is (sym o))
 turn-is false g c n m q old new o d e f = λ i. Some (turn g c (sym d i) (sym e i), Some (sym f i))

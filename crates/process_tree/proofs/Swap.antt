@@ -1,4 +1,4 @@
--- Two moves of which the second does not come after the first can be made the other way round, with the same parts taken out.
+-- Two moves of which the second does not come after the first can be made the other way round, with the same processes taken out.
 use Rattle.std.proofs.Common.{◌≡◌, ℕ, ◌+◌, ◌*◌, ◌<◌, ◌==◌, List, [], ◌∷◌, Bool, true, false, cond, Option, Some, None, slice_get, inl, inr, refl, sym, ap, ◌∙◌, arith}
 use Rattle.address.specs.declared.Entry.TheVariants.{Ordered, Branch}
 use Rattle.address.specs.Places.{Before}
@@ -8,7 +8,7 @@ use Rattle.calculus.specs.Moves.{Place}
 use Rattle.calculus.specs.walking.After.{Ask, to_assign, to_test, to_turn, to_send, to_hold, to_receive, to_open, to_sync, to_release, to_close}
 use Rattle.calculus.proofs.Options.{none-some, cond-some}
 use Rattle.process_tree.specs.Code.{Once, assigning, receiving, Sender, sending, syncing, Code, Codes, code_at}
-use Rattle.process_tree.specs.Part.{waiting, holding, past, Part, idle, stopped, once, sender, fresh, turn, ended_at_once, ended, untested, skipped, took, unopened, entered, closed, sequence, parallel, drained, Parts, no_parts, part, started, finished}
+use Rattle.process_tree.specs.Proc.{waiting, holding, past, Proc, idle, stopped, once, sender, fresh, turn, ended_at_once, ended, untested, skipped, took, unopened, entered, closed, sequence, parallel, drained, Procs, no_procs, proc, started, finished}
 use Rattle.process_tree.specs.Places.{if_act, if_child, wrap}
 use Rattle.process_tree.specs.Advanced.{Moved, MovedIn, once_after, sender_after, holding_after, again_after, test_after, open_on, open_after, close_after, drain_after, advanced, advanced_sequence, advanced_parallel}
 use Rattle.process_tree.specs.Laws.{Swapped}
@@ -16,13 +16,13 @@ use Rattle.process_tree.proofs.Asking.{some-elim, cond-elim, cond-true, cond-fal
 use Rattle.process_tree.proofs.Simulation.{unfinished}
 
 -- each two moves of p swap
-abbrev Swaps : {Y : Type 0} → (Y → Place → Ask → Option (Y × Option Part)) → Y → Type 0
+abbrev Swaps : {Y : Type 0} → (Y → Place → Ask → Option (Y × Option Proc)) → Y → Type 0
 Swaps {Y = Y} step p =
-    (a : Place) (k : Ask) (x : Y × Option Part) (b : Place) (l : Ask) (y : Y × Option Part) →
+    (a : Place) (k : Ask) (x : Y × Option Proc) (b : Place) (l : Ask) (y : Y × Option Proc) →
     step p a k ≡ Some x → step x.0 b l ≡ Some y → (Before a b → ⊥) → Swapped step p a k x b l y
 
--- a part that moves at places behind a only
-abbrev MovesBehind : Place → Part → Type 0
+-- a process that moves at places behind a only
+abbrev MovesBehind : Place → Proc → Type 0
 MovesBehind a p = (b : Place) (l : Ask) (y : Moved) → advanced p b l ≡ Some y → Before a b
 
 -- what has made its one move makes no other
@@ -52,14 +52,14 @@ holding-behind s to_release x h a = some-elim (sender s past, None) x (λ x. Mov
 holding-behind s _ x h a = none-some x h
 
 -- a loop in turn n moves behind that turn
-turn-behind : (g : Option Expression) (c : Code) (n : ℕ) (q : Part) → MovesBehind (Ordered (2 * n) ∷ []) (turn g c n q)
+turn-behind : (g : Option Expression) (c : Code) (n : ℕ) (q : Proc) → MovesBehind (Ordered (2 * n) ∷ []) (turn g c n q)
 turn-behind g c n q b l y h =
     cond-elim (finished q) (if_act (2 * (n + 1)) b (again_after g c (n + 1) (ended g c n q) (Some q) l)) (if_child (2 * n + 1) b (λ b. wrap (turn g c n) (advanced q b l))) y
     (Before (Ordered (2 * n) ∷ []) b) h
     (λ t e. act-elim (2 * (n + 1)) b (again_after g c (n + 1) (ended g c n q) (Some q) l) y (λ b. Before (Ordered (2 * n) ∷ []) b) e (λ i. inl (omega arith)))
     (λ t e. child-elim (2 * n + 1) b (λ b. wrap (turn g c n) (advanced q b l)) y (λ b. Before (Ordered (2 * n) ∷ []) b) e (λ b i. inl (omega arith)))
 
-again-behind : (g : Option Expression) (c : Code) (n : ℕ) (over : Part) (out : Option Part) (k : Ask) (x : Moved) → again_after g c n over out k ≡ Some x
+again-behind : (g : Option Expression) (c : Code) (n : ℕ) (over : Proc) (out : Option Proc) (k : Ask) (x : Moved) → again_after g c n over out k ≡ Some x
     → MovesBehind (Ordered (2 * n) ∷ []) over → MovesBehind (Ordered (2 * n) ∷ []) x.0
 again-behind None c n over out to_turn x h i =
     some-elim (turn None c n (started c), out) x (λ x. MovesBehind (Ordered (2 * n) ∷ []) x.0) h (turn-behind None c n (started c))
@@ -70,7 +70,7 @@ again-behind (Some e) c n over out (to_test (Some m)) x h i =
 again-behind _ c n over out _ x h i = none-some x h
 
 -- an arm that a test took moves behind the test
-took-behind : (d : Decision) (cs : Codes) (j : ℕ) (q : Part) → MovesBehind (Ordered 0 ∷ []) (took d cs j q)
+took-behind : (d : Decision) (cs : Codes) (j : ℕ) (q : Proc) → MovesBehind (Ordered 0 ∷ []) (took d cs j q)
 took-behind d cs j q b l y h =
     cond-elim (finished q) None (if_child 1 b (λ b. wrap (took d cs j) (advanced q b l))) y (Before (Ordered 0 ∷ []) b) h (λ t e. none-some y e)
     (λ t e. child-elim 1 b (λ b. wrap (took d cs j) (advanced q b l)) y (λ b. Before (Ordered 0 ∷ []) b) e (λ b i. inl (omega arith)))
@@ -82,7 +82,7 @@ test-behind d cs (to_test (Some j)) x h =
 test-behind d cs _ x h = none-some x h
 
 -- an arm that opened moves behind the open
-entered-behind : (ds : List ℕ) (cs : Codes) (c : ℕ) (v : Option Word) (q : Part) → MovesBehind (Ordered 0 ∷ []) (entered ds cs c v q)
+entered-behind : (ds : List ℕ) (cs : Codes) (c : ℕ) (v : Option Word) (q : Proc) → MovesBehind (Ordered 0 ∷ []) (entered ds cs c v q)
 entered-behind ds cs c v q b l y h =
     cond-elim (finished q) (if_act 2 b (close_after ds cs c v q l)) (if_child 1 b (λ b. wrap (entered ds cs c v) (advanced q b l))) y (Before (Ordered 0 ∷ []) b) h
     (λ t e. act-elim 2 b (close_after ds cs c v q l) y (λ b. Before (Ordered 0 ∷ []) b) e (λ i. inl (omega arith)))
@@ -97,7 +97,7 @@ open-behind : (ds : List ℕ) (cs : Codes) (k : Ask) (x : Moved) → open_after 
 open-behind ds cs (to_open j v) x h = on-behind ds cs (slice_get ds j) j v x h
 open-behind ds cs _ x h = none-some x h
 
-close-behind : (ds : List ℕ) (cs : Codes) (c : ℕ) (v : Option Word) (q : Part) (k : Ask) (x : Moved) → close_after ds cs c v q k ≡ Some x → (a : Place) → MovesBehind a x.0
+close-behind : (ds : List ℕ) (cs : Codes) (c : ℕ) (v : Option Word) (q : Proc) (k : Ask) (x : Moved) → close_after ds cs c v q k ≡ Some x → (a : Place) → MovesBehind a x.0
 close-behind ds cs c v q to_close x h a = some-elim (closed ds cs c v q, None) x (λ x. MovesBehind a x.0) h (λ b l y i. none-some y i)
 close-behind ds cs c v q _ x h a = none-some x h
 
@@ -108,27 +108,27 @@ drain-behind c n to_receive x h =
 drain-behind c n _ x h = none-some x h
 
 -- a sequence moves at its first child or later
-pub sequence-behind : (n m : ℕ) (c : Place) (ps : Parts) (b : Place) (l : Ask) (y : MovedIn) → n < m → advanced_sequence m ps b l ≡ Some y → Before (Ordered n ∷ c) b
-sequence-behind n m c no_parts b l y i h = none-some y h
-sequence-behind n m c (part p ps) b l y i h =
-    cond-elim (finished p) (wrap (part p) (advanced_sequence (m + 1) ps b l)) (if_child m b (λ b. wrap (λ q. part q ps) (advanced p b l))) y
+pub sequence-behind : (n m : ℕ) (c : Place) (ps : Procs) (b : Place) (l : Ask) (y : MovedIn) → n < m → advanced_sequence m ps b l ≡ Some y → Before (Ordered n ∷ c) b
+sequence-behind n m c no_procs b l y i h = none-some y h
+sequence-behind n m c (proc p ps) b l y i h =
+    cond-elim (finished p) (wrap (proc p) (advanced_sequence (m + 1) ps b l)) (if_child m b (λ b. wrap (λ q. proc q ps) (advanced p b l))) y
     (Before (Ordered n ∷ c) b) h
-    (λ t e. wrap-elim (part p) (advanced_sequence (m + 1) ps b l) y (λ y. Before (Ordered n ∷ c) b) e (λ z j. sequence-behind n (m + 1) c ps b l z (omega arith) j))
-    (λ t e. child-elim m b (λ b. wrap (λ q. part q ps) (advanced p b l)) y (λ b. Before (Ordered n ∷ c) b) e (λ b j. inl i))
+    (λ t e. wrap-elim (proc p) (advanced_sequence (m + 1) ps b l) y (λ y. Before (Ordered n ∷ c) b) e (λ z j. sequence-behind n (m + 1) c ps b l z (omega arith) j))
+    (λ t e. child-elim m b (λ b. wrap (λ q. proc q ps) (advanced p b l)) y (λ b. Before (Ordered n ∷ c) b) e (λ b j. inl i))
 
 -- a node w q that moves in its child i until that is finished, and then by `rest`, behind it
-module _ {Y : Type 0} (step : Y → Place → Ask → Option (Y × Option Part)) (w : Part → Y) (i : ℕ) (rest : Part → Place → Ask → Option (Y × Option Part))
-    (is : (q : Part) (a : Place) (k : Ask) → step (w q) a k ≡ cond (finished q) (rest q a k) (if_child i a (λ b. wrap w (advanced q b k))))
-    (later : (q : Part) (b : Place) (l : Ask) (y : Y × Option Part) → rest q b l ≡ Some y → (c : Place) → Before (Ordered i ∷ c) b)
+module _ {Y : Type 0} (step : Y → Place → Ask → Option (Y × Option Proc)) (w : Proc → Y) (i : ℕ) (rest : Proc → Place → Ask → Option (Y × Option Proc))
+    (is : (q : Proc) (a : Place) (k : Ask) → step (w q) a k ≡ cond (finished q) (rest q a k) (if_child i a (λ b. wrap w (advanced q b k))))
+    (later : (q : Proc) (b : Place) (l : Ask) (y : Y × Option Proc) → rest q b l ≡ Some y → (c : Place) → Before (Ordered i ∷ c) b)
   where
     -- a move of the child is one of the node
-    node-at : (q : Part) (b : Place) (l : Ask) (z : Moved) → advanced q b l ≡ Some z → step (w q) (Ordered i ∷ b) l ≡ Some (w z.0, z.1)
+    node-at : (q : Proc) (b : Place) (l : Ask) (z : Moved) → advanced q b l ≡ Some z → step (w q) (Ordered i ∷ b) l ≡ Some (w z.0, z.1)
     node-at q b l z e =
         is q (Ordered i ∷ b) l ∙ cond-false (finished q) (rest q (Ordered i ∷ b) l) (if_child i (Ordered i ∷ b) (λ b. wrap w (advanced q b l))) (unfinished q b l z e)
         ∙ child-at i b (λ b. wrap w (advanced q b l)) ∙ ap (wrap w) e
 
     -- two moves of the node swap where those of the child do
-    in_node : (q : Part) → Swaps advanced q → (a : Place) (k : Ask) (x : Y × Option Part) (b : Place) (l : Ask) (y : Y × Option Part) →
+    in_node : (q : Proc) → Swaps advanced q → (a : Place) (k : Ask) (x : Y × Option Proc) (b : Place) (l : Ask) (y : Y × Option Proc) →
         if_child i a (λ b. wrap w (advanced q b k)) ≡ Some x → step x.0 b l ≡ Some y → (Before a b → ⊥) → Swapped step (w q) a k x b l y
     in_node q ih a k x b l y h g n =
         child-elim i a (λ b. wrap w (advanced q b k)) x (λ a. (Before a b → ⊥) → Swapped step (w q) a k x b l y) h
@@ -142,30 +142,30 @@ module _ {Y : Type 0} (step : Y → Place → Ask → Option (Y × Option Part))
         ((w z.0.0, z.0.1), node-at q b l z.0 z.1, node-at z.0.0 a k (y.0, x.1) z.2, z.3))) n)) g) n
 
 -- the first of two branches moves, and then the rest
-branch-rest : (p : Part) (ps : Parts) (n : ℕ) (a : Place) (k : Ask) (x : Moved) (b : Place) (l : Ask) (y : MovedIn) →
+branch-rest : (p : Proc) (ps : Procs) (n : ℕ) (a : Place) (k : Ask) (x : Moved) (b : Place) (l : Ask) (y : MovedIn) →
     advanced p a k ≡ Some x → advanced_parallel (n + 1) ps b l ≡ Some y → NotIn n b →
-    Swapped (advanced_parallel n) (part p ps) (Branch n ∷ a) k (part x.0 ps, x.1) b l (part x.0 y.0, y.1)
+    Swapped (advanced_parallel n) (proc p ps) (Branch n ∷ a) k (proc x.0 ps, x.1) b l (proc x.0 y.0, y.1)
 branch-rest p ps n a k x b l y d c other = (
-  (part p y.0, y.1),
-  other MovedIn (λ b. wrap (λ q. part q ps) (advanced p b l)) (wrap (part p) (advanced_parallel (n + 1) ps b l)) ∙ ap (wrap (part p)) c,
-  branch-at n a (λ b. wrap (λ q. part q y.0) (advanced p b k)) (wrap (part p) (advanced_parallel (n + 1) y.0 (Branch n ∷ a) k)) ∙ ap (wrap (λ q. part q y.0)) d,
+  (proc p y.0, y.1),
+  other MovedIn (λ b. wrap (λ q. proc q ps) (advanced p b l)) (wrap (proc p) (advanced_parallel (n + 1) ps b l)) ∙ ap (wrap (proc p)) c,
+  branch-at n a (λ b. wrap (λ q. proc q y.0) (advanced p b k)) (wrap (proc p) (advanced_parallel (n + 1) y.0 (Branch n ∷ a) k)) ∙ ap (wrap (λ q. proc q y.0)) d,
   refl,
 )
 
 -- the rest moves, and then the first branch
-rest-branch : (p : Part) (ps : Parts) (n : ℕ) (a : Place) (k : Ask) (x : MovedIn) (b : Place) (l : Ask) (y : Moved) →
+rest-branch : (p : Proc) (ps : Procs) (n : ℕ) (a : Place) (k : Ask) (x : MovedIn) (b : Place) (l : Ask) (y : Moved) →
     advanced_parallel (n + 1) ps a k ≡ Some x → advanced p b l ≡ Some y → NotIn n a →
-    Swapped (advanced_parallel n) (part p ps) a k (part p x.0, x.1) (Branch n ∷ b) l (part y.0 x.0, y.1)
+    Swapped (advanced_parallel n) (proc p ps) a k (proc p x.0, x.1) (Branch n ∷ b) l (proc y.0 x.0, y.1)
 rest-branch p ps n a k x b l y d c other = (
-  (part y.0 ps, y.1),
-  branch-at n b (λ b. wrap (λ q. part q ps) (advanced p b l)) (wrap (part p) (advanced_parallel (n + 1) ps (Branch n ∷ b) l)) ∙ ap (wrap (λ q. part q ps)) c,
-  other MovedIn (λ b. wrap (λ q. part q ps) (advanced y.0 b k)) (wrap (part y.0) (advanced_parallel (n + 1) ps a k)) ∙ ap (wrap (part y.0)) d,
+  (proc y.0 ps, y.1),
+  branch-at n b (λ b. wrap (λ q. proc q ps) (advanced p b l)) (wrap (proc p) (advanced_parallel (n + 1) ps (Branch n ∷ b) l)) ∙ ap (wrap (λ q. proc q ps)) c,
+  other MovedIn (λ b. wrap (λ q. proc q ps) (advanced y.0 b k)) (wrap (proc y.0) (advanced_parallel (n + 1) ps a k)) ∙ ap (wrap (proc y.0)) d,
   refl,
 )
 
 mutual
-  -- two moves of a part swap unless the second comes after the first
-  pub swap : (p : Part) → Swaps advanced p
+  -- two moves of a process swap unless the second comes after the first
+  pub swap : (p : Proc) → Swaps advanced p
   swap idle a k x b l y h g n = none-some x h
   swap stopped a k x b l y h g n = none-some x h
   swap (once o made) a k x b l y h g n =
@@ -218,51 +218,51 @@ mutual
   swap (drained c m) a k x b l y h g n =
       absurd (n (act-elim m a (drain_after c m k) x (λ a. Before a b) h (λ e. drain-behind c m k x e b l y g)))
 
-  swap_sequence : (ps : Parts) (m : ℕ) → Swaps (advanced_sequence m) ps
-  swap_sequence no_parts m a k x b l y h g n = none-some x h
-  swap_sequence (part p ps) m a k x b l y h g n =
-      cond-elim (finished p) (wrap (part p) (advanced_sequence (m + 1) ps a k)) (if_child m a (λ b. wrap (λ q. part q ps) (advanced p b k))) x
-      (Swapped (advanced_sequence m) (part p ps) a k x b l y) h
-      (λ t e. wrap-elim (part p) (advanced_sequence (m + 1) ps a k) x (λ x. advanced_sequence m x.0 b l ≡ Some y → Swapped (advanced_sequence m) (part p ps) a k x b l y) e
-      (λ x d g. wrap-elim (part p) (advanced_sequence (m + 1) x.0 b l) y (λ y. Swapped (advanced_sequence m) (part p ps) a k (part p x.0, x.1) b l y)
-      (sym (cond-true (finished p) (wrap (part p) (advanced_sequence (m + 1) x.0 b l)) (if_child m b (λ b. wrap (λ q. part q x.0) (advanced p b l))) t) ∙ g)
+  swap_sequence : (ps : Procs) (m : ℕ) → Swaps (advanced_sequence m) ps
+  swap_sequence no_procs m a k x b l y h g n = none-some x h
+  swap_sequence (proc p ps) m a k x b l y h g n =
+      cond-elim (finished p) (wrap (proc p) (advanced_sequence (m + 1) ps a k)) (if_child m a (λ b. wrap (λ q. proc q ps) (advanced p b k))) x
+      (Swapped (advanced_sequence m) (proc p ps) a k x b l y) h
+      (λ t e. wrap-elim (proc p) (advanced_sequence (m + 1) ps a k) x (λ x. advanced_sequence m x.0 b l ≡ Some y → Swapped (advanced_sequence m) (proc p ps) a k x b l y) e
+      (λ x d g. wrap-elim (proc p) (advanced_sequence (m + 1) x.0 b l) y (λ y. Swapped (advanced_sequence m) (proc p ps) a k (proc p x.0, x.1) b l y)
+      (sym (cond-true (finished p) (wrap (proc p) (advanced_sequence (m + 1) x.0 b l)) (if_child m b (λ b. wrap (λ q. proc q x.0) (advanced p b l))) t) ∙ g)
       (λ y c. let z = swap_sequence ps (m + 1) a k x b l y d c n in (
-        (part p z.0.0, z.0.1),
-        cond-true (finished p) (wrap (part p) (advanced_sequence (m + 1) ps b l)) (if_child m b (λ b. wrap (λ q. part q ps) (advanced p b l))) t ∙ ap (wrap (part p)) z.1,
-        cond-true (finished p) (wrap (part p) (advanced_sequence (m + 1) z.0.0 a k)) (if_child m a (λ b. wrap (λ q. part q z.0.0) (advanced p b k))) t ∙ ap (wrap (part p)) z.2,
+        (proc p z.0.0, z.0.1),
+        cond-true (finished p) (wrap (proc p) (advanced_sequence (m + 1) ps b l)) (if_child m b (λ b. wrap (λ q. proc q ps) (advanced p b l))) t ∙ ap (wrap (proc p)) z.1,
+        cond-true (finished p) (wrap (proc p) (advanced_sequence (m + 1) z.0.0 a k)) (if_child m a (λ b. wrap (λ q. proc q z.0.0) (advanced p b k))) t ∙ ap (wrap (proc p)) z.2,
         z.3,
       ))) g)
-      (λ t e. in_node (advanced_sequence m) (λ q. part q ps) m (λ q a k. wrap (part q) (advanced_sequence (m + 1) ps a k)) (λ q a k. refl)
-      (λ q b l y r c. wrap-elim (part q) (advanced_sequence (m + 1) ps b l) y (λ y. Before (Ordered m ∷ c) b) r
+      (λ t e. in_node (advanced_sequence m) (λ q. proc q ps) m (λ q a k. wrap (proc q) (advanced_sequence (m + 1) ps a k)) (λ q a k. refl)
+      (λ q b l y r c. wrap-elim (proc q) (advanced_sequence (m + 1) ps b l) y (λ y. Before (Ordered m ∷ c) b) r
       (λ z j. sequence-behind m (m + 1) c ps b l z (omega arith) j))
       p (swap p) a k x b l y e g n)
 
-  swap_parallel : (ps : Parts) (m : ℕ) → Swaps (advanced_parallel m) ps
-  swap_parallel no_parts m a k x b l y h g n = none-some x h
-  swap_parallel (part p ps) m a k x b l y h g n =
-      branch-elim m a (λ b. wrap (λ q. part q ps) (advanced p b k)) (wrap (part p) (advanced_parallel (m + 1) ps a k)) x
-      (λ a. (Before a b → ⊥) → Swapped (advanced_parallel m) (part p ps) a k x b l y) h
-      (λ a e n. wrap-elim (λ q. part q ps) (advanced p a k) x (λ x. advanced_parallel m x.0 b l ≡ Some y → Swapped (advanced_parallel m) (part p ps) (Branch m ∷ a) k x b l y) e
-      (λ x d g. branch-elim m b (λ b. wrap (λ q. part q ps) (advanced x.0 b l)) (wrap (part x.0) (advanced_parallel (m + 1) ps b l)) y
-      (λ b. (Before (Branch m ∷ a) b → ⊥) → Swapped (advanced_parallel m) (part p ps) (Branch m ∷ a) k (part x.0 ps, x.1) b l y) g
-      (λ b r n. wrap-elim (λ q. part q ps) (advanced x.0 b l) y (λ y. Swapped (advanced_parallel m) (part p ps) (Branch m ∷ a) k (part x.0 ps, x.1) (Branch m ∷ b) l y) r
+  swap_parallel : (ps : Procs) (m : ℕ) → Swaps (advanced_parallel m) ps
+  swap_parallel no_procs m a k x b l y h g n = none-some x h
+  swap_parallel (proc p ps) m a k x b l y h g n =
+      branch-elim m a (λ b. wrap (λ q. proc q ps) (advanced p b k)) (wrap (proc p) (advanced_parallel (m + 1) ps a k)) x
+      (λ a. (Before a b → ⊥) → Swapped (advanced_parallel m) (proc p ps) a k x b l y) h
+      (λ a e n. wrap-elim (λ q. proc q ps) (advanced p a k) x (λ x. advanced_parallel m x.0 b l ≡ Some y → Swapped (advanced_parallel m) (proc p ps) (Branch m ∷ a) k x b l y) e
+      (λ x d g. branch-elim m b (λ b. wrap (λ q. proc q ps) (advanced x.0 b l)) (wrap (proc x.0) (advanced_parallel (m + 1) ps b l)) y
+      (λ b. (Before (Branch m ∷ a) b → ⊥) → Swapped (advanced_parallel m) (proc p ps) (Branch m ∷ a) k (proc x.0 ps, x.1) b l y) g
+      (λ b r n. wrap-elim (λ q. proc q ps) (advanced x.0 b l) y (λ y. Swapped (advanced_parallel m) (proc p ps) (Branch m ∷ a) k (proc x.0 ps, x.1) (Branch m ∷ b) l y) r
       (λ y c. let z = swap p a k x b l y d c (λ s. n (refl, s)) in (
-        (part z.0.0 ps, z.0.1),
-        branch-at m b (λ b. wrap (λ q. part q ps) (advanced p b l)) (wrap (part p) (advanced_parallel (m + 1) ps (Branch m ∷ b) l)) ∙ ap (wrap (λ q. part q ps)) z.1,
-        branch-at m a (λ b. wrap (λ q. part q ps) (advanced z.0.0 b k)) (wrap (part z.0.0) (advanced_parallel (m + 1) ps (Branch m ∷ a) k)) ∙ ap (wrap (λ q. part q ps)) z.2,
+        (proc z.0.0 ps, z.0.1),
+        branch-at m b (λ b. wrap (λ q. proc q ps) (advanced p b l)) (wrap (proc p) (advanced_parallel (m + 1) ps (Branch m ∷ b) l)) ∙ ap (wrap (λ q. proc q ps)) z.1,
+        branch-at m a (λ b. wrap (λ q. proc q ps) (advanced z.0.0 b k)) (wrap (proc z.0.0) (advanced_parallel (m + 1) ps (Branch m ∷ a) k)) ∙ ap (wrap (λ q. proc q ps)) z.2,
         z.3,
       )))
-      (λ r other n. wrap-elim (part x.0) (advanced_parallel (m + 1) ps b l) y (λ y. Swapped (advanced_parallel m) (part p ps) (Branch m ∷ a) k (part x.0 ps, x.1) b l y) r
+      (λ r other n. wrap-elim (proc x.0) (advanced_parallel (m + 1) ps b l) y (λ y. Swapped (advanced_parallel m) (proc p ps) (Branch m ∷ a) k (proc x.0 ps, x.1) b l y) r
       (λ y c. branch-rest p ps m a k x b l y d c other)) n) g)
-      (λ e other n. wrap-elim (part p) (advanced_parallel (m + 1) ps a k) x (λ x. advanced_parallel m x.0 b l ≡ Some y → Swapped (advanced_parallel m) (part p ps) a k x b l y) e
-      (λ x d g. branch-elim m b (λ b. wrap (λ q. part q x.0) (advanced p b l)) (wrap (part p) (advanced_parallel (m + 1) x.0 b l)) y
-      (λ b. (Before a b → ⊥) → Swapped (advanced_parallel m) (part p ps) a k (part p x.0, x.1) b l y) g
-      (λ b r n. wrap-elim (λ q. part q x.0) (advanced p b l) y (λ y. Swapped (advanced_parallel m) (part p ps) a k (part p x.0, x.1) (Branch m ∷ b) l y) r
+      (λ e other n. wrap-elim (proc p) (advanced_parallel (m + 1) ps a k) x (λ x. advanced_parallel m x.0 b l ≡ Some y → Swapped (advanced_parallel m) (proc p ps) a k x b l y) e
+      (λ x d g. branch-elim m b (λ b. wrap (λ q. proc q x.0) (advanced p b l)) (wrap (proc p) (advanced_parallel (m + 1) x.0 b l)) y
+      (λ b. (Before a b → ⊥) → Swapped (advanced_parallel m) (proc p ps) a k (proc p x.0, x.1) b l y) g
+      (λ b r n. wrap-elim (λ q. proc q x.0) (advanced p b l) y (λ y. Swapped (advanced_parallel m) (proc p ps) a k (proc p x.0, x.1) (Branch m ∷ b) l y) r
       (λ y c. rest-branch p ps m a k x b l y d c other))
-      (λ r elsewhere n. wrap-elim (part p) (advanced_parallel (m + 1) x.0 b l) y (λ y. Swapped (advanced_parallel m) (part p ps) a k (part p x.0, x.1) b l y) r
+      (λ r elsewhere n. wrap-elim (proc p) (advanced_parallel (m + 1) x.0 b l) y (λ y. Swapped (advanced_parallel m) (proc p ps) a k (proc p x.0, x.1) b l y) r
       (λ y c. let z = swap_parallel ps (m + 1) a k x b l y d c n in (
-        (part p z.0.0, z.0.1),
-        elsewhere MovedIn (λ b. wrap (λ q. part q ps) (advanced p b l)) (wrap (part p) (advanced_parallel (m + 1) ps b l)) ∙ ap (wrap (part p)) z.1,
-        other MovedIn (λ b. wrap (λ q. part q z.0.0) (advanced p b k)) (wrap (part p) (advanced_parallel (m + 1) z.0.0 a k)) ∙ ap (wrap (part p)) z.2,
+        (proc p z.0.0, z.0.1),
+        elsewhere MovedIn (λ b. wrap (λ q. proc q ps) (advanced p b l)) (wrap (proc p) (advanced_parallel (m + 1) ps b l)) ∙ ap (wrap (proc p)) z.1,
+        other MovedIn (λ b. wrap (λ q. proc q z.0.0) (advanced p b k)) (wrap (proc p) (advanced_parallel (m + 1) z.0.0 a k)) ∙ ap (wrap (proc p)) z.2,
         z.3,
       ))) n) g) n

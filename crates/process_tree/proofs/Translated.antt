@@ -17,7 +17,7 @@ use Rattle.system.specs.declared.system.System.{System}
 use Rattle.system.specs.declared.system.Branch.{Branch}
 use Rattle.system.specs.declared.system.Branch.TheVariants.{Feed, Drain, Syncs}
 use Rattle.process_tree.specs.Code.{Code}
-use Rattle.process_tree.specs.Part.{started}
+use Rattle.process_tree.specs.Proc.{started}
 use Rattle.process_tree.specs.Left.{again, residual, residual_arms, residual_sequence, residual_parallel, left}
 use Rattle.process_tree.specs.Translation.{row_of, row_with, OnChannel, OnGuard, OnLabels, action_code, arm_code, command_code, guarded_code, labelled_code, code_of, feed_of, syncs_of, port_of, system_code}
 use Rattle.process_tree.specs.walking.Arms.{guarded_of, labelled_of, arm_of}

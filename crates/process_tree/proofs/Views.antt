@@ -1,13 +1,13 @@
--- Parts that begin together.
+-- Processes that begin together.
 use Rattle.std.proofs.Common.{◌≡◌, List, [], ◌∷◌, ◌++◌, map, Option, Some, None, option_map, refl, sym, ap, ◌∙◌, rules}
 use Rattle.std.specs.Global.{Vec}
 use Rattle.system.specs.Translation.{expression_of, decision_of}
 use Rattle.system.specs.declared.command.Command.{Command}
 use Rattle.process_tree.specs.Code as model
 use Rattle.process_tree.specs.Code.{moves_once, may_be_held, repeats, decides, awaits, in_turn, side_by_side, code}
-use Rattle.process_tree.specs.Part.{idle, parallel, part, started, all_started}
+use Rattle.process_tree.specs.Proc.{idle, parallel, proc, started, all_started}
 use Rattle.process_tree.specs.Translation.{code_of, row_of, row_with}
-use Rattle.process_tree.specs.View.{once_view, sender_view, code_view, repeat_view, row_view, part_view, parts_of}
+use Rattle.process_tree.specs.View.{once_view, sender_view, code_view, repeat_view, row_view, proc_view, procs_of}
 use Rattle.process_tree.specs.declared.code.Once.{Once}
 use Rattle.process_tree.specs.declared.code.Await.{Await}
 use Rattle.process_tree.specs.declared.code.Code as made_code
@@ -17,14 +17,14 @@ use Rattle.process_tree.specs.declared.code.Decide.{Decide}
 use Rattle.process_tree.specs.declared.code.Sender.{Sender}
 use Rattle.process_tree.specs.declared.code.Repeat.{Repeat}
 use Rattle.process_tree.specs.declared.code.Row.{Row}
-use Rattle.process_tree.specs.declared.part.Proc as made_part
-use Rattle.process_tree.specs.declared.part.Proc.{Proc}
-use Rattle.process_tree.specs.declared.part.Gate.TheFolds.{the_lemmas as part_lemmas}
+use Rattle.process_tree.specs.declared.proc.Proc as made_proc
+use Rattle.process_tree.specs.declared.proc.Proc.{Proc}
+use Rattle.process_tree.specs.declared.proc.Gate.TheFolds.{the_lemmas as proc_lemmas}
 
--- the parts of commands before their first move
-parts_started : (cs : List Code) → parts_of (map (λ c. started (code_view c)) cs) ≡ all_started (row_of (map code_view cs))
-parts_started [] = refl
-parts_started (c ∷ cs) = ap (part (started (code_view c))) (parts_started cs)
+-- the processes of commands before their first move
+procs_started : (cs : List Code) → procs_of (map (λ c. started (code_view c)) cs) ≡ all_started (row_of (map code_view cs))
+procs_started [] = refl
+procs_started (c ∷ cs) = ap (proc (started (code_view c))) (procs_started cs)
 
 -- what makes one move
 pub code_once : (o : Once) → code_view (made_code.Once o) ≡ moves_once (once_view o)
@@ -89,17 +89,17 @@ row_codes row = search (rules, the_lemmas)
 pub code_parallel : (row : Row) → code_view (made_code.SideBySide row) ≡ side_by_side (row_of (map code_view row.codes))
 code_parallel row = search (rules, the_lemmas)
 
--- parts side by side
-part_parallel : (ps : Vec Proc) → part_view (made_part.Parallel ps) ≡ parallel (parts_of (map part_view ps.items))
-part_parallel ps = search (rules, part_lemmas)
+-- processes side by side
+proc_parallel : (ps : Vec Proc) → proc_view (made_proc.Parallel ps) ≡ parallel (procs_of (map proc_view ps.items))
+proc_parallel ps = search (rules, proc_lemmas)
 
 -- branches that begin together
-pub parallel_started : (ps : Vec Proc) (row : Row) (c : Code) → c ≡ made_code.SideBySide row → map part_view ps.items ≡ map (λ c. started (code_view c)) row.codes
-    → part_view (made_part.Parallel ps) ≡ started (code_view c)
+pub parallel_started : (ps : Vec Proc) (row : Row) (c : Code) → c ≡ made_code.SideBySide row → map proc_view ps.items ≡ map (λ c. started (code_view c)) row.codes
+    → proc_view (made_proc.Parallel ps) ≡ started (code_view c)
 parallel_started ps row c is e =
-    part_parallel ps ∙ ap (λ qs. parallel (parts_of qs)) e ∙ ap parallel (parts_started row.codes)
+    proc_parallel ps ∙ ap (λ qs. parallel (procs_of qs)) e ∙ ap parallel (procs_started row.codes)
     ∙ sym (ap started (code_parallel row)) ∙ sym (ap (λ x. started (code_view x)) is)
 
 -- `continue` is done at once
-pub part_idle : part_view made_part.Idle ≡ idle
-part_idle = search (rules, part_lemmas)
+pub proc_idle : proc_view made_proc.Idle ≡ idle
+proc_idle = search (rules, proc_lemmas)

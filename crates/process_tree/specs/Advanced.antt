@@ -1,20 +1,20 @@
--- A move made on the tree: the part after it, and what it took out.
+-- A move made on the tree: the process after it, and what it took out.
 use Rattle.std.specs.Prelude.{ℕ, ◌+◌, ◌*◌, ◌==◌, Bool, true, false, List, Option, Some, None, cond, slice_get}
 use Rattle.value.specs.Word.{Word}
 use Rattle.system.specs.Expression.{Expression, Decision}
 use Rattle.calculus.specs.Moves.{Place}
 use Rattle.calculus.specs.walking.After.{Ask, to_assign, to_test, to_turn, to_send, to_hold, to_receive, to_open, to_sync, to_release, to_close}
 use Rattle.process_tree.specs.Code.{Once, assigning, receiving, Sender, sending, syncing, Code, Codes, code_at}
-use Rattle.process_tree.specs.Part.{waiting, holding, past, Part, idle, stopped, once, sender, fresh, turn, ended_at_once, ended, untested, skipped, took, unopened, entered, closed, sequence, parallel, drained, Parts, no_parts, part, started, finished}
+use Rattle.process_tree.specs.Proc.{waiting, holding, past, Proc, idle, stopped, once, sender, fresh, turn, ended_at_once, ended, untested, skipped, took, unopened, entered, closed, sequence, parallel, drained, Procs, no_procs, proc, started, finished}
 use Rattle.process_tree.specs.Places.{if_here, if_act, if_child, if_branch, wrap}
 
--- the part after a move, and what the move took out: the body of the turn before it, where a loop turns again
+-- the process after a move, and what the move took out: the body of the turn before it, where a loop turns again
 abbrev pub Moved : Type 0
-Moved = Part × Option Part
+Moved = Proc × Option Proc
 
--- the same of parts in a row
+-- the same of processes in a row
 abbrev pub MovedIn : Type 0
-MovedIn = Parts × Option Part
+MovedIn = Procs × Option Proc
 
 -- an assignment assigns, a receive receives, once
 abbrev pub once_after : Once → Bool → Ask → Option Moved
@@ -36,7 +36,7 @@ holding_after s to_release = Some (sender s past, None)
 holding_after s _ = None
 
 -- a loop begins turn n with a new body, and takes out `out`; or a test ends it, and it is `over`
-abbrev pub again_after : Option Expression → Code → ℕ → Part → Option Part → Ask → Option Moved
+abbrev pub again_after : Option Expression → Code → ℕ → Proc → Option Proc → Ask → Option Moved
 again_after None c n over out to_turn = Some (turn None c n (started c), out)
 again_after (Some e) c n over out (to_test None) = Some (over, None)
 again_after (Some e) c n over out (to_test (Some j)) = cond (j == 0) (Some (turn (Some e) c n (started c), out)) None
@@ -59,7 +59,7 @@ open_after ds cs (to_open j v) = open_on ds cs (slice_get ds j) j v
 open_after ds cs _ = None
 
 -- an opened arm is closed
-abbrev pub close_after : List ℕ → Codes → ℕ → Option Word → Part → Ask → Option Moved
+abbrev pub close_after : List ℕ → Codes → ℕ → Option Word → Proc → Ask → Option Moved
 close_after ds cs c v q to_close = Some (closed ds cs c v q, None)
 close_after ds cs c v q _ = None
 
@@ -69,8 +69,8 @@ drain_after c n to_receive = Some (drained c (n + 1), None)
 drain_after c n _ = None
 
 abbrev mutual
-  -- the part after the move that is asked for at the place, where it is possible
-  pub advanced : Part → Place → Ask → Option Moved
+  -- the process after the move that is asked for at the place, where it is possible
+  pub advanced : Proc → Place → Ask → Option Moved
   advanced idle a k = None
   advanced stopped a k = None
   advanced (once o made) a k = if_here a (once_after o made k)
@@ -95,13 +95,13 @@ abbrev mutual
   advanced (drained c n) a k = if_act n a (drain_after c n k)
 
   -- of children one after another, the first with number n: the first that is not finished moves
-  pub advanced_sequence : ℕ → Parts → Place → Ask → Option MovedIn
-  advanced_sequence n no_parts a k = None
-  advanced_sequence n (part p ps) a k =
-      cond (finished p) (wrap (part p) (advanced_sequence (n + 1) ps a k)) (if_child n a (λ b. wrap (λ q. part q ps) (advanced p b k)))
+  pub advanced_sequence : ℕ → Procs → Place → Ask → Option MovedIn
+  advanced_sequence n no_procs a k = None
+  advanced_sequence n (proc p ps) a k =
+      cond (finished p) (wrap (proc p) (advanced_sequence (n + 1) ps a k)) (if_child n a (λ b. wrap (λ q. proc q ps) (advanced p b k)))
 
   -- of children side by side, the first in branch n: that in the branch of the place moves
-  pub advanced_parallel : ℕ → Parts → Place → Ask → Option MovedIn
-  advanced_parallel n no_parts a k = None
-  advanced_parallel n (part p ps) a k =
-      if_branch n a (λ b. wrap (λ q. part q ps) (advanced p b k)) (wrap (part p) (advanced_parallel (n + 1) ps a k))
+  pub advanced_parallel : ℕ → Procs → Place → Ask → Option MovedIn
+  advanced_parallel n no_procs a k = None
+  advanced_parallel n (proc p ps) a k =
+      if_branch n a (λ b. wrap (λ q. proc q ps) (advanced p b k)) (wrap (proc p) (advanced_parallel (n + 1) ps a k))

@@ -9,48 +9,48 @@ use Rattle.calculus.specs.Moves.{Place, Move, Local}
 use Rattle.calculus.specs.walking.After.{Ask, asks}
 use Rattle.calculus.specs.WellFormed.{WellFormed}
 use Rattle.process_tree.specs.Code.{Code}
-use Rattle.process_tree.specs.Part.{Part, started, finished}
+use Rattle.process_tree.specs.Proc.{Proc, started, finished}
 use Rattle.process_tree.specs.Advanced.{Moved, advanced}
 use Rattle.process_tree.specs.walking.Retreated.{retreated}
 use Rattle.process_tree.specs.Left.{Received, puts, residual, left}
 use Rattle.process_tree.specs.Translation.{code_of, system_code}
 
 -- two moves made the other way round lead to the same, and each takes out what it took out
-abbrev pub Swapped : {Y : Type 0} → (Y → Place → Ask → Option (Y × Option Part)) → Y → Place → Ask → Y × Option Part → Place → Ask → Y × Option Part → Type 0
-Swapped {Y = Y} step p a k x b l y = (z : Y × Option Part) × (step p b l ≡ Some z) × (step z.0 a k ≡ Some (y.0, x.1)) × (z.1 ≡ y.1)
+abbrev pub Swapped : {Y : Type 0} → (Y → Place → Ask → Option (Y × Option Proc)) → Y → Place → Ask → Y × Option Proc → Place → Ask → Y × Option Proc → Type 0
+Swapped {Y = Y} step p a k x b l y = (z : Y × Option Proc) × (step p b l ≡ Some z) × (step z.0 a k ≡ Some (y.0, x.1)) × (z.1 ≡ y.1)
 
--- what is left of any part is well formed
+-- what is left of any process is well formed
 abbrev pub LeftIsFormed : Type 0
-LeftIsFormed = (p : Part) (env : Received) → WellFormed (left env p)
+LeftIsFormed = (p : Proc) (env : Received) → WellFormed (left env p)
 
 -- a command that has made no move has all left, with the received values put
 abbrev pub StartedHasAllLeft : Type 0
 StartedHasAllLeft = (c : Code) (env : Received) → left env (started c) ≡ puts env (residual c)
 
--- a part is finished exactly where nothing is left of it
+-- a process is finished exactly where nothing is left of it
 abbrev pub FinishedIsDone : Type 0
-FinishedIsDone = (p : Part) (env : Received) → (finished p ≡ true) ↔ (left env p ≡ done)
+FinishedIsDone = (p : Proc) (env : Received) → (finished p ≡ true) ↔ (left env p ≡ done)
 
 -- a local move that what is left offers is made by the tree, and leaves what it leads to
 abbrev pub OffersAreMade : Type 0
 OffersAreMade =
-    (p : Part) (env : Received) (a : Place) (m : Move) (q : Residual) → Local (left env p) a m q →
+    (p : Proc) (env : Received) (a : Place) (m : Move) (q : Residual) → Local (left env p) a m q →
     (x : Moved) × (advanced p a (asks m) ≡ Some x) × (left env x.0 ≡ q)
 
 -- a move that the tree makes is a local move that what is left offers, and it answers to what was asked
 abbrev pub MadeAreOffered : Type 0
 MadeAreOffered =
-    (p : Part) (env : Received) (a : Place) (k : Ask) (x : Moved) → advanced p a k ≡ Some x →
+    (p : Proc) (env : Received) (a : Place) (k : Ask) (x : Moved) → advanced p a k ≡ Some x →
     (m : Move) × Local (left env p) a m (left env x.0) × (asks m ≡ k)
 
--- a move taken back, with what it took out, gives the same part, finished parts included
+-- a move taken back, with what it took out, gives the same process, finished processes included
 abbrev pub MovesGoBack : Type 0
-MovesGoBack = (p : Part) (a : Place) (k : Ask) (x : Moved) → advanced p a k ≡ Some x → retreated x.0 a x.1 ≡ Some p
+MovesGoBack = (p : Proc) (a : Place) (k : Ask) (x : Moved) → advanced p a k ≡ Some x → retreated x.0 a x.1 ≡ Some p
 
 -- two moves in turn can be made the other way round, unless the place of the first is before that of the second
 abbrev pub MovesSwap : Type 0
 MovesSwap =
-    (p : Part) (a : Place) (k : Ask) (x : Moved) (b : Place) (l : Ask) (y : Moved) →
+    (p : Proc) (a : Place) (k : Ask) (x : Moved) (b : Place) (l : Ask) (y : Moved) →
     advanced p a k ≡ Some x → advanced x.0 b l ≡ Some y → (Before a b → ⊥) → Swapped advanced p a k x b l y
 
 -- a command of the tree is to do what the command of the system is to do

@@ -1,10 +1,10 @@
--- What a part still has to do, as a residual: finished parts are erased, and received values stand in place of their names.
+-- What a process still has to do, as a residual: finished processes are erased, and received values stand in place of their names.
 use Rattle.std.specs.Prelude.{ℕ, ◌+◌, ◌*◌, true, false, List, [], ◌∷◌, Option, Some, None}
 use Rattle.value.specs.Word.{Word}
 use Rattle.system.specs.Expression.{Expression}
 use Rattle.system.specs.Residual.{Residual, done, halted, assign, send, receive, sync, held, loop, while, test, choose, closing, drain, Arms, no_arms, arm, within, along, put_residual}
 use Rattle.process_tree.specs.Code.{Once, assigning, receiving, Sender, sending, syncing, Code, continues, halts, moves_once, may_be_held, repeats, decides, awaits, in_turn, side_by_side, drains, Codes, no_code, code}
-use Rattle.process_tree.specs.Part.{waiting, holding, past, Part, idle, stopped, once, sender, fresh, turn, ended_at_once, ended, untested, skipped, took, unopened, entered, closed, sequence, parallel, drained, Parts, no_parts, part}
+use Rattle.process_tree.specs.Proc.{waiting, holding, past, Proc, idle, stopped, once, sender, fresh, turn, ended_at_once, ended, untested, skipped, took, unopened, entered, closed, sequence, parallel, drained, Procs, no_procs, proc}
 
 -- an assignment or a receive
 abbrev pub residual_once : Once → Residual
@@ -55,7 +55,7 @@ abbrev mutual
   residual_parallel n no_code = done
   residual_parallel n (code c cs) = along n (residual c) (residual_parallel (n + 1) cs)
 
--- the values received in the arms around a part, each with its channel, the innermost first
+-- the values received in the arms around a process, each with its channel, the innermost first
 abbrev pub Received : Type 0
 Received = List (ℕ × Word)
 
@@ -70,8 +70,8 @@ puts [] r = r
 puts (x ∷ env) r = put_residual x.0 x.1 (puts env r)
 
 abbrev mutual
-  -- what a part still has to do, in arms that received these values
-  pub left : Received → Part → Residual
+  -- what a process still has to do, in arms that received these values
+  pub left : Received → Proc → Residual
   left env idle = done
   left env stopped = halted
   left env (once o true) = done
@@ -94,11 +94,11 @@ abbrev mutual
   left env (drained c n) = drain c n
 
   -- what children one after another still have to do, the first with number n
-  pub left_sequence : Received → ℕ → Parts → Residual
-  left_sequence env n no_parts = done
-  left_sequence env n (part p ps) = within n (left env p) (left_sequence env (n + 1) ps)
+  pub left_sequence : Received → ℕ → Procs → Residual
+  left_sequence env n no_procs = done
+  left_sequence env n (proc p ps) = within n (left env p) (left_sequence env (n + 1) ps)
 
   -- what children side by side still have to do, the first in branch n
-  pub left_parallel : Received → ℕ → Parts → Residual
-  left_parallel env n no_parts = done
-  left_parallel env n (part p ps) = along n (left env p) (left_parallel env (n + 1) ps)
+  pub left_parallel : Received → ℕ → Procs → Residual
+  left_parallel env n no_procs = done
+  left_parallel env n (proc p ps) = along n (left env p) (left_parallel env (n + 1) ps)

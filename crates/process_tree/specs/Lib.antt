@@ -3,8 +3,8 @@ pub mod Children
 pub mod Code
 pub mod Laws
 pub mod Left
-pub mod Part
 pub mod Places
+pub mod Proc
 pub mod Translation
 pub mod View
 pub mod walking

@@ -2,7 +2,7 @@
 use Rattle.std.specs.Prelude.{ℕ, ◌==◌, [], ◌∷◌, cond, Option, Some, None}
 use Rattle.address.specs.declared.Entry.TheVariants.{Ordered, Branch}
 use Rattle.calculus.specs.Moves.{Place}
-use Rattle.process_tree.specs.Part.{Part}
+use Rattle.process_tree.specs.Proc.{Proc}
 
 -- the answer, at the command's own place
 abbrev pub if_here : {X : Type 0} → Place → Option X → Option X
@@ -35,6 +35,6 @@ if_branch n (Ordered i ∷ a) f rest = rest
 if_branch n (Branch i ∷ a) f rest = cond (i == n) (f a) rest
 
 -- the answer of a child with the rest put around it; what was taken out stays
-abbrev pub wrap : {X Y : Type 0} → (X → Y) → Option (X × Option Part) → Option (Y × Option Part)
+abbrev pub wrap : {X Y : Type 0} → (X → Y) → Option (X × Option Proc) → Option (Y × Option Proc)
 wrap w None = None
 wrap w (Some x) = Some (w x.0, x.1)

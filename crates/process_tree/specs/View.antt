@@ -1,4 +1,4 @@
--- What the trees in memory stand for: the code, and the parts.
+-- What the trees in memory stand for: the code, and the processes.
 use Rattle.std.specs.Prelude.{ℕ, List, [], ◌∷◌, Bool, cond, Option, option_map}
 use Rattle.std.specs.Global.{Box}
 use Rattle.value.specs.Word.{Word}
@@ -6,8 +6,8 @@ use Rattle.system.specs.Expression.{Expression, Decision}
 use Rattle.system.specs.Translation.{expression_of, decision_of}
 use Rattle.calculus.specs.walking.After as model_ask
 use Rattle.process_tree.specs.Code as model
-use Rattle.process_tree.specs.Part as model_part
-use Rattle.process_tree.specs.Part.{all_started}
+use Rattle.process_tree.specs.Proc as model_proc
+use Rattle.process_tree.specs.Proc.{all_started}
 use Rattle.process_tree.specs.Translation.{row_of}
 use Rattle.process_tree.specs.declared.ask.Ask.{Ask}
 use Rattle.process_tree.specs.declared.ask.Ask.TheVariants as ask
@@ -22,14 +22,14 @@ use Rattle.process_tree.specs.declared.code.Repeat.{Repeat}
 use Rattle.process_tree.specs.declared.code.Row.{Row}
 use Rattle.process_tree.specs.declared.code.Code.TheOpen.{Await-F, Code-F, Decide-F, Repeat-F, Row-F}
 use Rattle.process_tree.specs.declared.code.Code.TheFolds.{fold-Await, fold-Code, fold-Decide, fold-Repeat, fold-Row}
-use Rattle.process_tree.specs.declared.part.Phase.{Phase}
-use Rattle.process_tree.specs.declared.part.Phase.TheVariants as phase
-use Rattle.process_tree.specs.declared.part.Gate.{Gate}
-use Rattle.process_tree.specs.declared.part.Proc.{Proc}
-use Rattle.process_tree.specs.declared.part.Gate.TheOpen.{Gate-F, Proc-F, Tested-F, Turns-F}
-use Rattle.process_tree.specs.declared.part.Gate.TheFolds.{fold-Gate, fold-Proc, fold-Tested, fold-Turns}
-use Rattle.process_tree.specs.declared.part.Tested.{Tested}
-use Rattle.process_tree.specs.declared.part.Turns.{Turns}
+use Rattle.process_tree.specs.declared.proc.Phase.{Phase}
+use Rattle.process_tree.specs.declared.proc.Phase.TheVariants as phase
+use Rattle.process_tree.specs.declared.proc.Gate.{Gate}
+use Rattle.process_tree.specs.declared.proc.Proc.{Proc}
+use Rattle.process_tree.specs.declared.proc.Gate.TheOpen.{Gate-F, Proc-F, Tested-F, Turns-F}
+use Rattle.process_tree.specs.declared.proc.Gate.TheFolds.{fold-Gate, fold-Proc, fold-Tested, fold-Turns}
+use Rattle.process_tree.specs.declared.proc.Tested.{Tested}
+use Rattle.process_tree.specs.declared.proc.Turns.{Turns}
 use Rattle.process_tree.specs.declared.tree.Tree.{Tree}
 
 -- what makes one move
@@ -104,85 +104,85 @@ abbrev pub row_view : Row → model.Codes
 row_view = fold-Row model.Code Waiting Testing Looping model.Codes code_layer await_layer decide_layer repeat_layer row_layer
 
 -- how far a send or sync is
-abbrev pub phase_view : Phase → model_part.Phase
-phase_view phase.Waiting = model_part.waiting
-phase_view phase.Holding = model_part.holding
-phase_view phase.Past = model_part.past
+abbrev pub phase_view : Phase → model_proc.Phase
+phase_view phase.Waiting = model_proc.waiting
+phase_view phase.Holding = model_proc.holding
+phase_view phase.Past = model_proc.past
 
--- parts in a row
-abbrev pub parts_of : List model_part.Part → model_part.Parts
-parts_of [] = model_part.no_parts
-parts_of (p ∷ ps) = model_part.part p (parts_of ps)
+-- processes in a row
+abbrev pub procs_of : List model_proc.Proc → model_proc.Procs
+procs_of [] = model_proc.no_procs
+procs_of (p ∷ ps) = model_proc.proc p (procs_of ps)
 
 -- the children that have begun, and then the others, which have made no move
-abbrev pub begun_of : List model_part.Part → model.Codes → model_part.Parts
+abbrev pub begun_of : List model_proc.Proc → model.Codes → model_proc.Procs
 begun_of [] cs = all_started cs
-begun_of (p ∷ ps) model.no_code = model_part.no_parts
-begun_of (p ∷ ps) (model.code c cs) = model_part.part p (begun_of ps cs)
+begun_of (p ∷ ps) model.no_code = model_proc.no_procs
+begun_of (p ∷ ps) (model.code c cs) = model_proc.proc p (begun_of ps cs)
 
 -- a loop in a turn or behind it, or ended there
-abbrev pub turn_of : Bool → Option Expression → model.Code → ℕ → model_part.Part → model_part.Part
-turn_of over g c n q = cond over (model_part.ended g c n q) (model_part.turn g c n q)
+abbrev pub turn_of : Bool → Option Expression → model.Code → ℕ → model_proc.Proc → model_proc.Proc
+turn_of over g c n q = cond over (model_proc.ended g c n q) (model_proc.turn g c n q)
 
 -- an arm that opened, or was closed
-abbrev pub opened_of : Bool → List ℕ → model.Codes → ℕ → Option Word → model_part.Part → model_part.Part
-opened_of over ds cs c v q = cond over (model_part.closed ds cs c v q) (model_part.entered ds cs c v q)
+abbrev pub opened_of : Bool → List ℕ → model.Codes → ℕ → Option Word → model_proc.Proc → model_proc.Proc
+opened_of over ds cs c v q = cond over (model_proc.closed ds cs c v q) (model_proc.entered ds cs c v q)
 
 -- a loop, a test and arms that wait, by what they are to do
 abbrev pub OfLoop : Type 0
-OfLoop = Option Expression → model.Code → model_part.Part
+OfLoop = Option Expression → model.Code → model_proc.Proc
 
 abbrev pub OfTest : Type 0
-OfTest = Decision → model.Codes → model_part.Part
+OfTest = Decision → model.Codes → model_proc.Proc
 
 abbrev pub OfArms : Type 0
-OfArms = List ℕ → model.Codes → model_part.Part
+OfArms = List ℕ → model.Codes → model_proc.Proc
 
 -- how far a loop is
-abbrev pub turns_layer : Turns-F OfArms model_part.Part OfTest OfLoop → OfLoop
-turns_layer Turns-F.Fresh = model_part.fresh
-turns_layer Turns-F.EndedAtOnce = model_part.ended_at_once
+abbrev pub turns_layer : Turns-F OfArms model_proc.Proc OfTest OfLoop → OfLoop
+turns_layer Turns-F.Fresh = model_proc.fresh
+turns_layer Turns-F.EndedAtOnce = model_proc.ended_at_once
 turns_layer (Turns-F.Turn n over q) = λ g c. turn_of over g c n q.value
 
 -- how far a test is
-abbrev pub tested_layer : Tested-F OfArms model_part.Part OfTest OfLoop → OfTest
-tested_layer Tested-F.Untested = model_part.untested
-tested_layer Tested-F.Skipped = model_part.skipped
-tested_layer (Tested-F.Took j q) = λ d cs. model_part.took d cs j q.value
+abbrev pub tested_layer : Tested-F OfArms model_proc.Proc OfTest OfLoop → OfTest
+tested_layer Tested-F.Untested = model_proc.untested
+tested_layer Tested-F.Skipped = model_proc.skipped
+tested_layer (Tested-F.Took j q) = λ d cs. model_proc.took d cs j q.value
 
 -- how far arms are that wait
-abbrev pub gate_layer : Gate-F OfArms model_part.Part OfTest OfLoop → OfArms
-gate_layer Gate-F.Unopened = model_part.unopened
+abbrev pub gate_layer : Gate-F OfArms model_proc.Proc OfTest OfLoop → OfArms
+gate_layer Gate-F.Unopened = model_proc.unopened
 gate_layer (Gate-F.Opened c v over q) = λ ds cs. opened_of over ds cs c v q.value
 
--- one layer of a part
-abbrev pub part_layer : Proc-F OfArms model_part.Part OfTest OfLoop → model_part.Part
-part_layer Proc-F.Idle = model_part.idle
-part_layer Proc-F.Stopped = model_part.stopped
-part_layer (Proc-F.Once o made) = model_part.once (once_view o) made
-part_layer (Proc-F.Sender s p) = model_part.sender (sender_view s) (phase_view p)
-part_layer (Proc-F.Loop r t) = t (repeat_view r).0 (repeat_view r).1
-part_layer (Proc-F.Test d t) = t (decide_view d).0 (decide_view d).1
-part_layer (Proc-F.Arms a g) = g (await_view a).0 (await_view a).1
-part_layer (Proc-F.Sequence r begun) = model_part.sequence (begun_of begun.items (row_view r))
-part_layer (Proc-F.Parallel ps) = model_part.parallel (parts_of ps.items)
-part_layer (Proc-F.Drained c n) = model_part.drained c n
+-- one layer of a process
+abbrev pub proc_layer : Proc-F OfArms model_proc.Proc OfTest OfLoop → model_proc.Proc
+proc_layer Proc-F.Idle = model_proc.idle
+proc_layer Proc-F.Stopped = model_proc.stopped
+proc_layer (Proc-F.Once o made) = model_proc.once (once_view o) made
+proc_layer (Proc-F.Sender s p) = model_proc.sender (sender_view s) (phase_view p)
+proc_layer (Proc-F.Loop r t) = t (repeat_view r).0 (repeat_view r).1
+proc_layer (Proc-F.Test d t) = t (decide_view d).0 (decide_view d).1
+proc_layer (Proc-F.Arms a g) = g (await_view a).0 (await_view a).1
+proc_layer (Proc-F.Sequence r begun) = model_proc.sequence (begun_of begun.items (row_view r))
+proc_layer (Proc-F.Parallel ps) = model_proc.parallel (procs_of ps.items)
+proc_layer (Proc-F.Drained c n) = model_proc.drained c n
 
--- the part that a tree in memory stands for
-abbrev pub part_view : Proc → model_part.Part
-part_view = fold-Proc OfArms model_part.Part OfTest OfLoop gate_layer part_layer tested_layer turns_layer
+-- the process that a tree in memory stands for
+abbrev pub proc_view : Proc → model_proc.Proc
+proc_view = fold-Proc OfArms model_proc.Proc OfTest OfLoop gate_layer proc_layer tested_layer turns_layer
 
 -- how far a loop in memory is
 abbrev pub turns_view : Turns → OfLoop
-turns_view = fold-Turns OfArms model_part.Part OfTest OfLoop gate_layer part_layer tested_layer turns_layer
+turns_view = fold-Turns OfArms model_proc.Proc OfTest OfLoop gate_layer proc_layer tested_layer turns_layer
 
 -- how far a test in memory is
 abbrev pub tested_view : Tested → OfTest
-tested_view = fold-Tested OfArms model_part.Part OfTest OfLoop gate_layer part_layer tested_layer turns_layer
+tested_view = fold-Tested OfArms model_proc.Proc OfTest OfLoop gate_layer proc_layer tested_layer turns_layer
 
 -- how far arms in memory are
 abbrev pub gate_view : Gate → OfArms
-gate_view = fold-Gate OfArms model_part.Part OfTest OfLoop gate_layer part_layer tested_layer turns_layer
+gate_view = fold-Gate OfArms model_proc.Proc OfTest OfLoop gate_layer proc_layer tested_layer turns_layer
 
 -- what an ask in memory stands for
 abbrev pub ask_view : Ask → model_ask.Ask
@@ -198,9 +198,9 @@ ask_view ask.Release = model_ask.to_release
 ask_view ask.Close = model_ask.to_close
 
 -- the body that a move took out, if any
-abbrev pub out_view : Option (Box Proc) → Option model_part.Part
-out_view = option_map (λ out. part_view out.value)
+abbrev pub out_view : Option (Box Proc) → Option model_proc.Proc
+out_view = option_map (λ out. proc_view out.value)
 
--- the part that the tree of an execution stands for
-abbrev pub tree_view : Tree → model_part.Part
-tree_view tree = part_view tree.part
+-- the process that the tree of an execution stands for
+abbrev pub tree_view : Tree → model_proc.Proc
+tree_view tree = proc_view tree.proc

@@ -1,19 +1,19 @@
 // Moves made on the tree.
 ghost use Rattle.std.specs.Prelude.{◌≡◌, ℕ, ◌<◌, map, length, IsSome, IfOk, OnOk, OnErr, Some, None};
-ghost use Rattle.process_tree.specs.Part.{started, sender, took, drained, sequence, parallel, ended, ended_at_once};
+ghost use Rattle.process_tree.specs.Proc.{started, sender, took, drained, sequence, parallel, ended, ended_at_once};
 ghost use Rattle.process_tree.specs.Code.{Sender, code_at};
 ghost use Rattle.process_tree.specs.Advanced.{advanced, again_after, test_after, open_after};
 ghost use Rattle.process_tree.specs.Translation.{row_of};
-ghost use Rattle.process_tree.specs.View.{code_view, repeat_view, decide_view, await_view, row_view, phase_view, part_view, turns_view, turn_of, tested_view, gate_view, opened_of, ask_view, out_view, parts_of, begun_of};
-ghost use Rattle.process_tree.specs.Children.{part_at};
+ghost use Rattle.process_tree.specs.View.{code_view, repeat_view, decide_view, await_view, row_view, phase_view, proc_view, turns_view, turn_of, tested_view, gate_view, opened_of, ask_view, out_view, procs_of, begun_of};
+ghost use Rattle.process_tree.specs.Children.{proc_at};
 ghost use Rattle.process_tree.specs.walking.Steps.{takes_none};
 ghost use Rattle.calculus.specs.Moves.{Place};
 ghost use Rattle.calculus.specs.walking.After as model;
 
 use crate::ask::Ask;
 use crate::code::{Await, Code, Decide, Repeat, Row};
-use crate::part::{Gate, Phase, Proc, Tested, Turns, start};
 use crate::place::{branch_step, ordered_step};
+use crate::proc::{Gate, Phase, Proc, Tested, Turns, start};
 use address::Entry;
 use std::alloc::{AllocError, Global};
 use std::mem;
@@ -25,15 +25,15 @@ use value::Value;
 #[cycle(advance)]
 pub(crate) fn advance(
     alloc: Global,
-    part: &mut Proc,
+    proc: &mut Proc,
     place: &[Entry],
     ask: Ask,
 ) -> Result<Option<Box<Proc>>, AllocError>
-    requires { IsSome (advanced (part_view part.old) place.now (ask_view ask)) }
-    ensures ok { IfOk result (λ out. advanced (part_view part.old) place.now (ask_view ask) ≡ Some (part_view part.new, out_view out)) }
-    ensures err { OnErr result (part_view part.new ≡ part_view part.old) }
+    requires { IsSome (advanced (proc_view proc.old) place.now (ask_view ask)) }
+    ensures ok { IfOk result (λ out. advanced (proc_view proc.old) place.now (ask_view ask) ≡ Some (proc_view proc.new, out_view out)) }
+    ensures err { OnErr result (proc_view proc.new ≡ proc_view proc.old) }
 {
-    match part {
+    match proc {
         Proc::Idle | Proc::Stopped => Ok(None),
         Proc::Once(_, made) => {
             *made = true;
@@ -47,7 +47,7 @@ pub(crate) fn advance(
         Proc::Test(decide, tested) => in_test(alloc, decide.get(), tested, place, ask),
         Proc::Arms(waiting, gate) => in_arms(alloc, waiting.get(), gate, place, ask),
         Proc::Sequence(row, begun) => in_child(alloc, row.get(), begun, place, ask),
-        Proc::Parallel(parts) => in_branch(alloc, parts, place, ask),
+        Proc::Parallel(procs) => in_branch(alloc, procs, place, ask),
         Proc::Drained(_, count) => {
             *count = count_after(place);
             Ok(None)
@@ -89,7 +89,7 @@ fn takes_none(ask: Ask) -> bool
 
 /// The command before its first move, on the heap.
 fn begin(alloc: Global, code: &Code) -> Result<Box<Proc>, AllocError>
-    ensures { IfOk result (λ body. part_view body.value ≡ started (code_view code.now)) }
+    ensures { IfOk result (λ body. proc_view body.value ≡ started (code_view code.now)) }
 {
     let body = start(alloc, code)?;
     Ok(Box::new(alloc, body)?)
@@ -97,7 +97,7 @@ fn begin(alloc: Global, code: &Code) -> Result<Box<Proc>, AllocError>
 
 /// The arm of this number before its first move, on the heap.
 fn begin_arm(alloc: Global, arms: &Items<Code>, arm: u32) -> Result<Box<Proc>, AllocError>
-    ensures { IfOk result (λ body. part_view body.value ≡ started (code_at (row_of (map code_view arms.now)) arm)) }
+    ensures { IfOk result (λ body. proc_view body.value ≡ started (code_at (row_of (map code_view arms.now)) arm)) }
 {
     match arms.get(arm as usize) {
         Some(code) => begin(alloc, code),
@@ -152,11 +152,11 @@ fn in_turn(
     place: &[Entry],
     ask: Ask,
 ) -> Result<Option<Box<Proc>>, AllocError>
-    requires { IsSome (advanced (turn_of over.old (repeat_view repeat.now).0 (repeat_view repeat.now).1 turn.old (part_view body.old.value)) place.now (ask_view ask)) }
-    ensures ok { IfOk result (λ out. advanced (turn_of over.old (repeat_view repeat.now).0 (repeat_view repeat.now).1 turn.old (part_view body.old.value)) place.now (ask_view ask)
-        ≡ Some (turn_of over.new (repeat_view repeat.now).0 (repeat_view repeat.now).1 turn.new (part_view body.new.value), out_view out)) }
-    ensures err { OnErr result (turn_of over.new (repeat_view repeat.now).0 (repeat_view repeat.now).1 turn.new (part_view body.new.value)
-        ≡ turn_of over.old (repeat_view repeat.now).0 (repeat_view repeat.now).1 turn.old (part_view body.old.value)) }
+    requires { IsSome (advanced (turn_of over.old (repeat_view repeat.now).0 (repeat_view repeat.now).1 turn.old (proc_view body.old.value)) place.now (ask_view ask)) }
+    ensures ok { IfOk result (λ out. advanced (turn_of over.old (repeat_view repeat.now).0 (repeat_view repeat.now).1 turn.old (proc_view body.old.value)) place.now (ask_view ask)
+        ≡ Some (turn_of over.new (repeat_view repeat.now).0 (repeat_view repeat.now).1 turn.new (proc_view body.new.value), out_view out)) }
+    ensures err { OnErr result (turn_of over.new (repeat_view repeat.now).0 (repeat_view repeat.now).1 turn.new (proc_view body.new.value)
+        ≡ turn_of over.old (repeat_view repeat.now).0 (repeat_view repeat.now).1 turn.old (proc_view body.old.value)) }
 {
     match ordered_step(place) {
         None => Ok(None),
@@ -207,10 +207,10 @@ fn in_taken(
     place: &[Entry],
     ask: Ask,
 ) -> Result<Option<Box<Proc>>, AllocError>
-    requires { IsSome (advanced (took (decide_view decide.now).0 (decide_view decide.now).1 arm (part_view body.old.value)) place.now (ask_view ask)) }
-    ensures ok { IfOk result (λ out. advanced (took (decide_view decide.now).0 (decide_view decide.now).1 arm (part_view body.old.value)) place.now (ask_view ask)
-        ≡ Some (took (decide_view decide.now).0 (decide_view decide.now).1 arm (part_view body.new.value), out_view out)) }
-    ensures err { OnErr result (part_view body.new.value ≡ part_view body.old.value) }
+    requires { IsSome (advanced (took (decide_view decide.now).0 (decide_view decide.now).1 arm (proc_view body.old.value)) place.now (ask_view ask)) }
+    ensures ok { IfOk result (λ out. advanced (took (decide_view decide.now).0 (decide_view decide.now).1 arm (proc_view body.old.value)) place.now (ask_view ask)
+        ≡ Some (took (decide_view decide.now).0 (decide_view decide.now).1 arm (proc_view body.new.value), out_view out)) }
+    ensures err { OnErr result (proc_view body.new.value ≡ proc_view body.old.value) }
 {
     match ordered_step(place) {
         None => Ok(None),
@@ -269,11 +269,11 @@ fn in_opened(
     place: &[Entry],
     ask: Ask,
 ) -> Result<Option<Box<Proc>>, AllocError>
-    requires { IsSome (advanced (opened_of over.old (await_view waiting.now).0 (await_view waiting.now).1 channel value (part_view body.old.value)) place.now (ask_view ask)) }
-    ensures ok { IfOk result (λ out. advanced (opened_of over.old (await_view waiting.now).0 (await_view waiting.now).1 channel value (part_view body.old.value)) place.now (ask_view ask)
-        ≡ Some (opened_of over.new (await_view waiting.now).0 (await_view waiting.now).1 channel value (part_view body.new.value), out_view out)) }
-    ensures err { OnErr result (opened_of over.new (await_view waiting.now).0 (await_view waiting.now).1 channel value (part_view body.new.value)
-        ≡ opened_of over.old (await_view waiting.now).0 (await_view waiting.now).1 channel value (part_view body.old.value)) }
+    requires { IsSome (advanced (opened_of over.old (await_view waiting.now).0 (await_view waiting.now).1 channel value (proc_view body.old.value)) place.now (ask_view ask)) }
+    ensures ok { IfOk result (λ out. advanced (opened_of over.old (await_view waiting.now).0 (await_view waiting.now).1 channel value (proc_view body.old.value)) place.now (ask_view ask)
+        ≡ Some (opened_of over.new (await_view waiting.now).0 (await_view waiting.now).1 channel value (proc_view body.new.value), out_view out)) }
+    ensures err { OnErr result (opened_of over.new (await_view waiting.now).0 (await_view waiting.now).1 channel value (proc_view body.new.value)
+        ≡ opened_of over.old (await_view waiting.now).0 (await_view waiting.now).1 channel value (proc_view body.old.value)) }
 {
     match ordered_step(place) {
         None => Ok(None),
@@ -314,10 +314,10 @@ fn in_child(
     place: &[Entry],
     ask: Ask,
 ) -> Result<Option<Box<Proc>>, AllocError>
-    requires { IsSome (advanced (sequence (begun_of (map part_view begun.old.items) (row_view row.now))) place.now (ask_view ask)) }
-    ensures ok { IfOk result (λ out. advanced (sequence (begun_of (map part_view begun.old.items) (row_view row.now))) place.now (ask_view ask)
-        ≡ Some (sequence (begun_of (map part_view begun.new.items) (row_view row.now)), out_view out)) }
-    ensures err { OnErr result (begun_of (map part_view begun.new.items) (row_view row.now) ≡ begun_of (map part_view begun.old.items) (row_view row.now)) }
+    requires { IsSome (advanced (sequence (begun_of (map proc_view begun.old.items) (row_view row.now))) place.now (ask_view ask)) }
+    ensures ok { IfOk result (λ out. advanced (sequence (begun_of (map proc_view begun.old.items) (row_view row.now))) place.now (ask_view ask)
+        ≡ Some (sequence (begun_of (map proc_view begun.new.items) (row_view row.now)), out_view out)) }
+    ensures err { OnErr result (begun_of (map proc_view begun.new.items) (row_view row.now) ≡ begun_of (map proc_view begun.old.items) (row_view row.now)) }
 {
     match ordered_step(place) {
         None => Ok(None),
@@ -338,8 +338,8 @@ fn begin_to(
     begun: &mut Vec<Proc>,
     number: usize,
 ) -> Result<(), AllocError>
-    ensures same { begun_of (map part_view begun.new.items) (row_view row.now) ≡ begun_of (map part_view begun.old.items) (row_view row.now) }
-    ensures ok { OnOk result (IsSome (part_at (begun_of (map part_view begun.old.items) (row_view row.now)) number) → number < length begun.new.items) }
+    ensures same { begun_of (map proc_view begun.new.items) (row_view row.now) ≡ begun_of (map proc_view begun.old.items) (row_view row.now) }
+    ensures ok { OnOk result (IsSome (proc_at (begun_of (map proc_view begun.old.items) (row_view row.now)) number) → number < length begun.new.items) }
 {
     'children: while begun.len() <= number {
         match row.codes.get(begun.len()) {
@@ -353,18 +353,18 @@ fn begin_to(
 #[cycle(advance)]
 fn in_branch(
     alloc: Global,
-    parts: &mut Vec<Proc>,
+    procs: &mut Vec<Proc>,
     place: &[Entry],
     ask: Ask,
 ) -> Result<Option<Box<Proc>>, AllocError>
-    requires { IsSome (advanced (parallel (parts_of (map part_view parts.old.items))) place.now (ask_view ask)) }
-    ensures ok { IfOk result (λ out. advanced (parallel (parts_of (map part_view parts.old.items))) place.now (ask_view ask)
-        ≡ Some (parallel (parts_of (map part_view parts.new.items)), out_view out)) }
-    ensures err { OnErr result (parts_of (map part_view parts.new.items) ≡ parts_of (map part_view parts.old.items)) }
+    requires { IsSome (advanced (parallel (procs_of (map proc_view procs.old.items))) place.now (ask_view ask)) }
+    ensures ok { IfOk result (λ out. advanced (parallel (procs_of (map proc_view procs.old.items))) place.now (ask_view ask)
+        ≡ Some (parallel (procs_of (map proc_view procs.new.items)), out_view out)) }
+    ensures err { OnErr result (procs_of (map proc_view procs.new.items) ≡ procs_of (map proc_view procs.old.items)) }
 {
     match branch_step(place) {
         None => Ok(None),
-        Some((number, below)) => match parts.get_mut(number as usize) {
+        Some((number, below)) => match procs.get_mut(number as usize) {
             None => Ok(None),
             Some(child) => advance(alloc, child, below, ask),
         },

@@ -2,7 +2,7 @@
 ghost use Rattle.process_tree.specs.Laws.{LeftIsFormed, StartedHasAllLeft, FinishedIsDone, OffersAreMade, MadeAreOffered, MovesGoBack, MovesSwap, CommandsAgree, SystemsOpenAlike};
 ghost use Rattle.process_tree.specs.Children.{MovesInOneChild, MovesInOneBranch, BackInOneChild, BackInOneBranch};
 
-/// What is left of any part is well formed: what comes later is numbered higher.
+/// What is left of any process is well formed: what comes later is numbered higher.
 pub fn left_is_formed()
     ensures { LeftIsFormed }
 {}
@@ -12,7 +12,7 @@ pub fn started_has_all_left()
     ensures { StartedHasAllLeft }
 {}
 
-/// A part is finished exactly where nothing is left of it.
+/// A process is finished exactly where nothing is left of it.
 pub fn finished_is_done()
     ensures { FinishedIsDone }
 {}
@@ -23,12 +23,12 @@ pub fn moves_are_local()
     ensures offered { MadeAreOffered }
 {}
 
-/// A move taken back, with what it took out, gives the same tree, finished parts included.
+/// A move taken back, with what it took out, gives the same tree, finished processes included.
 pub fn moves_go_back()
     ensures { MovesGoBack }
 {}
 
-/// Two moves in turn can be made the other way round, to the same tree and with the same parts taken out,
+/// Two moves in turn can be made the other way round, to the same tree and with the same processes taken out,
 /// unless the place of the first is before that of the second.
 pub fn moves_swap()
     ensures { MovesSwap }

@@ -1,4 +1,4 @@
-//! The tree of an execution, which is changed in place: what each command has done, with the finished parts kept.
+//! The tree of an execution, which is changed in place: what each command has done, with the finished processes kept.
 #![tactic(auto)]
 
 mod advance;
@@ -6,8 +6,8 @@ mod ask;
 mod code;
 mod environment;
 mod laws;
-mod part;
 mod place;
+mod proc;
 mod retreat;
 mod translate;
 mod tree;
@@ -18,6 +18,6 @@ pub use laws::{
     finished_is_done, left_is_formed, moves_are_local, moves_go_back, moves_swap, one_child_moves,
     started_has_all_left, systems_open_alike,
 };
-pub use part::{Gate, Phase, Proc, Tested, Turns, start};
+pub use proc::{Gate, Phase, Proc, Tested, Turns, start};
 pub use translate::code_of;
 pub use tree::Tree;

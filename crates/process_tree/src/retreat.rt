@@ -1,25 +1,25 @@
 // Moves taken back.
 ghost use Rattle.std.specs.Prelude.{◌≡◌, ℕ, Option, Some, map, cond, IsSome};
 ghost use Rattle.process_tree.specs.Code.{Sender, Code};
-ghost use Rattle.process_tree.specs.Part.{Part, sender, drained, fresh, untested, took, unopened, sequence, parallel};
-ghost use Rattle.process_tree.specs.View.{repeat_view, decide_view, await_view, row_view, phase_view, part_view, turns_view, turn_of, tested_view, gate_view, opened_of, out_view, parts_of, begun_of};
+ghost use Rattle.process_tree.specs.Proc.{Proc, sender, drained, fresh, untested, took, unopened, sequence, parallel};
+ghost use Rattle.process_tree.specs.View.{repeat_view, decide_view, await_view, row_view, phase_view, proc_view, turns_view, turn_of, tested_view, gate_view, opened_of, out_view, procs_of, begun_of};
 ghost use Rattle.process_tree.specs.walking.Retreated.{retreated, before_turn};
-ghost use Rattle.process_tree.specs.Part as model;
+ghost use Rattle.process_tree.specs.Proc as model;
 ghost use Rattle.system.specs.Expression.{Expression};
 
 use crate::code::{Await, Decide, Repeat, Row};
-use crate::part::{Gate, Phase, Proc, Tested, Turns};
 use crate::place::{branch_step, ordered_step};
+use crate::proc::{Gate, Phase, Proc, Tested, Turns};
 use address::Entry;
 use value::Value;
 
 /// Takes the move at the place back, and puts what it took out where it was. It takes no memory.
 #[cycle(retreat)]
-pub(crate) fn retreat(part: &mut Proc, place: &[Entry], out: Option<Box<Proc>>)
-    requires { IsSome (retreated (part_view part.old) place.now (out_view out)) }
-    ensures { retreated (part_view part.old) place.now (out_view out) ≡ Some (part_view part.new) }
+pub(crate) fn retreat(proc: &mut Proc, place: &[Entry], out: Option<Box<Proc>>)
+    requires { IsSome (retreated (proc_view proc.old) place.now (out_view out)) }
+    ensures { retreated (proc_view proc.old) place.now (out_view out) ≡ Some (proc_view proc.new) }
 {
-    match part {
+    match proc {
         Proc::Idle | Proc::Stopped => {}
         Proc::Once(_, made) => *made = false,
         Proc::Sender(_, phase) => *phase = phase_before(*phase, place),
@@ -27,14 +27,14 @@ pub(crate) fn retreat(part: &mut Proc, place: &[Entry], out: Option<Box<Proc>>)
         Proc::Test(decide, tested) => from_test(decide.get(), tested, place, out),
         Proc::Arms(waiting, gate) => from_arms(waiting.get(), gate, place, out),
         Proc::Sequence(row, begun) => from_child(row.get(), begun, place, out),
-        Proc::Parallel(parts) => from_branch(parts, place, out),
+        Proc::Parallel(procs) => from_branch(procs, place, out),
         Proc::Drained(channel, count) => from_drain(*channel, count, place, out),
     }
 }
 
 /// How far a send or sync was before the move at the place.
 fn phase_before(phase: Phase, place: &[Entry]) -> Phase
-    ensures { (s : Sender) (out : Option Part) → IsSome (retreated (sender s (phase_view phase)) place.now out) →
+    ensures { (s : Sender) (out : Option Proc) → IsSome (retreated (sender s (phase_view phase)) place.now out) →
         retreated (sender s (phase_view phase)) place.now out ≡ Some (sender s (phase_view result)) }
 {
     match phase {
@@ -63,7 +63,7 @@ fn from_drain(channel: u32, count: &mut u64, place: &[Entry], out: Option<Box<Pr
 
 /// How often an output port had received before the receive at the place.
 fn count_before(place: &[Entry]) -> u64
-    ensures { (c n : ℕ) (out : Option Part) → IsSome (retreated (drained c n) place.now out) →
+    ensures { (c n : ℕ) (out : Option Proc) → IsSome (retreated (drained c n) place.now out) →
         retreated (drained c n) place.now out ≡ Some (drained c result) }
 {
     match ordered_step(place) {
@@ -99,10 +99,10 @@ fn from_turn(
     place: &[Entry],
     out: Option<Box<Proc>>,
 ) -> bool
-    requires { IsSome (retreated (turn_of over.old (repeat_view repeat.now).0 (repeat_view repeat.now).1 turn.old (part_view body.old.value)) place.now (out_view out)) }
-    ensures { retreated (turn_of over.old (repeat_view repeat.now).0 (repeat_view repeat.now).1 turn.old (part_view body.old.value)) place.now (out_view out)
+    requires { IsSome (retreated (turn_of over.old (repeat_view repeat.now).0 (repeat_view repeat.now).1 turn.old (proc_view body.old.value)) place.now (out_view out)) }
+    ensures { retreated (turn_of over.old (repeat_view repeat.now).0 (repeat_view repeat.now).1 turn.old (proc_view body.old.value)) place.now (out_view out)
         ≡ Some (cond result (fresh (repeat_view repeat.now).0 (repeat_view repeat.now).1)
-        (turn_of over.new (repeat_view repeat.now).0 (repeat_view repeat.now).1 turn.new (part_view body.new.value))) }
+        (turn_of over.new (repeat_view repeat.now).0 (repeat_view repeat.now).1 turn.new (proc_view body.new.value))) }
 {
     if *over {
         *over = false;
@@ -126,7 +126,7 @@ fn from_turn(
 /// The body of the turn before this one is put back, if there was one. The answer is whether there was none.
 fn put_back(turn: &mut u64, body: &mut Box<Proc>, old: Box<Proc>) -> bool
     ensures { (g : Option Expression) (c : Code) →
-        before_turn g c turn.old (Some (part_view old.value)) ≡ Some (cond result (fresh g c) (model.turn g c turn.new (part_view body.new.value))) }
+        before_turn g c turn.old (Some (proc_view old.value)) ≡ Some (cond result (fresh g c) (model.turn g c turn.new (proc_view body.new.value))) }
 {
     if *turn == 0 {
         return true;
@@ -162,10 +162,10 @@ fn from_taken(
     place: &[Entry],
     out: Option<Box<Proc>>,
 ) -> bool
-    requires { IsSome (retreated (took (decide_view decide.now).0 (decide_view decide.now).1 arm (part_view body.old.value)) place.now (out_view out)) }
-    ensures { retreated (took (decide_view decide.now).0 (decide_view decide.now).1 arm (part_view body.old.value)) place.now (out_view out)
+    requires { IsSome (retreated (took (decide_view decide.now).0 (decide_view decide.now).1 arm (proc_view body.old.value)) place.now (out_view out)) }
+    ensures { retreated (took (decide_view decide.now).0 (decide_view decide.now).1 arm (proc_view body.old.value)) place.now (out_view out)
         ≡ Some (cond result (untested (decide_view decide.now).0 (decide_view decide.now).1)
-        (took (decide_view decide.now).0 (decide_view decide.now).1 arm (part_view body.new.value))) }
+        (took (decide_view decide.now).0 (decide_view decide.now).1 arm (proc_view body.new.value))) }
 {
     match ordered_step(place) {
         None => false,
@@ -206,10 +206,10 @@ fn from_opened(
     place: &[Entry],
     out: Option<Box<Proc>>,
 ) -> bool
-    requires { IsSome (retreated (opened_of over.old (await_view waiting.now).0 (await_view waiting.now).1 channel value (part_view body.old.value)) place.now (out_view out)) }
-    ensures { retreated (opened_of over.old (await_view waiting.now).0 (await_view waiting.now).1 channel value (part_view body.old.value)) place.now (out_view out)
+    requires { IsSome (retreated (opened_of over.old (await_view waiting.now).0 (await_view waiting.now).1 channel value (proc_view body.old.value)) place.now (out_view out)) }
+    ensures { retreated (opened_of over.old (await_view waiting.now).0 (await_view waiting.now).1 channel value (proc_view body.old.value)) place.now (out_view out)
         ≡ Some (cond result (unopened (await_view waiting.now).0 (await_view waiting.now).1)
-        (opened_of over.new (await_view waiting.now).0 (await_view waiting.now).1 channel value (part_view body.new.value))) }
+        (opened_of over.new (await_view waiting.now).0 (await_view waiting.now).1 channel value (proc_view body.new.value))) }
 {
     if *over {
         *over = false;
@@ -230,9 +230,9 @@ fn from_opened(
 /// A child that has not begun has made no move, so there is nothing to take back.
 #[cycle(retreat)]
 fn from_child(row: &Row, begun: &mut Vec<Proc>, place: &[Entry], out: Option<Box<Proc>>)
-    requires { IsSome (retreated (sequence (begun_of (map part_view begun.old.items) (row_view row.now))) place.now (out_view out)) }
-    ensures { retreated (sequence (begun_of (map part_view begun.old.items) (row_view row.now))) place.now (out_view out)
-        ≡ Some (sequence (begun_of (map part_view begun.new.items) (row_view row.now))) }
+    requires { IsSome (retreated (sequence (begun_of (map proc_view begun.old.items) (row_view row.now))) place.now (out_view out)) }
+    ensures { retreated (sequence (begun_of (map proc_view begun.old.items) (row_view row.now))) place.now (out_view out)
+        ≡ Some (sequence (begun_of (map proc_view begun.new.items) (row_view row.now))) }
 {
     match ordered_step(place) {
         None => {}
@@ -244,14 +244,14 @@ fn from_child(row: &Row, begun: &mut Vec<Proc>, place: &[Entry], out: Option<Box
 }
 
 #[cycle(retreat)]
-fn from_branch(parts: &mut Vec<Proc>, place: &[Entry], out: Option<Box<Proc>>)
-    requires { IsSome (retreated (parallel (parts_of (map part_view parts.old.items))) place.now (out_view out)) }
-    ensures { retreated (parallel (parts_of (map part_view parts.old.items))) place.now (out_view out)
-        ≡ Some (parallel (parts_of (map part_view parts.new.items))) }
+fn from_branch(procs: &mut Vec<Proc>, place: &[Entry], out: Option<Box<Proc>>)
+    requires { IsSome (retreated (parallel (procs_of (map proc_view procs.old.items))) place.now (out_view out)) }
+    ensures { retreated (parallel (procs_of (map proc_view procs.old.items))) place.now (out_view out)
+        ≡ Some (parallel (procs_of (map proc_view procs.new.items))) }
 {
     match branch_step(place) {
         None => {}
-        Some((number, below)) => match parts.get_mut(number as usize) {
+        Some((number, below)) => match procs.get_mut(number as usize) {
             None => {}
             Some(child) => retreat(child, below, out),
         },

@@ -1,6 +1,6 @@
 ghost use Rattle.std.specs.Prelude.{◌≡◌, Some, IsSome, IfOk, OnErr};
 ghost use Rattle.process_tree.specs.Advanced.{advanced};
-ghost use Rattle.process_tree.specs.Part.{started};
+ghost use Rattle.process_tree.specs.Proc.{started};
 ghost use Rattle.process_tree.specs.Translation as translation;
 ghost use Rattle.process_tree.specs.walking.Retreated.{retreated};
 ghost use Rattle.process_tree.specs.View.{ask_view, out_view, tree_view};
@@ -8,16 +8,16 @@ ghost use Rattle.process_tree.specs.View.{ask_view, out_view, tree_view};
 use crate::advance::advance;
 use crate::ask::Ask;
 use crate::environment::system_code;
-use crate::part::{Proc, start};
+use crate::proc::{Proc, start};
 use crate::retreat::retreat;
 use address::Entry;
 use std::alloc::{AllocError, Global};
 use system::System;
 
-/// The tree of an execution. What it stands for is a part (`tree_view`).
+/// The tree of an execution. What it stands for is a process (`tree_view`).
 #[derive(Drop)]
 pub struct Tree {
-    part: Proc,
+    proc: Proc,
 }
 
 impl Tree {
@@ -27,7 +27,7 @@ impl Tree {
     {
         let code = system_code(alloc, system)?;
         Ok(Tree {
-            part: start(alloc, &code)?,
+            proc: start(alloc, &code)?,
         })
     }
 
@@ -45,7 +45,7 @@ impl Tree {
         ensures made { IfOk result (λ out. advanced (tree_view self.old) place.now (ask_view ask) ≡ Some (tree_view self.new, out_view out)) }
         ensures without_memory { OnErr result (tree_view self.new ≡ tree_view self.old) }
     {
-        advance(alloc, &mut self.part, place, ask)
+        advance(alloc, &mut self.proc, place, ask)
     }
 
     /// Takes the move at the place back, and puts what it took out where it was. It costs the depth of the place and what
@@ -54,6 +54,6 @@ impl Tree {
         requires { IsSome (retreated (tree_view self.old) place.now (out_view out)) }
         ensures { retreated (tree_view self.old) place.now (out_view out) ≡ Some (tree_view self.new) }
     {
-        retreat(&mut self.part, place, out)
+        retreat(&mut self.proc, place, out)
     }
 }

@@ -1,4 +1,4 @@
--- The moves of an event on a part, made and taken back, as the code walks.
+-- The moves of an event on a process, made and taken back, as the code walks.
 -- No reader has to believe it: `proofs/Moved.antt` ties it to `applied` and `reverted`.
 use Rattle.std.specs.Prelude.{List, [], ◌∷◌, Option, Some, None}
 use Rattle.std.specs.Option.{option_and_then}
@@ -6,7 +6,7 @@ use Rattle.calculus.specs.Moves.{Place}
 use Rattle.calculus.specs.walking.After as model
 use Rattle.calculus.specs.walking.Made.{asked}
 use Rattle.calculus.specs.declared.event.Event.{Event}
-use Rattle.process_tree.specs.Part.{Part}
+use Rattle.process_tree.specs.Proc.{Proc}
 use Rattle.process_tree.specs.View.{ask_view}
 use Rattle.process_tree.specs.walking.Retreated.{retreated}
 use Rattle.event_inverse.specs.Grown.{all_advanced}
@@ -20,14 +20,14 @@ placed a b (Alone ask) = Some ((a, ask_view ask) ∷ [])
 placed a None (Together one other) = None
 placed a (Some b) (Together one other) = Some ((a, ask_view one) ∷ (b, ask_view other) ∷ [])
 
--- the part after the moves that an event asks for, and what they took out
-abbrev pub moved : Part → Event → Option (Part × List (Option Part))
+-- the process after the moves that an event asks for, and what they took out
+abbrev pub moved : Proc → Event → Option (Proc × List (Option Proc))
 moved p e = option_and_then (all_advanced p) (asked e)
 
--- the part before them, which took these out
-abbrev pub moved_back : Part → Event → List (Option Part) → Option Part
+-- the process before them, which took these out
+abbrev pub moved_back : Proc → Event → List (Option Proc) → Option Proc
 moved_back p e outs = option_and_then (λ ks. all_retreated p ks outs) (asked e)
 
--- the part before two moves at these places, which took these out: the second is taken back first
-abbrev pub both_back : Part → Place → Option Part → Place → Option Part → Option Part
+-- the process before two moves at these places, which took these out: the second is taken back first
+abbrev pub both_back : Proc → Place → Option Proc → Place → Option Proc → Option Proc
 both_back p a out b other = option_and_then (λ q. retreated q a out) (retreated p b other)

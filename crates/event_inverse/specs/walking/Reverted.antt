@@ -8,12 +8,12 @@ use Rattle.calculus.specs.Moves.{Place}
 use Rattle.calculus.specs.walking.After.{Ask}
 use Rattle.calculus.specs.walking.Made.{asked}
 use Rattle.calculus.specs.declared.event.Event.{Event}
-use Rattle.process_tree.specs.Part.{Part}
+use Rattle.process_tree.specs.Proc.{Proc}
 use Rattle.process_tree.specs.walking.Retreated.{retreated}
 use Rattle.event_inverse.specs.Grown.{TreeAndStore, Taken}
 
--- the part before the moves, which took these out: the last is taken back first
-abbrev pub all_retreated : Part → List (Place × Ask) → List (Option Part) → Option Part
+-- the process before the moves, which took these out: the last is taken back first
+abbrev pub all_retreated : Proc → List (Place × Ask) → List (Option Proc) → Option Proc
 all_retreated p [] outs = Some p
 all_retreated p (k ∷ ks) [] = None
 all_retreated p (k ∷ ks) (out ∷ outs) = option_and_then (λ q. retreated q k.0 out) (all_retreated p ks outs)
@@ -27,4 +27,4 @@ written_back (Some x) (Some v) s = slice_set s x v
 -- the tree before an event that left this record
 abbrev pub reverted : TreeAndStore → Event → Taken → Option TreeAndStore
 reverted T e r =
-    option_and_then (λ ks. option_map (λ p. record { part = p; store = written_back e.written r.old T.store }) (all_retreated T.part ks r.parts)) (asked e)
+    option_and_then (λ ks. option_map (λ p. record { proc = p; store = written_back e.written r.old T.store }) (all_retreated T.proc ks r.procs)) (asked e)

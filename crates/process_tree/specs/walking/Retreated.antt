@@ -1,26 +1,26 @@
--- A move taken back on the tree: the part before it, with what it took out put back.
+-- A move taken back on the tree: the process before it, with what it took out put back.
 -- No reader has to believe it: the law `moves_go_back` says that it gives what `Advanced.antt` began with.
 use Rattle.std.specs.Prelude.{ℕ, zero, suc, ◌+◌, ◌*◌, false, Option, Some, None, option_map}
 use Rattle.system.specs.Expression.{Expression}
 use Rattle.calculus.specs.Moves.{Place}
 use Rattle.process_tree.specs.Code.{Code}
-use Rattle.process_tree.specs.Part.{waiting, holding, past, Part, idle, stopped, once, sender, fresh, turn, ended_at_once, ended, untested, skipped, took, unopened, entered, closed, sequence, parallel, drained, Parts, no_parts, part}
+use Rattle.process_tree.specs.Proc.{waiting, holding, past, Proc, idle, stopped, once, sender, fresh, turn, ended_at_once, ended, untested, skipped, took, unopened, entered, closed, sequence, parallel, drained, Procs, no_procs, proc}
 use Rattle.process_tree.specs.Places.{if_here, if_act, if_child, if_child_or, if_branch}
 
 -- a loop before turn n, with the body that the turn took out
-abbrev pub before_turn : Option Expression → Code → ℕ → Option Part → Option Part
+abbrev pub before_turn : Option Expression → Code → ℕ → Option Proc → Option Proc
 before_turn g c zero old = Some (fresh g c)
 before_turn g c (suc n) None = None
 before_turn g c (suc n) (Some q) = Some (turn g c n q)
 
 -- the receives on an output port before the last
-abbrev pub before_drain : ℕ → ℕ → Place → Option Part
+abbrev pub before_drain : ℕ → ℕ → Place → Option Proc
 before_drain c zero a = None
 before_drain c (suc n) a = if_act n a (Some (drained c n))
 
 abbrev mutual
-  -- the part before the move at the place, which took this out; how far the part is says which move it was
-  pub retreated : Part → Place → Option Part → Option Part
+  -- the process before the move at the place, which took this out; how far the process is says which move it was
+  pub retreated : Proc → Place → Option Proc → Option Proc
   retreated idle a old = None
   retreated stopped a old = None
   retreated (once o made) a old = if_here a (Some (once o false))
@@ -45,13 +45,13 @@ abbrev mutual
   retreated (drained c n) a old = before_drain c n a
 
   -- the same in the child of a sequence in which the place is
-  pub retreated_sequence : ℕ → Parts → Place → Option Part → Option Parts
-  retreated_sequence n no_parts a old = None
-  retreated_sequence n (part p ps) a old =
-      if_child_or n a (λ b. option_map (λ q. part q ps) (retreated p b old)) (option_map (part p) (retreated_sequence (n + 1) ps a old))
+  pub retreated_sequence : ℕ → Procs → Place → Option Proc → Option Procs
+  retreated_sequence n no_procs a old = None
+  retreated_sequence n (proc p ps) a old =
+      if_child_or n a (λ b. option_map (λ q. proc q ps) (retreated p b old)) (option_map (proc p) (retreated_sequence (n + 1) ps a old))
 
   -- the same in the branch of a parallel in which the place is
-  pub retreated_parallel : ℕ → Parts → Place → Option Part → Option Parts
-  retreated_parallel n no_parts a old = None
-  retreated_parallel n (part p ps) a old =
-      if_branch n a (λ b. option_map (λ q. part q ps) (retreated p b old)) (option_map (part p) (retreated_parallel (n + 1) ps a old))
+  pub retreated_parallel : ℕ → Procs → Place → Option Proc → Option Procs
+  retreated_parallel n no_procs a old = None
+  retreated_parallel n (proc p ps) a old =
+      if_branch n a (λ b. option_map (λ q. proc q ps) (retreated p b old)) (option_map (proc p) (retreated_parallel (n + 1) ps a old))

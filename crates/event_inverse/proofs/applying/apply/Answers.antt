@@ -8,6 +8,6 @@ use Rattle.event_inverse.proofs.applying.apply.Goals as goal
 pub returns-in-Ok-clause-back : goal.returns-in-Ok-clause-back
 returns-in-Ok-clause-back c =
     reverts (both_view c.args.tree.now c.args.store.now) c.args.event
-    (both_view c.make.new.tree c.write-overwritten.new.store, record { parts = outs_view c.in-Ok.outs; old = c.write-overwritten.result })
+    (both_view c.make.new.tree c.write-overwritten.new.store, record { procs = outs_view c.in-Ok.outs; old = c.write-overwritten.result })
     (applied-by (both_view c.args.tree.now c.args.store.now) c.args.event (tree_view c.make.new.tree, outs_view c.in-Ok.outs) c.write-overwritten.new.store
     c.write-overwritten.result c.in-Ok.ensures.made c.write-overwritten.ensures.written c.write-overwritten.ensures.old)

@@ -1,10 +1,10 @@
 -- The arm of this number.
 use Rattle.std.proofs.Common.{◌∙◌, sym, ap}
 use Rattle.std.proofs.lemmas.Result.{IfOk-weaker}
-use Rattle.process_tree.specs.Part.{started}
-use Rattle.process_tree.specs.View.{part_view}
+use Rattle.process_tree.specs.Proc.{started}
+use Rattle.process_tree.specs.View.{proc_view}
 use Rattle.process_tree.proofs.Steps.{arm-at, arm-past}
-use Rattle.process_tree.proofs.Views.{part_idle}
+use Rattle.process_tree.proofs.Views.{proc_idle}
 use Rattle.process_tree.proofs.advance.begin_arm.Goals as goal
 
 pub returns-in-Some : goal.returns-in-Some
@@ -13,4 +13,4 @@ returns-in-Some c =
 
 pub returns-in_ok-new-in-None : goal.returns-in_ok-new-in-None
 returns-in_ok-new-in-None c =
-    ap part_view c.in_ok-new-in-None.ensures.ok ∙ part_idle ∙ sym (ap started (arm-past c.args.arms.now c.args.arm (sym c.in-None.ensures.value)))
+    ap proc_view c.in_ok-new-in-None.ensures.ok ∙ proc_idle ∙ sym (ap started (arm-past c.args.arms.now c.args.arm (sym c.in-None.ensures.value)))

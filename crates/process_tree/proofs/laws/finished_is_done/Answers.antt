@@ -1,4 +1,4 @@
--- A part is finished where nothing is left of it.
+-- A process is finished where nothing is left of it.
 use Rattle.process_tree.proofs.Formed.{finished-done}
 use Rattle.process_tree.proofs.laws.finished_is_done.Goals as goal
 

@@ -1,6 +1,6 @@
 ghost use Rattle.std.specs.Prelude.{◌≡◌, map, IfOk};
-ghost use Rattle.process_tree.specs.Part.{started};
-ghost use Rattle.process_tree.specs.View.{code_view, part_view};
+ghost use Rattle.process_tree.specs.Proc.{started};
+ghost use Rattle.process_tree.specs.View.{code_view, proc_view};
 
 use crate::code::{Await, Code, Decide, Once, Repeat, Row, Sender};
 use std::alloc::{AllocError, Global};
@@ -17,7 +17,7 @@ pub enum Phase {
 }
 
 /// A command with what it has done.
-#[cycle(part)]
+#[cycle(proc)]
 #[derive(Drop)]
 pub enum Proc {
     Idle,
@@ -37,7 +37,7 @@ pub enum Proc {
 }
 
 /// How far a loop is.
-#[cycle(part)]
+#[cycle(proc)]
 #[derive(Drop)]
 pub enum Turns {
     /// before its first turn
@@ -49,7 +49,7 @@ pub enum Turns {
 }
 
 /// How far an `if` or `case` is.
-#[cycle(part)]
+#[cycle(proc)]
 #[derive(Drop)]
 pub enum Tested {
     Untested,
@@ -60,7 +60,7 @@ pub enum Tested {
 }
 
 /// How far arms are that wait on their channels.
-#[cycle(part)]
+#[cycle(proc)]
 #[derive(Drop)]
 pub enum Gate {
     Unopened,
@@ -72,7 +72,7 @@ pub enum Gate {
 /// children of a sequence, the turns of a loop and the arms later.
 #[cycle(start)]
 pub fn start(alloc: Global, code: &Code) -> Result<Proc, AllocError>
-    ensures { IfOk result (λ made. part_view made ≡ started (code_view code.now)) }
+    ensures { IfOk result (λ made. proc_view made ≡ started (code_view code.now)) }
 {
     match code {
         Code::Continue => Ok(Proc::Idle),
@@ -84,8 +84,8 @@ pub fn start(alloc: Global, code: &Code) -> Result<Proc, AllocError>
         Code::Await(waiting) => Ok(Proc::Arms(waiting.clone()?, Gate::Unopened)),
         Code::InTurn(row) => Ok(Proc::Sequence(row.clone()?, Vec::new(alloc))),
         Code::SideBySide(row) => {
-            let parts = start_all(alloc, row.get().codes.as_slice())?;
-            Ok(Proc::Parallel(parts))
+            let procs = start_all(alloc, row.get().codes.as_slice())?;
+            Ok(Proc::Parallel(procs))
         }
         Code::Drain(channel) => Ok(Proc::Drained(*channel, 0)),
     }
@@ -94,11 +94,11 @@ pub fn start(alloc: Global, code: &Code) -> Result<Proc, AllocError>
 /// Each of the commands before its first move.
 #[cycle(start)]
 fn start_all(alloc: Global, codes: &[Code]) -> Result<Vec<Proc>, AllocError>
-    ensures { IfOk result (λ made. map part_view made.items ≡ map (λ c. started (code_view c)) codes.now) }
+    ensures { IfOk result (λ made. map proc_view made.items ≡ map (λ c. started (code_view c)) codes.now) }
 {
-    let mut parts = Vec::with_capacity(alloc, codes.len())?;
+    let mut procs = Vec::with_capacity(alloc, codes.len())?;
     for code in codes {
-        parts.push(start(alloc, code)?)?;
+        procs.push(start(alloc, code)?)?;
     }
-    Ok(parts)
+    Ok(procs)
 }

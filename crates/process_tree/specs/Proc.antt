@@ -1,4 +1,4 @@
--- The tree that is changed in place, as contracts see it: each command with what it has done, the finished parts kept.
+-- The tree that is changed in place, as contracts see it: each command with what it has done, the finished processes kept.
 use Rattle.std.specs.Prelude.{ℕ, Bool, true, false, ◌&&◌, List, Option}
 use Rattle.value.specs.Word.{Word}
 use Rattle.system.specs.Expression.{Expression, Decision}
@@ -12,49 +12,49 @@ pub data Phase : Type 0 where
 
 mutual
   -- a command with what it has done
-  pub data Part : Type 0 where
+  pub data Proc : Type 0 where
     -- `continue`
-    idle : Part
+    idle : Proc
     -- `halt`
-    stopped : Part
+    stopped : Proc
     -- what makes one move, and whether it has made it
-    once : Once → Bool → Part
-    sender : Sender → Phase → Part
+    once : Once → Bool → Proc
+    sender : Sender → Phase → Proc
     -- a loop before its first turn
-    fresh : Option Expression → Code → Part
+    fresh : Option Expression → Code → Proc
     -- a loop in this turn or behind it, and the body of that turn
-    turn : Option Expression → Code → ℕ → Part → Part
+    turn : Option Expression → Code → ℕ → Proc → Proc
     -- a loop whose first test ended it
-    ended_at_once : Option Expression → Code → Part
+    ended_at_once : Option Expression → Code → Proc
     -- a loop that a test ended behind this turn
-    ended : Option Expression → Code → ℕ → Part → Part
+    ended : Option Expression → Code → ℕ → Proc → Proc
     -- an `if` or `case` before its test
-    untested : Decision → Codes → Part
+    untested : Decision → Codes → Proc
     -- one that took no arm
-    skipped : Decision → Codes → Part
+    skipped : Decision → Codes → Proc
     -- one that took this arm
-    took : Decision → Codes → ℕ → Part → Part
+    took : Decision → Codes → ℕ → Proc → Proc
     -- arms that wait on their channels
-    unopened : List ℕ → Codes → Part
+    unopened : List ℕ → Codes → Proc
     -- arms of which one has opened on this channel, with what was received if anything
-    entered : List ℕ → Codes → ℕ → Option Word → Part → Part
+    entered : List ℕ → Codes → ℕ → Option Word → Proc → Proc
     -- the same after the close
-    closed : List ℕ → Codes → ℕ → Option Word → Part → Part
+    closed : List ℕ → Codes → ℕ → Option Word → Proc → Proc
     -- children one after another: the first that is not finished is at work
-    sequence : Parts → Part
+    sequence : Procs → Proc
     -- children side by side
-    parallel : Parts → Part
+    parallel : Procs → Proc
     -- the receives on an output port, after so many
-    drained : ℕ → ℕ → Part
+    drained : ℕ → ℕ → Proc
 
-  -- parts in a row
-  pub data Parts : Type 0 where
-    no_parts : Parts
-    part : Part → Parts → Parts
+  -- processes in a row
+  pub data Procs : Type 0 where
+    no_procs : Procs
+    proc : Proc → Procs → Procs
 
 abbrev mutual
   -- a command that has made no move
-  pub started : Code → Part
+  pub started : Code → Proc
   started continues = idle
   started halts = stopped
   started (moves_once o) = once o false
@@ -67,9 +67,9 @@ abbrev mutual
   started (drains c) = drained c 0
 
   -- the same of each
-  pub all_started : Codes → Parts
-  all_started no_code = no_parts
-  all_started (code c cs) = part (started c) (all_started cs)
+  pub all_started : Codes → Procs
+  all_started no_code = no_procs
+  all_started (code c cs) = proc (started c) (all_started cs)
 
 -- whether a send or sync is done
 abbrev pub is_past : Phase → Bool
@@ -79,7 +79,7 @@ is_past past = true
 
 abbrev mutual
   -- whether nothing is left to do
-  pub finished : Part → Bool
+  pub finished : Proc → Bool
   finished idle = true
   finished stopped = false
   finished (once o made) = made
@@ -99,6 +99,6 @@ abbrev mutual
   finished (drained c n) = false
 
   -- whether each is finished
-  pub all_finished : Parts → Bool
-  all_finished no_parts = true
-  all_finished (part p ps) = finished p && all_finished ps
+  pub all_finished : Procs → Bool
+  all_finished no_procs = true
+  all_finished (proc p ps) = finished p && all_finished ps

@@ -1,8 +1,0 @@
-use Rattle.std.proofs.Common.{◌≡◌, ◌++◌, drop, map}
-use Rattle.process_tree.specs.Part.{started}
-use Rattle.process_tree.specs.View.{code_view, part_view}
-use Rattle.process_tree.proofs.part.+start.Given as goal
-
-abbrev pub invariant-start_all-loop-code : goal.invariant-start_all-loop-code
-invariant-start_all-loop-code l =
-    map part_view l.parts.items ++ map (λ c. started (code_view c)) (drop l.code-index l.codes) ≡ map (λ c. started (code_view c)) l.codes
