@@ -7,6 +7,7 @@ mod allowed;
 mod answers;
 mod apart;
 mod command;
+mod dependence;
 mod event;
 mod laws;
 mod left;
@@ -24,6 +25,7 @@ mod translate;
 mod walk;
 
 pub use command::{Command, LAST_TICKET, MOST_LIVE_EVENTS, Refusal, Reply};
+pub use dependence::{depends_directly, writes};
 pub use event::{Choice, Event, Kind};
 pub use laws::{
     acting_once, allowed_are_listed, apart_moves_meet, causes_alone, earlier_places,

@@ -6,7 +6,6 @@ pub mod Following
 pub mod Linking
 pub mod ListPlaces
 pub mod Markings
-pub mod Reading
 pub mod Standing
 pub mod ShownStates
 pub mod Sweeps

@@ -3,8 +3,7 @@
 ghost use Rattle.std.specs.Prelude.{◌≡◌, ◌++◌, ◌∷◌, [], cond, IfOk};
 ghost use Rattle.dependence.specs.walking.Tables.{Candidates};
 
-use crate::direct::depends_directly;
-use calculus::Event;
+use calculus::{Event, depends_directly};
 use std::alloc::{AllocError, Global};
 
 /// Tickets of live events on which the event depends directly; of each such event that is not among them, a dependent is.

@@ -2,9 +2,8 @@
 ghost use Rattle.dependence.specs.Followers.{CountsDirect};
 ghost use Rattle.dependence.specs.walking.Tables.{IsRising, IsLive, CountsAmong};
 
-use crate::direct::depends_directly;
 use crate::places::place_of_live;
-use calculus::Event;
+use calculus::{Event, depends_directly};
 
 /// How many live events depend directly on the one of this ticket.
 pub(crate) fn count_direct(live: &[(u64, Event)], ticket: u64) -> usize

@@ -3,7 +3,6 @@
 
 mod candidates;
 mod count;
-mod direct;
 mod entries;
 mod laws;
 mod links;

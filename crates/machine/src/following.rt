@@ -4,8 +4,7 @@ ghost use Rattle.system.specs.Expression.{is_in};
 ghost use Rattle.calculus.specs.Live.{Rising, FollowersList, NoWriter};
 ghost use Rattle.machine.specs.walking.Following.{Leads, DependsOnSome, WritesLast};
 
-use crate::dependence::{depends_directly, writes};
-use calculus::Event;
+use calculus::{Event, depends_directly, writes};
 use std::alloc::{AllocError, Global};
 
 /// The tickets of the live events that depend on the one of this ticket, ascending.

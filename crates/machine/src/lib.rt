@@ -4,7 +4,6 @@
 mod asking;
 mod branching;
 mod breaks;
-mod dependence;
 mod following;
 mod history;
 mod laws;

@@ -3,8 +3,7 @@ ghost use Rattle.std.specs.Prelude.{◌≡◌, ◌<◌, ℕ, suc, length, drop, 
 ghost use Rattle.calculus.specs.Live.{NoneAt};
 ghost use Rattle.machine.specs.walking.Dependents.{StandsAt, NoneDirectly, FirstDirectly};
 
-use crate::dependence::depends_directly;
-use calculus::Event;
+use calculus::{Event, depends_directly};
 
 /// Where the entry of this ticket stands.
 pub(crate) fn place_of(live: &[(u64, Event)], ticket: u64) -> Option<usize>

@@ -7,11 +7,12 @@ ghost use Rattle.calculus.specs.Moves.{Place};
 ghost use Rattle.calculus.specs.Events.{places};
 ghost use Rattle.calculus.specs.Dependence.{Directly, SomeBefore, OnOneChannel, WritesFor};
 
+use crate::event::Event;
 use address::{Address, before};
-use calculus::Event;
 
-/// Whether the later event depends directly on the earlier one.
-pub(crate) fn depends_directly(earlier: &Event, later: &Event) -> bool
+/// Whether the later of two events of a run depends directly on the earlier one: an address of the earlier is before an
+/// address of the later, or both are on one channel, or one writes a variable that the other reads or writes.
+pub fn depends_directly(earlier: &Event, later: &Event) -> bool
     ensures { IsTrue result ↔ Directly earlier.now later.now }
 {
     let by_place = some_before(earlier, later);
@@ -65,8 +66,8 @@ fn writes_for(writer: &Event, other: &Event) -> bool
     }
 }
 
-/// Whether the event writes the variable.
-fn writes(event: &Event, variable: u32) -> bool
+/// Whether the event writes the variable of this number.
+pub fn writes(event: &Event, variable: u32) -> bool
     ensures { IsTrue result ↔ (event.now.written ≡ Some variable) }
 {
     match event.written {

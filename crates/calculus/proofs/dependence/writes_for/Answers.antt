@@ -1,5 +1,5 @@
-use Rattle.dependence.proofs.Reading.{written-read, written-written}
-use Rattle.dependence.proofs.direct.writes_for.Goals as goal
+use Rattle.calculus.proofs.Reads.{written-read, written-written}
+use Rattle.calculus.proofs.dependence.writes_for.Goals as goal
 
 pub returns-then-reads : goal.returns-then-reads
 returns-then-reads c =
