@@ -6,7 +6,10 @@ use Rattle.calculus.specs.Moves.{Place, Move, assigns, tests, turns, sends, rece
 use Rattle.value.specs.Word.{Word}
 use Rattle.system.specs.Expression.{Expression, Decision, by_guards}
 use Rattle.system.specs.Residual.{Residual, done, halted, inside, beside, assign, send, receive, sync, held, loop, while, test, choose, closing, drain, Arms, within, along, arm_at, opened}
-use Rattle.calculus.specs.walking.After.{Ask, to_assign, to_test, to_turn, to_send, to_hold, to_receive, to_open, to_sync, to_release, to_close, asks, Answer, around, at_place, at_act, in_child, in_branch, after_assign, after_send, after_receive, after_sync, after_held, after_loop, after_while, after_test, after_open, after_choose, after_closing, after_drain, after}
+use Rattle.calculus.specs.Asking.{asks}
+use Rattle.calculus.specs.walking.After.{Answer, around, at_place, at_act, in_child, in_branch, after_assign, after_send, after_receive, after_sync, after_held, after_loop, after_while, after_test, after_open, after_choose, after_closing, after_drain, after}
+use Rattle.calculus.specs.declared.ask.Ask.{Ask}
+use Rattle.calculus.specs.declared.ask.Ask.TheVariants as ask
 use Rattle.calculus.proofs.Options.{none-some, cond-some}
 use Rattle.calculus.proofs.WellFormed.{WellFormed}
 use Rattle.calculus.proofs.Kept.{branches-place}
@@ -113,39 +116,39 @@ in_branch-other n j a b f x l e =
 -- what an assignment answers
 assign_only : (x w : ℕ) (e : Expression) (k : Ask) (m : Move) (q : Residual) → after_assign x w e k ≡ Some (m, q)
     → (m ≡ assigns x w e) × (q ≡ done) × (asks m ≡ k)
-assign_only x w e to_assign m q h = let p = parts (assigns x w e) m done q h in (sym p.0, sym p.1, ap asks (sym p.0))
+assign_only x w e ask.Assign m q h = let p = parts (assigns x w e) m done q h in (sym p.0, sym p.1, ap asks (sym p.0))
 assign_only x w e _ m q h = none-some (m, q) h
 
 -- what a send answers
 send_only : (c w : ℕ) (e : Expression) (k : Ask) (m : Move) (q : Residual) → after_send c w e k ≡ Some (m, q)
     → (((m ≡ sends c w e false) × (q ≡ done)) ⊎ ((m ≡ sends c w e true) × (q ≡ held c))) × (asks m ≡ k)
-send_only c w e to_send m q h = let p = parts (sends c w e false) m done q h in (inl (sym p.0, sym p.1), ap asks (sym p.0))
-send_only c w e to_hold m q h = let p = parts (sends c w e true) m (held c) q h in (inr (sym p.0, sym p.1), ap asks (sym p.0))
+send_only c w e ask.Send m q h = let p = parts (sends c w e false) m done q h in (inl (sym p.0, sym p.1), ap asks (sym p.0))
+send_only c w e ask.Hold m q h = let p = parts (sends c w e true) m (held c) q h in (inr (sym p.0, sym p.1), ap asks (sym p.0))
 send_only c w e _ m q h = none-some (m, q) h
 
 -- what a receive answers
 receive_only : (c x : ℕ) (k : Ask) (m : Move) (q : Residual) → after_receive c x k ≡ Some (m, q)
     → (m ≡ receives c (Some x)) × (q ≡ done) × (asks m ≡ k)
-receive_only c x to_receive m q h = let p = parts (receives c (Some x)) m done q h in (sym p.0, sym p.1, ap asks (sym p.0))
+receive_only c x ask.Receive m q h = let p = parts (receives c (Some x)) m done q h in (sym p.0, sym p.1, ap asks (sym p.0))
 receive_only c x _ m q h = none-some (m, q) h
 
 -- what a handshake without data answers
 sync_only : (c : ℕ) (k : Ask) (m : Move) (q : Residual) → after_sync c k ≡ Some (m, q)
     → (((m ≡ syncs c false) × (q ≡ done)) ⊎ ((m ≡ syncs c true) × (q ≡ held c))) × (asks m ≡ k)
-sync_only c to_sync m q h = let p = parts (syncs c false) m done q h in (inl (sym p.0, sym p.1), ap asks (sym p.0))
-sync_only c to_hold m q h = let p = parts (syncs c true) m (held c) q h in (inr (sym p.0, sym p.1), ap asks (sym p.0))
+sync_only c ask.Sync m q h = let p = parts (syncs c false) m done q h in (inl (sym p.0, sym p.1), ap asks (sym p.0))
+sync_only c ask.Hold m q h = let p = parts (syncs c true) m (held c) q h in (inr (sym p.0, sym p.1), ap asks (sym p.0))
 sync_only c _ m q h = none-some (m, q) h
 
 -- what a held send or sync answers
 held_only : (c : ℕ) (k : Ask) (m : Move) (q : Residual) → after_held c k ≡ Some (m, q)
     → (m ≡ releases c) × (q ≡ done) × (asks m ≡ k)
-held_only c to_release m q h = let p = parts (releases c) m done q h in (sym p.0, sym p.1, ap asks (sym p.0))
+held_only c ask.Release m q h = let p = parts (releases c) m done q h in (sym p.0, sym p.1, ap asks (sym p.0))
 held_only c _ m q h = none-some (m, q) h
 
 -- what a loop answers
 loop_only : (n : ℕ) (body : Residual) (k : Ask) (m : Move) (q : Residual) → after_loop n body k ≡ Some (m, q)
     → (m ≡ turns) × (q ≡ within (2 * n + 1) body (loop (n + 1) body)) × (asks m ≡ k)
-loop_only n body to_turn m q h =
+loop_only n body ask.Turn m q h =
     let p = parts turns m (within (2 * n + 1) body (loop (n + 1) body)) q h in
     (sym p.0, sym p.1, ap asks (sym p.0))
 loop_only n body _ m q h = none-some (m, q) h
@@ -154,10 +157,10 @@ loop_only n body _ m q h = none-some (m, q) h
 while_only : (n : ℕ) (e : Expression) (body : Residual) (k : Ask) (m : Move) (q : Residual) → after_while n e body k ≡ Some (m, q)
     → (((m ≡ tests (by_guards (e ∷ []) false) (Some 0)) × (q ≡ within (2 * n + 1) body (while (n + 1) e body)))
     ⊎ ((m ≡ tests (by_guards (e ∷ []) false) None) × (q ≡ done))) × (asks m ≡ k)
-while_only n e body (to_test None) m q h =
+while_only n e body (ask.Test None) m q h =
     let p = parts (tests (by_guards (e ∷ []) false) None) m done q h in
     (inr (sym p.0, sym p.1), ap asks (sym p.0))
-while_only n e body (to_test (Some j)) m q h =
+while_only n e body (ask.Test (Some j)) m q h =
     let t = within (2 * n + 1) body (while (n + 1) e body) in
     let d = by_guards (e ∷ []) false in
     let g = cond-some (j == 0) (Some (tests d (Some j), t)) (m, q) h in
@@ -169,8 +172,8 @@ while_only n e body _ m q h = none-some (m, q) h
 -- what a test with arms answers
 test_only : (d : Decision) (arms : Arms) (k : Ask) (m : Move) (q : Residual) → after_test d arms k ≡ Some (m, q)
     → (((j : ℕ) × (m ≡ tests d (Some j)) × (q ≡ within 1 (arm_at arms j) done)) ⊎ ((m ≡ tests d None) × (q ≡ done))) × (asks m ≡ k)
-test_only d arms (to_test None) m q h = let p = parts (tests d None) m done q h in (inr (sym p.0, sym p.1), ap asks (sym p.0))
-test_only d arms (to_test (Some j)) m q h =
+test_only d arms (ask.Test None) m q h = let p = parts (tests d None) m done q h in (inr (sym p.0, sym p.1), ap asks (sym p.0))
+test_only d arms (ask.Test (Some j)) m q h =
     let p = parts (tests d (Some j)) m (within 1 (arm_at arms j) done) q h in
     (inl (j, sym p.0, sym p.1), ap asks (sym p.0))
 test_only d arms _ m q h = none-some (m, q) h
@@ -187,7 +190,7 @@ open_only (Some c) arms j v m q h =
 choose_only : (channels : List ℕ) (arms : Arms) (k : Ask) (m : Move) (q : Residual) → after_choose channels arms k ≡ Some (m, q)
     → ((c : ℕ) × (j : ℕ) × (v : Option Word) × (slice_get channels j ≡ Some c) × (m ≡ opens c j v)
     × (q ≡ within 1 (opened c v (arm_at arms j)) (closing c))) × (asks m ≡ k)
-choose_only channels arms (to_open j v) m q h =
+choose_only channels arms (ask.Open j v) m q h =
     let p = open_only (slice_get channels j) arms j v m q h in
     ((p.0, j, v, p.1, p.2, p.3), ap asks p.2)
 choose_only channels arms _ m q h = none-some (m, q) h
@@ -195,13 +198,13 @@ choose_only channels arms _ m q h = none-some (m, q) h
 -- what comes after an opened arm answers
 closing_only : (c : ℕ) (k : Ask) (m : Move) (q : Residual) → after_closing c k ≡ Some (m, q)
     → (m ≡ closes c) × (q ≡ done) × (asks m ≡ k)
-closing_only c to_close m q h = let p = parts (closes c) m done q h in (sym p.0, sym p.1, ap asks (sym p.0))
+closing_only c ask.Close m q h = let p = parts (closes c) m done q h in (sym p.0, sym p.1, ap asks (sym p.0))
 closing_only c _ m q h = none-some (m, q) h
 
 -- what the receives on an output port answer
 drain_only : (c n : ℕ) (k : Ask) (m : Move) (q : Residual) → after_drain c n k ≡ Some (m, q)
     → (m ≡ receives c None) × (q ≡ drain c (n + 1)) × (asks m ≡ k)
-drain_only c n to_receive m q h = let p = parts (receives c None) m (drain c (n + 1)) q h in (sym p.0, sym p.1, ap asks (sym p.0))
+drain_only c n ask.Receive m q h = let p = parts (receives c None) m (drain c (n + 1)) q h in (sym p.0, sym p.1, ap asks (sym p.0))
 drain_only c n _ m q h = none-some (m, q) h
 
 -- what is answered is offered, and answers to what was asked

@@ -10,7 +10,8 @@ use Rattle.address.specs.Order.{order_of}
 use Rattle.value.specs.Word.{Word}
 use Rattle.system.specs.Expression.{Expression, Store, variables, decide, ascending}
 use Rattle.calculus.specs.Events.{Located, at, sent, Makes, assigning, testing, turning, meeting, opening, opening_without_data, shutting, syncing}
-use Rattle.calculus.specs.walking.Made.{asked, all_ask, event_of, made_alone, made_together, made_by_send, made_by_held_send, made_by_held_sync, made_by_release, made_by_sync}
+use Rattle.calculus.specs.Asking.{asked}
+use Rattle.calculus.specs.walking.Made.{all_ask, event_of, made_alone, made_together, made_by_send, made_by_held_send, made_by_held_sync, made_by_release, made_by_sync}
 use Rattle.calculus.specs.walking.Below.{apart}
 use Rattle.calculus.specs.Tests.{same_option, same_word}
 use Rattle.calculus.proofs.Sameness.{apart-decides, same_number-decides, same_option-decides, same_word-decides}

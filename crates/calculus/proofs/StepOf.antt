@@ -5,8 +5,10 @@ use Rattle.calculus.specs.Moves.{Place, Move}
 use Rattle.system.specs.Residual.{Residual}
 use Rattle.calculus.specs.Events.{Located, at, store_after}
 use Rattle.calculus.specs.Steps.{State, Moves, Step, Run}
-use Rattle.calculus.specs.walking.After.{Ask, asks, after}
-use Rattle.calculus.specs.walking.Made.{asked, all_ask, event_of}
+use Rattle.calculus.specs.walking.After.{after}
+use Rattle.calculus.specs.declared.ask.Ask.{Ask}
+use Rattle.calculus.specs.Asking.{asks, asked}
+use Rattle.calculus.specs.walking.Made.{all_ask, event_of}
 use Rattle.calculus.specs.walking.StepOf.{moves_of, agreed, step_of, run_of}
 use Rattle.calculus.specs.Tests.{same_event}
 use Rattle.calculus.proofs.Options.{none-some, some-injective, cond-some, cond-at, and_then-some, and_then-at}

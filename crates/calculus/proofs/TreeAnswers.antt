@@ -5,7 +5,8 @@ use Rattle.std.proofs.lemmas.Result.{IfOk-weaker}
 use Rattle.system.specs.Residual.{Residual, done, inside, beside, within, along, arm_at}
 use Rattle.system.specs.Translation.{arms_of}
 use Rattle.calculus.specs.Moves.{Place}
-use Rattle.calculus.specs.walking.After.{Ask, around, after}
+use Rattle.calculus.specs.walking.After.{around, after}
+use Rattle.calculus.specs.declared.ask.Ask.{Ask}
 use Rattle.calculus.specs.walking.Below.{below_child, below_branch}
 use Rattle.calculus.specs.walking.Meanings.{answer_of}
 use Rattle.calculus.specs.declared.left.Left.{Left}

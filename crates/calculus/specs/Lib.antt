@@ -1,4 +1,5 @@
 pub mod Answered
+pub mod Asking
 pub mod BackAndForth
 pub mod Choices
 pub mod Dependence

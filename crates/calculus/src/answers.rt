@@ -6,11 +6,12 @@ ghost use Rattle.system.specs.Translation.{expression_of, arms_of, decision_of};
 ghost use Rattle.calculus.specs.walking.After as model;
 ghost use Rattle.calculus.specs.Moves as moves;
 ghost use Rattle.calculus.specs.Left.{residual_of_left};
-ghost use Rattle.calculus.specs.walking.Meanings.{ask_of, move_of, answer_of};
+ghost use Rattle.calculus.specs.walking.Meanings.{move_of, answer_of};
 ghost use Rattle.calculus.specs.walking.Passed.{along_all};
 
+use crate::ask::Ask;
 use crate::left::{Left, along, along_all, with_received, within};
-use crate::moves::{Ask, Move, Moved};
+use crate::moves::{Move, Moved};
 use crate::place::{is_act, is_here, is_turn};
 use address::Entry;
 use std::alloc::{AllocError, Global};
@@ -92,7 +93,7 @@ pub(crate) fn assign(
     width: Width,
     value: &Expression,
 ) -> Result<Option<Moved>, AllocError>
-    ensures { IfOk result (λ r. answer_of r ≡ model.at_place place.now (model.after_assign variable width (expression_of value.now) (ask_of ask))) }
+    ensures { IfOk result (λ r. answer_of r ≡ model.at_place place.now (model.after_assign variable width (expression_of value.now) ask)) }
 {
     if !is_here(place) {
         return Ok(None);
@@ -130,7 +131,7 @@ pub(crate) fn send(
     width: Width,
     value: &Expression,
 ) -> Result<Option<Moved>, AllocError>
-    ensures { IfOk result (λ r. answer_of r ≡ model.at_act 0 place.now (model.after_send channel width (expression_of value.now) (ask_of ask))) }
+    ensures { IfOk result (λ r. answer_of r ≡ model.at_act 0 place.now (model.after_send channel width (expression_of value.now) ask)) }
 {
     if !is_act(place, 0) {
         return Ok(None);
@@ -172,7 +173,7 @@ pub(crate) fn receive(
     channel: u32,
     variable: u32,
 ) -> Result<Option<Moved>, AllocError>
-    ensures { IfOk result (λ r. answer_of r ≡ model.at_place place.now (model.after_receive channel variable (ask_of ask))) }
+    ensures { IfOk result (λ r. answer_of r ≡ model.at_place place.now (model.after_receive channel variable ask)) }
 {
     if !is_here(place) {
         return Ok(None);
@@ -194,7 +195,7 @@ pub(crate) fn sync(
     place: &[Entry],
     channel: u32,
 ) -> Result<Option<Moved>, AllocError>
-    ensures { IfOk result (λ r. answer_of r ≡ model.at_act 0 place.now (model.after_sync channel (ask_of ask))) }
+    ensures { IfOk result (λ r. answer_of r ≡ model.at_act 0 place.now (model.after_sync channel ask)) }
 {
     if !is_act(place, 0) {
         return Ok(None);
@@ -220,7 +221,7 @@ pub(crate) fn held(
     place: &[Entry],
     channel: u32,
 ) -> Result<Option<Moved>, AllocError>
-    ensures { IfOk result (λ r. answer_of r ≡ model.at_act 1 place.now (model.after_held channel (ask_of ask))) }
+    ensures { IfOk result (λ r. answer_of r ≡ model.at_act 1 place.now (model.after_held channel ask)) }
 {
     if !is_act(place, 1) {
         return Ok(None);
@@ -243,7 +244,7 @@ pub(crate) fn repeat(
     turn: u64,
     body: &Shared<Left>,
 ) -> Result<Option<Moved>, AllocError>
-    ensures { IfOk result (λ r. answer_of r ≡ model.at_act (2 * turn) place.now (model.after_loop turn (residual_of_left body.now) (ask_of ask))) }
+    ensures { IfOk result (λ r. answer_of r ≡ model.at_act (2 * turn) place.now (model.after_loop turn (residual_of_left body.now) ask)) }
 {
     if !is_turn(place, turn) {
         return Ok(None);
@@ -277,7 +278,7 @@ pub(crate) fn repeat_while(
     guard: &Expression,
     body: &Shared<Left>,
 ) -> Result<Option<Moved>, AllocError>
-    ensures { IfOk result (λ r. answer_of r ≡ model.at_act (2 * turn) place.now (model.after_while turn (expression_of guard.now) (residual_of_left body.now) (ask_of ask))) }
+    ensures { IfOk result (λ r. answer_of r ≡ model.at_act (2 * turn) place.now (model.after_while turn (expression_of guard.now) (residual_of_left body.now) ask)) }
 {
     if !is_turn(place, turn) {
         return Ok(None);
@@ -357,7 +358,7 @@ pub(crate) fn test(
     decision: &Decision,
     arms: &Items<Shared<Left>>,
 ) -> Result<Option<Moved>, AllocError>
-    ensures { IfOk result (λ r. answer_of r ≡ model.at_act 0 place.now (model.after_test (decision_of decision.now) (arms_of (map residual_of_left arms.now) None) (ask_of ask))) }
+    ensures { IfOk result (λ r. answer_of r ≡ model.at_act 0 place.now (model.after_test (decision_of decision.now) (arms_of (map residual_of_left arms.now) None) ask)) }
 {
     if !is_act(place, 0) {
         return Ok(None);
@@ -420,7 +421,7 @@ pub(crate) fn choose(
     channels: &[u32],
     arms: &Items<Shared<Left>>,
 ) -> Result<Option<Moved>, AllocError>
-    ensures { IfOk result (λ r. answer_of r ≡ model.at_act 0 place.now (model.after_choose channels.now (arms_of (map residual_of_left arms.now) None) (ask_of ask))) }
+    ensures { IfOk result (λ r. answer_of r ≡ model.at_act 0 place.now (model.after_choose channels.now (arms_of (map residual_of_left arms.now) None) ask)) }
 {
     if !is_act(place, 0) {
         return Ok(None);
@@ -500,7 +501,7 @@ pub(crate) fn close(
     place: &[Entry],
     channel: u32,
 ) -> Result<Option<Moved>, AllocError>
-    ensures { IfOk result (λ r. answer_of r ≡ model.at_act 2 place.now (model.after_closing channel (ask_of ask))) }
+    ensures { IfOk result (λ r. answer_of r ≡ model.at_act 2 place.now (model.after_closing channel ask)) }
 {
     if !is_act(place, 2) {
         return Ok(None);
@@ -523,7 +524,7 @@ pub(crate) fn drain(
     channel: u32,
     act: u64,
 ) -> Result<Option<Moved>, AllocError>
-    ensures { IfOk result (λ r. answer_of r ≡ model.at_act act place.now (model.after_drain channel act (ask_of ask))) }
+    ensures { IfOk result (λ r. answer_of r ≡ model.at_act act place.now (model.after_drain channel act ask)) }
 {
     if !is_act(place, act) {
         return Ok(None);

@@ -6,6 +6,7 @@
 mod allowed;
 mod answers;
 mod apart;
+mod ask;
 mod command;
 mod dependence;
 mod event;
@@ -24,6 +25,7 @@ mod step;
 mod translate;
 mod walk;
 
+pub use ask::Ask;
 pub use command::{Command, LAST_TICKET, MOST_LIVE_EVENTS, Refusal, Reply};
 pub use dependence::{depends_directly, writes};
 pub use event::{Choice, Event, Kind};

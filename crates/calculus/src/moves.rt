@@ -3,24 +3,6 @@ use syntax::{Boxed, Shared};
 use system::{Decision, Expression};
 use value::{Value, Width};
 
-/// What an event asks for at one of its places.
-#[derive(Clone, Copy)]
-pub(crate) enum Ask {
-    Assign,
-    /// a test that takes this arm, or none
-    Test(Option<u32>),
-    Turn,
-    Send,
-    /// a send or sync that is held until the close
-    Hold,
-    Receive,
-    /// the arm, and the value received if any
-    Open(u32, Option<Value>),
-    Sync,
-    Release,
-    Close,
-}
-
 /// What one side does in an event. It has expressions and not their values.
 #[derive(Drop)]
 pub(crate) enum Move {

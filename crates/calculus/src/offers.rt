@@ -2,12 +2,13 @@
 ghost use Rattle.std.specs.Prelude.{◌≡◌, IfOk, IsFalse};
 ghost use Rattle.calculus.specs.walking.After as model;
 ghost use Rattle.calculus.specs.Left.{residual_of_left};
-ghost use Rattle.calculus.specs.walking.Meanings.{ask_of, answer_of};
+ghost use Rattle.calculus.specs.walking.Meanings.{answer_of};
 ghost use Rattle.calculus.specs.walking.Passed.{is_passed};
 
 use crate::answers;
+use crate::ask::Ask;
 use crate::left::Left;
-use crate::moves::{Ask, Moved};
+use crate::moves::Moved;
 use crate::place::{below_branch, below_child};
 use address::Entry;
 use std::alloc::{AllocError, Global};
@@ -23,7 +24,7 @@ pub(crate) fn after(
     left: &Left,
     place: &[Entry],
 ) -> Result<Option<Moved>, AllocError>
-    ensures { IfOk result (λ r. answer_of r ≡ model.after (ask_of ask) (residual_of_left left.now) place.now) }
+    ensures { IfOk result (λ r. answer_of r ≡ model.after ask (residual_of_left left.now) place.now) }
 {
     let mut passed = Items::new(alloc);
     let mut left = left;
@@ -52,7 +53,7 @@ fn last_after(
     place: &[Entry],
 ) -> Result<Option<Moved>, AllocError>
     requires { IsFalse (is_passed place.now (residual_of_left left.now)) }
-    ensures { IfOk result (λ r. answer_of r ≡ model.after (ask_of ask) (residual_of_left left.now) place.now) }
+    ensures { IfOk result (λ r. answer_of r ≡ model.after ask (residual_of_left left.now) place.now) }
 {
     match left {
         Left::Done | Left::Halted => Ok(None),

@@ -3,7 +3,7 @@ ghost use Rattle.std.specs.Prelude.{◌≡◌, Option, Some, IfOk, MatchOption, 
 ghost use Rattle.std.specs.Option.{option_map, option_and_then};
 ghost use Rattle.system.specs.Expression as expression;
 ghost use Rattle.calculus.specs.Left.{residual_of_left, state_of};
-ghost use Rattle.calculus.specs.walking.Meanings.{ask_of, move_of};
+ghost use Rattle.calculus.specs.walking.Meanings.{move_of};
 ghost use Rattle.calculus.specs.walking.After as after;
 ghost use Rattle.calculus.specs.Events.{store_after};
 ghost use Rattle.calculus.specs.Steps.{State, Step};
@@ -14,9 +14,10 @@ ghost use Rattle.calculus.specs.walking.StepOf.{step_of, agreed};
 ghost use Rattle.calculus.specs.walking.Sides as sides;
 
 use crate::apart::are_apart;
+use crate::ask::Ask;
 use crate::left::Left;
 use crate::making::{made_alone, made_together};
-use crate::moves::{Ask, Move, Moved};
+use crate::moves::{Move, Moved};
 use crate::offers::after;
 use crate::{Event, Kind, Plain};
 use address::Address;
@@ -54,7 +55,7 @@ pub(crate) fn step(alloc: Global, state: &Plain, event: &Event) -> Result<Option
 
 /// The state after an event with one side.
 fn alone(alloc: Global, state: &Plain, event: &Event, ask: Ask) -> Result<Option<Plain>, AllocError>
-    ensures { IfOk result (λ r. option_map state_of r ≡ sides.alone (state_of state.now) event.now (ask_of ask)) }
+    ensures { IfOk result (λ r. option_map state_of r ≡ sides.alone (state_of state.now) event.now ask) }
 {
     match after(alloc, ask, state.left.get(), event.first.entries())? {
         Some(moved) => {
@@ -74,7 +75,7 @@ fn together(
     first_ask: Ask,
     second_ask: Ask,
 ) -> Result<Option<Plain>, AllocError>
-    ensures { IfOk result (λ r. option_map state_of r ≡ sides.together (state_of state.now) event.now (ask_of first_ask) (ask_of second_ask)) }
+    ensures { IfOk result (λ r. option_map state_of r ≡ sides.together (state_of state.now) event.now first_ask second_ask) }
 {
     match &event.second {
         Some(second) => together_at(alloc, state, event, first_ask, second_ask, second),
@@ -91,7 +92,7 @@ fn together_at(
     second_ask: Ask,
     second: &Address,
 ) -> Result<Option<Plain>, AllocError>
-    ensures { IfOk result (λ r. option_map state_of r ≡ sides.together_at (state_of state.now) event.now (ask_of first_ask) (ask_of second_ask) second.now) }
+    ensures { IfOk result (λ r. option_map state_of r ≡ sides.together_at (state_of state.now) event.now first_ask second_ask second.now) }
 {
     match after(alloc, first_ask, state.left.get(), event.first.entries())? {
         Some(moved) => {
@@ -120,7 +121,7 @@ fn second_side(
     one: &Move,
     left: &Left,
 ) -> Result<Option<Plain>, AllocError>
-    ensures { IfOk result (λ r. option_map state_of r ≡ option_and_then (λ y. agreed (state_of state.now) event.now y.1 (cond (apart event.now.first second.now) (made_together (state_of state.now).store event.now.first (move_of one.now) second.now y.0) None)) (after.after (ask_of ask) (residual_of_left left.now) second.now)) }
+    ensures { IfOk result (λ r. option_map state_of r ≡ option_and_then (λ y. agreed (state_of state.now) event.now y.1 (cond (apart event.now.first second.now) (made_together (state_of state.now).store event.now.first (move_of one.now) second.now y.0) None)) (after.after ask (residual_of_left left.now) second.now)) }
 {
     match after(alloc, ask, left, second.entries())? {
         Some(moved) => {

@@ -4,8 +4,8 @@ use Rattle.std.specs.Option.{option_and_then}
 use Rattle.value.specs.Word.{Word}
 use Rattle.system.specs.Expression.{Store, get}
 use Rattle.calculus.specs.Moves.{Place}
-use Rattle.calculus.specs.walking.After.{Ask}
-use Rattle.calculus.specs.walking.Made.{asked}
+use Rattle.calculus.specs.declared.ask.Ask.{Ask}
+use Rattle.calculus.specs.Asking.{asked}
 use Rattle.calculus.specs.Events.{store_after}
 use Rattle.calculus.specs.declared.event.Event.{Event}
 use Rattle.calculus.proofs.Options.{some-injective}

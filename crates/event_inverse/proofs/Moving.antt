@@ -4,7 +4,8 @@ use Rattle.system.specs.Lists.{Every}
 use Rattle.system.specs.Residual.{Residual}
 use Rattle.address.specs.Places.{Before}
 use Rattle.calculus.specs.Moves.{Place}
-use Rattle.calculus.specs.walking.After.{Ask, asks}
+use Rattle.calculus.specs.Asking.{asks}
+use Rattle.calculus.specs.declared.ask.Ask.{Ask}
 use Rattle.calculus.specs.Events.{Located}
 use Rattle.calculus.specs.walking.Made.{all_ask}
 use Rattle.calculus.specs.Steps.{Moves}

@@ -6,10 +6,11 @@ use Rattle.address.specs.Places.{Before}
 use Rattle.value.specs.Word.{Word, resized}
 use Rattle.system.specs.Expression.{Store, get, put, word}
 use Rattle.calculus.specs.Moves.{Place}
-use Rattle.calculus.specs.walking.After.{Ask}
+use Rattle.calculus.specs.declared.ask.Ask.{Ask}
 use Rattle.calculus.specs.Dependence.{Directly}
 use Rattle.calculus.specs.Events.{places, places_of, store_after, written_by}
-use Rattle.calculus.specs.walking.Made.{asked, asked_by, all_ask}
+use Rattle.calculus.specs.Asking.{asked, asked_by}
+use Rattle.calculus.specs.walking.Made.{all_ask}
 use Rattle.calculus.specs.Steps.{State, Step}
 use Rattle.calculus.specs.declared.event.Event.{Event}
 use Rattle.calculus.specs.declared.event.Kind.{Kind}

@@ -6,9 +6,9 @@ use Rattle.system.specs.Expression.{Store, get}
 use Rattle.system.specs.Translation.{opening_store}
 use Rattle.system.specs.declared.system.System.{System}
 use Rattle.calculus.specs.Moves.{Place}
-use Rattle.calculus.specs.walking.After.{Ask}
+use Rattle.calculus.specs.declared.ask.Ask.{Ask}
 use Rattle.calculus.specs.Events.{store_after}
-use Rattle.calculus.specs.walking.Made.{asked}
+use Rattle.calculus.specs.Asking.{asked}
 use Rattle.calculus.specs.Steps.{State, Run, opening}
 use Rattle.calculus.specs.declared.event.Event.{Event}
 use Rattle.process_tree.specs.Proc.{Proc, started}

@@ -1,6 +1,6 @@
 // The moves of an event, made on the tree and taken back.
 ghost use Rattle.std.specs.Prelude.{◌≡◌, [], ◌∷◌, Some, IsSome, IfOk, OnErr};
-ghost use Rattle.process_tree.specs.View.{ask_view, out_view, tree_view};
+ghost use Rattle.process_tree.specs.View.{out_view, tree_view};
 ghost use Rattle.event_inverse.specs.Grown.{all_advanced};
 ghost use Rattle.event_inverse.specs.View.{outs_view};
 ghost use Rattle.event_inverse.specs.walking.Moved.{moved, moved_back, both_back};
@@ -8,8 +8,8 @@ ghost use Rattle.event_inverse.specs.walking.Moved.{moved, moved_back, both_back
 use crate::asks::{Asks, asks_of};
 use crate::record::Outs;
 use address::Entry;
-use calculus::Event;
-use process_tree::{Ask, Proc, Tree};
+use calculus::{Ask, Event};
+use process_tree::{Proc, Tree};
 use std::alloc::{AllocError, Global};
 
 /// Makes the moves that the event asks for. Without memory none is made.
@@ -37,8 +37,8 @@ pub(crate) fn make(alloc: Global, tree: &mut Tree, event: &Event) -> Result<Outs
 
 /// Makes the move that is asked for at the place.
 fn make_one(alloc: Global, tree: &mut Tree, place: &[Entry], ask: Ask) -> Result<Outs, AllocError>
-    requires { IsSome (all_advanced (tree_view tree.old) ((place.now, ask_view ask) ∷ [])) }
-    ensures made { IfOk result (λ outs. all_advanced (tree_view tree.old) ((place.now, ask_view ask) ∷ []) ≡ Some (tree_view tree.new, outs_view outs)) }
+    requires { IsSome (all_advanced (tree_view tree.old) ((place.now, ask) ∷ [])) }
+    ensures made { IfOk result (λ outs. all_advanced (tree_view tree.old) ((place.now, ask) ∷ []) ≡ Some (tree_view tree.new, outs_view outs)) }
     ensures without_memory { OnErr result (tree_view tree.new ≡ tree_view tree.old) }
 {
     match tree.advance(alloc, place, ask) {
@@ -56,8 +56,8 @@ fn make_two(
     second: &[Entry],
     second_ask: Ask,
 ) -> Result<Outs, AllocError>
-    requires { IsSome (all_advanced (tree_view tree.old) ((first.now, ask_view first_ask) ∷ (second.now, ask_view second_ask) ∷ [])) }
-    ensures made { IfOk result (λ outs. all_advanced (tree_view tree.old) ((first.now, ask_view first_ask) ∷ (second.now, ask_view second_ask) ∷ [])
+    requires { IsSome (all_advanced (tree_view tree.old) ((first.now, first_ask) ∷ (second.now, second_ask) ∷ [])) }
+    ensures made { IfOk result (λ outs. all_advanced (tree_view tree.old) ((first.now, first_ask) ∷ (second.now, second_ask) ∷ [])
         ≡ Some (tree_view tree.new, outs_view outs)) }
     ensures without_memory { OnErr result (tree_view tree.new ≡ tree_view tree.old) }
 {

@@ -4,7 +4,8 @@ use Rattle.address.specs.declared.Entry.TheVariants.{Ordered, Branch}
 use Rattle.value.specs.Word.{Word}
 use Rattle.system.specs.Expression.{Expression, Decision}
 use Rattle.calculus.specs.Moves.{Place}
-use Rattle.calculus.specs.walking.After.{Ask, to_assign, to_test, to_turn, to_send, to_hold, to_receive, to_open, to_sync, to_release, to_close}
+use Rattle.calculus.specs.declared.ask.Ask.{Ask}
+use Rattle.calculus.specs.declared.ask.Ask.TheVariants as ask
 use Rattle.calculus.proofs.Options.{none-some, cond-some}
 use Rattle.process_tree.specs.Code.{Once, assigning, receiving, Sender, sending, syncing, Code, Codes, code_at}
 use Rattle.process_tree.specs.Proc.{waiting, holding, past, Proc, idle, stopped, once, sender, fresh, turn, ended_at_once, ended, untested, skipped, took, unopened, entered, closed, sequence, parallel, drained, Procs, no_procs, proc, started, finished}
@@ -15,8 +16,8 @@ use Rattle.process_tree.proofs.Asking.{some-elim, cond-elim, here-elim, act-elim
 
 -- what makes one move
 once-back : (o : Once) (made : Bool) (k : Ask) (x : Moved) → once_after o made k ≡ Some x → retreated x.0 [] x.1 ≡ Some (once o made)
-once-back (assigning v w e) false to_assign x h = some-elim (once (assigning v w e) true, None) x (λ x. retreated x.0 [] x.1 ≡ Some (once (assigning v w e) false)) h refl
-once-back (receiving c v) false to_receive x h = some-elim (once (receiving c v) true, None) x (λ x. retreated x.0 [] x.1 ≡ Some (once (receiving c v) false)) h refl
+once-back (assigning v w e) false ask.Assign x h = some-elim (once (assigning v w e) true, None) x (λ x. retreated x.0 [] x.1 ≡ Some (once (assigning v w e) false)) h refl
+once-back (receiving c v) false ask.Receive x h = some-elim (once (receiving c v) true, None) x (λ x. retreated x.0 [] x.1 ≡ Some (once (receiving c v) false)) h refl
 once-back _ _ _ x h = none-some x h
 
 -- what a send or sync that waits becomes goes back to it
@@ -25,25 +26,25 @@ BackToWaiting s x = retreated x.0 (Ordered 0 ∷ []) x.1 ≡ Some (sender s wait
 
 -- a send or sync that waits
 sender-back : (s : Sender) (k : Ask) (x : Moved) → sender_after s k ≡ Some x → BackToWaiting s x
-sender-back (sending c w e) to_send x h = some-elim (sender (sending c w e) past, None) x (BackToWaiting (sending c w e)) h refl
-sender-back (sending c w e) to_hold x h = some-elim (sender (sending c w e) holding, None) x (BackToWaiting (sending c w e)) h refl
-sender-back (syncing c) to_sync x h = some-elim (sender (syncing c) past, None) x (BackToWaiting (syncing c)) h refl
-sender-back (syncing c) to_hold x h = some-elim (sender (syncing c) holding, None) x (BackToWaiting (syncing c)) h refl
+sender-back (sending c w e) ask.Send x h = some-elim (sender (sending c w e) past, None) x (BackToWaiting (sending c w e)) h refl
+sender-back (sending c w e) ask.Hold x h = some-elim (sender (sending c w e) holding, None) x (BackToWaiting (sending c w e)) h refl
+sender-back (syncing c) ask.Sync x h = some-elim (sender (syncing c) past, None) x (BackToWaiting (syncing c)) h refl
+sender-back (syncing c) ask.Hold x h = some-elim (sender (syncing c) holding, None) x (BackToWaiting (syncing c)) h refl
 sender-back _ _ x h = none-some x h
 
 -- one that is held
 holding-back : (s : Sender) (k : Ask) (x : Moved) → holding_after s k ≡ Some x → retreated x.0 (Ordered 1 ∷ []) x.1 ≡ Some (sender s holding)
-holding-back s to_release x h = some-elim (sender s past, None) x (λ x. retreated x.0 (Ordered 1 ∷ []) x.1 ≡ Some (sender s holding)) h refl
+holding-back s ask.Release x h = some-elim (sender s past, None) x (λ x. retreated x.0 (Ordered 1 ∷ []) x.1 ≡ Some (sender s holding)) h refl
 holding-back s _ x h = none-some x h
 
 -- a loop that goes on or ends: back to the process p before it
 again-back : (g : Option Expression) (c : Code) (n : ℕ) (over : Proc) (out : Option Proc) (p : Proc) (k : Ask) (x : Moved) → again_after g c n over out k ≡ Some x
     → retreated over (Ordered (2 * n) ∷ []) None ≡ Some p → before_turn g c n out ≡ Some p → retreated x.0 (Ordered (2 * n) ∷ []) x.1 ≡ Some p
-again-back None c n over out p to_turn x h i j =
+again-back None c n over out p ask.Turn x h i j =
     some-elim (turn None c n (started c), out) x (λ x. retreated x.0 (Ordered (2 * n) ∷ []) x.1 ≡ Some p) h
     (child_or-at (2 * n) [] (λ b. before_turn None c n out) (if_child (2 * n + 1) (Ordered (2 * n) ∷ []) (λ b. option_map (turn None c n) (retreated (started c) b out))) ∙ j)
-again-back (Some e) c n over out p (to_test None) x h i j = some-elim (over, None) x (λ x. retreated x.0 (Ordered (2 * n) ∷ []) x.1 ≡ Some p) h i
-again-back (Some e) c n over out p (to_test (Some m)) x h i j =
+again-back (Some e) c n over out p (ask.Test None) x h i j = some-elim (over, None) x (λ x. retreated x.0 (Ordered (2 * n) ∷ []) x.1 ≡ Some p) h i
+again-back (Some e) c n over out p (ask.Test (Some m)) x h i j =
     some-elim (turn (Some e) c n (started c), out) x (λ x. retreated x.0 (Ordered (2 * n) ∷ []) x.1 ≡ Some p) (cond-some (m == 0) (Some (turn (Some e) c n (started c), out)) x h).1
     (child_or-at (2 * n) [] (λ b. before_turn (Some e) c n out) (if_child (2 * n + 1) (Ordered (2 * n) ∷ []) (λ b. option_map (turn (Some e) c n) (retreated (started c) b out))) ∙ j)
 again-back _ c n over out p _ x h i j = none-some x h
@@ -58,8 +59,8 @@ turn-before g c n q = ap (λ m. before_turn g c m (Some q)) (next n)
 
 -- an `if` or `case`
 test-back : (d : Decision) (cs : Codes) (k : Ask) (x : Moved) → test_after d cs k ≡ Some x → retreated x.0 (Ordered 0 ∷ []) x.1 ≡ Some (untested d cs)
-test-back d cs (to_test None) x h = some-elim (skipped d cs, None) x (λ x. retreated x.0 (Ordered 0 ∷ []) x.1 ≡ Some (untested d cs)) h refl
-test-back d cs (to_test (Some j)) x h =
+test-back d cs (ask.Test None) x h = some-elim (skipped d cs, None) x (λ x. retreated x.0 (Ordered 0 ∷ []) x.1 ≡ Some (untested d cs)) h refl
+test-back d cs (ask.Test (Some j)) x h =
     some-elim (took d cs j (started (code_at cs j)), None) x (λ x. retreated x.0 (Ordered 0 ∷ []) x.1 ≡ Some (untested d cs)) h refl
 test-back d cs _ x h = none-some x h
 
@@ -72,18 +73,18 @@ on-back ds cs (Some c) j v x h =
 
 -- arms that wait
 open-back : (ds : List ℕ) (cs : Codes) (k : Ask) (x : Moved) → open_after ds cs k ≡ Some x → retreated x.0 (Ordered 0 ∷ []) x.1 ≡ Some (unopened ds cs)
-open-back ds cs (to_open j v) x h = on-back ds cs (slice_get ds j) j v x h
+open-back ds cs (ask.Open j v) x h = on-back ds cs (slice_get ds j) j v x h
 open-back ds cs _ x h = none-some x h
 
 -- the close
 close-back : (ds : List ℕ) (cs : Codes) (c : ℕ) (v : Option Word) (q : Proc) (k : Ask) (x : Moved) → close_after ds cs c v q k ≡ Some x
     → retreated x.0 (Ordered 2 ∷ []) x.1 ≡ Some (entered ds cs c v q)
-close-back ds cs c v q to_close x h = some-elim (closed ds cs c v q, None) x (λ x. retreated x.0 (Ordered 2 ∷ []) x.1 ≡ Some (entered ds cs c v q)) h refl
+close-back ds cs c v q ask.Close x h = some-elim (closed ds cs c v q, None) x (λ x. retreated x.0 (Ordered 2 ∷ []) x.1 ≡ Some (entered ds cs c v q)) h refl
 close-back ds cs c v q _ x h = none-some x h
 
 -- the receives on an output port
 drain-back : (c n : ℕ) (k : Ask) (x : Moved) → drain_after c n k ≡ Some x → retreated x.0 (Ordered n ∷ []) x.1 ≡ Some (drained c n)
-drain-back c n to_receive x h =
+drain-back c n ask.Receive x h =
     some-elim (drained c (n + 1), None) x (λ x. retreated x.0 (Ordered n ∷ []) x.1 ≡ Some (drained c n)) h
     (ap (λ m. before_drain c m (Ordered n ∷ [])) (next n) ∙ act-at n (Some (drained c n)))
 drain-back c n _ x h = none-some x h

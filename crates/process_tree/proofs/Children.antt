@@ -2,7 +2,7 @@
 use Rattle.std.proofs.Common.{◌≡◌, ℕ, zero, suc, ◌+◌, ◌<◌, ◌==◌, [], ◌∷◌, true, false, Option, Some, option_map, refl, sym, ◌∙◌, true≢false, eqb-true, eq-eqb, inl, inr, arith}
 use Rattle.address.specs.declared.Entry.TheVariants.{Ordered, Branch}
 use Rattle.calculus.specs.Moves.{Place}
-use Rattle.calculus.specs.walking.After.{Ask}
+use Rattle.calculus.specs.declared.ask.Ask.{Ask}
 use Rattle.calculus.proofs.Options.{none-some, cond-some}
 use Rattle.process_tree.specs.Proc.{Proc, Procs, no_procs, proc, finished}
 use Rattle.process_tree.specs.Places.{if_child, wrap}

@@ -5,7 +5,8 @@ use Rattle.address.specs.declared.Entry.TheVariants.{Ordered, Branch}
 use Rattle.system.specs.Expression.{constant, variable, received, word, by_guards}
 use Rattle.system.specs.Residual.{Residual, done, inside, beside, receive, send, held, loop, closing, drain}
 use Rattle.calculus.specs.Moves.{Place}
-use Rattle.calculus.specs.walking.After.{Ask, to_assign, to_test, to_turn, to_send, to_hold, to_receive, to_open, to_release, to_close}
+use Rattle.calculus.specs.declared.ask.Ask.{Ask}
+use Rattle.calculus.specs.declared.ask.Ask.TheVariants as ask
 use Rattle.process_tree.specs.Code.{assigning, receiving, sending, Code, continues, moves_once, may_be_held, repeats, decides, awaits, in_turn, side_by_side, drains, no_code, code}
 use Rattle.process_tree.specs.Proc.{Proc, once, turn, started, finished}
 use Rattle.process_tree.specs.Advanced.{Moved, advanced}
@@ -37,19 +38,19 @@ buffer = started (side_by_side (code (repeats None body) (code feed (code (drain
 -- its first three events, and the fourth to seventh
 abbrev one_turn : List (Place × Ask)
 one_turn =
-    (Branch 0 ∷ Ordered 0 ∷ [], to_turn)
-    ∷ (Branch 1 ∷ Ordered 0 ∷ Ordered 0 ∷ [], to_send) ∷ (Branch 0 ∷ Ordered 1 ∷ Ordered 0 ∷ [], to_receive)
-    ∷ (Branch 0 ∷ Ordered 1 ∷ Ordered 1 ∷ Ordered 0 ∷ [], to_send) ∷ (Branch 2 ∷ Ordered 0 ∷ [], to_receive) ∷ []
+    (Branch 0 ∷ Ordered 0 ∷ [], ask.Turn)
+    ∷ (Branch 1 ∷ Ordered 0 ∷ Ordered 0 ∷ [], ask.Send) ∷ (Branch 0 ∷ Ordered 1 ∷ Ordered 0 ∷ [], ask.Receive)
+    ∷ (Branch 0 ∷ Ordered 1 ∷ Ordered 1 ∷ Ordered 0 ∷ [], ask.Send) ∷ (Branch 2 ∷ Ordered 0 ∷ [], ask.Receive) ∷ []
 
 abbrev three_turns : List (Place × Ask)
 three_turns =
-    (Branch 0 ∷ Ordered 0 ∷ [], to_turn)
-    ∷ (Branch 1 ∷ Ordered 0 ∷ Ordered 0 ∷ [], to_send) ∷ (Branch 0 ∷ Ordered 1 ∷ Ordered 0 ∷ [], to_receive)
-    ∷ (Branch 0 ∷ Ordered 1 ∷ Ordered 1 ∷ Ordered 0 ∷ [], to_send) ∷ (Branch 2 ∷ Ordered 0 ∷ [], to_receive)
-    ∷ (Branch 0 ∷ Ordered 2 ∷ [], to_turn)
-    ∷ (Branch 1 ∷ Ordered 1 ∷ Ordered 0 ∷ [], to_send) ∷ (Branch 0 ∷ Ordered 3 ∷ Ordered 0 ∷ [], to_receive)
-    ∷ (Branch 0 ∷ Ordered 3 ∷ Ordered 1 ∷ Ordered 0 ∷ [], to_send) ∷ (Branch 2 ∷ Ordered 1 ∷ [], to_receive)
-    ∷ (Branch 0 ∷ Ordered 4 ∷ [], to_turn) ∷ []
+    (Branch 0 ∷ Ordered 0 ∷ [], ask.Turn)
+    ∷ (Branch 1 ∷ Ordered 0 ∷ Ordered 0 ∷ [], ask.Send) ∷ (Branch 0 ∷ Ordered 1 ∷ Ordered 0 ∷ [], ask.Receive)
+    ∷ (Branch 0 ∷ Ordered 1 ∷ Ordered 1 ∷ Ordered 0 ∷ [], ask.Send) ∷ (Branch 2 ∷ Ordered 0 ∷ [], ask.Receive)
+    ∷ (Branch 0 ∷ Ordered 2 ∷ [], ask.Turn)
+    ∷ (Branch 1 ∷ Ordered 1 ∷ Ordered 0 ∷ [], ask.Send) ∷ (Branch 0 ∷ Ordered 3 ∷ Ordered 0 ∷ [], ask.Receive)
+    ∷ (Branch 0 ∷ Ordered 3 ∷ Ordered 1 ∷ Ordered 0 ∷ [], ask.Send) ∷ (Branch 2 ∷ Ordered 1 ∷ [], ask.Receive)
+    ∷ (Branch 0 ∷ Ordered 4 ∷ [], ask.Turn) ∷ []
 
 -- after the third event: the loop before turn 1, send 7 at /1.1, act 1 of the drain
 after-one-turn : to_do buffer one_turn
@@ -74,8 +75,8 @@ fork =
 -- the open and the first meeting
 abbrev opened_fork : List (Place × Ask)
 opened_fork =
-    (Branch 1 ∷ Ordered 0 ∷ Ordered 0 ∷ [], to_hold) ∷ (Branch 0 ∷ Ordered 0 ∷ Ordered 0 ∷ [], to_open 0 (Some (word 5 8)))
-    ∷ (Branch 0 ∷ Ordered 0 ∷ Ordered 1 ∷ Branch 0 ∷ Ordered 0 ∷ [], to_send) ∷ (Branch 2 ∷ Ordered 0 ∷ [], to_receive) ∷ []
+    (Branch 1 ∷ Ordered 0 ∷ Ordered 0 ∷ [], ask.Hold) ∷ (Branch 0 ∷ Ordered 0 ∷ Ordered 0 ∷ [], ask.Open 0 (Some (word 5 8)))
+    ∷ (Branch 0 ∷ Ordered 0 ∷ Ordered 1 ∷ Branch 0 ∷ Ordered 0 ∷ [], ask.Send) ∷ (Branch 2 ∷ Ordered 0 ∷ [], ask.Receive) ∷ []
 
 -- b <- 5 at /0.0.1/1, then the close, then i -> x; the feed is held at /1.0.1
 after-open : to_do fork opened_fork
@@ -88,22 +89,22 @@ after-open = refl
 abbrev and_then : Place × Ask → Option Proc
 and_then m = option_and_then (λ p. made p (m ∷ [])) (made fork opened_fork)
 
-not-reached : and_then (Branch 0 ∷ Ordered 1 ∷ [], to_receive) ≡ None
+not-reached : and_then (Branch 0 ∷ Ordered 1 ∷ [], ask.Receive) ≡ None
 unfolding made
 not-reached = refl
 
-not-closed : and_then (Branch 0 ∷ Ordered 0 ∷ Ordered 2 ∷ [], to_close) ≡ None
+not-closed : and_then (Branch 0 ∷ Ordered 0 ∷ Ordered 2 ∷ [], ask.Close) ≡ None
 unfolding made
 not-closed = refl
 
 -- the rest of the fork
 abbrev all_fork : List (Place × Ask)
 all_fork =
-    (Branch 1 ∷ Ordered 0 ∷ Ordered 0 ∷ [], to_hold) ∷ (Branch 0 ∷ Ordered 0 ∷ Ordered 0 ∷ [], to_open 0 (Some (word 5 8)))
-    ∷ (Branch 0 ∷ Ordered 0 ∷ Ordered 1 ∷ Branch 0 ∷ Ordered 0 ∷ [], to_send) ∷ (Branch 2 ∷ Ordered 0 ∷ [], to_receive)
-    ∷ (Branch 0 ∷ Ordered 0 ∷ Ordered 1 ∷ Branch 1 ∷ Ordered 0 ∷ [], to_send) ∷ (Branch 3 ∷ Ordered 0 ∷ [], to_receive)
-    ∷ (Branch 1 ∷ Ordered 0 ∷ Ordered 1 ∷ [], to_release) ∷ (Branch 0 ∷ Ordered 0 ∷ Ordered 2 ∷ [], to_close)
-    ∷ (Branch 1 ∷ Ordered 1 ∷ Ordered 0 ∷ [], to_send) ∷ (Branch 0 ∷ Ordered 1 ∷ [], to_receive) ∷ []
+    (Branch 1 ∷ Ordered 0 ∷ Ordered 0 ∷ [], ask.Hold) ∷ (Branch 0 ∷ Ordered 0 ∷ Ordered 0 ∷ [], ask.Open 0 (Some (word 5 8)))
+    ∷ (Branch 0 ∷ Ordered 0 ∷ Ordered 1 ∷ Branch 0 ∷ Ordered 0 ∷ [], ask.Send) ∷ (Branch 2 ∷ Ordered 0 ∷ [], ask.Receive)
+    ∷ (Branch 0 ∷ Ordered 0 ∷ Ordered 1 ∷ Branch 1 ∷ Ordered 0 ∷ [], ask.Send) ∷ (Branch 3 ∷ Ordered 0 ∷ [], ask.Receive)
+    ∷ (Branch 1 ∷ Ordered 0 ∷ Ordered 1 ∷ [], ask.Release) ∷ (Branch 0 ∷ Ordered 0 ∷ Ordered 2 ∷ [], ask.Close)
+    ∷ (Branch 1 ∷ Ordered 1 ∷ Ordered 0 ∷ [], ask.Send) ∷ (Branch 0 ∷ Ordered 1 ∷ [], ask.Receive) ∷ []
 
 after-all : to_do fork all_fork ≡ Some (beside 2 (drain 1 1) (beside 3 (drain 2 1) done))
 unfolding to_do made
@@ -114,14 +115,14 @@ abbrev counter : Proc
 counter = started (repeats (Some (variable 0 1)) (moves_once (assigning 0 8 (constant (word 1 8)))))
 
 abbrev first_turn : Option Proc
-first_turn = made counter ((Ordered 0 ∷ [], to_test (Some 0)) ∷ (Ordered 1 ∷ [], to_assign) ∷ [])
+first_turn = made counter ((Ordered 0 ∷ [], ask.Test (Some 0)) ∷ (Ordered 1 ∷ [], ask.Assign) ∷ [])
 
-takes-out : option_and_then (λ p. advanced p (Ordered 2 ∷ []) (to_test (Some 0))) first_turn
+takes-out : option_and_then (λ p. advanced p (Ordered 2 ∷ []) (ask.Test (Some 0))) first_turn
     ≡ Some (turn (Some (variable 0 1)) (moves_once (assigning 0 8 (constant (word 1 8)))) 1 (once (assigning 0 8 (constant (word 1 8))) false), Some (once (assigning 0 8 (constant (word 1 8))) true))
 unfolding made
 takes-out = refl
 
-ends : option_and_then (λ p. option_and_then (λ (x : Moved). Some (finished x.0)) (advanced p (Ordered 2 ∷ []) (to_test None))) first_turn ≡ Some true
+ends : option_and_then (λ p. option_and_then (λ (x : Moved). Some (finished x.0)) (advanced p (Ordered 2 ∷ []) (ask.Test None))) first_turn ≡ Some true
 unfolding made
 ends = refl
 
@@ -129,6 +130,6 @@ ends = refl
 abbrev branching : Proc
 branching = started (decides (by_guards (variable 0 1 ∷ []) true) (code continues (code (moves_once (assigning 0 8 (constant (word 1 8)))) no_code)))
 
-takes-the-else : option_and_then (λ q. Some (finished q)) (made branching ((Ordered 0 ∷ [], to_test (Some 1)) ∷ (Ordered 1 ∷ [], to_assign) ∷ [])) ≡ Some true
+takes-the-else : option_and_then (λ q. Some (finished q)) (made branching ((Ordered 0 ∷ [], ask.Test (Some 1)) ∷ (Ordered 1 ∷ [], ask.Assign) ∷ [])) ≡ Some true
 unfolding made
 takes-the-else = refl

@@ -6,7 +6,10 @@ use Rattle.system.specs.Expression.{Expression, Decision}
 use Rattle.system.specs.Residual.{Residual, done, closing, drain, within, along, arm_at, put_residual, opened}
 use Rattle.calculus.specs.walking.Passed.{is_done}
 use Rattle.calculus.specs.Moves.{Place, Move, Local}
-use Rattle.calculus.specs.walking.After.{Ask, to_assign, to_test, to_turn, to_send, to_hold, to_receive, to_open, to_sync, to_release, to_close, asks, Answer, around, at_place, at_act, in_child, in_branch, after_loop, after_while, after_test, after_open, after_assign, after_choose, after_closing, after_drain, after_held, after_receive, after_send, after_sync, after}
+use Rattle.calculus.specs.Asking.{asks}
+use Rattle.calculus.specs.walking.After.{Answer, around, at_place, at_act, in_child, in_branch, after_loop, after_while, after_test, after_open, after_assign, after_choose, after_closing, after_drain, after_held, after_receive, after_send, after_sync, after}
+use Rattle.calculus.specs.declared.ask.Ask.{Ask}
+use Rattle.calculus.specs.declared.ask.Ask.TheVariants as ask
 use Rattle.calculus.specs.WellFormed.{BranchesFrom, WellFormed}
 use Rattle.calculus.proofs.After.{found, only}
 use Rattle.calculus.proofs.Kept.{branches-place}
@@ -148,12 +151,12 @@ once-sim : (o : Once) (env : Received) (a : Place) (k : Ask)
 once-sim (assigning x w e) env a k = here-sim a _ (once_after (assigning x w e) false k) (left env) (leaf k)
   where
     leaf : (k : Ask) → residual_after (after_assign x w (puts_value env e) k) ≡ left_after (left env) (once_after (assigning x w e) false k)
-    leaf to_assign = refl
+    leaf ask.Assign = refl
     leaf _ = refl
 once-sim (receiving c x) env a k = here-sim a _ (once_after (receiving c x) false k) (left env) (leaf k)
   where
     leaf : (k : Ask) → residual_after (after_receive c x k) ≡ left_after (left env) (once_after (receiving c x) false k)
-    leaf to_receive = refl
+    leaf ask.Receive = refl
     leaf _ = refl
 
 -- a send or sync that waits
@@ -162,14 +165,14 @@ sender-sim : (s : Sender) (env : Received) (a : Place) (k : Ask)
 sender-sim (sending c w e) env a k = act-sim 0 a _ (sender_after (sending c w e) k) (left env) (leaf k)
   where
     leaf : (k : Ask) → residual_after (after_send c w (puts_value env e) k) ≡ left_after (left env) (sender_after (sending c w e) k)
-    leaf to_send = refl
-    leaf to_hold = refl
+    leaf ask.Send = refl
+    leaf ask.Hold = refl
     leaf _ = refl
 sender-sim (syncing c) env a k = act-sim 0 a _ (sender_after (syncing c) k) (left env) (leaf k)
   where
     leaf : (k : Ask) → residual_after (after_sync c k) ≡ left_after (left env) (sender_after (syncing c) k)
-    leaf to_sync = refl
-    leaf to_hold = refl
+    leaf ask.Sync = refl
+    leaf ask.Hold = refl
     leaf _ = refl
 
 -- one that is held
@@ -178,7 +181,7 @@ holding-sim : (s : Sender) (env : Received) (a : Place) (k : Ask)
 holding-sim s env a k = act-sim 1 a _ (holding_after s k) (left env) (leaf k)
   where
     leaf : (k : Ask) → residual_after (after_held (channel_of s) k) ≡ left_after (left env) (holding_after s k)
-    leaf to_release = refl
+    leaf ask.Release = refl
     leaf _ = refl
 
 -- a turn that has begun has its body to do, and then the loop
@@ -194,15 +197,15 @@ again-sim None c n over out env a k h =
     ∙ act-sim (2 * n) a _ (again_after None c n over out k) (left env) (leaf k)
   where
     leaf : (k : Ask) → residual_after (after_loop n (puts env (residual c)) k) ≡ left_after (left env) (again_after None c n over out k)
-    leaf to_turn = ap Some (turn-started env None c n)
+    leaf ask.Turn = ap Some (turn-started env None c n)
     leaf _ = refl
 again-sim (Some e) c n over out env a k h =
     ap (λ r. residual_after (after k r a)) (puts-again env n (Some e) (residual c))
     ∙ act-sim (2 * n) a _ (again_after (Some e) c n over out k) (left env) (leaf k)
   where
     leaf : (k : Ask) → residual_after (after_while n (puts_value env e) (puts env (residual c)) k) ≡ left_after (left env) (again_after (Some e) c n over out k)
-    leaf (to_test None) = ap Some (sym h)
-    leaf (to_test (Some j)) = cond-sim (j == 0) _ None (Some (turn (Some e) c n (started c), out)) None (left env) (λ z. ap Some (turn-started env (Some e) c n)) refl
+    leaf (ask.Test None) = ap Some (sym h)
+    leaf (ask.Test (Some j)) = cond-sim (j == 0) _ None (Some (turn (Some e) c n (started c), out)) None (left env) (λ z. ap Some (turn-started env (Some e) c n)) refl
     leaf _ = refl
 
 -- an arm has all to do
@@ -223,8 +226,8 @@ test-sim d cs env a k =
     ap (λ r. residual_after (after k r a)) (puts-test env d (residual_arms cs)) ∙ act-sim 0 a _ (test_after d cs k) (left env) (leaf k)
   where
     leaf : (k : Ask) → residual_after (after_test (puts_decision env d) (puts_arms env (residual_arms cs)) k) ≡ left_after (left env) (test_after d cs k)
-    leaf (to_test None) = refl
-    leaf (to_test (Some j)) = ap (λ r. Some (within 1 r done)) (arm-started env cs j)
+    leaf (ask.Test None) = refl
+    leaf (ask.Test (Some j)) = ap (λ r. Some (within 1 r done)) (arm-started env cs j)
     leaf _ = refl
 
 -- an arm that opens
@@ -240,7 +243,7 @@ choose-sim ds cs env a k =
     ap (λ r. residual_after (after k r a)) (puts-choose env ds (residual_arms cs)) ∙ act-sim 0 a _ (open_after ds cs k) (left env) (leaf k)
   where
     leaf : (k : Ask) → residual_after (after_choose ds (puts_arms env (residual_arms cs)) k) ≡ left_after (left env) (open_after ds cs k)
-    leaf (to_open j v) = open-sim ds cs (slice_get ds j) j v env
+    leaf (ask.Open j v) = open-sim ds cs (slice_get ds j) j v env
     leaf _ = refl
 
 -- the close
@@ -249,7 +252,7 @@ close-sim : (ds : List ℕ) (cs : Codes) (c : ℕ) (v : Option Word) (q : Proc) 
 close-sim ds cs c v q env a k = act-sim 2 a _ (close_after ds cs c v q k) (left env) (leaf k)
   where
     leaf : (k : Ask) → residual_after (after_closing c k) ≡ left_after (left env) (close_after ds cs c v q k)
-    leaf to_close = refl
+    leaf ask.Close = refl
     leaf _ = refl
 
 -- the receives on an output port
@@ -258,7 +261,7 @@ drain-sim : (c n : ℕ) (env : Received) (a : Place) (k : Ask)
 drain-sim c n env a k = act-sim n a _ (drain_after c n k) (left env) (leaf k)
   where
     leaf : (k : Ask) → residual_after (after_drain c n k) ≡ left_after (left env) (drain_after c n k)
-    leaf to_receive = refl
+    leaf ask.Receive = refl
     leaf _ = refl
 
 mutual

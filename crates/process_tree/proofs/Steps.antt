@@ -4,7 +4,8 @@ use Rattle.value.specs.Word.{Word}
 use Rattle.address.specs.declared.Entry.TheVariants.{Ordered, Branch}
 use Rattle.system.specs.Expression.{Expression, Decision}
 use Rattle.calculus.specs.Moves.{Place}
-use Rattle.calculus.specs.walking.After.{Ask, to_test, to_turn, to_close}
+use Rattle.calculus.specs.declared.ask.Ask.{Ask}
+use Rattle.calculus.specs.declared.ask.Ask.TheVariants as ask
 use Rattle.calculus.proofs.Options.{none-some, some-injective, cond-some}
 use Rattle.process_tree.specs.Advanced.{Moved, MovedIn, again_after, close_after, advanced, advanced_sequence, advanced_parallel}
 use Rattle.process_tree.specs.Code.{Code as MCode, Codes, no_code, code, code_at, continues}
@@ -108,7 +109,7 @@ opened-inside false ds cs c v q a k i b e one h = (
 
 -- the close of an arm
 closes : (ds : List ℕ) (cs : Codes) (c : ℕ) (v : Option Word) (q : Proc) (k : Ask) → IsSome (close_after ds cs c v q k) → close_after ds cs c v q k ≡ Some (closed ds cs c v q, None)
-closes ds cs c v q to_close h = refl
+closes ds cs c v q ask.Close h = refl
 closes ds cs c v q _ h = absurd (none-is h)
 
 pub opened-closes : (over : Bool) (ds : List ℕ) (cs : Codes) (c : ℕ) (v : Option Word) (q : Proc) (a : Place) (k : Ask) (i : ℕ) (b : Place) → ordered_step a ≡ Some (i, b)
@@ -125,12 +126,12 @@ opened-closes false ds cs c v q a k i b e un h =
 -- another turn of a loop
 again-next : (g : Option Expression) (c : MCode) (n : ℕ) (over : Proc) (out : Option Proc) (k : Ask) → takes_none k ≡ false → IsSome (again_after g c n over out k)
     → again_after g c n over out k ≡ Some (turn g c n (started c), out)
-again-next None c n over out to_turn t h = refl
-again-next (Some e) c n over out (to_test None) t h = absurd (not-both t)
+again-next None c n over out ask.Turn t h = refl
+again-next (Some e) c n over out (ask.Test None) t h = absurd (not-both t)
   where
     not-both : true ≡ false → ⊥
     not-both e = cc
-again-next (Some e) c n over out (to_test (Some j)) t h = first (j == 0) (Some (turn (Some e) c n (started c), out)) h
+again-next (Some e) c n over out (ask.Test (Some j)) t h = first (j == 0) (Some (turn (Some e) c n (started c), out)) h
   where
     first : {X : Type 0} (t : Bool) (o : Option X) → IsSome (cond t o None) → cond t o None ≡ o
     first true o h = refl

@@ -5,7 +5,8 @@ use Rattle.address.specs.Places.{Before}
 use Rattle.value.specs.Word.{Word}
 use Rattle.system.specs.Expression.{Expression, Decision}
 use Rattle.calculus.specs.Moves.{Place}
-use Rattle.calculus.specs.walking.After.{Ask, to_assign, to_test, to_turn, to_send, to_hold, to_receive, to_open, to_sync, to_release, to_close}
+use Rattle.calculus.specs.declared.ask.Ask.{Ask}
+use Rattle.calculus.specs.declared.ask.Ask.TheVariants as ask
 use Rattle.calculus.proofs.Options.{none-some, cond-some}
 use Rattle.process_tree.specs.Code.{Once, assigning, receiving, Sender, sending, syncing, Code, Codes, code_at}
 use Rattle.process_tree.specs.Proc.{waiting, holding, past, Proc, idle, stopped, once, sender, fresh, turn, ended_at_once, ended, untested, skipped, took, unopened, entered, closed, sequence, parallel, drained, Procs, no_procs, proc, started, finished}
@@ -32,8 +33,8 @@ once-never (receiving c v) a [] l y h = none-some y h
 once-never o a (z ∷ b) l y h = none-some y h
 
 once-behind : (o : Once) (made : Bool) (k : Ask) (x : Moved) → once_after o made k ≡ Some x → (a : Place) → MovesBehind a x.0
-once-behind (assigning v w e) false to_assign x h a = some-elim (once (assigning v w e) true, None) x (λ x. MovesBehind a x.0) h (once-never (assigning v w e) a)
-once-behind (receiving c v) false to_receive x h a = some-elim (once (receiving c v) true, None) x (λ x. MovesBehind a x.0) h (once-never (receiving c v) a)
+once-behind (assigning v w e) false ask.Assign x h a = some-elim (once (assigning v w e) true, None) x (λ x. MovesBehind a x.0) h (once-never (assigning v w e) a)
+once-behind (receiving c v) false ask.Receive x h a = some-elim (once (receiving c v) true, None) x (λ x. MovesBehind a x.0) h (once-never (receiving c v) a)
 once-behind _ _ _ x h a = none-some x h
 
 -- a send or sync that is held moves at its act 1
@@ -41,14 +42,14 @@ holding-place : (s : Sender) → MovesBehind (Ordered 0 ∷ []) (sender s holdin
 holding-place s b l y h = act-elim 1 b (holding_after s l) y (λ b. Before (Ordered 0 ∷ []) b) h (λ e. inl (omega arith))
 
 sender-behind : (s : Sender) (k : Ask) (x : Moved) → sender_after s k ≡ Some x → MovesBehind (Ordered 0 ∷ []) x.0
-sender-behind (sending c w e) to_send x h = some-elim (sender (sending c w e) past, None) x (λ x. MovesBehind (Ordered 0 ∷ []) x.0) h (λ b l y i. none-some y i)
-sender-behind (sending c w e) to_hold x h = some-elim (sender (sending c w e) holding, None) x (λ x. MovesBehind (Ordered 0 ∷ []) x.0) h (holding-place (sending c w e))
-sender-behind (syncing c) to_sync x h = some-elim (sender (syncing c) past, None) x (λ x. MovesBehind (Ordered 0 ∷ []) x.0) h (λ b l y i. none-some y i)
-sender-behind (syncing c) to_hold x h = some-elim (sender (syncing c) holding, None) x (λ x. MovesBehind (Ordered 0 ∷ []) x.0) h (holding-place (syncing c))
+sender-behind (sending c w e) ask.Send x h = some-elim (sender (sending c w e) past, None) x (λ x. MovesBehind (Ordered 0 ∷ []) x.0) h (λ b l y i. none-some y i)
+sender-behind (sending c w e) ask.Hold x h = some-elim (sender (sending c w e) holding, None) x (λ x. MovesBehind (Ordered 0 ∷ []) x.0) h (holding-place (sending c w e))
+sender-behind (syncing c) ask.Sync x h = some-elim (sender (syncing c) past, None) x (λ x. MovesBehind (Ordered 0 ∷ []) x.0) h (λ b l y i. none-some y i)
+sender-behind (syncing c) ask.Hold x h = some-elim (sender (syncing c) holding, None) x (λ x. MovesBehind (Ordered 0 ∷ []) x.0) h (holding-place (syncing c))
 sender-behind _ _ x h = none-some x h
 
 holding-behind : (s : Sender) (k : Ask) (x : Moved) → holding_after s k ≡ Some x → (a : Place) → MovesBehind a x.0
-holding-behind s to_release x h a = some-elim (sender s past, None) x (λ x. MovesBehind a x.0) h (λ b l y i. none-some y i)
+holding-behind s ask.Release x h a = some-elim (sender s past, None) x (λ x. MovesBehind a x.0) h (λ b l y i. none-some y i)
 holding-behind s _ x h a = none-some x h
 
 -- a loop in turn n moves behind that turn
@@ -61,10 +62,10 @@ turn-behind g c n q b l y h =
 
 again-behind : (g : Option Expression) (c : Code) (n : ℕ) (over : Proc) (out : Option Proc) (k : Ask) (x : Moved) → again_after g c n over out k ≡ Some x
     → MovesBehind (Ordered (2 * n) ∷ []) over → MovesBehind (Ordered (2 * n) ∷ []) x.0
-again-behind None c n over out to_turn x h i =
+again-behind None c n over out ask.Turn x h i =
     some-elim (turn None c n (started c), out) x (λ x. MovesBehind (Ordered (2 * n) ∷ []) x.0) h (turn-behind None c n (started c))
-again-behind (Some e) c n over out (to_test None) x h i = some-elim (over, None) x (λ x. MovesBehind (Ordered (2 * n) ∷ []) x.0) h i
-again-behind (Some e) c n over out (to_test (Some m)) x h i =
+again-behind (Some e) c n over out (ask.Test None) x h i = some-elim (over, None) x (λ x. MovesBehind (Ordered (2 * n) ∷ []) x.0) h i
+again-behind (Some e) c n over out (ask.Test (Some m)) x h i =
     some-elim (turn (Some e) c n (started c), out) x (λ x. MovesBehind (Ordered (2 * n) ∷ []) x.0)
     (cond-some (m == 0) (Some (turn (Some e) c n (started c), out)) x h).1 (turn-behind (Some e) c n (started c))
 again-behind _ c n over out _ x h i = none-some x h
@@ -76,8 +77,8 @@ took-behind d cs j q b l y h =
     (λ t e. child-elim 1 b (λ b. wrap (took d cs j) (advanced q b l)) y (λ b. Before (Ordered 0 ∷ []) b) e (λ b i. inl (omega arith)))
 
 test-behind : (d : Decision) (cs : Codes) (k : Ask) (x : Moved) → test_after d cs k ≡ Some x → MovesBehind (Ordered 0 ∷ []) x.0
-test-behind d cs (to_test None) x h = some-elim (skipped d cs, None) x (λ x. MovesBehind (Ordered 0 ∷ []) x.0) h (λ b l y i. none-some y i)
-test-behind d cs (to_test (Some j)) x h =
+test-behind d cs (ask.Test None) x h = some-elim (skipped d cs, None) x (λ x. MovesBehind (Ordered 0 ∷ []) x.0) h (λ b l y i. none-some y i)
+test-behind d cs (ask.Test (Some j)) x h =
     some-elim (took d cs j (started (code_at cs j)), None) x (λ x. MovesBehind (Ordered 0 ∷ []) x.0) h (took-behind d cs j (started (code_at cs j)))
 test-behind d cs _ x h = none-some x h
 
@@ -94,15 +95,15 @@ on-behind ds cs (Some c) j v x h =
     some-elim (entered ds cs c v (started (code_at cs j)), None) x (λ x. MovesBehind (Ordered 0 ∷ []) x.0) h (entered-behind ds cs c v (started (code_at cs j)))
 
 open-behind : (ds : List ℕ) (cs : Codes) (k : Ask) (x : Moved) → open_after ds cs k ≡ Some x → MovesBehind (Ordered 0 ∷ []) x.0
-open-behind ds cs (to_open j v) x h = on-behind ds cs (slice_get ds j) j v x h
+open-behind ds cs (ask.Open j v) x h = on-behind ds cs (slice_get ds j) j v x h
 open-behind ds cs _ x h = none-some x h
 
 close-behind : (ds : List ℕ) (cs : Codes) (c : ℕ) (v : Option Word) (q : Proc) (k : Ask) (x : Moved) → close_after ds cs c v q k ≡ Some x → (a : Place) → MovesBehind a x.0
-close-behind ds cs c v q to_close x h a = some-elim (closed ds cs c v q, None) x (λ x. MovesBehind a x.0) h (λ b l y i. none-some y i)
+close-behind ds cs c v q ask.Close x h a = some-elim (closed ds cs c v q, None) x (λ x. MovesBehind a x.0) h (λ b l y i. none-some y i)
 close-behind ds cs c v q _ x h a = none-some x h
 
 drain-behind : (c n : ℕ) (k : Ask) (x : Moved) → drain_after c n k ≡ Some x → MovesBehind (Ordered n ∷ []) x.0
-drain-behind c n to_receive x h =
+drain-behind c n ask.Receive x h =
     some-elim (drained c (n + 1), None) x (λ x. MovesBehind (Ordered n ∷ []) x.0) h
     (λ b l y i. act-elim (n + 1) b (drain_after c (n + 1) l) y (λ b. Before (Ordered n ∷ []) b) i (λ e. inl (omega arith)))
 drain-behind c n _ x h = none-some x h

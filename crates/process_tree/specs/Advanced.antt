@@ -3,7 +3,8 @@ use Rattle.std.specs.Prelude.{ℕ, ◌+◌, ◌*◌, ◌==◌, Bool, true, false
 use Rattle.value.specs.Word.{Word}
 use Rattle.system.specs.Expression.{Expression, Decision}
 use Rattle.calculus.specs.Moves.{Place}
-use Rattle.calculus.specs.walking.After.{Ask, to_assign, to_test, to_turn, to_send, to_hold, to_receive, to_open, to_sync, to_release, to_close}
+use Rattle.calculus.specs.declared.ask.Ask.{Ask}
+use Rattle.calculus.specs.declared.ask.Ask.TheVariants as ask
 use Rattle.process_tree.specs.Code.{Once, assigning, receiving, Sender, sending, syncing, Code, Codes, code_at}
 use Rattle.process_tree.specs.Proc.{waiting, holding, past, Proc, idle, stopped, once, sender, fresh, turn, ended_at_once, ended, untested, skipped, took, unopened, entered, closed, sequence, parallel, drained, Procs, no_procs, proc, started, finished}
 use Rattle.process_tree.specs.Places.{if_here, if_act, if_child, if_branch, wrap}
@@ -18,34 +19,34 @@ MovedIn = Procs × Option Proc
 
 -- an assignment assigns, a receive receives, once
 abbrev pub once_after : Once → Bool → Ask → Option Moved
-once_after (assigning x w e) false to_assign = Some (once (assigning x w e) true, None)
-once_after (receiving c x) false to_receive = Some (once (receiving c x) true, None)
+once_after (assigning x w e) false ask.Assign = Some (once (assigning x w e) true, None)
+once_after (receiving c x) false ask.Receive = Some (once (receiving c x) true, None)
 once_after _ _ _ = None
 
 -- a send or sync that waits meets its partner, or is held
 abbrev pub sender_after : Sender → Ask → Option Moved
-sender_after (sending c w e) to_send = Some (sender (sending c w e) past, None)
-sender_after (sending c w e) to_hold = Some (sender (sending c w e) holding, None)
-sender_after (syncing c) to_sync = Some (sender (syncing c) past, None)
-sender_after (syncing c) to_hold = Some (sender (syncing c) holding, None)
+sender_after (sending c w e) ask.Send = Some (sender (sending c w e) past, None)
+sender_after (sending c w e) ask.Hold = Some (sender (sending c w e) holding, None)
+sender_after (syncing c) ask.Sync = Some (sender (syncing c) past, None)
+sender_after (syncing c) ask.Hold = Some (sender (syncing c) holding, None)
 sender_after _ _ = None
 
 -- one that is held is released
 abbrev pub holding_after : Sender → Ask → Option Moved
-holding_after s to_release = Some (sender s past, None)
+holding_after s ask.Release = Some (sender s past, None)
 holding_after s _ = None
 
 -- a loop begins turn n with a new body, and takes out `out`; or a test ends it, and it is `over`
 abbrev pub again_after : Option Expression → Code → ℕ → Proc → Option Proc → Ask → Option Moved
-again_after None c n over out to_turn = Some (turn None c n (started c), out)
-again_after (Some e) c n over out (to_test None) = Some (over, None)
-again_after (Some e) c n over out (to_test (Some j)) = cond (j == 0) (Some (turn (Some e) c n (started c), out)) None
+again_after None c n over out ask.Turn = Some (turn None c n (started c), out)
+again_after (Some e) c n over out (ask.Test None) = Some (over, None)
+again_after (Some e) c n over out (ask.Test (Some j)) = cond (j == 0) (Some (turn (Some e) c n (started c), out)) None
 again_after _ c n over out _ = None
 
 -- a test takes an arm, or none
 abbrev pub test_after : Decision → Codes → Ask → Option Moved
-test_after d cs (to_test None) = Some (skipped d cs, None)
-test_after d cs (to_test (Some j)) = Some (took d cs j (started (code_at cs j)), None)
+test_after d cs (ask.Test None) = Some (skipped d cs, None)
+test_after d cs (ask.Test (Some j)) = Some (took d cs j (started (code_at cs j)), None)
 test_after d cs _ = None
 
 -- arm j opens on its channel, if there is one
@@ -55,17 +56,17 @@ open_on ds cs (Some c) j v = Some (entered ds cs c v (started (code_at cs j)), N
 
 -- one of the arms that wait opens
 abbrev pub open_after : List ℕ → Codes → Ask → Option Moved
-open_after ds cs (to_open j v) = open_on ds cs (slice_get ds j) j v
+open_after ds cs (ask.Open j v) = open_on ds cs (slice_get ds j) j v
 open_after ds cs _ = None
 
 -- an opened arm is closed
 abbrev pub close_after : List ℕ → Codes → ℕ → Option Word → Proc → Ask → Option Moved
-close_after ds cs c v q to_close = Some (closed ds cs c v q, None)
+close_after ds cs c v q ask.Close = Some (closed ds cs c v q, None)
 close_after ds cs c v q _ = None
 
 -- the environment receives again
 abbrev pub drain_after : ℕ → ℕ → Ask → Option Moved
-drain_after c n to_receive = Some (drained c (n + 1), None)
+drain_after c n ask.Receive = Some (drained c (n + 1), None)
 drain_after c n _ = None
 
 abbrev mutual

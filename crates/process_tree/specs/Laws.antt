@@ -6,7 +6,8 @@ use Rattle.system.specs.Translation.{residual_of, opening_residual}
 use Rattle.system.specs.declared.command.Command.{Command}
 use Rattle.system.specs.declared.system.System.{System}
 use Rattle.calculus.specs.Moves.{Place, Move, Local}
-use Rattle.calculus.specs.walking.After.{Ask, asks}
+use Rattle.calculus.specs.Asking.{asks}
+use Rattle.calculus.specs.declared.ask.Ask.{Ask}
 use Rattle.calculus.specs.WellFormed.{WellFormed}
 use Rattle.process_tree.specs.Code.{Code}
 use Rattle.process_tree.specs.Proc.{Proc, started, finished}

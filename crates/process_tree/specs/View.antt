@@ -4,17 +4,14 @@ use Rattle.std.specs.Global.{Box}
 use Rattle.value.specs.Word.{Word}
 use Rattle.system.specs.Expression.{Expression, Decision}
 use Rattle.system.specs.Translation.{expression_of, decision_of}
-use Rattle.calculus.specs.walking.After as model_ask
 use Rattle.process_tree.specs.Code as model
 use Rattle.process_tree.specs.Proc as model_proc
 use Rattle.process_tree.specs.Proc.{all_started}
 use Rattle.process_tree.specs.Translation.{row_of}
-use Rattle.process_tree.specs.declared.ask.Ask.{Ask}
-use Rattle.process_tree.specs.declared.ask.Ask.TheVariants as ask
-use Rattle.process_tree.specs.declared.code.Once.{Once}
-use Rattle.process_tree.specs.declared.code.Once.TheVariants as once
-use Rattle.process_tree.specs.declared.code.Sender.{Sender}
-use Rattle.process_tree.specs.declared.code.Sender.TheVariants as sender
+use Rattle.process_tree.specs.declared.code.Act.{Act}
+use Rattle.process_tree.specs.declared.code.Act.TheVariants as act
+use Rattle.process_tree.specs.declared.code.Offer.{Offer}
+use Rattle.process_tree.specs.declared.code.Offer.TheVariants as offer
 use Rattle.process_tree.specs.declared.code.Code.{Code}
 use Rattle.process_tree.specs.declared.code.Await.{Await}
 use Rattle.process_tree.specs.declared.code.Decide.{Decide}
@@ -183,19 +180,6 @@ tested_view = fold-Tested OfArms model_proc.Proc OfTest OfLoop gate_layer proc_l
 -- how far arms in memory are
 abbrev pub gate_view : Gate → OfArms
 gate_view = fold-Gate OfArms model_proc.Proc OfTest OfLoop gate_layer proc_layer tested_layer turns_layer
-
--- what an ask in memory stands for
-abbrev pub ask_view : Ask → model_ask.Ask
-ask_view ask.Assign = model_ask.to_assign
-ask_view (ask.Test arm) = model_ask.to_test arm
-ask_view ask.Turn = model_ask.to_turn
-ask_view ask.Send = model_ask.to_send
-ask_view ask.Hold = model_ask.to_hold
-ask_view ask.Receive = model_ask.to_receive
-ask_view (ask.Open arm value) = model_ask.to_open arm value
-ask_view ask.Sync = model_ask.to_sync
-ask_view ask.Release = model_ask.to_release
-ask_view ask.Close = model_ask.to_close
 
 -- the body that a move took out, if any
 abbrev pub out_view : Option (Box Proc) → Option model_proc.Proc

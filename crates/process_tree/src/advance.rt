@@ -4,17 +4,16 @@ ghost use Rattle.process_tree.specs.Proc.{started, sender, took, drained, sequen
 ghost use Rattle.process_tree.specs.Code.{Sender, code_at};
 ghost use Rattle.process_tree.specs.Advanced.{advanced, again_after, test_after, open_after};
 ghost use Rattle.process_tree.specs.Translation.{row_of};
-ghost use Rattle.process_tree.specs.View.{code_view, repeat_view, decide_view, await_view, row_view, phase_view, proc_view, turns_view, turn_of, tested_view, gate_view, opened_of, ask_view, out_view, procs_of, begun_of};
+ghost use Rattle.process_tree.specs.View.{code_view, repeat_view, decide_view, await_view, row_view, phase_view, proc_view, turns_view, turn_of, tested_view, gate_view, opened_of, out_view, procs_of, begun_of};
 ghost use Rattle.process_tree.specs.Children.{proc_at};
 ghost use Rattle.process_tree.specs.walking.Steps.{takes_none};
 ghost use Rattle.calculus.specs.Moves.{Place};
-ghost use Rattle.calculus.specs.walking.After as model;
 
-use crate::ask::Ask;
 use crate::code::{Await, Code, Decide, Repeat, Row};
 use crate::place::{branch_step, ordered_step};
 use crate::proc::{Gate, Phase, Proc, Tested, Turns, start};
 use address::Entry;
+use calculus::Ask;
 use std::alloc::{AllocError, Global};
 use std::mem;
 use syntax::Items;
@@ -29,8 +28,8 @@ pub(crate) fn advance(
     place: &[Entry],
     ask: Ask,
 ) -> Result<Option<Box<Proc>>, AllocError>
-    requires { IsSome (advanced (proc_view proc.old) place.now (ask_view ask)) }
-    ensures ok { IfOk result (λ out. advanced (proc_view proc.old) place.now (ask_view ask) ≡ Some (proc_view proc.new, out_view out)) }
+    requires { IsSome (advanced (proc_view proc.old) place.now ask) }
+    ensures ok { IfOk result (λ out. advanced (proc_view proc.old) place.now ask ≡ Some (proc_view proc.new, out_view out)) }
     ensures err { OnErr result (proc_view proc.new ≡ proc_view proc.old) }
 {
     match proc {
@@ -57,8 +56,8 @@ pub(crate) fn advance(
 
 /// How far a send or sync is after its move.
 fn phase_after(phase: Phase, ask: Ask) -> Phase
-    ensures { (s : Sender) (a : Place) → IsSome (advanced (sender s (phase_view phase)) a (ask_view ask)) →
-        advanced (sender s (phase_view phase)) a (ask_view ask) ≡ Some (sender s (phase_view result), None) }
+    ensures { (s : Sender) (a : Place) → IsSome (advanced (sender s (phase_view phase)) a ask) →
+        advanced (sender s (phase_view phase)) a ask ≡ Some (sender s (phase_view result), None) }
 {
     match ask {
         Ask::Hold => Phase::Holding,
@@ -68,7 +67,7 @@ fn phase_after(phase: Phase, ask: Ask) -> Phase
 
 /// How often an output port has received after the receive at the place.
 fn count_after(place: &[Entry]) -> u64
-    ensures { (c n : ℕ) (k : model.Ask) → IsSome (advanced (drained c n) place.now k) →
+    ensures { (c n : ℕ) (k : Ask) → IsSome (advanced (drained c n) place.now k) →
         advanced (drained c n) place.now k ≡ Some (drained c result, None) }
 {
     match ordered_step(place) {
@@ -79,7 +78,7 @@ fn count_after(place: &[Entry]) -> u64
 
 /// Whether a test is asked for that takes no arm.
 fn takes_none(ask: Ask) -> bool
-    ensures { result ≡ takes_none (ask_view ask) }
+    ensures { result ≡ takes_none ask }
 {
     match ask {
         Ask::Test(None) => true,
@@ -113,8 +112,8 @@ fn in_loop(
     place: &[Entry],
     ask: Ask,
 ) -> Result<Option<Box<Proc>>, AllocError>
-    requires { IsSome (advanced (turns_view turns.old (repeat_view repeat.now).0 (repeat_view repeat.now).1) place.now (ask_view ask)) }
-    ensures ok { IfOk result (λ out. advanced (turns_view turns.old (repeat_view repeat.now).0 (repeat_view repeat.now).1) place.now (ask_view ask)
+    requires { IsSome (advanced (turns_view turns.old (repeat_view repeat.now).0 (repeat_view repeat.now).1) place.now ask) }
+    ensures ok { IfOk result (λ out. advanced (turns_view turns.old (repeat_view repeat.now).0 (repeat_view repeat.now).1) place.now ask
         ≡ Some (turns_view turns.new (repeat_view repeat.now).0 (repeat_view repeat.now).1, out_view out)) }
     ensures err { OnErr result (turns_view turns.new ≡ turns_view turns.old) }
 {
@@ -131,8 +130,8 @@ fn in_loop(
 /// A loop after its first turn began, or its first test ended it.
 fn first_turn(alloc: Global, repeat: &Repeat, ask: Ask) -> Result<Turns, AllocError>
     ensures { IfOk result (λ made.
-        IsSome (again_after (repeat_view repeat.now).0 (repeat_view repeat.now).1 0 (ended_at_once (repeat_view repeat.now).0 (repeat_view repeat.now).1) None (ask_view ask)) →
-        again_after (repeat_view repeat.now).0 (repeat_view repeat.now).1 0 (ended_at_once (repeat_view repeat.now).0 (repeat_view repeat.now).1) None (ask_view ask)
+        IsSome (again_after (repeat_view repeat.now).0 (repeat_view repeat.now).1 0 (ended_at_once (repeat_view repeat.now).0 (repeat_view repeat.now).1) None ask) →
+        again_after (repeat_view repeat.now).0 (repeat_view repeat.now).1 0 (ended_at_once (repeat_view repeat.now).0 (repeat_view repeat.now).1) None ask
         ≡ Some (turns_view made (repeat_view repeat.now).0 (repeat_view repeat.now).1, None)) }
 {
     if takes_none(ask) {
@@ -152,8 +151,8 @@ fn in_turn(
     place: &[Entry],
     ask: Ask,
 ) -> Result<Option<Box<Proc>>, AllocError>
-    requires { IsSome (advanced (turn_of over.old (repeat_view repeat.now).0 (repeat_view repeat.now).1 turn.old (proc_view body.old.value)) place.now (ask_view ask)) }
-    ensures ok { IfOk result (λ out. advanced (turn_of over.old (repeat_view repeat.now).0 (repeat_view repeat.now).1 turn.old (proc_view body.old.value)) place.now (ask_view ask)
+    requires { IsSome (advanced (turn_of over.old (repeat_view repeat.now).0 (repeat_view repeat.now).1 turn.old (proc_view body.old.value)) place.now ask) }
+    ensures ok { IfOk result (λ out. advanced (turn_of over.old (repeat_view repeat.now).0 (repeat_view repeat.now).1 turn.old (proc_view body.old.value)) place.now ask
         ≡ Some (turn_of over.new (repeat_view repeat.now).0 (repeat_view repeat.now).1 turn.new (proc_view body.new.value), out_view out)) }
     ensures err { OnErr result (turn_of over.new (repeat_view repeat.now).0 (repeat_view repeat.now).1 turn.new (proc_view body.new.value)
         ≡ turn_of over.old (repeat_view repeat.now).0 (repeat_view repeat.now).1 turn.old (proc_view body.old.value)) }
@@ -183,8 +182,8 @@ fn in_test(
     place: &[Entry],
     ask: Ask,
 ) -> Result<Option<Box<Proc>>, AllocError>
-    requires { IsSome (advanced (tested_view tested.old (decide_view decide.now).0 (decide_view decide.now).1) place.now (ask_view ask)) }
-    ensures ok { IfOk result (λ out. advanced (tested_view tested.old (decide_view decide.now).0 (decide_view decide.now).1) place.now (ask_view ask)
+    requires { IsSome (advanced (tested_view tested.old (decide_view decide.now).0 (decide_view decide.now).1) place.now ask) }
+    ensures ok { IfOk result (λ out. advanced (tested_view tested.old (decide_view decide.now).0 (decide_view decide.now).1) place.now ask
         ≡ Some (tested_view tested.new (decide_view decide.now).0 (decide_view decide.now).1, out_view out)) }
     ensures err { OnErr result (tested_view tested.new ≡ tested_view tested.old) }
 {
@@ -207,8 +206,8 @@ fn in_taken(
     place: &[Entry],
     ask: Ask,
 ) -> Result<Option<Box<Proc>>, AllocError>
-    requires { IsSome (advanced (took (decide_view decide.now).0 (decide_view decide.now).1 arm (proc_view body.old.value)) place.now (ask_view ask)) }
-    ensures ok { IfOk result (λ out. advanced (took (decide_view decide.now).0 (decide_view decide.now).1 arm (proc_view body.old.value)) place.now (ask_view ask)
+    requires { IsSome (advanced (took (decide_view decide.now).0 (decide_view decide.now).1 arm (proc_view body.old.value)) place.now ask) }
+    ensures ok { IfOk result (λ out. advanced (took (decide_view decide.now).0 (decide_view decide.now).1 arm (proc_view body.old.value)) place.now ask
         ≡ Some (took (decide_view decide.now).0 (decide_view decide.now).1 arm (proc_view body.new.value), out_view out)) }
     ensures err { OnErr result (proc_view body.new.value ≡ proc_view body.old.value) }
 {
@@ -221,8 +220,8 @@ fn in_taken(
 /// An `if` or `case` after its test.
 fn test(alloc: Global, decide: &Decide, ask: Ask) -> Result<Tested, AllocError>
     ensures { IfOk result (λ made.
-        IsSome (test_after (decide_view decide.now).0 (decide_view decide.now).1 (ask_view ask)) →
-        test_after (decide_view decide.now).0 (decide_view decide.now).1 (ask_view ask)
+        IsSome (test_after (decide_view decide.now).0 (decide_view decide.now).1 ask) →
+        test_after (decide_view decide.now).0 (decide_view decide.now).1 ask
         ≡ Some (tested_view made (decide_view decide.now).0 (decide_view decide.now).1, None)) }
 {
     match ask {
@@ -242,8 +241,8 @@ fn in_arms(
     place: &[Entry],
     ask: Ask,
 ) -> Result<Option<Box<Proc>>, AllocError>
-    requires { IsSome (advanced (gate_view gate.old (await_view waiting.now).0 (await_view waiting.now).1) place.now (ask_view ask)) }
-    ensures ok { IfOk result (λ out. advanced (gate_view gate.old (await_view waiting.now).0 (await_view waiting.now).1) place.now (ask_view ask)
+    requires { IsSome (advanced (gate_view gate.old (await_view waiting.now).0 (await_view waiting.now).1) place.now ask) }
+    ensures ok { IfOk result (λ out. advanced (gate_view gate.old (await_view waiting.now).0 (await_view waiting.now).1) place.now ask
         ≡ Some (gate_view gate.new (await_view waiting.now).0 (await_view waiting.now).1, out_view out)) }
     ensures err { OnErr result (gate_view gate.new (await_view waiting.now).0 (await_view waiting.now).1 ≡ gate_view gate.old (await_view waiting.now).0 (await_view waiting.now).1) }
 {
@@ -269,8 +268,8 @@ fn in_opened(
     place: &[Entry],
     ask: Ask,
 ) -> Result<Option<Box<Proc>>, AllocError>
-    requires { IsSome (advanced (opened_of over.old (await_view waiting.now).0 (await_view waiting.now).1 channel value (proc_view body.old.value)) place.now (ask_view ask)) }
-    ensures ok { IfOk result (λ out. advanced (opened_of over.old (await_view waiting.now).0 (await_view waiting.now).1 channel value (proc_view body.old.value)) place.now (ask_view ask)
+    requires { IsSome (advanced (opened_of over.old (await_view waiting.now).0 (await_view waiting.now).1 channel value (proc_view body.old.value)) place.now ask) }
+    ensures ok { IfOk result (λ out. advanced (opened_of over.old (await_view waiting.now).0 (await_view waiting.now).1 channel value (proc_view body.old.value)) place.now ask
         ≡ Some (opened_of over.new (await_view waiting.now).0 (await_view waiting.now).1 channel value (proc_view body.new.value), out_view out)) }
     ensures err { OnErr result (opened_of over.new (await_view waiting.now).0 (await_view waiting.now).1 channel value (proc_view body.new.value)
         ≡ opened_of over.old (await_view waiting.now).0 (await_view waiting.now).1 channel value (proc_view body.old.value)) }
@@ -290,8 +289,8 @@ fn in_opened(
 /// Arms that wait, after one has opened.
 fn open(alloc: Global, waiting: &Await, ask: Ask) -> Result<Gate, AllocError>
     ensures { IfOk result (λ made.
-        IsSome (open_after (await_view waiting.now).0 (await_view waiting.now).1 (ask_view ask)) →
-        open_after (await_view waiting.now).0 (await_view waiting.now).1 (ask_view ask)
+        IsSome (open_after (await_view waiting.now).0 (await_view waiting.now).1 ask) →
+        open_after (await_view waiting.now).0 (await_view waiting.now).1 ask
         ≡ Some (gate_view made (await_view waiting.now).0 (await_view waiting.now).1, None)) }
 {
     match ask {
@@ -314,8 +313,8 @@ fn in_child(
     place: &[Entry],
     ask: Ask,
 ) -> Result<Option<Box<Proc>>, AllocError>
-    requires { IsSome (advanced (sequence (begun_of (map proc_view begun.old.items) (row_view row.now))) place.now (ask_view ask)) }
-    ensures ok { IfOk result (λ out. advanced (sequence (begun_of (map proc_view begun.old.items) (row_view row.now))) place.now (ask_view ask)
+    requires { IsSome (advanced (sequence (begun_of (map proc_view begun.old.items) (row_view row.now))) place.now ask) }
+    ensures ok { IfOk result (λ out. advanced (sequence (begun_of (map proc_view begun.old.items) (row_view row.now))) place.now ask
         ≡ Some (sequence (begun_of (map proc_view begun.new.items) (row_view row.now)), out_view out)) }
     ensures err { OnErr result (begun_of (map proc_view begun.new.items) (row_view row.now) ≡ begun_of (map proc_view begun.old.items) (row_view row.now)) }
 {
@@ -357,8 +356,8 @@ fn in_branch(
     place: &[Entry],
     ask: Ask,
 ) -> Result<Option<Box<Proc>>, AllocError>
-    requires { IsSome (advanced (parallel (procs_of (map proc_view procs.old.items))) place.now (ask_view ask)) }
-    ensures ok { IfOk result (λ out. advanced (parallel (procs_of (map proc_view procs.old.items))) place.now (ask_view ask)
+    requires { IsSome (advanced (parallel (procs_of (map proc_view procs.old.items))) place.now ask) }
+    ensures ok { IfOk result (λ out. advanced (parallel (procs_of (map proc_view procs.old.items))) place.now ask
         ≡ Some (parallel (procs_of (map proc_view procs.new.items)), out_view out)) }
     ensures err { OnErr result (procs_of (map proc_view procs.new.items) ≡ procs_of (map proc_view procs.old.items)) }
 {

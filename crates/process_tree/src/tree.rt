@@ -3,14 +3,14 @@ ghost use Rattle.process_tree.specs.Advanced.{advanced};
 ghost use Rattle.process_tree.specs.Proc.{started};
 ghost use Rattle.process_tree.specs.Translation as translation;
 ghost use Rattle.process_tree.specs.walking.Retreated.{retreated};
-ghost use Rattle.process_tree.specs.View.{ask_view, out_view, tree_view};
+ghost use Rattle.process_tree.specs.View.{out_view, tree_view};
 
 use crate::advance::advance;
-use crate::ask::Ask;
 use crate::environment::system_code;
 use crate::proc::{Proc, start};
 use crate::retreat::retreat;
 use address::Entry;
+use calculus::Ask;
 use std::alloc::{AllocError, Global};
 use system::System;
 
@@ -41,8 +41,8 @@ impl Tree {
         place: &[Entry],
         ask: Ask,
     ) -> Result<Option<Box<Proc>>, AllocError>
-        requires { IsSome (advanced (tree_view self.old) place.now (ask_view ask)) }
-        ensures made { IfOk result (λ out. advanced (tree_view self.old) place.now (ask_view ask) ≡ Some (tree_view self.new, out_view out)) }
+        requires { IsSome (advanced (tree_view self.old) place.now ask) }
+        ensures made { IfOk result (λ out. advanced (tree_view self.old) place.now ask ≡ Some (tree_view self.new, out_view out)) }
         ensures without_memory { OnErr result (tree_view self.new ≡ tree_view self.old) }
     {
         advance(alloc, &mut self.proc, place, ask)

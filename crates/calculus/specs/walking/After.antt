@@ -6,36 +6,8 @@ use Rattle.address.specs.declared.Entry.TheVariants.{Ordered, Branch}
 use Rattle.value.specs.Word.{Word}
 use Rattle.system.specs.Expression.{Expression, Decision, by_guards}
 use Rattle.system.specs.Residual.{Residual, done, halted, inside, beside, assign, send, receive, sync, held, loop, while, test, choose, closing, drain, Arms, within, along, arm_at, opened}
-
--- what an event asks for at one of its places
-pub data Ask : Type 0 where
-  to_assign : Ask
-  -- a test that takes this arm, or none
-  to_test : Option ℕ → Ask
-  to_turn : Ask
-  to_send : Ask
-  -- a send or sync that is held until the close
-  to_hold : Ask
-  to_receive : Ask
-  -- the arm, and the value received if any
-  to_open : ℕ → Option Word → Ask
-  to_sync : Ask
-  to_release : Ask
-  to_close : Ask
-
--- what a move answers to
-abbrev pub asks : Move → Ask
-asks (assigns x w e) = to_assign
-asks (tests d k) = to_test k
-asks turns = to_turn
-asks (sends c w e false) = to_send
-asks (sends c w e true) = to_hold
-asks (receives c x) = to_receive
-asks (syncs c false) = to_sync
-asks (syncs c true) = to_hold
-asks (opens c k v) = to_open k v
-asks (releases c) = to_release
-asks (closes c) = to_close
+use Rattle.calculus.specs.declared.ask.Ask.{Ask}
+use Rattle.calculus.specs.declared.ask.Ask.TheVariants as ask
 
 -- a move and the residual after it, if there is one
 abbrev pub Answer : Type 0
@@ -72,47 +44,47 @@ in_branch n (Branch i ∷ a) child rest = cond (i == n) (child a) rest
 
 -- the answer of an assignment
 abbrev pub after_assign : ℕ → ℕ → Expression → Ask → Answer
-after_assign x w e to_assign = Some (assigns x w e, done)
+after_assign x w e ask.Assign = Some (assigns x w e, done)
 after_assign x w e _ = None
 
 -- the answer of a send
 abbrev pub after_send : ℕ → ℕ → Expression → Ask → Answer
-after_send c w e to_send = Some (sends c w e false, done)
-after_send c w e to_hold = Some (sends c w e true, held c)
+after_send c w e ask.Send = Some (sends c w e false, done)
+after_send c w e ask.Hold = Some (sends c w e true, held c)
 after_send c w e _ = None
 
 -- the answer of a receive
 abbrev pub after_receive : ℕ → ℕ → Ask → Answer
-after_receive c x to_receive = Some (receives c (Some x), done)
+after_receive c x ask.Receive = Some (receives c (Some x), done)
 after_receive c x _ = None
 
 -- the answer of a handshake without data
 abbrev pub after_sync : ℕ → Ask → Answer
-after_sync c to_sync = Some (syncs c false, done)
-after_sync c to_hold = Some (syncs c true, held c)
+after_sync c ask.Sync = Some (syncs c false, done)
+after_sync c ask.Hold = Some (syncs c true, held c)
 after_sync c _ = None
 
 -- the answer of what is held
 abbrev pub after_held : ℕ → Ask → Answer
-after_held c to_release = Some (releases c, done)
+after_held c ask.Release = Some (releases c, done)
 after_held c _ = None
 
 -- the answer of a loop before turn k
 abbrev pub after_loop : ℕ → Residual → Ask → Answer
-after_loop k body to_turn = Some (turns, within (2 * k + 1) body (loop (k + 1) body))
+after_loop k body ask.Turn = Some (turns, within (2 * k + 1) body (loop (k + 1) body))
 after_loop k body _ = None
 
 -- the answer of a while loop before test k; its arm is number 0
 abbrev pub after_while : ℕ → Expression → Residual → Ask → Answer
-after_while k e body (to_test None) = Some (tests (by_guards (e ∷ []) false) None, done)
-after_while k e body (to_test (Some j)) =
+after_while k e body (ask.Test None) = Some (tests (by_guards (e ∷ []) false) None, done)
+after_while k e body (ask.Test (Some j)) =
     cond (j == 0) (Some (tests (by_guards (e ∷ []) false) (Some j), within (2 * k + 1) body (while (k + 1) e body))) None
 after_while k e body _ = None
 
 -- the answer of a test with arms
 abbrev pub after_test : Decision → Arms → Ask → Answer
-after_test d arms (to_test None) = Some (tests d None, done)
-after_test d arms (to_test (Some j)) = Some (tests d (Some j), within 1 (arm_at arms j) done)
+after_test d arms (ask.Test None) = Some (tests d None, done)
+after_test d arms (ask.Test (Some j)) = Some (tests d (Some j), within 1 (arm_at arms j) done)
 after_test d arms _ = None
 
 -- the answer of an arm that opens on its channel, if there is one
@@ -122,17 +94,17 @@ after_open (Some c) arms j v = Some (opens c j v, within 1 (opened c v (arm_at a
 
 -- the answer of arms that wait on their channels
 abbrev pub after_choose : List ℕ → Arms → Ask → Answer
-after_choose channels arms (to_open j v) = after_open (slice_get channels j) arms j v
+after_choose channels arms (ask.Open j v) = after_open (slice_get channels j) arms j v
 after_choose channels arms _ = None
 
 -- the answer of what comes after an opened arm
 abbrev pub after_closing : ℕ → Ask → Answer
-after_closing c to_close = Some (closes c, done)
+after_closing c ask.Close = Some (closes c, done)
 after_closing c _ = None
 
 -- the answer of the receives on an output port, before act k
 abbrev pub after_drain : ℕ → ℕ → Ask → Answer
-after_drain c k to_receive = Some (receives c None, drain c (k + 1))
+after_drain c k ask.Receive = Some (receives c None, drain c (k + 1))
 after_drain c k _ = None
 
 -- the move that is asked of the residual at the place, and the residual after it

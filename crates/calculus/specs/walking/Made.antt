@@ -1,4 +1,4 @@
--- Events as a function: what an event asks for, and the event that moves make over a store.
+-- Events as a function: the event that moves make over a store.
 -- No reader has to believe it: `proofs/Made.antt` ties it to `Makes` of `Events.antt`.
 use Rattle.std.specs.Prelude.{ℕ, ◌==◌, List, [], ◌∷◌, true, false, cond, ◌&&◌, Option, Some, None}
 use Rattle.std.specs.Ordering.{is_lt}
@@ -7,31 +7,12 @@ use Rattle.address.specs.Order.{order_of}
 use Rattle.value.specs.Word.{Word}
 use Rattle.system.specs.Expression.{Expression, Store, variables, decision_variables, decide, ascending}
 use Rattle.calculus.specs.Events.{Located, sent}
-use Rattle.calculus.specs.walking.After.{Ask, to_assign, to_test, to_turn, to_send, to_hold, to_receive, to_open, to_sync, to_release, to_close, asks}
+use Rattle.calculus.specs.Asking.{asks}
+use Rattle.calculus.specs.declared.ask.Ask.{Ask}
 use Rattle.calculus.specs.walking.Below.{apart}
 use Rattle.calculus.specs.Tests.{same_option, same_word}
 use Rattle.calculus.specs.declared.event.Event.{Event}
-use Rattle.calculus.specs.declared.event.Kind.{Kind}
 use Rattle.calculus.specs.declared.event.Kind.TheVariants.{Assign, Test, Turn, Meet, Open, Close, Sync}
-
--- what an event of this kind asks for, and at which places; `None` where a place or an arm is missing
-abbrev pub asked_by : Kind → Place → Option Place → Option ℕ → Option Word → Option (List (Place × Ask))
-asked_by Assign a b k v = Some ((a, to_assign) ∷ [])
-asked_by Test a b k v = Some ((a, to_test k) ∷ [])
-asked_by Turn a b k v = Some ((a, to_turn) ∷ [])
-asked_by Meet a None k v = None
-asked_by Meet a (Some b) k v = Some ((a, to_send) ∷ (b, to_receive) ∷ [])
-asked_by Open a None k v = None
-asked_by Open a (Some b) None v = None
-asked_by Open a (Some b) (Some k) v = Some ((a, to_hold) ∷ (b, to_open k v) ∷ [])
-asked_by Close a None k v = None
-asked_by Close a (Some b) k v = Some ((a, to_release) ∷ (b, to_close) ∷ [])
-asked_by Sync a None k v = None
-asked_by Sync a (Some b) k v = Some ((a, to_sync) ∷ (b, to_sync) ∷ [])
-
--- what an event asks for, and at which places
-abbrev pub asked : Event → Option (List (Place × Ask))
-asked e = asked_by e.kind e.first e.second e.arm e.value
 
 -- what a located move answers to, and where
 abbrev pub asks_at : Located → Place × Ask

@@ -4,7 +4,8 @@ use Rattle.std.specs.Prelude.{cond, Option, None}
 use Rattle.std.specs.Option.{option_and_then}
 use Rattle.calculus.specs.Moves.{Place}
 use Rattle.calculus.specs.Steps.{State}
-use Rattle.calculus.specs.walking.After.{Ask, after}
+use Rattle.calculus.specs.walking.After.{after}
+use Rattle.calculus.specs.declared.ask.Ask.{Ask}
 use Rattle.calculus.specs.walking.Made.{made_alone, made_together}
 use Rattle.calculus.specs.walking.StepOf.{agreed}
 use Rattle.calculus.specs.walking.Below.{apart}

@@ -6,8 +6,10 @@ use Rattle.calculus.specs.Moves.{Place}
 use Rattle.system.specs.Residual.{Residual}
 use Rattle.calculus.specs.Events.{Located, at, store_after}
 use Rattle.calculus.specs.Steps.{State}
-use Rattle.calculus.specs.walking.After.{Ask, after}
-use Rattle.calculus.specs.walking.Made.{asked, event_of}
+use Rattle.calculus.specs.walking.After.{after}
+use Rattle.calculus.specs.declared.ask.Ask.{Ask}
+use Rattle.calculus.specs.Asking.{asked}
+use Rattle.calculus.specs.walking.Made.{event_of}
 use Rattle.calculus.specs.Tests.{same_event}
 use Rattle.calculus.specs.declared.event.Event.{Event}
 

@@ -3,11 +3,10 @@
 use Rattle.std.specs.Prelude.{List, [], ◌∷◌, Option, Some, None}
 use Rattle.std.specs.Option.{option_and_then}
 use Rattle.calculus.specs.Moves.{Place}
-use Rattle.calculus.specs.walking.After as model
-use Rattle.calculus.specs.walking.Made.{asked}
+use Rattle.calculus.specs.declared.ask.Ask.{Ask}
+use Rattle.calculus.specs.Asking.{asked}
 use Rattle.calculus.specs.declared.event.Event.{Event}
 use Rattle.process_tree.specs.Proc.{Proc}
-use Rattle.process_tree.specs.View.{ask_view}
 use Rattle.process_tree.specs.walking.Retreated.{retreated}
 use Rattle.event_inverse.specs.Grown.{all_advanced}
 use Rattle.event_inverse.specs.walking.Reverted.{all_retreated}
@@ -15,10 +14,10 @@ use Rattle.event_inverse.specs.declared.asks.Asks.{Asks}
 use Rattle.event_inverse.specs.declared.asks.Asks.TheVariants.{Alone, Together}
 
 -- what is asked for, at the places of an event
-abbrev pub placed : Place → Option Place → Asks → Option (List (Place × model.Ask))
-placed a b (Alone ask) = Some ((a, ask_view ask) ∷ [])
+abbrev pub placed : Place → Option Place → Asks → Option (List (Place × Ask))
+placed a b (Alone ask) = Some ((a, ask) ∷ [])
 placed a None (Together one other) = None
-placed a (Some b) (Together one other) = Some ((a, ask_view one) ∷ (b, ask_view other) ∷ [])
+placed a (Some b) (Together one other) = Some ((a, one) ∷ (b, other) ∷ [])
 
 -- the process after the moves that an event asks for, and what they took out
 abbrev pub moved : Proc → Event → Option (Proc × List (Option Proc))

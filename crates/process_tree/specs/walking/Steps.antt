@@ -3,7 +3,8 @@
 use Rattle.std.specs.Prelude.{ℕ, [], ◌∷◌, Bool, true, false, Option, Some, None}
 use Rattle.address.specs.declared.Entry.TheVariants.{Ordered, Branch}
 use Rattle.calculus.specs.Moves.{Place}
-use Rattle.calculus.specs.walking.After.{Ask, to_test}
+use Rattle.calculus.specs.declared.ask.Ask.{Ask}
+use Rattle.calculus.specs.declared.ask.Ask.TheVariants as ask
 
 -- a number in a sequence, and the place below it
 abbrev pub ordered_step : Place → Option (ℕ × Place)
@@ -19,5 +20,5 @@ branch_step (Branch i ∷ a) = Some (i, a)
 
 -- whether a test is asked for that takes no arm
 abbrev pub takes_none : Ask → Bool
-takes_none (to_test None) = true
+takes_none (ask.Test None) = true
 takes_none _ = false

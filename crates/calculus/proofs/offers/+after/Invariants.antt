@@ -1,6 +1,5 @@
 use Rattle.std.proofs.Common.{◌≡◌, ◌≤◌}
 use Rattle.calculus.specs.walking.After.{around, after}
-use Rattle.calculus.specs.walking.Meanings.{ask_of}
 use Rattle.calculus.specs.Left.{residual_of_left}
 use Rattle.calculus.specs.walking.Passed.{along_all}
 use Rattle.calculus.proofs.left.Left.TheLaws.{the_size}
@@ -10,4 +9,4 @@ use Rattle.calculus.proofs.offers.+after.Given as goal
 abbrev pub invariant-after-passing : goal.invariant-after-passing
 invariant-after-passing l =
     (the_size l.left ≤ the_size l.initial.left)
-    × (around (along_all l.passed) (after (ask_of l.ask) (residual_of_left l.left) l.place) ≡ after (ask_of l.ask) (residual_of_left l.initial.left) l.place)
+    × (around (along_all l.passed) (after l.ask (residual_of_left l.left) l.place) ≡ after l.ask (residual_of_left l.initial.left) l.place)

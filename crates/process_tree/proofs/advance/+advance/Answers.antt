@@ -5,7 +5,7 @@ use Rattle.std.proofs.lemmas.Result.{IfOk-weaker, on_err_weaker}
 use Rattle.process_tree.specs.Proc.{started, sequence, parallel, took, entered}
 use Rattle.process_tree.specs.Advanced.{advanced, advanced_sequence, advanced_parallel}
 use Rattle.process_tree.specs.Places.{wrap}
-use Rattle.process_tree.specs.View.{repeat_view, decide_view, await_view, row_view, proc_view, ask_view, out_view, procs_of, begun_of, opened_of}
+use Rattle.process_tree.specs.View.{repeat_view, decide_view, await_view, row_view, proc_view, out_view, procs_of, begun_of, opened_of}
 use Rattle.process_tree.specs.Children.{proc_at}
 use Rattle.process_tree.specs.declared.proc.Proc.{Proc}
 use Rattle.process_tree.proofs.Steps.{none-is, is-some, wrapped, took-inside, opened-inside, opened-closes, turn-next, turn-is, parallel-somewhere, parallel-moves, sequence-somewhere, sequence-moves, child-asked, child-moved, branch-at, branch-set, branch-within, begun-at, begun-set, view-same}
@@ -16,19 +16,19 @@ pub in_branch-advance-requires : goal.in_branch-advance-requires
 in_branch-advance-requires t c =
     let l : c.in-Some.number < length c.args.procs.now.items = omega (arith, c.in-Some-get_mut.ensures.variant.0 refl, c.args.procs.now.ok.0) in (
       omega (arith, c.in-Some.ensures.shorter),
-      child-asked (procs_of (map proc_view c.args.procs.now.items)) c.in-Some.number c.in-Some.below.now (ask_view c.args.ask)
-          (advanced_parallel 0 (procs_of (map proc_view c.args.procs.now.items)) c.args.place.now (ask_view c.args.ask)) (proc_view c.in-Some-get_mut.child.now)
-          (parallel-moves (procs_of (map proc_view c.args.procs.now.items)) c.args.place.now c.in-Some.number c.in-Some.below.now (ask_view c.args.ask) (sym c.in-Some.ensures.value) c.requires)
+      child-asked (procs_of (map proc_view c.args.procs.now.items)) c.in-Some.number c.in-Some.below.now c.args.ask
+          (advanced_parallel 0 (procs_of (map proc_view c.args.procs.now.items)) c.args.place.now c.args.ask) (proc_view c.in-Some-get_mut.child.now)
+          (parallel-moves (procs_of (map proc_view c.args.procs.now.items)) c.args.place.now c.in-Some.number c.in-Some.below.now c.args.ask (sym c.in-Some.ensures.value) c.requires)
           (branch-at c.args.procs.now.items c.in-Some.number c.in-Some-get_mut.child.now l c.in-Some-get_mut.ensures.value),
     )
 
 pub in_branch-returns-in-None-clause-ok : goal.in_branch-returns-in-None-clause-ok
 in_branch-returns-in-None-clause-ok t c =
-    absurd (parallel-somewhere (procs_of (map proc_view c.args.procs.now.items)) c.args.place.now (ask_view c.args.ask) (sym c.in-None.ensures.value) c.requires)
+    absurd (parallel-somewhere (procs_of (map proc_view c.args.procs.now.items)) c.args.place.now c.args.ask (sym c.in-None.ensures.value) c.requires)
 
 pub in_branch-returns-in-None-get_mut-clause-ok : goal.in_branch-returns-in-None-get_mut-clause-ok
 in_branch-returns-in-None-get_mut-clause-ok t c =
-    let m = parallel-moves (procs_of (map proc_view c.args.procs.now.items)) c.args.place.now c.in-Some.number c.in-Some.below.now (ask_view c.args.ask) (sym c.in-Some.ensures.value) c.requires in
+    let m = parallel-moves (procs_of (map proc_view c.args.procs.now.items)) c.args.place.now c.in-Some.number c.in-Some.below.now c.args.ask (sym c.in-Some.ensures.value) c.requires in
     let l = branch-within c.args.procs.now.items c.in-Some.number m.child.child m.child.is in
     absurd (none-is (c.in-None-get_mut.ensures.variant.1 (omega (arith, l, c.args.procs.now.ok.0))))
 
@@ -36,10 +36,10 @@ pub in_branch-returns-in-Some-get_mut-clause-ok : goal.in_branch-returns-in-Some
 in_branch-returns-in-Some-get_mut-clause-ok t c =
     let l : c.in-Some.number < length c.args.procs.now.items = omega (arith, c.in-Some-get_mut.ensures.variant.0 refl, c.args.procs.now.ok.0) in
     IfOk-weaker c.advance.result _ _ (λ out h.
-    ap (wrap parallel) (child-moved (procs_of (map proc_view c.args.procs.now.items)) c.in-Some.number c.in-Some.below.now (ask_view c.args.ask)
-    (advanced_parallel 0 (procs_of (map proc_view c.args.procs.now.items)) c.args.place.now (ask_view c.args.ask)) (proc_view c.in-Some-get_mut.child.now)
+    ap (wrap parallel) (child-moved (procs_of (map proc_view c.args.procs.now.items)) c.in-Some.number c.in-Some.below.now c.args.ask
+    (advanced_parallel 0 (procs_of (map proc_view c.args.procs.now.items)) c.args.place.now c.args.ask) (proc_view c.in-Some-get_mut.child.now)
     (proc_view c.advance.new.proc) (out_view out)
-    (parallel-moves (procs_of (map proc_view c.args.procs.now.items)) c.args.place.now c.in-Some.number c.in-Some.below.now (ask_view c.args.ask) (sym c.in-Some.ensures.value) c.requires)
+    (parallel-moves (procs_of (map proc_view c.args.procs.now.items)) c.args.place.now c.in-Some.number c.in-Some.below.now c.args.ask (sym c.in-Some.ensures.value) c.requires)
     (branch-at c.args.procs.now.items c.in-Some.number c.in-Some-get_mut.child.now l c.in-Some-get_mut.ensures.value) h)
     ∙ ap (λ row. Some (parallel row, out_view out)) (branch-set c.args.procs.now.items c.in-Some.number c.advance.new.proc)) c.advance.ensures.ok
 
@@ -51,34 +51,34 @@ in_branch-returns-in-Some-get_mut-clause-err t c =
 pub in_child-advance-requires : goal.in_child-advance-requires
 in_child-advance-requires t c =
     let l : c.in-Some.number < length c.begin_to.new.begun.items = omega (arith, c.in-Some-get_mut.ensures.variant.0 refl, c.begin_to.new.begun.ok.0) in
-    let r = subst (λ row. IsSome (advanced (sequence row) c.args.place.now (ask_view c.args.ask))) (sym c.in_ok-begin_to-in-Some.ensures.same) c.requires in (
+    let r = subst (λ row. IsSome (advanced (sequence row) c.args.place.now c.args.ask)) (sym c.in_ok-begin_to-in-Some.ensures.same) c.requires in (
       omega (arith, c.in-Some.ensures.shorter),
-      child-asked (begun_of (map proc_view c.begin_to.new.begun.items) (row_view c.args.row.now)) c.in-Some.number c.in-Some.below.now (ask_view c.args.ask)
-          (advanced_sequence 0 (begun_of (map proc_view c.begin_to.new.begun.items) (row_view c.args.row.now)) c.args.place.now (ask_view c.args.ask)) (proc_view c.in-Some-get_mut.child.now)
-          (sequence-moves (begun_of (map proc_view c.begin_to.new.begun.items) (row_view c.args.row.now)) c.args.place.now c.in-Some.number c.in-Some.below.now (ask_view c.args.ask) (sym c.in-Some.ensures.value) r)
+      child-asked (begun_of (map proc_view c.begin_to.new.begun.items) (row_view c.args.row.now)) c.in-Some.number c.in-Some.below.now c.args.ask
+          (advanced_sequence 0 (begun_of (map proc_view c.begin_to.new.begun.items) (row_view c.args.row.now)) c.args.place.now c.args.ask) (proc_view c.in-Some-get_mut.child.now)
+          (sequence-moves (begun_of (map proc_view c.begin_to.new.begun.items) (row_view c.args.row.now)) c.args.place.now c.in-Some.number c.in-Some.below.now c.args.ask (sym c.in-Some.ensures.value) r)
           (begun-at c.begin_to.new.begun.items (row_view c.args.row.now) c.in-Some.number c.in-Some-get_mut.child.now l c.in-Some-get_mut.ensures.value),
     )
 
 pub in_child-returns-in-None-clause-ok : goal.in_child-returns-in-None-clause-ok
 in_child-returns-in-None-clause-ok t c =
-    absurd (sequence-somewhere (begun_of (map proc_view c.args.begun.now.items) (row_view c.args.row.now)) c.args.place.now (ask_view c.args.ask) (sym c.in-None.ensures.value) c.requires)
+    absurd (sequence-somewhere (begun_of (map proc_view c.args.begun.now.items) (row_view c.args.row.now)) c.args.place.now c.args.ask (sym c.in-None.ensures.value) c.requires)
 
 pub in_child-returns-in-None-get_mut-clause-ok : goal.in_child-returns-in-None-get_mut-clause-ok
 in_child-returns-in-None-get_mut-clause-ok t c =
-    let m = sequence-moves (begun_of (map proc_view c.args.begun.now.items) (row_view c.args.row.now)) c.args.place.now c.in-Some.number c.in-Some.below.now (ask_view c.args.ask) (sym c.in-Some.ensures.value) c.requires in
+    let m = sequence-moves (begun_of (map proc_view c.args.begun.now.items) (row_view c.args.row.now)) c.args.place.now c.in-Some.number c.in-Some.below.now c.args.ask (sym c.in-Some.ensures.value) c.requires in
     let l = c.in_ok-begin_to-in-Some.ensures.ok (is-some (proc_at (begun_of (map proc_view c.args.begun.now.items) (row_view c.args.row.now)) c.in-Some.number) m.child.child m.child.is) in
     absurd (none-is (c.in-None-get_mut.ensures.variant.1 (omega (arith, l, c.begin_to.new.begun.ok.0))))
 
 pub in_child-returns-in-Some-get_mut-clause-ok : goal.in_child-returns-in-Some-get_mut-clause-ok
 in_child-returns-in-Some-get_mut-clause-ok t c =
     let l : c.in-Some.number < length c.begin_to.new.begun.items = omega (arith, c.in-Some-get_mut.ensures.variant.0 refl, c.begin_to.new.begun.ok.0) in
-    let r = subst (λ row. IsSome (advanced (sequence row) c.args.place.now (ask_view c.args.ask))) (sym c.in_ok-begin_to-in-Some.ensures.same) c.requires in
+    let r = subst (λ row. IsSome (advanced (sequence row) c.args.place.now c.args.ask)) (sym c.in_ok-begin_to-in-Some.ensures.same) c.requires in
     IfOk-weaker c.advance.result _ _ (λ out h.
-    ap (λ row. advanced (sequence row) c.args.place.now (ask_view c.args.ask)) (sym c.in_ok-begin_to-in-Some.ensures.same)
-    ∙ ap (wrap sequence) (child-moved (begun_of (map proc_view c.begin_to.new.begun.items) (row_view c.args.row.now)) c.in-Some.number c.in-Some.below.now (ask_view c.args.ask)
-    (advanced_sequence 0 (begun_of (map proc_view c.begin_to.new.begun.items) (row_view c.args.row.now)) c.args.place.now (ask_view c.args.ask)) (proc_view c.in-Some-get_mut.child.now)
+    ap (λ row. advanced (sequence row) c.args.place.now c.args.ask) (sym c.in_ok-begin_to-in-Some.ensures.same)
+    ∙ ap (wrap sequence) (child-moved (begun_of (map proc_view c.begin_to.new.begun.items) (row_view c.args.row.now)) c.in-Some.number c.in-Some.below.now c.args.ask
+    (advanced_sequence 0 (begun_of (map proc_view c.begin_to.new.begun.items) (row_view c.args.row.now)) c.args.place.now c.args.ask) (proc_view c.in-Some-get_mut.child.now)
     (proc_view c.advance.new.proc) (out_view out)
-    (sequence-moves (begun_of (map proc_view c.begin_to.new.begun.items) (row_view c.args.row.now)) c.args.place.now c.in-Some.number c.in-Some.below.now (ask_view c.args.ask) (sym c.in-Some.ensures.value) r)
+    (sequence-moves (begun_of (map proc_view c.begin_to.new.begun.items) (row_view c.args.row.now)) c.args.place.now c.in-Some.number c.in-Some.below.now c.args.ask (sym c.in-Some.ensures.value) r)
     (begun-at c.begin_to.new.begun.items (row_view c.args.row.now) c.in-Some.number c.in-Some-get_mut.child.now l c.in-Some-get_mut.ensures.value) h)
     ∙ ap (λ row. Some (sequence row, out_view out)) (begun-set c.begin_to.new.begun.items (row_view c.args.row.now) c.in-Some.number c.advance.new.proc l)) c.advance.ensures.ok
 
@@ -90,50 +90,50 @@ in_child-returns-in-Some-get_mut-clause-err t c =
 
 pub in_taken-advance-requires : goal.in_taken-advance-requires
 in_taken-advance-requires t c =
-    let inside = took-inside (decide_view c.args.decide.now).0 (decide_view c.args.decide.now).1 c.args.arm (proc_view c.args.body.now.value) c.args.place.now (ask_view c.args.ask)
+    let inside = took-inside (decide_view c.args.decide.now).0 (decide_view c.args.decide.now).1 c.args.arm (proc_view c.args.body.now.value) c.args.place.now c.args.ask
     c.in-Some.field-0-0 c.in-Some.below.now (sym c.in-Some.ensures.value) c.requires in (
       omega (arith, c.in-Some.ensures.shorter),
-      subst (λ (p : Proc). IsSome (advanced (proc_view p) c.in-Some.below.now (ask_view c.args.ask))) (sym c.deref_mut.ensures.value)
-          (wrapped (took (decide_view c.args.decide.now).0 (decide_view c.args.decide.now).1 c.args.arm) (advanced (proc_view c.args.body.now.value) c.in-Some.below.now (ask_view c.args.ask))
+      subst (λ (p : Proc). IsSome (advanced (proc_view p) c.in-Some.below.now c.args.ask)) (sym c.deref_mut.ensures.value)
+          (wrapped (took (decide_view c.args.decide.now).0 (decide_view c.args.decide.now).1 c.args.arm) (advanced (proc_view c.args.body.now.value) c.in-Some.below.now c.args.ask)
           (subst (λ o. IsSome o) inside c.requires)),
     )
 
 pub in_taken-returns-in-Some-clause-ok : goal.in_taken-returns-in-Some-clause-ok
 in_taken-returns-in-Some-clause-ok t c =
-    let inside = took-inside (decide_view c.args.decide.now).0 (decide_view c.args.decide.now).1 c.args.arm (proc_view c.args.body.now.value) c.args.place.now (ask_view c.args.ask)
+    let inside = took-inside (decide_view c.args.decide.now).0 (decide_view c.args.decide.now).1 c.args.arm (proc_view c.args.body.now.value) c.args.place.now c.args.ask
     c.in-Some.field-0-0 c.in-Some.below.now (sym c.in-Some.ensures.value) c.requires in
     IfOk-weaker c.advance.result _ _ (λ out h.
     inside ∙ ap (wrap (took (decide_view c.args.decide.now).0 (decide_view c.args.decide.now).1 c.args.arm))
-    (subst (λ (p : Proc). advanced (proc_view p) c.in-Some.below.now (ask_view c.args.ask) ≡ Some (proc_view c.advance.new.proc, out_view out)) c.deref_mut.ensures.value h)) c.advance.ensures.ok
+    (subst (λ (p : Proc). advanced (proc_view p) c.in-Some.below.now c.args.ask ≡ Some (proc_view c.advance.new.proc, out_view out)) c.deref_mut.ensures.value h)) c.advance.ensures.ok
 
 pub in_opened-advance-requires : goal.in_opened-advance-requires
 in_opened-advance-requires t c =
     let inside = opened-inside c.args.over.now (await_view c.args.waiting.now).0 (await_view c.args.waiting.now).1 c.args.channel c.args.value (proc_view c.args.body.now.value) c.args.place.now
-    (ask_view c.args.ask) c.in-Some.number c.in-Some.below.now (sym c.in-Some.ensures.value) c.if-number-eq1.true c.requires in (
+    c.args.ask c.in-Some.number c.in-Some.below.now (sym c.in-Some.ensures.value) c.if-number-eq1.true c.requires in (
       omega (arith, c.in-Some.ensures.shorter),
-      subst (λ (p : Proc). IsSome (advanced (proc_view p) c.in-Some.below.now (ask_view c.args.ask))) (sym c.deref_mut.ensures.value)
+      subst (λ (p : Proc). IsSome (advanced (proc_view p) c.in-Some.below.now c.args.ask)) (sym c.deref_mut.ensures.value)
           (wrapped (entered (await_view c.args.waiting.now).0 (await_view c.args.waiting.now).1 c.args.channel c.args.value)
-          (advanced (proc_view c.args.body.now.value) c.in-Some.below.now (ask_view c.args.ask)) (subst (λ o. IsSome o) inside.1 c.requires)),
+          (advanced (proc_view c.args.body.now.value) c.in-Some.below.now c.args.ask) (subst (λ o. IsSome o) inside.1 c.requires)),
     )
 
 pub in_opened-returns-then-number-eq1-clause-ok : goal.in_opened-returns-then-number-eq1-clause-ok
 in_opened-returns-then-number-eq1-clause-ok t c =
     let inside = opened-inside c.args.over.now (await_view c.args.waiting.now).0 (await_view c.args.waiting.now).1 c.args.channel c.args.value (proc_view c.args.body.now.value) c.args.place.now
-    (ask_view c.args.ask) c.in-Some.number c.in-Some.below.now (sym c.in-Some.ensures.value) c.if-number-eq1.true c.requires in
+    c.args.ask c.in-Some.number c.in-Some.below.now (sym c.in-Some.ensures.value) c.if-number-eq1.true c.requires in
     IfOk-weaker c.advance.result _ _ (λ out h.
     inside.1 ∙ ap (wrap (entered (await_view c.args.waiting.now).0 (await_view c.args.waiting.now).1 c.args.channel c.args.value))
-    (subst (λ (p : Proc). advanced (proc_view p) c.in-Some.below.now (ask_view c.args.ask) ≡ Some (proc_view c.advance.new.proc, out_view out)) c.deref_mut.ensures.value h)
+    (subst (λ (p : Proc). advanced (proc_view p) c.in-Some.below.now c.args.ask ≡ Some (proc_view c.advance.new.proc, out_view out)) c.deref_mut.ensures.value h)
     ∙ ap (λ over. Some (opened_of over (await_view c.args.waiting.now).0 (await_view c.args.waiting.now).1 c.args.channel c.args.value (proc_view c.advance.new.proc), out_view out)) (sym inside.0))
     c.advance.ensures.ok
 
 pub in_opened-returns-else-number-eq1-clause-ok : goal.in_opened-returns-else-number-eq1-clause-ok
 in_opened-returns-else-number-eq1-clause-ok t c =
     opened-closes c.args.over.now (await_view c.args.waiting.now).0 (await_view c.args.waiting.now).1 c.args.channel c.args.value (proc_view c.args.body.now.value) c.args.place.now
-    (ask_view c.args.ask) c.in-Some.number c.in-Some.below.now (sym c.in-Some.ensures.value) c.if-number-eq1.false c.requires
+    c.args.ask c.in-Some.number c.in-Some.below.now (sym c.in-Some.ensures.value) c.if-number-eq1.false c.requires
 
 pub in_turn-returns-in_ok-fresh-in-Some-clause-ok : goal.in_turn-returns-in_ok-fresh-in-Some-clause-ok
 in_turn-returns-in_ok-fresh-in-Some-clause-ok t c =
-    let n = turn-next c.args.over.now (repeat_view c.args.repeat.now).0 (repeat_view c.args.repeat.now).1 c.args.turn.now (proc_view c.args.body.now.value) c.args.place.now (ask_view c.args.ask)
+    let n = turn-next c.args.over.now (repeat_view c.args.repeat.now).0 (repeat_view c.args.repeat.now).1 c.args.turn.now (proc_view c.args.body.now.value) c.args.place.now c.args.ask
     c.in-Some.number c.in-Some.below.now (sym c.in-Some.ensures.value) c.if-number-eq1.false (sym c.takes_none.ensures ∙ c.if-takes_none.false) c.requires in
     n.2 ∙ turn-is c.args.over.now (repeat_view c.args.repeat.now).0 (repeat_view c.args.repeat.now).1 c.args.turn.now c.from.result (proc_view c.args.body.now.value)
     (proc_view c.replace.result.value) (proc_view c.replace.new.dest.value) n.0 (omega (arith, n.1))

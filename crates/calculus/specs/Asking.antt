@@ -1,0 +1,42 @@
+-- What an event asks for at each of its places, and what a move answers to: an `Ask` of `src/ask.rt`.
+use Rattle.std.specs.Prelude.{ℕ, List, [], ◌∷◌, true, false, Option, Some, None}
+use Rattle.value.specs.Word.{Word}
+use Rattle.calculus.specs.Moves.{Place, Move, assigns, tests, turns, sends, receives, syncs, opens, releases, closes}
+use Rattle.calculus.specs.declared.ask.Ask.{Ask}
+use Rattle.calculus.specs.declared.ask.Ask.TheVariants as ask
+use Rattle.calculus.specs.declared.event.Event.{Event}
+use Rattle.calculus.specs.declared.event.Kind.{Kind}
+use Rattle.calculus.specs.declared.event.Kind.TheVariants.{Assign, Test, Turn, Meet, Open, Close, Sync}
+
+-- what a move answers to
+abbrev pub asks : Move → Ask
+asks (assigns x w e) = ask.Assign
+asks (tests d k) = ask.Test k
+asks turns = ask.Turn
+asks (sends c w e false) = ask.Send
+asks (sends c w e true) = ask.Hold
+asks (receives c x) = ask.Receive
+asks (syncs c false) = ask.Sync
+asks (syncs c true) = ask.Hold
+asks (opens c k v) = ask.Open k v
+asks (releases c) = ask.Release
+asks (closes c) = ask.Close
+
+-- what an event of this kind asks for, and at which places; `None` where a place or an arm is missing
+abbrev pub asked_by : Kind → Place → Option Place → Option ℕ → Option Word → Option (List (Place × Ask))
+asked_by Assign a b k v = Some ((a, ask.Assign) ∷ [])
+asked_by Test a b k v = Some ((a, ask.Test k) ∷ [])
+asked_by Turn a b k v = Some ((a, ask.Turn) ∷ [])
+asked_by Meet a None k v = None
+asked_by Meet a (Some b) k v = Some ((a, ask.Send) ∷ (b, ask.Receive) ∷ [])
+asked_by Open a None k v = None
+asked_by Open a (Some b) None v = None
+asked_by Open a (Some b) (Some k) v = Some ((a, ask.Hold) ∷ (b, ask.Open k v) ∷ [])
+asked_by Close a None k v = None
+asked_by Close a (Some b) k v = Some ((a, ask.Release) ∷ (b, ask.Close) ∷ [])
+asked_by Sync a None k v = None
+asked_by Sync a (Some b) k v = Some ((a, ask.Sync) ∷ (b, ask.Sync) ∷ [])
+
+-- what an event asks for, and at which places
+abbrev pub asked : Event → Option (List (Place × Ask))
+asked e = asked_by e.kind e.first e.second e.arm e.value
