@@ -42,7 +42,7 @@ pub mod Orders
 pub mod Pair
 pub mod Passing
 pub mod Ports
-pub mod Reads
+pub mod ReadTests
 pub mod ReadyLists
 pub mod Related
 pub mod Replayed

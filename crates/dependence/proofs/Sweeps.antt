@@ -13,7 +13,7 @@ use Rattle.dependence.specs.Followers.{Follower, ListsFollowers, Reached, here, 
 use Rattle.dependence.specs.walking.Tables.{StandsAt, Topmost, Reaches}
 use Rattle.dependence.specs.walking.Sweeping.{StandWithin, FlagAt, Swept}
 use Rattle.dependence.proofs.ListPlaces.{at-one, place-in, in-order-more}
-use Rattle.calculus.proofs.Reads.{is-in, in-is}
+use Rattle.calculus.proofs.ReadTests.{is-in, in-is}
 use Rattle.dependence.proofs.Linking.{one-place}
 use Rattle.dependence.proofs.Standing.{place-rises, lesser-stands}
 use Rattle.dependence.proofs.Following.{follows-on}

@@ -11,7 +11,7 @@ use Rattle.calculus.proofs.Lists.{in-left, in-right, in-parts, every-in, every-o
 use Rattle.calculus.proofs.Tickets.{rising-in, rising-one, rising-parts}
 use Rattle.machine.specs.walking.Following.{Leads, DependsOnSome, Gathered, WritesLast}
 use Rattle.machine.proofs.Entries.{parts-at, item-at, take-next}
-use Rattle.calculus.proofs.Reads.{is-in, in-is}
+use Rattle.calculus.proofs.ReadTests.{is-in, in-is}
 
 -- the whole list, once all of it is passed
 pub take-all : {X : Type 0} (l : List X) (i : ℕ) → length l ≤ i → take i l ≡ l

@@ -9,7 +9,7 @@ use Rattle.calculus.specs.InOrder.{InOrder}
 use Rattle.calculus.proofs.Lists.{every-in, every-map}
 use Rattle.machine.specs.Breakpoints.{with_line}
 use Rattle.machine.specs.walking.Sorting.{lesser_count}
-use Rattle.calculus.proofs.Reads.{is-in}
+use Rattle.calculus.proofs.ReadTests.{is-in}
 
 -- a line that is set is set once
 pub with-there : (n : ℕ) (l : List ℕ) → InOrder ◌<◌ l → is_in n l ≡ true → l ≡ with_line n l

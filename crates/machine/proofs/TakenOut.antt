@@ -12,7 +12,7 @@ use Rattle.calculus.specs.declared.command.Command.{Command}
 use Rattle.calculus.specs.declared.command.Reply.{Reply}
 use Rattle.calculus.specs.declared.command.Refusal.{Refusal}
 use Rattle.calculus.specs.declared.command.Refusal.TheVariants.{NoSuchEvent}
-use Rattle.calculus.proofs.Reads.{is-in, in-is}
+use Rattle.calculus.proofs.ReadTests.{is-in, in-is}
 use Rattle.machine.specs.walking.Dependents.{StandsAt}
 use Rattle.machine.proofs.Undone.{live-at}
 

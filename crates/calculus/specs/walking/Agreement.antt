@@ -1,4 +1,5 @@
 -- The laws that tie what the code walks through to the definitions.
+-- No reader has to believe it: `proofs/FromOpening.antt` ties `allowed_events` to `Allowed`, and `run_of` to `Run`, both of `Steps.antt`, by proving them.
 use Rattle.std.specs.Prelude.{◌≡◌, ◌↔◌, List, Some}
 use Rattle.calculus.specs.walking.StepOf.{run_of}
 use Rattle.calculus.specs.walking.AllowedEvents.{allowed_events}

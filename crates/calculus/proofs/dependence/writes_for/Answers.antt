@@ -1,4 +1,4 @@
-use Rattle.calculus.proofs.Reads.{written-read, written-written}
+use Rattle.calculus.proofs.ReadTests.{written-read, written-written}
 use Rattle.calculus.proofs.dependence.writes_for.Goals as goal
 
 pub returns-then-reads : goal.returns-then-reads
