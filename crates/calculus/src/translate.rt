@@ -4,7 +4,8 @@ ghost use Rattle.std.specs.Option.{option_map};
 ghost use Rattle.system.specs.Expression as expression;
 ghost use Rattle.system.specs.Residual as residual;
 ghost use Rattle.system.specs.Translation as translation;
-ghost use Rattle.system.specs.Translation.{decision_of, guarded_of, labelled_of, arm_of};
+ghost use Rattle.system.specs.Translation.{decision_of};
+ghost use Rattle.system.specs.walking.ArmParts.{guarded_of, labelled_of, arm_of};
 ghost use Rattle.calculus.specs.Left.{residual_of_left};
 
 use crate::left::{Left, along, within};

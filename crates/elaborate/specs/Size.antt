@@ -1,6 +1,6 @@
--- How large a system is, its calls replaced. The sizes of parts are put together as they are, or are first cut by `cut`:
--- the definition cuts nothing, and what counts cuts above the limits.
-use Rattle.std.specs.Prelude.{ℕ, ◌+◌, ◌-◌, ◌≤◌, max, min, List, [], ◌∷◌, ◌++◌, Option, Some, None, length, slice_index_or}
+-- How large a system is, its calls replaced. The sizes of parts are put together as they are (`whole`). What counts gives
+-- another `cut`: it cuts each size above the limits.
+use Rattle.std.specs.Prelude.{ℕ, ◌+◌, ◌-◌, ◌≤◌, max, List, [], ◌∷◌, ◌++◌, Option, Some, None, length, slice_index_or}
 use Rattle.elaborate.specs.declared.count.Size.{Size}
 use Rattle.typed.specs.declared.tree.Expression.{Expression}
 use Rattle.typed.specs.declared.tree.Expression.TheOpen.{Expression-F}
@@ -25,10 +25,6 @@ most_nodes = 16384
 -- the most commands one inside the other: one and the 1,024 around it
 abbrev pub most_nested : ℕ
 most_nested = 1025
-
--- each number is cut to one more than its limit
-abbrev pub limited : Cut
-limited s = record { nodes = min s.nodes (most_nodes + 1); levels = min s.levels (most_nested + 1) }
 
 -- no nodes and no commands
 abbrev pub nothing : Size

@@ -1,3 +1,4 @@
 pub mod BodyParts
+pub mod Limited
 pub mod NamePlaces
 pub mod SizeParts

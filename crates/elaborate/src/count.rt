@@ -2,6 +2,7 @@
 ghost use Rattle.std.specs.Prelude.{◌≡◌, ◌↔◌, IsTrue, map, IfOk, length, List, [], slice_index_or, ◌-◌};
 ghost use Rattle.std.specs.Option.{option_map};
 ghost use Rattle.elaborate.specs.Size as model;
+ghost use Rattle.elaborate.specs.walking.Limited.{limited};
 ghost use Rattle.elaborate.specs.walking.SizeParts.{size_of_guarded, size_of_labelled, size_of_arm};
 
 use std::alloc::{AllocError, Global};
@@ -31,7 +32,7 @@ impl Size {
 
 /// So many nodes without a command.
 fn plain_nodes(nodes: usize) -> Size
-    ensures { result ≡ model.plain_nodes model.limited nodes }
+    ensures { result ≡ model.plain_nodes limited nodes }
 {
     Size {
         nodes: nodes.min(MOST_NODES as usize + 1) as u32,
@@ -41,7 +42,7 @@ fn plain_nodes(nodes: usize) -> Size
 
 /// Both parts, side by side.
 fn beside(first: Size, second: Size) -> Size
-    ensures { result ≡ model.beside model.limited first second }
+    ensures { result ≡ model.beside limited first second }
 {
     Size {
         nodes: first.nodes.saturating_add(second.nodes).min(MOST_NODES + 1),
@@ -51,7 +52,7 @@ fn beside(first: Size, second: Size) -> Size
 
 /// A command with these parts.
 fn around(parts: Size) -> Size
-    ensures { result ≡ model.around model.limited parts }
+    ensures { result ≡ model.around limited parts }
 {
     Size {
         nodes: parts.nodes.saturating_add(1).min(MOST_NODES + 1),
@@ -61,7 +62,7 @@ fn around(parts: Size) -> Size
 
 /// The size of an expression.
 fn size_of_expression(expression: &Expression) -> Size
-    ensures { result ≡ model.expression_size model.limited expression.now }
+    ensures { result ≡ model.expression_size limited expression.now }
 {
     match expression {
         Expression::Constant(_) | Expression::Variable(_, _) | Expression::Received(_, _) => {
@@ -81,7 +82,7 @@ fn size_of_expression(expression: &Expression) -> Size
 /// The size of a command, where `sizes` has that of each procedure before.
 #[cycle(size)]
 fn size_of(command: &Command, sizes: &[Size]) -> Size
-    ensures { result ≡ model.size_of model.limited sizes.now command.now }
+    ensures { result ≡ model.size_of limited sizes.now command.now }
 {
     match command.action.get() {
         Action::Call(procedure, _) => size_of_call(*procedure, sizes),
@@ -126,7 +127,7 @@ fn size_of_call(procedure: u32, sizes: &[Size]) -> Size
 /// The size of commands side by side.
 #[cycle(size)]
 fn size_of_all(commands: &[Command], sizes: &[Size]) -> Size
-    ensures { result ≡ model.all_beside model.limited model.nothing (map (model.size_of model.limited sizes.now) commands.now) }
+    ensures { result ≡ model.all_beside limited model.nothing (map (model.size_of limited sizes.now) commands.now) }
 {
     let mut size = Size::NONE;
     for command in commands {
@@ -138,7 +139,7 @@ fn size_of_all(commands: &[Command], sizes: &[Size]) -> Size
 /// The size of the arms of an `if`.
 #[cycle(size)]
 fn size_of_guarded(arms: &[Guarded], sizes: &[Size]) -> Size
-    ensures { result ≡ model.all_beside model.limited model.nothing (map (size_of_guarded model.limited sizes.now) arms.now) }
+    ensures { result ≡ model.all_beside limited model.nothing (map (size_of_guarded limited sizes.now) arms.now) }
 {
     let mut size = Size::NONE;
     for arm in arms {
@@ -151,7 +152,7 @@ fn size_of_guarded(arms: &[Guarded], sizes: &[Size]) -> Size
 /// The size of the arms of a `case`.
 #[cycle(size)]
 fn size_of_labelled(arms: &[Labelled], sizes: &[Size]) -> Size
-    ensures { result ≡ model.all_beside model.limited model.nothing (map (size_of_labelled model.limited sizes.now) arms.now) }
+    ensures { result ≡ model.all_beside limited model.nothing (map (size_of_labelled limited sizes.now) arms.now) }
 {
     let mut size = Size::NONE;
     for arm in arms {
@@ -163,7 +164,7 @@ fn size_of_labelled(arms: &[Labelled], sizes: &[Size]) -> Size
 /// The size of the arms of a `select` or an `arbitrate`.
 #[cycle(size)]
 fn size_of_arms(arms: &[Arm], sizes: &[Size]) -> Size
-    ensures { result ≡ model.all_beside model.limited model.nothing (map (size_of_arm model.limited sizes.now) arms.now) }
+    ensures { result ≡ model.all_beside limited model.nothing (map (size_of_arm limited sizes.now) arms.now) }
 {
     let mut size = Size::NONE;
     for arm in arms {
@@ -175,7 +176,7 @@ fn size_of_arms(arms: &[Arm], sizes: &[Size]) -> Size
 /// The size of what stands behind an `else`.
 #[cycle(size)]
 fn size_of_last(last: &Option<Command>, sizes: &[Size]) -> Size
-    ensures { result ≡ model.last_size (option_map (model.size_of model.limited sizes.now) last.now) }
+    ensures { result ≡ model.last_size (option_map (model.size_of limited sizes.now) last.now) }
 {
     match last {
         Some(body) => size_of(body, sizes),
@@ -185,7 +186,7 @@ fn size_of_last(last: &Option<Command>, sizes: &[Size]) -> Size
 
 /// The size of a procedure where it is called: a node for each local, and its body.
 fn size_of_procedure(procedure: &Procedure, sizes: &[Size]) -> Size
-    ensures { result ≡ model.procedure_size model.limited sizes.now procedure.now }
+    ensures { result ≡ model.procedure_size limited sizes.now procedure.now }
 {
     let locals = plain_nodes(procedure.locals.len());
     beside(locals, size_of(&procedure.body, sizes))
@@ -193,7 +194,7 @@ fn size_of_procedure(procedure: &Procedure, sizes: &[Size]) -> Size
 
 /// The size of each procedure.
 fn sizes_of(alloc: Global, procedures: &[Procedure]) -> Result<Vec<Size>, AllocError>
-    ensures { IfOk result (λ sizes. sizes.items ≡ model.sizes_onto model.limited [] procedures.now) }
+    ensures { IfOk result (λ sizes. sizes.items ≡ model.sizes_onto limited [] procedures.now) }
 {
     let mut sizes = Vec::with_capacity(alloc, procedures.len())?;
     for procedure in procedures {
@@ -221,7 +222,7 @@ fn size_of_system(
     ports: usize,
     values: usize,
 ) -> Result<Size, AllocError>
-    ensures { IfOk result (λ size. size ≡ model.system_size model.limited procedures.now ports values) }
+    ensures { IfOk result (λ size. size ≡ model.system_size limited procedures.now ports values) }
 {
     let sizes = sizes_of(alloc, procedures)?;
     let environment = beside(plain_nodes(ports), plain_nodes(values));

@@ -5,13 +5,14 @@ use Rattle.system.specs.Expression.{constant, by_guards, by_labels}
 use Rattle.system.specs.Residual.{Residual, arm, send, sync, test, choose, within, along}
 use Rattle.system.specs.Translation as translation
 use Rattle.system.specs.Translation.{in_sequence, in_parallel, arms_of, action_layer, arm_layer, command_layer, guarded_layer, labelled_layer, expression_of, residual_of, feed_from, syncs_from, branch_of, opening_residual}
+use Rattle.system.specs.walking.ArmParts.{arm_of as to_do_arm, guarded_of as to_do_guarded, labelled_of as to_do_labelled}
 use Rattle.system.specs.declared.command.Action.{Action}
 use Rattle.system.specs.declared.command.Arm.{Arm}
 use Rattle.system.specs.declared.command.Command.{Command}
 use Rattle.system.specs.declared.command.Guarded.{Guarded}
 use Rattle.system.specs.declared.command.Labelled.{Labelled}
 use Rattle.system.specs.declared.command.Action.TheOpen.{Action-F}
-use Rattle.system.specs.declared.command.Action.TheFolds.{map-Action, fold-Action, fold-Arm, fold-Guarded, fold-Labelled, fold-roll-Action, fold-roll-Arm, fold-roll-Command, fold-roll-Guarded, fold-roll-Labelled, ind-Command}
+use Rattle.system.specs.declared.command.Action.TheFolds.{map-Action, fold-Action, fold-roll-Action, fold-roll-Arm, fold-roll-Command, fold-roll-Guarded, fold-roll-Labelled, ind-Command}
 use Rattle.system.specs.declared.command.Action.TheViews.{roll-Action, roll-Arm, roll-Command, roll-Guarded, roll-Labelled}
 use Rattle.system.specs.declared.system.System.{System}
 use Rattle.system.specs.declared.system.Branch.{Branch}
@@ -31,18 +32,9 @@ next n = omega arith
 abbrev action_of : Action → Code
 action_of = fold-Action Code OnChannel Code OnGuard OnLabels action_code arm_code command_code guarded_code labelled_code
 
--- what the parts of a command are to do
+-- what it is to do
 abbrev to_do_action : Action → Residual
 to_do_action = fold-Action Residual translation.OnChannel Residual translation.OnGuard translation.OnLabels action_layer arm_layer command_layer guarded_layer labelled_layer
-
-abbrev to_do_arm : Arm → translation.OnChannel
-to_do_arm = fold-Arm Residual translation.OnChannel Residual translation.OnGuard translation.OnLabels action_layer arm_layer command_layer guarded_layer labelled_layer
-
-abbrev to_do_guarded : Guarded → translation.OnGuard
-to_do_guarded = fold-Guarded Residual translation.OnChannel Residual translation.OnGuard translation.OnLabels action_layer arm_layer command_layer guarded_layer labelled_layer
-
-abbrev to_do_labelled : Labelled → translation.OnLabels
-to_do_labelled = fold-Labelled Residual translation.OnChannel Residual translation.OnGuard translation.OnLabels action_layer arm_layer command_layer guarded_layer labelled_layer
 
 -- the two agree
 abbrev AgreeAction : Action → Type 0

@@ -5,7 +5,8 @@
 ghost use Rattle.std.specs.Prelude.{◌≡◌, ℕ, None, nat_eq, map, IfOk, OnOk, MatchOption};
 ghost use Rattle.std.specs.Option.{option_map};
 ghost use Rattle.indexmap.specs.IndexMap.{IsUnique};
-ghost use Rattle.system.specs.Translation.{residual_of, guarded_of, labelled_of, arm_of};
+ghost use Rattle.system.specs.Translation.{residual_of};
+ghost use Rattle.system.specs.walking.ArmParts.{guarded_of, labelled_of, arm_of};
 ghost use Rattle.sharing_check.specs.walking.Counting as model;
 ghost use Rattle.sharing_check.specs.Rule.{is_sync};
 ghost use Rattle.sharing_check.specs.Refusal.{PassesAt, Least};

@@ -9,15 +9,12 @@ use Rattle.system.specs.declared.expression.Expression.TheOpen.{Expression-F}
 use Rattle.system.specs.declared.expression.Expression.TheFolds.{fold-Expression}
 use Rattle.system.specs.declared.command.Command.{Command}
 use Rattle.system.specs.declared.command.Action.TheOpen.{Action-F, Arm-F, Command-F, Guarded-F, Labelled-F}
-use Rattle.system.specs.declared.command.Action.TheFolds.{fold-Command, fold-Arm, fold-Guarded, fold-Labelled}
+use Rattle.system.specs.declared.command.Action.TheFolds.{fold-Command}
 use Rattle.system.specs.declared.system.System.{System}
 use Rattle.system.specs.declared.system.Branch.{Branch}
 use Rattle.system.specs.declared.system.Branch.TheVariants.{Feed, Drain, Syncs}
 use Rattle.system.specs.declared.decision.Decision.{Decision}
 use Rattle.system.specs.declared.decision.Decision.TheVariants.{Guards, Labels}
-use Rattle.system.specs.declared.command.Arm.{Arm}
-use Rattle.system.specs.declared.command.Guarded.{Guarded}
-use Rattle.system.specs.declared.command.Labelled.{Labelled}
 
 -- one layer of an expression
 abbrev pub expression_layer : Expression-F model.Expression → model.Expression
@@ -117,18 +114,6 @@ labelled_layer a = record { labels = a.labels; body = a.body }
 -- what a command is to do
 abbrev pub residual_of : Command → Residual
 residual_of = fold-Command Residual OnChannel Residual OnGuard OnLabels action_layer arm_layer command_layer guarded_layer labelled_layer
-
--- what an arm of `if` is to do
-abbrev pub guarded_of : Guarded → OnGuard
-guarded_of = fold-Guarded Residual OnChannel Residual OnGuard OnLabels action_layer arm_layer command_layer guarded_layer labelled_layer
-
--- what an arm of `case` is to do
-abbrev pub labelled_of : Labelled → OnLabels
-labelled_of = fold-Labelled Residual OnChannel Residual OnGuard OnLabels action_layer arm_layer command_layer guarded_layer labelled_layer
-
--- what an arm of `select` or `arbitrate` is to do
-abbrev pub arm_of : Arm → OnChannel
-arm_of = fold-Arm Residual OnChannel Residual OnGuard OnLabels action_layer arm_layer command_layer guarded_layer labelled_layer
 
 -- the values of a feed that are still to send, the first in act k
 abbrev pub feed_from : ℕ → ℕ → ℕ → List Word → Residual

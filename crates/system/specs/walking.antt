@@ -1,3 +1,4 @@
+pub mod ArmParts
 pub mod Hashing
 pub mod SharedPrefix
 pub mod Variables

@@ -1,5 +1,6 @@
 use Rattle.std.proofs.Common.{◌≡◌, ◌++◌, drop, map}
-use Rattle.system.specs.Translation.{residual_of, guarded_of, labelled_of, arm_of}
+use Rattle.system.specs.Translation.{residual_of}
+use Rattle.system.specs.walking.ArmParts.{guarded_of, labelled_of, arm_of}
 use Rattle.calculus.specs.Left.{residual_of_left}
 use Rattle.calculus.proofs.translate.+left_of.Given as goal
 

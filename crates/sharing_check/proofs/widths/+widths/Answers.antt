@@ -9,7 +9,8 @@ use Rattle.system.specs.declared.command.Command.{Command}
 use Rattle.system.specs.declared.expression.Expression.{Expression}
 use Rattle.system.specs.declared.expression.Use.{Use}
 use Rattle.system.specs.Residual as residual
-use Rattle.system.specs.Translation.{expression_of, residual_of, in_sequence, in_parallel, if_of, case_of, choose_of, guarded_of, labelled_of, arm_of}
+use Rattle.system.specs.Translation.{expression_of, residual_of, in_sequence, in_parallel, if_of, case_of, choose_of}
+use Rattle.system.specs.walking.ArmParts.{guarded_of, labelled_of, arm_of}
 use Rattle.sharing_check.specs.declared.widths.Together.TheVariants.{InOneBranch}
 use Rattle.sharing_check.specs.walking.Counting.{Table, nothing, noted, join, adding, in_turn, last_in_turn, arms_in_turn, side_by_side}
 use Rattle.sharing_check.proofs.CountParts.{used_by_send, used_by_receive, used_by_sync, adding_test, adding_input, adding_sequence, used_by_parallel, adding_done, adding_halted, adding_assign, adding_choose, used_by_loop, used_by_while}

@@ -1,6 +1,7 @@
 -- With the parts that are left, the table says what it says of all.
 use Rattle.std.proofs.Common.{◌≡◌, drop, map}
-use Rattle.system.specs.Translation.{residual_of, guarded_of, labelled_of, arm_of}
+use Rattle.system.specs.Translation.{residual_of}
+use Rattle.system.specs.walking.ArmParts.{guarded_of, labelled_of, arm_of}
 use Rattle.sharing_check.specs.walking.Counting.{nothing, noted, in_turn, arms_in_turn, side_by_side}
 use Rattle.sharing_check.proofs.widths.+widths.Given as goal
 
