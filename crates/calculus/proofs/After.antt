@@ -7,7 +7,8 @@ use Rattle.value.specs.Word.{Word}
 use Rattle.system.specs.Expression.{Expression, Decision, by_guards}
 use Rattle.system.specs.Residual.{Residual, done, halted, inside, beside, assign, send, receive, sync, held, loop, while, test, choose, closing, drain, Arms, within, along, arm_at, opened}
 use Rattle.calculus.specs.Asking.{asks}
-use Rattle.calculus.specs.walking.After.{Answer, around, at_place, at_act, in_child, in_branch, after_assign, after_send, after_receive, after_sync, after_held, after_loop, after_while, after_test, after_open, after_choose, after_closing, after_drain, after}
+use Rattle.calculus.specs.ByPlace.{if_here, if_act, if_child, if_branch}
+use Rattle.calculus.specs.walking.After.{Answer, around, after_assign, after_send, after_receive, after_sync, after_held, after_loop, after_while, after_test, after_open, after_choose, after_closing, after_drain, after}
 use Rattle.calculus.specs.declared.ask.Ask.{Ask}
 use Rattle.calculus.specs.declared.ask.Ask.TheVariants as ask
 use Rattle.calculus.proofs.Options.{none-some, cond-some}
@@ -47,44 +48,44 @@ around-at : (f : Residual → Residual) (x : Answer) (m : Move) (q t : Residual)
 around-at f x m q t e h = ap (around f) e ∙ ap (λ u. Some (m, u)) (sym h)
 
 -- an answer at the command's own place
-at_place-is : (a : Place) (x : Answer) (m : Move) (q : Residual) → at_place a x ≡ Some (m, q) → (a ≡ []) × (x ≡ Some (m, q))
-at_place-is [] x m q e = (refl, e)
-at_place-is (y ∷ a) x m q e = none-some (m, q) e
+if_here-is : (a : Place) (x : Answer) (m : Move) (q : Residual) → if_here a x ≡ Some (m, q) → (a ≡ []) × (x ≡ Some (m, q))
+if_here-is [] x m q e = (refl, e)
+if_here-is (y ∷ a) x m q e = none-some (m, q) e
 
 -- the command's own place gives the answer
-at_place-at : (a : Place) (x : Answer) → a ≡ [] → at_place a x ≡ x
-at_place-at a x e = ap (λ b. at_place b x) e
+if_here-at : (a : Place) (x : Answer) → a ≡ [] → if_here a x ≡ x
+if_here-at a x e = ap (λ b. if_here b x) e
 
 -- a number equals itself
 same : (n : ℕ) → (n == n) ≡ true
 same n = eq-eqb n n refl
 
 -- an answer at act n is at that place
-at_act-is : (n : ℕ) (a : Place) (x : Answer) (m : Move) (q : Residual) → at_act n a x ≡ Some (m, q)
+if_act-is : (n : ℕ) (a : Place) (x : Answer) (m : Move) (q : Residual) → if_act n a x ≡ Some (m, q)
     → (a ≡ Ordered n ∷ []) × (x ≡ Some (m, q))
-at_act-is n [] x m q e = none-some (m, q) e
-at_act-is n (Ordered i ∷ []) x m q e =
+if_act-is n [] x m q e = none-some (m, q) e
+if_act-is n (Ordered i ∷ []) x m q e =
     let h = cond-some (i == n) x (m, q) e in
     (ap (λ k. Ordered k ∷ []) (eqb-true i n h.0), h.1)
-at_act-is n (Ordered i ∷ y ∷ a) x m q e = none-some (m, q) e
-at_act-is n (Branch i ∷ a) x m q e = none-some (m, q) e
+if_act-is n (Ordered i ∷ y ∷ a) x m q e = none-some (m, q) e
+if_act-is n (Branch i ∷ a) x m q e = none-some (m, q) e
 
 -- the place of act n gives the answer
-at_act-at : (n : ℕ) (a : Place) (x : Answer) → a ≡ Ordered n ∷ [] → at_act n a x ≡ x
-at_act-at n a x e = ap (λ b. at_act n b x) e ∙ ap (λ b. cond b x None) (same n)
+if_act-at : (n : ℕ) (a : Place) (x : Answer) → a ≡ Ordered n ∷ [] → if_act n a x ≡ x
+if_act-at n a x e = ap (λ b. if_act n b x) e ∙ ap (λ b. cond b x None) (same n)
 
 -- an answer in child n is the child's
-in_child-is : (n : ℕ) (a : Place) (f : Place → Answer) (m : Move) (q : Residual) → in_child n a f ≡ Some (m, q)
+if_child-is : (n : ℕ) (a : Place) (f : Place → Answer) (m : Move) (q : Residual) → if_child n a f ≡ Some (m, q)
     → (b : Place) × (a ≡ Ordered n ∷ b) × (f b ≡ Some (m, q))
-in_child-is n [] f m q e = none-some (m, q) e
-in_child-is n (Ordered i ∷ b) f m q e =
+if_child-is n [] f m q e = none-some (m, q) e
+if_child-is n (Ordered i ∷ b) f m q e =
     let h = cond-some (i == n) (f b) (m, q) e in
     (b, ap (λ k. Ordered k ∷ b) (eqb-true i n h.0), h.1)
-in_child-is n (Branch i ∷ b) f m q e = none-some (m, q) e
+if_child-is n (Branch i ∷ b) f m q e = none-some (m, q) e
 
 -- a place in child n gives the child's answer
-in_child-at : (n : ℕ) (a b : Place) (f : Place → Answer) → a ≡ Ordered n ∷ b → in_child n a f ≡ f b
-in_child-at n a b f e = ap (λ c. in_child n c f) e ∙ ap (λ c. cond c (f b) None) (same n)
+if_child-at : (n : ℕ) (a b : Place) (f : Place → Answer) → a ≡ Ordered n ∷ b → if_child n a f ≡ f b
+if_child-at n a b f e = ap (λ c. if_child n c f) e ∙ ap (λ c. cond c (f b) None) (same n)
 
 -- an answer of branch n, or of the rest
 branch_cases : (n i : ℕ) (b : Place) (c : Bool) (x y : Answer) (z : Move × Residual) → (i == n) ≡ c → cond c x y ≡ Some z
@@ -93,25 +94,25 @@ branch_cases n i b true x y z t e = inl (eqb-true i n t, e)
 branch_cases n i b false x y z t e = inr e
 
 -- an answer beside branch n is that of the branch or of the rest
-in_branch-is : (n : ℕ) (a : Place) (f : Place → Answer) (x : Answer) (z : Move × Residual) → in_branch n a f x ≡ Some z
+if_branch-is : (n : ℕ) (a : Place) (f : Place → Answer) (x : Answer) (z : Move × Residual) → if_branch n a f x ≡ Some z
     → ((b : Place) × (a ≡ Branch n ∷ b) × (f b ≡ Some z)) ⊎ (x ≡ Some z)
-in_branch-is n [] f x z e = inr e
-in_branch-is n (Ordered i ∷ b) f x z e = inr e
-in_branch-is n (Branch i ∷ b) f x z e =
+if_branch-is n [] f x z e = inr e
+if_branch-is n (Ordered i ∷ b) f x z e = inr e
+if_branch-is n (Branch i ∷ b) f x z e =
     elim (branch_cases n i b (i == n) (f b) x z refl e) [
       | inl h ↦ inl (b, ap (λ k. Branch k ∷ b) h.0, h.1)
       | inr h ↦ inr h
     ]
 
 -- a place in branch n gives the branch's answer
-in_branch-at : (n : ℕ) (a b : Place) (f : Place → Answer) (x : Answer) → a ≡ Branch n ∷ b → in_branch n a f x ≡ f b
-in_branch-at n a b f x e = ap (λ c. in_branch n c f x) e ∙ ap (λ c. cond c (f b) x) (same n)
+if_branch-at : (n : ℕ) (a b : Place) (f : Place → Answer) (x : Answer) → a ≡ Branch n ∷ b → if_branch n a f x ≡ f b
+if_branch-at n a b f x e = ap (λ c. if_branch n c f x) e ∙ ap (λ c. cond c (f b) x) (same n)
 
 -- a place in a later branch gives the answer of the rest
-in_branch-other : (n j : ℕ) (a b : Place) (f : Place → Answer) (x : Answer) → n < j → a ≡ Branch j ∷ b → in_branch n a f x ≡ x
-in_branch-other n j a b f x l e =
+if_branch-other : (n j : ℕ) (a b : Place) (f : Place → Answer) (x : Answer) → n < j → a ≡ Branch j ∷ b → if_branch n a f x ≡ x
+if_branch-other n j a b f x l e =
     let other : (j == n) ≡ false = ne_eqb j n (λ d. omega arith) in
-    ap (λ c. in_branch n c f x) e ∙ ap (λ c. cond c (f b) x) other
+    ap (λ c. if_branch n c f x) e ∙ ap (λ c. cond c (f b) x) other
 
 -- what an assignment answers
 assign_only : (x w : ℕ) (e : Expression) (k : Ask) (m : Move) (q : Residual) → after_assign x w e k ≡ Some (m, q)
@@ -212,12 +213,12 @@ pub only : (k : Ask) (r : Residual) (a : Place) (m : Move) (q : Residual) → af
 only k done a m q h = none-some (m, q) h
 only k halted a m q h = none-some (m, q) h
 only k (inside i child next) a m q h =
-    let d = in_child-is i a (λ b. around (λ t. within i t next) (after k child b)) m q h in
+    let d = if_child-is i a (λ b. around (λ t. within i t next) (after k child b)) m q h in
     let e = around-is (λ t. within i t next) (after k child d.0) m q d.2 in
     let c = only k child d.0 m e.0 e.1 in
     ((d.0, e.0, d.1, c.0, e.2), c.1)
 only k (beside n child rest) a m q h =
-    elim (in_branch-is n a (λ b. around (λ t. along n t rest) (after k child b)) (around (λ t. along n child t) (after k rest a)) (m, q) h) [
+    elim (if_branch-is n a (λ b. around (λ t. along n t rest) (after k child b)) (around (λ t. along n child t) (after k rest a)) (m, q) h) [
       | inl d ↦
           let e = around-is (λ t. along n t rest) (after k child d.0) m q d.2 in
           let c = only k child d.0 m e.0 e.1 in
@@ -228,47 +229,47 @@ only k (beside n child rest) a m q h =
           (inr (e.0, c.0, e.2), c.1)
     ]
 only k (assign x w e) a m q h =
-    let d = at_place-is a (after_assign x w e k) m q h in
+    let d = if_here-is a (after_assign x w e k) m q h in
     let c = assign_only x w e k m q d.1 in
     ((d.0, c.0, c.1), c.2)
 only k (send g w e) a m q h =
-    let d = at_act-is 0 a (after_send g w e k) m q h in
+    let d = if_act-is 0 a (after_send g w e k) m q h in
     let c = send_only g w e k m q d.1 in
     ((d.0, c.0), c.1)
 only k (receive g x) a m q h =
-    let d = at_place-is a (after_receive g x k) m q h in
+    let d = if_here-is a (after_receive g x k) m q h in
     let c = receive_only g x k m q d.1 in
     ((d.0, c.0, c.1), c.2)
 only k (sync g) a m q h =
-    let d = at_act-is 0 a (after_sync g k) m q h in
+    let d = if_act-is 0 a (after_sync g k) m q h in
     let c = sync_only g k m q d.1 in
     ((d.0, c.0), c.1)
 only k (held g) a m q h =
-    let d = at_act-is 1 a (after_held g k) m q h in
+    let d = if_act-is 1 a (after_held g k) m q h in
     let c = held_only g k m q d.1 in
     ((d.0, c.0, c.1), c.2)
 only k (loop n body) a m q h =
-    let d = at_act-is (2 * n) a (after_loop n body k) m q h in
+    let d = if_act-is (2 * n) a (after_loop n body k) m q h in
     let c = loop_only n body k m q d.1 in
     ((d.0, c.0, c.1), c.2)
 only k (while n e body) a m q h =
-    let d = at_act-is (2 * n) a (after_while n e body k) m q h in
+    let d = if_act-is (2 * n) a (after_while n e body k) m q h in
     let c = while_only n e body k m q d.1 in
     ((d.0, c.0), c.1)
 only k (test e arms) a m q h =
-    let d = at_act-is 0 a (after_test e arms k) m q h in
+    let d = if_act-is 0 a (after_test e arms k) m q h in
     let c = test_only e arms k m q d.1 in
     ((d.0, c.0), c.1)
 only k (choose channels arms) a m q h =
-    let d = at_act-is 0 a (after_choose channels arms k) m q h in
+    let d = if_act-is 0 a (after_choose channels arms k) m q h in
     let c = choose_only channels arms k m q d.1 in
     ((d.0, c.0.0, c.0.1, c.0.2, c.0.3, c.0.4, c.0.5), c.1)
 only k (closing g) a m q h =
-    let d = at_act-is 2 a (after_closing g k) m q h in
+    let d = if_act-is 2 a (after_closing g k) m q h in
     let c = closing_only g k m q d.1 in
     ((d.0, c.0, c.1), c.2)
 only k (drain g n) a m q h =
-    let d = at_act-is n a (after_drain g n k) m q h in
+    let d = if_act-is n a (after_drain g n k) m q h in
     let c = drain_only g n k m q d.1 in
     ((d.0, c.0, c.1), c.2)
 
@@ -281,39 +282,39 @@ pub found : (r : Residual) (a : Place) (m : Move) (q : Residual) → WellFormed 
 found done a m q w h = absurd h
 found halted a m q w h = absurd h
 found (inside i child next) a m q w h =
-    in_child-at i a h.0 (λ b. around (λ t. within i t next) (after (asks m) child b)) h.2
+    if_child-at i a h.0 (λ b. around (λ t. within i t next) (after (asks m) child b)) h.2
     ∙ around-at (λ t. within i t next) (after (asks m) child h.0) m q h.1 (found child h.0 m h.1 w.0 h.3) h.4
 found (beside n child rest) a m q w (inl h) =
-    in_branch-at n a h.0 (λ b. around (λ t. along n t rest) (after (asks m) child b)) (around (λ t. along n child t) (after (asks m) rest a)) h.2
+    if_branch-at n a h.0 (λ b. around (λ t. along n t rest) (after (asks m) child b)) (around (λ t. along n child t) (after (asks m) rest a)) h.2
     ∙ around-at (λ t. along n t rest) (after (asks m) child h.0) m q h.1 (found child h.0 m h.1 w.0 h.3) h.4
 found (beside n child rest) a m q w (inr h) =
     let d = branches-place (n + 1) rest a m h.0 w.2 w.1 h.1 in
-    in_branch-other n d.number a d.rest (λ b. around (λ t. along n t rest) (after (asks m) child b)) (around (λ t. along n child t) (after (asks m) rest a)) (omega arith) d.is
+    if_branch-other n d.number a d.rest (λ b. around (λ t. along n t rest) (after (asks m) child b)) (around (λ t. along n child t) (after (asks m) rest a)) (omega arith) d.is
     ∙ around-at (λ t. along n child t) (after (asks m) rest a) m q h.0 (found rest a m h.0 w.1 h.1) h.2
 found (assign x v e) a m q w h =
-    at_place-at a (after_assign x v e (asks m)) h.0 ∙ leaf (after_assign x v e) m _ q _ h.1 h.2 refl
+    if_here-at a (after_assign x v e (asks m)) h.0 ∙ leaf (after_assign x v e) m _ q _ h.1 h.2 refl
 found (send c v e) a m q w h =
-    at_act-at 0 a (after_send c v e (asks m)) h.0
+    if_act-at 0 a (after_send c v e (asks m)) h.0
     ∙ ⊎_elim (λ d. leaf (after_send c v e) m _ q _ d.0 d.1 refl) (λ d. leaf (after_send c v e) m _ q _ d.0 d.1 refl) h.1
 found (receive c x) a m q w h =
-    at_place-at a (after_receive c x (asks m)) h.0 ∙ leaf (after_receive c x) m _ q _ h.1 h.2 refl
+    if_here-at a (after_receive c x (asks m)) h.0 ∙ leaf (after_receive c x) m _ q _ h.1 h.2 refl
 found (sync c) a m q w h =
-    at_act-at 0 a (after_sync c (asks m)) h.0
+    if_act-at 0 a (after_sync c (asks m)) h.0
     ∙ ⊎_elim (λ d. leaf (after_sync c) m _ q _ d.0 d.1 refl) (λ d. leaf (after_sync c) m _ q _ d.0 d.1 refl) h.1
 found (held c) a m q w h =
-    at_act-at 1 a (after_held c (asks m)) h.0 ∙ leaf (after_held c) m _ q _ h.1 h.2 refl
+    if_act-at 1 a (after_held c (asks m)) h.0 ∙ leaf (after_held c) m _ q _ h.1 h.2 refl
 found (loop k body) a m q w h =
-    at_act-at (2 * k) a (after_loop k body (asks m)) h.0 ∙ leaf (after_loop k body) m _ q _ h.1 h.2 refl
+    if_act-at (2 * k) a (after_loop k body (asks m)) h.0 ∙ leaf (after_loop k body) m _ q _ h.1 h.2 refl
 found (while k e body) a m q w h =
-    at_act-at (2 * k) a (after_while k e body (asks m)) h.0
+    if_act-at (2 * k) a (after_while k e body (asks m)) h.0
     ∙ ⊎_elim (λ d. leaf (after_while k e body) m _ q _ d.0 d.1 refl) (λ d. leaf (after_while k e body) m _ q _ d.0 d.1 refl) h.1
 found (test e arms) a m q w h =
-    at_act-at 0 a (after_test e arms (asks m)) h.0
+    if_act-at 0 a (after_test e arms (asks m)) h.0
     ∙ ⊎_elim (λ d. leaf (after_test e arms) m _ q _ d.1 d.2 refl) (λ d. leaf (after_test e arms) m _ q _ d.0 d.1 refl) h.1
 found (choose channels arms) a m q w h =
-    at_act-at 0 a (after_choose channels arms (asks m)) h.0
+    if_act-at 0 a (after_choose channels arms (asks m)) h.0
     ∙ leaf (after_choose channels arms) m _ q _ h.5 h.6 (ap (λ g. after_open g arms h.2 h.3) h.4)
 found (closing c) a m q w h =
-    at_act-at 2 a (after_closing c (asks m)) h.0 ∙ leaf (after_closing c) m _ q _ h.1 h.2 refl
+    if_act-at 2 a (after_closing c (asks m)) h.0 ∙ leaf (after_closing c) m _ q _ h.1 h.2 refl
 found (drain c k) a m q w h =
-    at_act-at k a (after_drain c k (asks m)) h.0 ∙ leaf (after_drain c k) m _ q _ h.1 h.2 refl
+    if_act-at k a (after_drain c k (asks m)) h.0 ∙ leaf (after_drain c k) m _ q _ h.1 h.2 refl

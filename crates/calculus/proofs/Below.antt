@@ -4,55 +4,56 @@ use Rattle.std.proofs.lemmas.Bool.Decides.{Decides-eqb, Decides-and, Decides-lik
 use Rattle.address.specs.declared.Entry.TheVariants.{Ordered, Branch}
 use Rattle.calculus.specs.Moves.{Place}
 use Rattle.calculus.specs.walking.EventLaws.{decided}
-use Rattle.calculus.specs.walking.After.{Answer, at_place, at_act, in_child, in_branch}
+use Rattle.calculus.specs.ByPlace.{if_here, if_act, if_child, if_branch}
+use Rattle.calculus.specs.walking.After.{Answer}
 use Rattle.calculus.specs.walking.Below.{below_child, below_branch, is_act, is_here}
 
 -- an answer at the command's own place
-pub at_place_is : (a : Place) (answer : Answer) → at_place a answer ≡ cond (is_here a) answer None
-at_place_is [] answer = refl
-at_place_is (x ∷ a) answer = refl
+pub if_here_is : (a : Place) (answer : Answer) → if_here a answer ≡ cond (is_here a) answer None
+if_here_is [] answer = refl
+if_here_is (x ∷ a) answer = refl
 
 -- an answer at an act
-pub at_act_is : (n : ℕ) (a : Place) (answer : Answer) → at_act n a answer ≡ cond (is_act n a) answer None
-at_act_is n [] answer = refl
-at_act_is n (Ordered i ∷ []) answer = refl
-at_act_is n (Ordered i ∷ x ∷ a) answer = refl
-at_act_is n (Branch i ∷ a) answer = refl
+pub if_act_is : (n : ℕ) (a : Place) (answer : Answer) → if_act n a answer ≡ cond (is_act n a) answer None
+if_act_is n [] answer = refl
+if_act_is n (Ordered i ∷ []) answer = refl
+if_act_is n (Ordered i ∷ x ∷ a) answer = refl
+if_act_is n (Branch i ∷ a) answer = refl
 
 -- the child's answer at a place below it
 below : (Place → Answer) → Option Place → Answer → Answer
 below child None rest = rest
 below child (Some b) rest = child b
 
-in_child_is : (n : ℕ) (a : Place) (child : Place → Answer) → in_child n a child ≡ below child (below_child n a) None
+if_child_is : (n : ℕ) (a : Place) (child : Place → Answer) → if_child n a child ≡ below child (below_child n a) None
 unfolding below
-in_child_is n [] child = refl
-in_child_is n (Ordered i ∷ a) child =
+if_child_is n [] child = refl
+if_child_is n (Ordered i ∷ a) child =
     elim (i == n) as (λ b. cond b (child a) None ≡ below child (cond b (Some a) None) None) [ true ↦ refl | false ↦ refl ]
-in_child_is n (Branch i ∷ a) child = refl
+if_child_is n (Branch i ∷ a) child = refl
 
-pub in_child_found : (n : ℕ) (a b : Place) (child : Place → Answer) → below_child n a ≡ Some b → in_child n a child ≡ child b
+pub if_child_found : (n : ℕ) (a b : Place) (child : Place → Answer) → below_child n a ≡ Some b → if_child n a child ≡ child b
 unfolding below
-in_child_found n a b child h = in_child_is n a child ∙ ap (λ o. below child o None) h
+if_child_found n a b child h = if_child_is n a child ∙ ap (λ o. below child o None) h
 
-pub in_child_none : (n : ℕ) (a : Place) (child : Place → Answer) → below_child n a ≡ None → in_child n a child ≡ None
+pub if_child_none : (n : ℕ) (a : Place) (child : Place → Answer) → below_child n a ≡ None → if_child n a child ≡ None
 unfolding below
-in_child_none n a child h = in_child_is n a child ∙ ap (λ o. below child o None) h
+if_child_none n a child h = if_child_is n a child ∙ ap (λ o. below child o None) h
 
-in_branch_is : (n : ℕ) (a : Place) (child : Place → Answer) (rest : Answer) → in_branch n a child rest ≡ below child (below_branch n a) rest
+if_branch_is : (n : ℕ) (a : Place) (child : Place → Answer) (rest : Answer) → if_branch n a child rest ≡ below child (below_branch n a) rest
 unfolding below
-in_branch_is n [] child rest = refl
-in_branch_is n (Ordered i ∷ a) child rest = refl
-in_branch_is n (Branch i ∷ a) child rest =
+if_branch_is n [] child rest = refl
+if_branch_is n (Ordered i ∷ a) child rest = refl
+if_branch_is n (Branch i ∷ a) child rest =
     elim (i == n) as (λ b. cond b (child a) rest ≡ below child (cond b (Some a) None) rest) [ true ↦ refl | false ↦ refl ]
 
-pub in_branch_found : (n : ℕ) (a b : Place) (child : Place → Answer) (rest : Answer) → below_branch n a ≡ Some b → in_branch n a child rest ≡ child b
+pub if_branch_found : (n : ℕ) (a b : Place) (child : Place → Answer) (rest : Answer) → below_branch n a ≡ Some b → if_branch n a child rest ≡ child b
 unfolding below
-in_branch_found n a b child rest h = in_branch_is n a child rest ∙ ap (λ o. below child o rest) h
+if_branch_found n a b child rest h = if_branch_is n a child rest ∙ ap (λ o. below child o rest) h
 
-pub in_branch_none : (n : ℕ) (a : Place) (child : Place → Answer) (rest : Answer) → below_branch n a ≡ None → in_branch n a child rest ≡ rest
+pub if_branch_none : (n : ℕ) (a : Place) (child : Place → Answer) (rest : Answer) → below_branch n a ≡ None → if_branch n a child rest ≡ rest
 unfolding below
-in_branch_none n a child rest h = in_branch_is n a child rest ∙ ap (λ o. below child o rest) h
+if_branch_none n a child rest h = if_branch_is n a child rest ∙ ap (λ o. below child o rest) h
 
 -- an even number is twice its half
 pub even_half : (i k : ℕ) → ((i % 2 == 0) && (i / 2 == k)) ≡ (i == 2 * k)

@@ -16,7 +16,7 @@ use Rattle.calculus.specs.declared.left.Passed.{Passed}
 use Rattle.calculus.specs.declared.left.Passed.TheVariants.{InOrder, InBranch}
 use Rattle.calculus.specs.walking.Passed.{before, behind, goes_on, along_all}
 use Rattle.calculus.proofs.left.Left.TheLaws.{the_size}
-use Rattle.calculus.proofs.Below.{in_branch_none}
+use Rattle.calculus.proofs.Below.{if_branch_none}
 use Rattle.calculus.proofs.TreeAnswers.{left_inside, left_beside}
 
 -- the last that was passed stands right before the rest
@@ -129,7 +129,7 @@ passes_branch k a whole old new left child rest got made n es eg em en h w =
     ∙ (λ i. around (λ r. along_last old (n, child) r i) others)
     ∙ sym (around_twice (along_all old) (λ r. along n (f child) r) others)
     ∙ sym (ap (around (along_all old))
-    (in_branch_none n a (λ b. around (λ t. along n t (f rest)) (after k (f child) b)) (around (λ t. along n (f child) t) others) h))
+    (if_branch_none n a (λ b. around (λ t. along n t (f rest)) (after k (f child) b)) (around (λ t. along n (f child) t) others) h))
     ∙ sym (ap (λ r. around (along_all old) (after k r a)) (left_beside n child rest))
     ∙ sym (ap (λ z. around (along_all old) (after k (f z) a)) es)
     ∙ w

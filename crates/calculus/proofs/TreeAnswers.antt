@@ -15,7 +15,7 @@ use Rattle.calculus.specs.declared.left.Left.TheOpen.{Left-F}
 use Rattle.calculus.specs.declared.left.Left.TheFolds.{fold-roll-Left}
 use Rattle.calculus.specs.declared.moves.Moved.{Moved}
 use Rattle.calculus.specs.Left.{left_layer, residual_of_left}
-use Rattle.calculus.proofs.Below.{in_child_found, in_branch_found}
+use Rattle.calculus.proofs.Below.{if_child_found, if_branch_found}
 use Rattle.calculus.proofs.Lefts.{arm_found, arm_past}
 
 -- what a child in order is to do
@@ -37,7 +37,7 @@ inside_answers r k self child next g h n a b answer es eg eh eb ea i =
     let e : around (λ t. within n t (f h)) (answer_of answer) ≡ after k (f self) a =
     ap (λ z. around (λ t. within n t (f z)) (answer_of answer)) eh
     ∙ ap (around w) (ea ∙ ap (λ z. after k (f z) b) eg)
-    ∙ sym (in_child_found n a b (λ c. around w (after k (f child) c)) (sym eb))
+    ∙ sym (if_child_found n a b (λ c. around w (after k (f child) c)) (sym eb))
     ∙ sym (ap (λ z. after k z a) (left_inside n child next))
     ∙ sym (ap (λ z. after k (f z) a) es) in
     IfOk-weaker r (λ x. answer_of x ≡ around (λ t. within n t (f h)) (answer_of answer)) (λ x. answer_of x ≡ after k (f self) a) (λ x p. p ∙ e) i
@@ -53,7 +53,7 @@ branch_answers r k self child rest g h n a b answer es eg eh eb ea i =
     let e : around (λ t. along n t (f h)) (answer_of answer) ≡ after k (f self) a =
     ap (λ z. around (λ t. along n t (f z)) (answer_of answer)) eh
     ∙ ap (around w) (ea ∙ ap (λ z. after k (f z) b) eg)
-    ∙ sym (in_branch_found n a b (λ c. around w (after k (f child) c)) (around (λ t. along n (f child) t) (after k (f rest) a)) (sym eb))
+    ∙ sym (if_branch_found n a b (λ c. around w (after k (f child) c)) (around (λ t. along n (f child) t) (after k (f rest) a)) (sym eb))
     ∙ sym (ap (λ z. after k z a) (left_beside n child rest))
     ∙ sym (ap (λ z. after k (f z) a) es) in
     IfOk-weaker r (λ x. answer_of x ≡ around (λ t. along n t (f h)) (answer_of answer)) (λ x. answer_of x ≡ after k (f self) a) (λ x p. p ∙ e) i

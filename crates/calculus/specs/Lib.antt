@@ -1,6 +1,7 @@
 pub mod Answered
 pub mod Asking
 pub mod BackAndForth
+pub mod ByPlace
 pub mod Choices
 pub mod Dependence
 pub mod Does

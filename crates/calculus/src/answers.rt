@@ -3,6 +3,7 @@ ghost use Rattle.std.specs.Prelude.{◌≡◌, ◌+◌, ◌*◌, ◌<◌, ◌^�
 ghost use Rattle.system.specs.Expression as expression;
 ghost use Rattle.system.specs.Residual as residual;
 ghost use Rattle.system.specs.Translation.{expression_of, arms_of, decision_of};
+ghost use Rattle.calculus.specs.ByPlace.{if_here, if_act};
 ghost use Rattle.calculus.specs.walking.After as model;
 ghost use Rattle.calculus.specs.Moves as moves;
 ghost use Rattle.calculus.specs.Left.{residual_of_left};
@@ -84,7 +85,7 @@ pub(crate) fn beside(
 }
 
 /// The answer of an assignment.
-#[tactic(auto, using(crate::proofs::Below::at_place_is, crate::proofs::Asked::not_assign))]
+#[tactic(auto, using(crate::proofs::Below::if_here_is, crate::proofs::Asked::not_assign))]
 pub(crate) fn assign(
     alloc: Global,
     ask: Ask,
@@ -93,7 +94,7 @@ pub(crate) fn assign(
     width: Width,
     value: &Expression,
 ) -> Result<Option<Moved>, AllocError>
-    ensures { IfOk result (λ r. answer_of r ≡ model.at_place place.now (model.after_assign variable width (expression_of value.now) ask)) }
+    ensures { IfOk result (λ r. answer_of r ≡ if_here place.now (model.after_assign variable width (expression_of value.now) ask)) }
 {
     if !is_here(place) {
         return Ok(None);
@@ -122,7 +123,7 @@ fn assigned(
 }
 
 /// The answer of a send.
-#[tactic(auto, using(crate::proofs::Below::at_act_is, crate::proofs::Asked::not_send))]
+#[tactic(auto, using(crate::proofs::Below::if_act_is, crate::proofs::Asked::not_send))]
 pub(crate) fn send(
     alloc: Global,
     ask: Ask,
@@ -131,7 +132,7 @@ pub(crate) fn send(
     width: Width,
     value: &Expression,
 ) -> Result<Option<Moved>, AllocError>
-    ensures { IfOk result (λ r. answer_of r ≡ model.at_act 0 place.now (model.after_send channel width (expression_of value.now) ask)) }
+    ensures { IfOk result (λ r. answer_of r ≡ if_act 0 place.now (model.after_send channel width (expression_of value.now) ask)) }
 {
     if !is_act(place, 0) {
         return Ok(None);
@@ -165,7 +166,7 @@ fn sent(
 }
 
 /// The answer of a receive.
-#[tactic(auto, using(crate::proofs::Below::at_place_is, crate::proofs::Asked::not_receive))]
+#[tactic(auto, using(crate::proofs::Below::if_here_is, crate::proofs::Asked::not_receive))]
 pub(crate) fn receive(
     alloc: Global,
     ask: Ask,
@@ -173,7 +174,7 @@ pub(crate) fn receive(
     channel: u32,
     variable: u32,
 ) -> Result<Option<Moved>, AllocError>
-    ensures { IfOk result (λ r. answer_of r ≡ model.at_place place.now (model.after_receive channel variable ask)) }
+    ensures { IfOk result (λ r. answer_of r ≡ if_here place.now (model.after_receive channel variable ask)) }
 {
     if !is_here(place) {
         return Ok(None);
@@ -188,14 +189,14 @@ pub(crate) fn receive(
 }
 
 /// The answer of a handshake without data.
-#[tactic(auto, using(crate::proofs::Below::at_act_is, crate::proofs::Asked::not_sync))]
+#[tactic(auto, using(crate::proofs::Below::if_act_is, crate::proofs::Asked::not_sync))]
 pub(crate) fn sync(
     alloc: Global,
     ask: Ask,
     place: &[Entry],
     channel: u32,
 ) -> Result<Option<Moved>, AllocError>
-    ensures { IfOk result (λ r. answer_of r ≡ model.at_act 0 place.now (model.after_sync channel ask)) }
+    ensures { IfOk result (λ r. answer_of r ≡ if_act 0 place.now (model.after_sync channel ask)) }
 {
     if !is_act(place, 0) {
         return Ok(None);
@@ -214,14 +215,14 @@ pub(crate) fn sync(
 }
 
 /// The answer of what is held.
-#[tactic(auto, using(crate::proofs::Below::at_act_is, crate::proofs::Asked::not_release))]
+#[tactic(auto, using(crate::proofs::Below::if_act_is, crate::proofs::Asked::not_release))]
 pub(crate) fn held(
     alloc: Global,
     ask: Ask,
     place: &[Entry],
     channel: u32,
 ) -> Result<Option<Moved>, AllocError>
-    ensures { IfOk result (λ r. answer_of r ≡ model.at_act 1 place.now (model.after_held channel ask)) }
+    ensures { IfOk result (λ r. answer_of r ≡ if_act 1 place.now (model.after_held channel ask)) }
 {
     if !is_act(place, 1) {
         return Ok(None);
@@ -236,7 +237,7 @@ pub(crate) fn held(
 }
 
 /// The answer of a loop before a turn.
-#[tactic(auto, using(crate::proofs::Below::at_act_is, crate::proofs::Asked::not_turn))]
+#[tactic(auto, using(crate::proofs::Below::if_act_is, crate::proofs::Asked::not_turn))]
 pub(crate) fn repeat(
     alloc: Global,
     ask: Ask,
@@ -244,7 +245,7 @@ pub(crate) fn repeat(
     turn: u64,
     body: &Shared<Left>,
 ) -> Result<Option<Moved>, AllocError>
-    ensures { IfOk result (λ r. answer_of r ≡ model.at_act (2 * turn) place.now (model.after_loop turn (residual_of_left body.now) ask)) }
+    ensures { IfOk result (λ r. answer_of r ≡ if_act (2 * turn) place.now (model.after_loop turn (residual_of_left body.now) ask)) }
 {
     if !is_turn(place, turn) {
         return Ok(None);
@@ -269,7 +270,7 @@ fn in_turn(alloc: Global, turn: u64, body: &Shared<Left>) -> Result<Shared<Left>
 }
 
 /// The answer of a while loop before a test.
-#[tactic(auto, using(crate::proofs::Below::at_act_is, crate::proofs::Asked::not_while))]
+#[tactic(auto, using(crate::proofs::Below::if_act_is, crate::proofs::Asked::not_while))]
 pub(crate) fn repeat_while(
     alloc: Global,
     ask: Ask,
@@ -278,7 +279,7 @@ pub(crate) fn repeat_while(
     guard: &Expression,
     body: &Shared<Left>,
 ) -> Result<Option<Moved>, AllocError>
-    ensures { IfOk result (λ r. answer_of r ≡ model.at_act (2 * turn) place.now (model.after_while turn (expression_of guard.now) (residual_of_left body.now) ask)) }
+    ensures { IfOk result (λ r. answer_of r ≡ if_act (2 * turn) place.now (model.after_while turn (expression_of guard.now) (residual_of_left body.now) ask)) }
 {
     if !is_turn(place, turn) {
         return Ok(None);
@@ -350,7 +351,7 @@ pub(crate) fn one_guard(alloc: Global, guard: &Expression) -> Result<Decision, A
 }
 
 /// The answer of a test with arms.
-#[tactic(auto, using(crate::proofs::Below::at_act_is, crate::proofs::Asked::not_test))]
+#[tactic(auto, using(crate::proofs::Below::if_act_is, crate::proofs::Asked::not_test))]
 pub(crate) fn test(
     alloc: Global,
     ask: Ask,
@@ -358,7 +359,7 @@ pub(crate) fn test(
     decision: &Decision,
     arms: &Items<Shared<Left>>,
 ) -> Result<Option<Moved>, AllocError>
-    ensures { IfOk result (λ r. answer_of r ≡ model.at_act 0 place.now (model.after_test (decision_of decision.now) (arms_of (map residual_of_left arms.now) None) ask)) }
+    ensures { IfOk result (λ r. answer_of r ≡ if_act 0 place.now (model.after_test (decision_of decision.now) (arms_of (map residual_of_left arms.now) None) ask)) }
 {
     if !is_act(place, 0) {
         return Ok(None);
@@ -413,7 +414,7 @@ fn arm_at(alloc: Global, arms: &Items<Shared<Left>>, arm: u32) -> Result<Shared<
 }
 
 /// The answer of arms that wait on their channels.
-#[tactic(auto, using(crate::proofs::Below::at_act_is, crate::proofs::Asked::not_open))]
+#[tactic(auto, using(crate::proofs::Below::if_act_is, crate::proofs::Asked::not_open))]
 pub(crate) fn choose(
     alloc: Global,
     ask: Ask,
@@ -421,7 +422,7 @@ pub(crate) fn choose(
     channels: &[u32],
     arms: &Items<Shared<Left>>,
 ) -> Result<Option<Moved>, AllocError>
-    ensures { IfOk result (λ r. answer_of r ≡ model.at_act 0 place.now (model.after_choose channels.now (arms_of (map residual_of_left arms.now) None) ask)) }
+    ensures { IfOk result (λ r. answer_of r ≡ if_act 0 place.now (model.after_choose channels.now (arms_of (map residual_of_left arms.now) None) ask)) }
 {
     if !is_act(place, 0) {
         return Ok(None);
@@ -494,14 +495,14 @@ fn opened(
 }
 
 /// The answer of what comes after an opened arm.
-#[tactic(auto, using(crate::proofs::Below::at_act_is, crate::proofs::Asked::not_close))]
+#[tactic(auto, using(crate::proofs::Below::if_act_is, crate::proofs::Asked::not_close))]
 pub(crate) fn close(
     alloc: Global,
     ask: Ask,
     place: &[Entry],
     channel: u32,
 ) -> Result<Option<Moved>, AllocError>
-    ensures { IfOk result (λ r. answer_of r ≡ model.at_act 2 place.now (model.after_closing channel ask)) }
+    ensures { IfOk result (λ r. answer_of r ≡ if_act 2 place.now (model.after_closing channel ask)) }
 {
     if !is_act(place, 2) {
         return Ok(None);
@@ -516,7 +517,7 @@ pub(crate) fn close(
 }
 
 /// The answer of the receives on an output port, before an act.
-#[tactic(auto, using(crate::proofs::Below::at_act_is, crate::proofs::Asked::not_drain))]
+#[tactic(auto, using(crate::proofs::Below::if_act_is, crate::proofs::Asked::not_drain))]
 pub(crate) fn drain(
     alloc: Global,
     ask: Ask,
@@ -524,7 +525,7 @@ pub(crate) fn drain(
     channel: u32,
     act: u64,
 ) -> Result<Option<Moved>, AllocError>
-    ensures { IfOk result (λ r. answer_of r ≡ model.at_act act place.now (model.after_drain channel act ask)) }
+    ensures { IfOk result (λ r. answer_of r ≡ if_act act place.now (model.after_drain channel act ask)) }
 {
     if !is_act(place, act) {
         return Ok(None);

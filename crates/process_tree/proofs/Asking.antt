@@ -5,7 +5,8 @@ use Rattle.address.specs.declared.Entry.TheVariants.{Ordered, Branch}
 use Rattle.calculus.specs.Moves.{Place}
 use Rattle.calculus.proofs.Options.{none-some, some-injective, cond-some}
 use Rattle.process_tree.specs.Proc.{Proc}
-use Rattle.process_tree.specs.Places.{if_here, if_act, if_child, if_child_or, if_branch, wrap}
+use Rattle.calculus.specs.ByPlace.{if_here, if_act, if_child, if_branch}
+use Rattle.process_tree.specs.Places.{if_child_or, wrap}
 
 -- a number equals itself
 pub same : (n : ℕ) → (n == n) ≡ true

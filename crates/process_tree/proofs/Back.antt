@@ -9,7 +9,8 @@ use Rattle.calculus.specs.declared.ask.Ask.TheVariants as ask
 use Rattle.calculus.proofs.Options.{none-some, cond-some}
 use Rattle.process_tree.specs.Code.{Once, assigning, receiving, Sender, sending, syncing, Code, Codes, code_at}
 use Rattle.process_tree.specs.Proc.{waiting, holding, past, Proc, idle, stopped, once, sender, fresh, turn, ended_at_once, ended, untested, skipped, took, unopened, entered, closed, sequence, parallel, drained, Procs, no_procs, proc, started, finished}
-use Rattle.process_tree.specs.Places.{if_act, if_child, if_child_or, wrap}
+use Rattle.calculus.specs.ByPlace.{if_act, if_child}
+use Rattle.process_tree.specs.Places.{if_child_or, wrap}
 use Rattle.process_tree.specs.Advanced.{Moved, MovedIn, once_after, sender_after, holding_after, again_after, test_after, open_on, open_after, close_after, drain_after, advanced, advanced_sequence, advanced_parallel}
 use Rattle.process_tree.specs.walking.Retreated.{before_turn, before_drain, retreated, retreated_sequence, retreated_parallel}
 use Rattle.process_tree.proofs.Asking.{some-elim, cond-elim, here-elim, act-elim, child-elim, branch-elim, wrap-elim, act-at, child-at, child_or-at, child_or-other, branch-at}

@@ -5,7 +5,8 @@ use Rattle.calculus.specs.Moves.{Place}
 use Rattle.calculus.specs.declared.ask.Ask.{Ask}
 use Rattle.calculus.proofs.Options.{none-some, cond-some}
 use Rattle.process_tree.specs.Proc.{Proc, Procs, no_procs, proc, finished}
-use Rattle.process_tree.specs.Places.{if_child, wrap}
+use Rattle.calculus.specs.ByPlace.{if_child}
+use Rattle.process_tree.specs.Places.{wrap}
 use Rattle.process_tree.specs.Advanced.{MovedIn, advanced, advanced_sequence, advanced_parallel}
 use Rattle.process_tree.specs.walking.Retreated.{retreated, retreated_sequence, retreated_parallel}
 use Rattle.process_tree.specs.Children.{proc_at, MovedChild, BackChild}

@@ -7,7 +7,7 @@ use Rattle.system.specs.Residual.{Residual, done, closing, drain, within, along,
 use Rattle.calculus.specs.walking.Passed.{is_done}
 use Rattle.calculus.specs.Moves.{Place, Move, Local}
 use Rattle.calculus.specs.Asking.{asks}
-use Rattle.calculus.specs.walking.After.{Answer, around, at_place, at_act, in_child, in_branch, after_loop, after_while, after_test, after_open, after_assign, after_choose, after_closing, after_drain, after_held, after_receive, after_send, after_sync, after}
+use Rattle.calculus.specs.walking.After.{Answer, around, after_loop, after_while, after_test, after_open, after_assign, after_choose, after_closing, after_drain, after_held, after_receive, after_send, after_sync, after}
 use Rattle.calculus.specs.declared.ask.Ask.{Ask}
 use Rattle.calculus.specs.declared.ask.Ask.TheVariants as ask
 use Rattle.calculus.specs.WellFormed.{BranchesFrom, WellFormed}
@@ -16,7 +16,8 @@ use Rattle.calculus.proofs.Kept.{branches-place}
 use Rattle.calculus.proofs.Options.{none-some, some-injective}
 use Rattle.process_tree.specs.Code.{Once, assigning, receiving, Sender, sending, syncing, Code, Codes, code_at}
 use Rattle.process_tree.specs.Proc.{waiting, holding, past, Proc, idle, stopped, once, sender, fresh, turn, ended_at_once, ended, untested, skipped, took, unopened, entered, closed, sequence, parallel, drained, Procs, no_procs, proc, started, finished}
-use Rattle.process_tree.specs.Places.{if_here, if_act, if_child, if_branch, wrap}
+use Rattle.calculus.specs.ByPlace.{if_here, if_act, if_child, if_branch}
+use Rattle.process_tree.specs.Places.{wrap}
 use Rattle.process_tree.specs.Advanced.{Moved, once_after, sender_after, holding_after, again_after, test_after, open_on, open_after, close_after, drain_after, advanced, advanced_sequence, advanced_parallel}
 use Rattle.process_tree.specs.Left.{Received, with_value, puts, residual_once, residual_sender, channel_of, again, residual, residual_arms, left, left_sequence, left_parallel}
 use Rattle.process_tree.proofs.Puts.{puts_value, puts_decision, puts_arms, puts_once, puts_sender, puts_guard, puts-once, puts-sender, puts-again, puts-test, puts-choose, puts-arm_at, residual-code_at, left-started}
@@ -41,13 +42,13 @@ cond-sim false x u y v f h k = k
 
 -- at the own place
 here-sim : {X : Type 0} (a : Place) (x : Answer) (y : Option (X × Option Proc)) (f : X → Residual) → residual_after x ≡ left_after f y
-    → residual_after (at_place a x) ≡ left_after f (if_here a y)
+    → residual_after (if_here a x) ≡ left_after f (if_here a y)
 here-sim [] x y f h = h
 here-sim (z ∷ a) x y f h = refl
 
 -- at an act
 act-sim : {X : Type 0} (n : ℕ) (a : Place) (x : Answer) (y : Option (X × Option Proc)) (f : X → Residual) → residual_after x ≡ left_after f y
-    → residual_after (at_act n a x) ≡ left_after f (if_act n a y)
+    → residual_after (if_act n a x) ≡ left_after f (if_act n a y)
 act-sim n [] x y f h = refl
 act-sim n (Ordered i ∷ []) x y f h = cond-sim (i == n) x None y None f (λ e. h) refl
 act-sim n (Ordered i ∷ z ∷ a) x y f h = refl
@@ -55,7 +56,7 @@ act-sim n (Branch i ∷ a) x y f h = refl
 
 -- in a child
 child-sim : {X : Type 0} (n : ℕ) (a : Place) (x : Place → Answer) (y : Place → Option (X × Option Proc)) (f : X → Residual)
-    → ((b : Place) → residual_after (x b) ≡ left_after f (y b)) → residual_after (in_child n a x) ≡ left_after f (if_child n a y)
+    → ((b : Place) → residual_after (x b) ≡ left_after f (y b)) → residual_after (if_child n a x) ≡ left_after f (if_child n a y)
 child-sim n [] x y f h = refl
 child-sim n (Ordered i ∷ a) x y f h = cond-sim (i == n) (x a) None (y a) None f (λ e. h a) refl
 child-sim n (Branch i ∷ a) x y f h = refl
@@ -63,7 +64,7 @@ child-sim n (Branch i ∷ a) x y f h = refl
 -- in a branch, or in the rest
 branch-sim : {X : Type 0} (n : ℕ) (a : Place) (x : Place → Answer) (y : Place → Option (X × Option Proc)) (u : Answer) (v : Option (X × Option Proc))
     (f : X → Residual) → ((b : Place) → residual_after (x b) ≡ left_after f (y b)) → residual_after u ≡ left_after f v
-    → residual_after (in_branch n a x u) ≡ left_after f (if_branch n a y v)
+    → residual_after (if_branch n a x u) ≡ left_after f (if_branch n a y v)
 branch-sim n [] x y u v f h k = k
 branch-sim n (Ordered i ∷ a) x y u v f h k = k
 branch-sim n (Branch i ∷ a) x y u v f h k = cond-sim (i == n) (x a) u (y a) v f (λ e. h a) k
@@ -84,7 +85,7 @@ wrap-left w (Some y) f g e = ap Some (e y.0)
 
 -- a sequence answers as its first child, or as the rest where that is done
 after-within : (k : Ask) (n : ℕ) (r q : Residual) (a : Place)
-    → after k (within n r q) a ≡ cond (is_done r) (after k q a) (in_child n a (λ b. around (λ t. within n t q) (after k r b)))
+    → after k (within n r q) a ≡ cond (is_done r) (after k q a) (if_child n a (λ b. around (λ t. within n t q) (after k r b)))
 after-within k n done q a = refl
 after-within k n r q a = refl
 
@@ -95,8 +96,8 @@ node-sim : {Y : Type 0} (i : ℕ) (env : Received) (q : Proc) (rest : Residual) 
     → residual_after (after k (within i (left env q) rest) a) ≡ left_after f (cond (finished q) o (if_child i a (λ b. wrap w (advanced q b k))))
 node-sim i env q rest a k f w o e h g =
     ap residual_after (after-within k i (left env q) rest a)
-    ∙ ap (λ c. residual_after (cond c (after k rest a) (in_child i a (λ b. around (λ t. within i t rest) (after k (left env q) b))))) (finished-left q env)
-    ∙ cond-sim (finished q) (after k rest a) (in_child i a (λ b. around (λ t. within i t rest) (after k (left env q) b))) o (if_child i a (λ b. wrap w (advanced q b k))) f h
+    ∙ ap (λ c. residual_after (cond c (after k rest a) (if_child i a (λ b. around (λ t. within i t rest) (after k (left env q) b))))) (finished-left q env)
+    ∙ cond-sim (finished q) (after k rest a) (if_child i a (λ b. around (λ t. within i t rest) (after k (left env q) b))) o (if_child i a (λ b. wrap w (advanced q b k))) f h
     (child-sim i a (λ b. around (λ t. within i t rest) (after k (left env q) b)) (λ b. wrap w (advanced q b k)) f
     (λ b. around-sim (λ t. within i t rest) w (after k (left env q) b) (advanced q b k) (left env) f e (g b)))
 
@@ -134,14 +135,14 @@ done-cases k n i q b false e w s = sym (around-id (after k q (Branch i ∷ b)))
 
 -- the answer beside a finished branch
 after-done : (k : Ask) (n : ℕ) (q : Residual) (a : Place) → WellFormed q → BranchesFrom (n + 1) q
-    → after k q a ≡ in_branch n a (λ b. None) (around (λ t. t) (after k q a))
+    → after k q a ≡ if_branch n a (λ b. None) (around (λ t. t) (after k q a))
 after-done k n q [] w s = sym (around-id (after k q []))
 after-done k n q (Ordered i ∷ b) w s = sym (around-id (after k q (Ordered i ∷ b)))
 after-done k n q (Branch i ∷ b) w s = done-cases k n i q b (i == n) refl w s
 
 -- a parallel answers as the branch of the place
 after-along : (k : Ask) (n : ℕ) (r q : Residual) (a : Place) → WellFormed q → BranchesFrom (n + 1) q
-    → after k (along n r q) a ≡ in_branch n a (λ b. around (λ t. along n t q) (after k r b)) (around (λ t. along n r t) (after k q a))
+    → after k (along n r q) a ≡ if_branch n a (λ b. around (λ t. along n t q) (after k r b)) (around (λ t. along n r t) (after k q a))
 after-along k n done q a w s = after-done k n q a w s
 after-along k n r q a w s = refl
 

@@ -10,7 +10,8 @@ use Rattle.calculus.proofs.Options.{none-some, some-injective, cond-some}
 use Rattle.process_tree.specs.Advanced.{Moved, MovedIn, again_after, close_after, advanced, advanced_sequence, advanced_parallel}
 use Rattle.process_tree.specs.Code.{Code as MCode, Codes, no_code, code, code_at, continues}
 use Rattle.process_tree.specs.Proc.{Proc, turn, ended, entered, closed, took, Procs, no_procs, proc, sequence, parallel, started, all_started, finished}
-use Rattle.process_tree.specs.Places.{if_act, if_child, wrap}
+use Rattle.calculus.specs.ByPlace.{if_act, if_child}
+use Rattle.process_tree.specs.Places.{wrap}
 use Rattle.process_tree.specs.Translation.{row_of}
 use Rattle.process_tree.specs.View.{code_view, row_view, proc_view, procs_of, begun_of, turn_of, opened_of}
 use Rattle.process_tree.specs.declared.code.Code.{Code}

@@ -1,8 +1,8 @@
 -- Local moves as a function: the move that is asked for at a place, and the residual after it.
 -- No reader has to believe it: `proofs/After.antt` ties it to `Local` of `Moves.antt`.
 use Rattle.std.specs.Prelude.{ℕ, ◌+◌, ◌*◌, ◌==◌, List, [], ◌∷◌, true, false, cond, Option, Some, None, slice_get}
+use Rattle.calculus.specs.ByPlace.{if_here, if_act, if_child, if_branch}
 use Rattle.calculus.specs.Moves.{Place, Move, assigns, tests, turns, sends, receives, syncs, opens, releases, closes}
-use Rattle.address.specs.declared.Entry.TheVariants.{Ordered, Branch}
 use Rattle.value.specs.Word.{Word}
 use Rattle.system.specs.Expression.{Expression, Decision, by_guards}
 use Rattle.system.specs.Residual.{Residual, done, halted, inside, beside, assign, send, receive, sync, held, loop, while, test, choose, closing, drain, Arms, within, along, arm_at, opened}
@@ -17,30 +17,6 @@ Answer = Option (Move × Residual)
 abbrev pub around : (Residual → Residual) → Answer → Answer
 around rest None = None
 around rest (Some x) = Some (x.0, rest x.1)
-
--- the answer, at the command's own place
-abbrev pub at_place : Place → Answer → Answer
-at_place [] answer = answer
-at_place (x ∷ a) answer = None
-
--- the answer, at act n of the command
-abbrev pub at_act : ℕ → Place → Answer → Answer
-at_act n [] answer = None
-at_act n (Ordered i ∷ []) answer = cond (i == n) answer None
-at_act n (Ordered i ∷ x ∷ a) answer = None
-at_act n (Branch i ∷ a) answer = None
-
--- the child's answer, at places in child n of a sequence
-abbrev pub in_child : ℕ → Place → (Place → Answer) → Answer
-in_child n [] child = None
-in_child n (Ordered i ∷ a) child = cond (i == n) (child a) None
-in_child n (Branch i ∷ a) child = None
-
--- the child's answer at places in branch n, and elsewhere that of the rest
-abbrev pub in_branch : ℕ → Place → (Place → Answer) → Answer → Answer
-in_branch n [] child rest = rest
-in_branch n (Ordered i ∷ a) child rest = rest
-in_branch n (Branch i ∷ a) child rest = cond (i == n) (child a) rest
 
 -- the answer of an assignment
 abbrev pub after_assign : ℕ → ℕ → Expression → Ask → Answer
@@ -111,17 +87,17 @@ after_drain c k _ = None
 abbrev pub after : Ask → Residual → Place → Answer
 after k done a = None
 after k halted a = None
-after k (inside i child next) a = in_child i a (λ b. around (λ t. within i t next) (after k child b))
+after k (inside i child next) a = if_child i a (λ b. around (λ t. within i t next) (after k child b))
 after k (beside n child rest) a =
-    in_branch n a (λ b. around (λ t. along n t rest) (after k child b)) (around (λ t. along n child t) (after k rest a))
-after k (assign x w e) a = at_place a (after_assign x w e k)
-after k (send c w e) a = at_act 0 a (after_send c w e k)
-after k (receive c x) a = at_place a (after_receive c x k)
-after k (sync c) a = at_act 0 a (after_sync c k)
-after k (held c) a = at_act 1 a (after_held c k)
-after k (loop n body) a = at_act (2 * n) a (after_loop n body k)
-after k (while n e body) a = at_act (2 * n) a (after_while n e body k)
-after k (test d arms) a = at_act 0 a (after_test d arms k)
-after k (choose channels arms) a = at_act 0 a (after_choose channels arms k)
-after k (closing c) a = at_act 2 a (after_closing c k)
-after k (drain c n) a = at_act n a (after_drain c n k)
+    if_branch n a (λ b. around (λ t. along n t rest) (after k child b)) (around (λ t. along n child t) (after k rest a))
+after k (assign x w e) a = if_here a (after_assign x w e k)
+after k (send c w e) a = if_act 0 a (after_send c w e k)
+after k (receive c x) a = if_here a (after_receive c x k)
+after k (sync c) a = if_act 0 a (after_sync c k)
+after k (held c) a = if_act 1 a (after_held c k)
+after k (loop n body) a = if_act (2 * n) a (after_loop n body k)
+after k (while n e body) a = if_act (2 * n) a (after_while n e body k)
+after k (test d arms) a = if_act 0 a (after_test d arms k)
+after k (choose channels arms) a = if_act 0 a (after_choose channels arms k)
+after k (closing c) a = if_act 2 a (after_closing c k)
+after k (drain c n) a = if_act n a (after_drain c n k)

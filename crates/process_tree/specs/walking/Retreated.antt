@@ -5,7 +5,8 @@ use Rattle.system.specs.Expression.{Expression}
 use Rattle.calculus.specs.Moves.{Place}
 use Rattle.process_tree.specs.Code.{Code}
 use Rattle.process_tree.specs.Proc.{waiting, holding, past, Proc, idle, stopped, once, sender, fresh, turn, ended_at_once, ended, untested, skipped, took, unopened, entered, closed, sequence, parallel, drained, Procs, no_procs, proc}
-use Rattle.process_tree.specs.Places.{if_here, if_act, if_child, if_child_or, if_branch}
+use Rattle.calculus.specs.ByPlace.{if_here, if_act, if_child, if_branch}
+use Rattle.process_tree.specs.Places.{if_child_or}
 
 -- a loop before turn n, with the body that the turn took out
 abbrev pub before_turn : Option Expression → Code → ℕ → Option Proc → Option Proc
