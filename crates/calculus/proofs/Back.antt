@@ -1,6 +1,6 @@
 -- Going back: a part of the live events on which none of the others had a kept follower.
 use Rattle.std.proofs.Common.{◌≡◌, inl, inr, ℕ, suc, ◌<◌, ◌≤◌, [], ◌∷◌, ◌++◌, length, refl, ap, subst, arith}
-use Rattle.system.specs.Lists.{In, Every}
+use Rattle.syntax.specs.Lists.{In, Every}
 use Rattle.calculus.specs.Steps.{State, Run}
 use Rattle.calculus.specs.Dependence.{Directly, ended, stays, leaves}
 use Rattle.calculus.specs.Live.{Live, events, Rising, LiveAt, WithoutTickets}

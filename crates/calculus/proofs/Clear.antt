@@ -1,7 +1,7 @@
 -- What was done once is behind: each later move is after it or in another branch.
 use Rattle.calculus.proofs.Lists.{every-map}
 use Rattle.std.proofs.Common.{◌≡◌, ◌⊎◌, inl, inr, ℕ, List, [], ◌∷◌, arith}
-use Rattle.system.specs.Lists.{Every}
+use Rattle.syntax.specs.Lists.{Every}
 use Rattle.calculus.specs.Moves.{Place}
 use Rattle.address.specs.Places.{Before, Apart}
 use Rattle.address.specs.declared.Entry.TheVariants.{Ordered, Branch}

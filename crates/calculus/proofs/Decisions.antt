@@ -1,7 +1,7 @@
 -- Dependence can be decided: for each two live events one depends on the other or does not.
 use Rattle.std.proofs.Common.{◌≡◌, ◌⊎◌, inl, inr, ℕ, zero, suc, ◌<◌, ◌≤◌, List, [], ◌∷◌, Option, Some, None, refl, sym, ◌∙◌, ap, subst, arith}
 use Rattle.std.proofs.lemmas.Bool.{cases_eq, cases_lt}
-use Rattle.system.specs.Lists.{In}
+use Rattle.syntax.specs.Lists.{In}
 use Rattle.address.specs.Places.{Before}
 use Rattle.address.proofs.Places.{before?}
 use Rattle.calculus.specs.Moves.{Place}

@@ -1,7 +1,7 @@
 -- Which elements a list has, and which stand before which.
 use Rattle.calculus.proofs.Lists.{in-left, in-right, in-parts}
 use Rattle.std.proofs.Common.{◌≡◌, ◌⊎◌, inl, inr, List, [], ◌∷◌, ◌++◌, refl, sym, ap, subst}
-use Rattle.system.specs.Lists.{In}
+use Rattle.syntax.specs.Lists.{In}
 use Rattle.calculus.specs.Dependence.{Earlier, Rearranged}
 use Rattle.calculus.specs.declared.event.Event.{Event}
 

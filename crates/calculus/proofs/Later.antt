@@ -2,7 +2,7 @@
 use Rattle.calculus.proofs.Lists.{every-right}
 use Rattle.std.proofs.Common.{◌≡◌, ◌⊎◌, ℕ, ◌+◌, List, [], ◌∷◌, ◌++◌, Some, inl, inr, sym, refl, subst, ⊎_elim, arith}
 use Rattle.address.specs.declared.Entry.TheVariants.{Ordered, Branch}
-use Rattle.system.specs.Lists.{In}
+use Rattle.syntax.specs.Lists.{In}
 use Rattle.calculus.specs.Moves.{Place, Move, Local, receives}
 use Rattle.address.specs.Places.{Apart}
 use Rattle.system.specs.Residual.{Residual, done, inside, beside, receive, within, along}

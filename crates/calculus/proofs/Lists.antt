@@ -1,6 +1,6 @@
 -- Elements of joined lists, and what holds of every element.
 use Rattle.std.proofs.Common.{◌⊎◌, inl, inr, List, [], ◌∷◌, ◌++◌, refl, sym, subst}
-use Rattle.system.specs.Lists.{In, Every}
+use Rattle.syntax.specs.Lists.{In, Every}
 
 -- an element of the first list is one of both
 pub in-left : {X : Type 0} (x : X) (xs ys : List X) → In x xs → In x (xs ++ ys)

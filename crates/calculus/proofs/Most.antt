@@ -1,7 +1,7 @@
 -- The greatest count of a list's numbers.
 use Rattle.std.proofs.Common.{◌≡◌, ℕ, zero, suc, ◌≤◌, List, [], ◌∷◌, Some, slice_get, inl, inr, refl, eq-eqb, le_trans, le_refl}
 use Rattle.std.proofs.Math.Nat.{le-max_left, le-max_right}
-use Rattle.system.specs.Lists.{In}
+use Rattle.syntax.specs.Lists.{In}
 use Rattle.sharing_check.specs.Measure.{most, only}
 
 -- the count of an element is at most the greatest

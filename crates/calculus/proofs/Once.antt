@@ -2,7 +2,7 @@
 -- so that no two are equal and no two have one acting address.
 use Rattle.calculus.proofs.Lists.{every-in, every-left, every-right, every-map}
 use Rattle.std.proofs.Common.{◌≡◌, inl, inr, List, [], ◌∷◌, ◌++◌, Option, Some, None, refl, sym, ap, subst}
-use Rattle.system.specs.Lists.{In, Every}
+use Rattle.syntax.specs.Lists.{In, Every}
 use Rattle.system.specs.Residual.{Residual}
 use Rattle.calculus.specs.Moves.{Place}
 use Rattle.calculus.specs.Events.{Located, places, acting, acting_at}

@@ -1,6 +1,6 @@
 -- What every system opens with is well formed.
 use Rattle.std.proofs.Common.{ℕ, zero, suc, ◌+◌, List, [], ◌∷◌, Some, None, map, sym, subst, arith}
-use Rattle.system.specs.Lists.{Every}
+use Rattle.syntax.specs.Lists.{Every}
 use Rattle.value.specs.Word.{Word}
 use Rattle.system.specs.Expression.{constant}
 use Rattle.system.specs.Residual.{Residual, done, send, sync}

@@ -1,6 +1,6 @@
 -- Orders of a run: an event moves past all that do not depend on it, and every respecting order leads to the same state.
 use Rattle.std.proofs.Common.{◌≡◌, List, [], ◌∷◌, ◌++◌, refl, sym, subst}
-use Rattle.system.specs.Lists.{Every}
+use Rattle.syntax.specs.Lists.{Every}
 use Rattle.calculus.specs.Steps.{State, Step, Run}
 use Rattle.calculus.specs.Dependence.{Directly}
 use Rattle.calculus.specs.declared.event.Event.{Event}

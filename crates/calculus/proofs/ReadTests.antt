@@ -1,7 +1,7 @@
 -- The tests of which variables an event reads, and of which numbers are in a list.
 use Rattle.std.proofs.Common.{◌≡◌, ◌⊎◌, ◌↔◌, inl, inr, ℕ, ◌==◌, List, [], ◌∷◌, Bool, true, false, cond, Some, IsTrue, refl, sym, ◌∙◌, ap, subst, arith}
 use Rattle.std.proofs.lemmas.Bool.Decides.{nat_tests}
-use Rattle.system.specs.Lists.{In}
+use Rattle.syntax.specs.Lists.{In}
 use Rattle.system.specs.Expression.{is_in}
 use Rattle.calculus.specs.Dependence.{WritesFor}
 use Rattle.calculus.specs.declared.event.Event.{Event}

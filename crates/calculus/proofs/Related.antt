@@ -1,6 +1,6 @@
 -- The ordering law: of two related events of one run, the earlier has an address before an address of the later.
 use Rattle.std.proofs.Common.{◌≡◌, ◌⊎◌, ℕ, ◌+◌, ◌≤◌, List, [], ◌∷◌, ◌++◌, Some, true, false, Bool, inl, inr, ⊎_elim, sym, refl, subst, arith, le_trans, append_assoc}
-use Rattle.system.specs.Lists.{In}
+use Rattle.syntax.specs.Lists.{In}
 use Rattle.address.specs.Places.{Before, Apart}
 use Rattle.system.specs.Residual.{Residual}
 use Rattle.calculus.specs.Events.{Located, Makes, places}

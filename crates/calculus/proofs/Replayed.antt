@@ -10,7 +10,7 @@ use Rattle.calculus.specs.Steps.{State, Step, Allowed, Run, opening}
 use Rattle.calculus.specs.walking.StepOf.{step_of, run_of}
 use Rattle.calculus.specs.walking.AllowedEvents.{allowed_events}
 use Rattle.calculus.specs.WellFormed.{WellFormed}
-use Rattle.system.specs.Lists.{In}
+use Rattle.syntax.specs.Lists.{In}
 use Rattle.calculus.specs.Left.{state_of}
 use Rattle.calculus.specs.declared.event.Event.{Event}
 use Rattle.calculus.specs.declared.plain.Plain.{Plain}

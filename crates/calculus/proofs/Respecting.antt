@@ -1,7 +1,7 @@
 -- Respecting orders of a list that runs, gone through one event after another.
 use Rattle.calculus.proofs.Lists.{in-left, in-right, in-parts, every-of}
 use Rattle.std.proofs.Common.{◌≡◌, inl, inr, List, [], ◌∷◌, ◌++◌, refl, sym, subst}
-use Rattle.system.specs.Lists.{In}
+use Rattle.syntax.specs.Lists.{In}
 use Rattle.calculus.specs.Steps.{State, Run}
 use Rattle.calculus.specs.Dependence.{Directly, Earlier, Rearranged, Respecting}
 use Rattle.calculus.specs.declared.event.Event.{Event}

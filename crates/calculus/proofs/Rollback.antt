@@ -1,7 +1,7 @@
 -- A list that runs, runs without a set of events that holds all that depends on it.
 use Rattle.calculus.proofs.Lists.{every-of}
 use Rattle.std.proofs.Common.{◌≡◌, inl, inr, List, [], ◌∷◌, refl, subst}
-use Rattle.system.specs.Lists.{Every}
+use Rattle.syntax.specs.Lists.{Every}
 use Rattle.calculus.specs.Steps.{State, Run}
 use Rattle.calculus.specs.Dependence.{Directly, Earlier, Causes, itself, onwards, Without, ended, stays, leaves}
 use Rattle.calculus.specs.declared.event.Event.{Event}

@@ -1,6 +1,6 @@
 -- Two lists that run and have the same events are respecting orders of each other.
 use Rattle.std.proofs.Common.{◌≡◌, ◌⊎◌, ◌↔◌, inl, inr, ℕ, List, Bool, true, false, refl}
-use Rattle.system.specs.Lists.{In}
+use Rattle.syntax.specs.Lists.{In}
 use Rattle.calculus.specs.Moves.{Place}
 use Rattle.calculus.specs.Events.{places}
 use Rattle.calculus.specs.Steps.{State, Run}

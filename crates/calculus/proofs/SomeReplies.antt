@@ -1,7 +1,7 @@
 -- Each command has a reply.
 use Rattle.std.proofs.Common.{◌≡◌, inl, inr, ℕ, suc, ◌+◌, ◌<◌, List, [], ◌∷◌, length, Option, Some, None, refl, sym, ap, subst, arith, slice_get}
 use Rattle.std.proofs.lemmas.Bool.{cases_lt}
-use Rattle.system.specs.Lists.{In}
+use Rattle.syntax.specs.Lists.{In}
 use Rattle.value.specs.Word.{Word}
 use Rattle.calculus.specs.Steps.{State}
 use Rattle.calculus.specs.InOrder.{InOrder}

@@ -1,6 +1,6 @@
 -- Lists in an order in which no two elements come before each other: with the same elements they are equal.
 use Rattle.std.proofs.Common.{◌≡◌, inl, inr, List, [], ◌∷◌, refl, sym, subst}
-use Rattle.system.specs.Lists.{In, Every}
+use Rattle.syntax.specs.Lists.{In, Every}
 use Rattle.calculus.proofs.Lists.{every-in}
 use Rattle.calculus.specs.InOrder.{InOrder}
 

@@ -1,6 +1,6 @@
 -- What the moves of an event have to do with its addresses and with the store.
 use Rattle.std.proofs.Common.{◌≡◌, inl, inr, ℕ, List, [], ◌∷◌, Some, None, refl, sym, ◌∙◌, ap, subst, true, false}
-use Rattle.system.specs.Lists.{In, Every}
+use Rattle.syntax.specs.Lists.{In, Every}
 use Rattle.calculus.specs.Moves.{Place, assigns, sends, receives, opens}
 use Rattle.value.specs.Word.{Word, resized}
 use Rattle.system.specs.Expression.{Expression, Store, variables, ascending, decision_variables}

@@ -3,7 +3,7 @@ use Rattle.calculus.proofs.Lists.{in-left, in-right}
 use Rattle.std.proofs.Common.{◌≡◌, ◌≢◌, ◌⊎◌, inl, inr, ℕ, ◌==◌, List, [], ◌∷◌, Bool, true, false, cond, Option, Some, None, refl, sym, ◌∙◌, ap, set, eqb, ltb}
 use borrow.Author.Tests.{eqb-true}
 use Rattle.std.proofs.lemmas.List.{get_or-set_other, set_comm}
-use Rattle.system.specs.Lists.{In}
+use Rattle.syntax.specs.Lists.{In}
 use Rattle.value.specs.Word.{Word, resized}
 use Rattle.system.specs.Expression.{word, Expression, constant, variable, received, binary, complement, cast, Decision, by_guards, by_labels, Store, get, put, value, variables, variables_of_all, decide, decision_variables, guards_hold, labels_hold, first_of_tests, combined, inserted, ascending}
 use Rattle.calculus.specs.Events.{written_by, store_after}

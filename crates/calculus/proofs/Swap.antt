@@ -1,7 +1,7 @@
 -- Two neighbours of a run swap unless the second depends directly on the first.
 use Rattle.calculus.proofs.Lists.{every-map}
 use Rattle.std.proofs.Common.{inl, inr, List, [], ◌∷◌, refl, sym, ◌∙◌, ap, subst}
-use Rattle.system.specs.Lists.{In, Every}
+use Rattle.syntax.specs.Lists.{In, Every}
 use Rattle.calculus.specs.Moves.{Place, Local}
 use Rattle.address.specs.Places.{Before}
 use Rattle.system.specs.Residual.{Residual}

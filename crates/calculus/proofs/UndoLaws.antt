@@ -1,7 +1,7 @@
 -- Undo and rollback: a step then its undo, when an undo is taken, and what a rollback leaves.
 use Rattle.std.proofs.Common.{◌≡◌, inl, inr, ℕ, suc, ◌<◌, ◌≤◌, [], ◌∷◌, ◌++◌, refl, sym, ◌∙◌, ap, subst, arith}
 use Rattle.std.proofs.lemmas.List.{append-nil}
-use Rattle.system.specs.Lists.{In}
+use Rattle.syntax.specs.Lists.{In}
 use Rattle.calculus.specs.Dependence.{Causes, Without, ended, stays, leaves}
 use Rattle.calculus.specs.Live.{Live, events, Rising, LiveAt, Follows, WithoutTickets, NoDependent}
 use Rattle.calculus.specs.Object.{Object, with_event}

@@ -1,7 +1,7 @@
 -- The moves of an event use its channel and its variables.
 use Rattle.std.proofs.Common.{◌≡◌, ◌⊎◌, ℕ, ◌≤◌, max, List, [], ◌∷◌, Some, None, true, false, Bool, ◌==◌, nat_lt, if◌then◌else◌, inl, inr, ⊎_elim, refl, arith, le_trans}
 use Rattle.std.proofs.Math.Nat.{le-max_left, le-max_right}
-use Rattle.system.specs.Lists.{In}
+use Rattle.syntax.specs.Lists.{In}
 use Rattle.address.specs.Places.{Apart}
 use Rattle.system.specs.Expression.{Store, variables, decision_variables, ascending, inserted}
 use Rattle.calculus.specs.Moves.{sends, receives, syncs, opens, releases, closes, assigns, tests}

@@ -1,7 +1,7 @@
 -- The amount of a variable is at most 2 exactly where no branch writes it beside another that mentions it.
 use Rattle.std.proofs.Common.{◌≡◌, ◌⊎◌, ◌↔◌, ℕ, zero, suc, ◌≤◌, max, List, [], ◌∷◌, cond, true, false, Bool, ◌==◌, inl, inr, ⊎_elim, refl, sym, subst, arith, le_refl, le_trans, eqb-true}
 use Rattle.std.proofs.Math.Nat.{le-max_left, le-max_right, max-le}
-use Rattle.system.specs.Lists.{In}
+use Rattle.syntax.specs.Lists.{In}
 use Rattle.system.specs.Expression.{variables, decision_variables}
 use Rattle.system.specs.Residual.{Residual, inside, beside, assign, send, receive, loop, while, test, choose, Arms, no_arms, arm}
 use Rattle.sharing_check.specs.Measure.{amount, amount_of_arms, most, only}

@@ -1,6 +1,6 @@
 -- Which event depends on which, and the orders that respect it (Danos and Krivine 2004).
 use Rattle.std.specs.Prelude.{◌≡◌, ◌⊎◌, ℕ, List, [], ◌∷◌, ◌++◌, Some}
-use Rattle.system.specs.Lists.{In}
+use Rattle.syntax.specs.Lists.{In}
 use Rattle.calculus.specs.Moves.{Place}
 use Rattle.address.specs.Places.{Before}
 use Rattle.calculus.specs.Events.{places}

@@ -1,6 +1,6 @@
 -- Lists in an order.
 use Rattle.std.specs.Prelude.{List, [], ◌∷◌}
-use Rattle.system.specs.Lists.{Every}
+use Rattle.syntax.specs.Lists.{Every}
 
 -- each element comes before all after it
 abbrev pub InOrder : {X : Type 0} → (X → X → Type 0) → List X → Type 0

@@ -3,7 +3,7 @@ use Rattle.std.specs.Prelude.{◌≡◌, ◌↔◌, ◌⊎◌, List, ◌∷◌, 
 use Rattle.address.specs.Places.{Apart, Before}
 use Rattle.system.specs.Residual.{Residual}
 use Rattle.calculus.specs.Moves.{Place, Move, Local}
-use Rattle.system.specs.Lists.{In}
+use Rattle.syntax.specs.Lists.{In}
 use Rattle.system.specs.Translation.{opening_residual}
 use Rattle.system.specs.declared.system.System.{System}
 use Rattle.sharing_check.specs.Rule.{is_shared, SharesWell}

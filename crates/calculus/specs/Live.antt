@@ -1,6 +1,6 @@
 -- The live events of an execution, with their tickets.
 use Rattle.std.specs.Prelude.{◌≡◌, ◌≢◌, ◌↔◌, ℕ, suc, ◌<◌, ◌≤◌, List, [], ◌∷◌, Some}
-use Rattle.system.specs.Lists.{In}
+use Rattle.syntax.specs.Lists.{In}
 use Rattle.calculus.specs.Dependence.{Directly, Without}
 use Rattle.calculus.specs.InOrder.{InOrder}
 use Rattle.calculus.specs.declared.event.Event.{Event}

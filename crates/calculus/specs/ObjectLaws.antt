@@ -1,6 +1,6 @@
 -- The laws of the object of one execution.
 use Rattle.std.specs.Prelude.{◌≡◌, ◌≢◌, ◌⊎◌, ◌↔◌, ℕ, suc, ◌+◌, ◌<◌, ◌≤◌, List, [], ◌∷◌, ◌++◌, length, Some}
-use Rattle.system.specs.Lists.{In}
+use Rattle.syntax.specs.Lists.{In}
 use Rattle.system.specs.Expression.{get}
 use Rattle.system.specs.declared.system.System.{System}
 use Rattle.sharing_check.specs.Rule.{SharesWell}

@@ -1,7 +1,7 @@
 -- The events that are allowed in a state, in their order, and the one that a choice means.
 use Rattle.std.specs.Prelude.{◌≡◌, ◌⊎◌, ◌↔◌, ◌<◌, List, [], Option, Some}
 use Rattle.std.specs.declared.cmp.Ordering.TheVariants.{Less}
-use Rattle.system.specs.Lists.{In}
+use Rattle.syntax.specs.Lists.{In}
 use Rattle.address.specs.Order.{order_of}
 use Rattle.calculus.specs.Moves.{Place}
 use Rattle.calculus.specs.Events.{acting}

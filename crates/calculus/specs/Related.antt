@@ -1,6 +1,6 @@
 -- Events that have a channel or a variable in common.
 use Rattle.std.specs.Prelude.{◌≡◌, ◌⊎◌, ℕ, Bool, true, false, Some}
-use Rattle.system.specs.Lists.{In}
+use Rattle.syntax.specs.Lists.{In}
 use Rattle.calculus.specs.declared.event.Event.{Event}
 use Rattle.calculus.specs.Dependence.{OnOneChannel}
 

@@ -1,7 +1,7 @@
 // The events that are allowed now.
 ghost use Rattle.std.specs.Prelude.{◌≡◌, ◌↔◌, [], ◌∷◌, ◌++◌, map, Some, IfOk, OnOk};
 ghost use Rattle.calculus.specs.Moves as moves;
-ghost use Rattle.system.specs.Lists.{In};
+ghost use Rattle.syntax.specs.Lists.{In};
 ghost use Rattle.calculus.specs.Events.{at};
 ghost use Rattle.calculus.specs.Steps.{Allowed};
 ghost use Rattle.calculus.specs.WellFormed.{WellFormed};

@@ -1,7 +1,7 @@
 // Which event depends directly on which.
 ghost use Rattle.std.specs.Prelude.{◌≡◌, ◌↔◌, Some, IsTrue};
 ghost use Rattle.address.specs.Places.{Before};
-ghost use Rattle.system.specs.Lists.{In};
+ghost use Rattle.syntax.specs.Lists.{In};
 ghost use Rattle.system.specs.Expression.{is_in};
 ghost use Rattle.calculus.specs.Moves.{Place};
 ghost use Rattle.calculus.specs.Events.{places};

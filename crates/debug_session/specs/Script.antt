@@ -1,7 +1,7 @@
 -- The bytes of a script as lines.
 use Rattle.std.specs.Prelude.{ℕ, ◌≡◌, ◌≢◌, ◌⊎◌, List, [], ◌∷◌, ◌++◌}
 use Rattle.std.specs.List.{All, flat_map}
-use Rattle.system.specs.Lists.{Every}
+use Rattle.syntax.specs.Lists.{Every}
 
 -- a line and its end
 abbrev pub with_end : List ℕ → List ℕ

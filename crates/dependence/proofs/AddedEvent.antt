@@ -1,7 +1,7 @@
 -- What a new event behind the live ones changes.
 use Rattle.std.proofs.Common.{◌≡◌, ◌≢◌, ◌⊎◌, ◌↔◌, inl, inr, ℕ, ◌<◌, ◌≤◌, List, [], ◌∷◌, ◌++◌, refl, ap, subst, arith}
 use Rattle.std.proofs.lemmas.Bool.{cases_eq}
-use Rattle.system.specs.Lists.{In}
+use Rattle.syntax.specs.Lists.{In}
 use Rattle.calculus.specs.Dependence.{Directly}
 use Rattle.calculus.specs.Live.{Live, Rising, LiveAt, Follows, same, later}
 use Rattle.calculus.specs.declared.event.Event.{Event}

@@ -5,7 +5,7 @@ use Rattle.std.specs.List.{remove}
 use Rattle.std.proofs.lemmas.Bool.{cases_eq, cases_lt}
 use Rattle.std.proofs.lemmas.List.{append-nil}
 use Rattle.std.proofs.lemmas.Option.{slice_get_within, slice_get-get_or}
-use Rattle.system.specs.Lists.{In}
+use Rattle.syntax.specs.Lists.{In}
 use Rattle.calculus.specs.Dependence.{ended, stays, leaves}
 use Rattle.calculus.specs.Live.{Live, Rising, LiveAt, NoneAt, NoDependent, WithoutTickets}
 use Rattle.calculus.specs.declared.event.Event.{Event}

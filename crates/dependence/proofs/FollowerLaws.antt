@@ -1,7 +1,7 @@
 -- The least dependent is a follower, dependence goes through followers, and taking out makes none.
 use Rattle.std.proofs.Common.{◌≡◌, ◌≢◌, inl, inr, ℕ, zero, suc, ◌+◌, ◌<◌, ◌≤◌, refl, subst, arith}
 use Rattle.std.proofs.lemmas.Bool.{cases_eq}
-use Rattle.system.specs.Lists.{In}
+use Rattle.syntax.specs.Lists.{In}
 use Rattle.calculus.specs.Live.{Live, Rising, LiveAt, Follows, same, later, FirstDependent, NoDependent, WithoutTickets}
 use Rattle.calculus.specs.declared.event.Event.{Event}
 use Rattle.calculus.proofs.Decisions.{Or, search-list, follows?}

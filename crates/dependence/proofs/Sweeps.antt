@@ -3,7 +3,7 @@ use Rattle.std.proofs.Common.{◌≡◌, ◌≢◌, ◌⊎◌, ◌↔◌, inl, i
 use Rattle.std.specs.Prelude.{slice_get}
 use Rattle.std.proofs.lemmas.Bool.{cases_eq, cases_lt}
 use Rattle.std.proofs.lemmas.Option.{slice_get_within, slice_get-get_or}
-use Rattle.system.specs.Lists.{In}
+use Rattle.syntax.specs.Lists.{In}
 use Rattle.system.specs.Expression.{is_in}
 use Rattle.calculus.specs.Live.{Live, Rising, Follows, same}
 use Rattle.calculus.specs.declared.event.Event.{Event}

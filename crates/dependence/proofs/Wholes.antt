@@ -3,7 +3,7 @@ use Rattle.std.proofs.Common.{◌≡◌, ◌↔◌, inl, inr, ℕ, zero, suc, �
 use Rattle.std.specs.Prelude.{slice_get, MatchOption}
 use Rattle.std.specs.List.{remove}
 use Rattle.std.specs.Result.{is_err, OnOk, OnErr}
-use Rattle.system.specs.Lists.{In}
+use Rattle.syntax.specs.Lists.{In}
 use Rattle.calculus.specs.Dependence.{Without, ended, stays, leaves}
 use Rattle.calculus.specs.Live.{Live, Rising, LiveAt, FirstDependent, NoDependent}
 use Rattle.calculus.specs.declared.event.Event.{Event}

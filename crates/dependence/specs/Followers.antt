@@ -1,6 +1,6 @@
 -- Who needs whom among the live events: the direct dependents of an event, and those of them with no live event between.
 use Rattle.std.specs.Prelude.{◌≡◌, ◌⊎◌, ◌↔◌, ℕ, ◌<◌, List, length}
-use Rattle.system.specs.Lists.{In}
+use Rattle.syntax.specs.Lists.{In}
 use Rattle.calculus.specs.Dependence.{Directly}
 use Rattle.calculus.specs.InOrder.{InOrder}
 use Rattle.calculus.specs.Live.{Live, LiveAt, Follows}

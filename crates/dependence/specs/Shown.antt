@@ -1,6 +1,6 @@
 -- What callers see of a `Live`: the live events with their tickets, and the tickets that are marked.
 use Rattle.std.specs.Prelude.{ℕ, ◌≤◌, List, [], ◌∷◌, ◌++◌, Bool, true, false}
-use Rattle.system.specs.Lists.{In}
+use Rattle.syntax.specs.Lists.{In}
 use Rattle.calculus.specs.Live.{Live}
 use Rattle.calculus.specs.declared.event.Event.{Event}
 

@@ -1,6 +1,6 @@
 // The followers of each live event, kept at its place.
 ghost use Rattle.std.specs.Prelude.{◌≡◌, ◌<◌, ◌++◌, ◌∷◌, [], ℕ, List, length, Some, slice_get, MatchResult};
-ghost use Rattle.system.specs.Lists.{In};
+ghost use Rattle.syntax.specs.Lists.{In};
 ghost use Rattle.calculus.specs.InOrder.{InOrder};
 ghost use Rattle.calculus.specs.Live.{Rising, NoneAt};
 ghost use Rattle.dependence.specs.declared.links.Links.{Links};

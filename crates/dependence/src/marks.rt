@@ -1,6 +1,6 @@
 // Marks on the events that depend on one.
 ghost use Rattle.std.specs.Prelude.{◌≡◌, ◌<◌, ◌⊎◌, ◌↔◌, ℕ, [], length, true, Some, slice_get, MatchOption};
-ghost use Rattle.system.specs.Lists.{In};
+ghost use Rattle.syntax.specs.Lists.{In};
 ghost use Rattle.calculus.specs.Live.{FollowersList};
 ghost use Rattle.dependence.specs.Shown.{tickets_marked, Greatest};
 ghost use Rattle.dependence.specs.walking.Tables.{IsRising, IsLive, Linked};

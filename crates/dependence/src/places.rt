@@ -1,6 +1,6 @@
 // Looking for a ticket: by halves, since tickets rise.
 ghost use Rattle.std.specs.Prelude.{◌≡◌, ◌<◌, Some, slice_get, MatchOption};
-ghost use Rattle.system.specs.Lists.{In};
+ghost use Rattle.syntax.specs.Lists.{In};
 ghost use Rattle.calculus.specs.InOrder.{InOrder};
 ghost use Rattle.calculus.specs.Live.{NoneAt};
 ghost use Rattle.dependence.specs.walking.Tables.{IsRising, IsLive, StandsAt};

@@ -1,6 +1,6 @@
 // Which of some live events no other of them depends on.
 ghost use Rattle.std.specs.Prelude.{◌≡◌, ◌<◌, ◌≤◌, ◌+◌, ◌↔◌, ◌||◌, ◌&&◌, not, ℕ, length, IsTrue, IfOk};
-ghost use Rattle.system.specs.Lists.{In};
+ghost use Rattle.syntax.specs.Lists.{In};
 ghost use Rattle.system.specs.Expression.{is_in};
 ghost use Rattle.dependence.specs.walking.Tables.{IsRising, IsLive, StandsAt, Falling, Linked, Topmost};
 ghost use Rattle.dependence.specs.walking.Sweeping.{StandWithin, FlagAt};

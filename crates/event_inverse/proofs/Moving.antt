@@ -1,6 +1,6 @@
 -- The moves of an event, one after another: made, taken back, and made after others.
 use Rattle.std.proofs.Common.{◌≡◌, List, [], ◌∷◌, Option, Some, option_map, refl, sym, ap, ap₂, subst, ◌∙◌}
-use Rattle.system.specs.Lists.{Every}
+use Rattle.syntax.specs.Lists.{Every}
 use Rattle.system.specs.Residual.{Residual}
 use Rattle.address.specs.Places.{Before}
 use Rattle.calculus.specs.Moves.{Place}

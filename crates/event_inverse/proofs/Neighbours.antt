@@ -1,7 +1,7 @@
 -- One event on the tree: made, taken back, and made after another.
 use Rattle.std.proofs.Common.{◌≡◌, ℕ, List, [], ◌∷◌, Option, Some, None, option_map, slice_set, inl, inr, refl, sym, ap, ap₂, ◌∙◌, set-set}
 use Rattle.std.proofs.lemmas.List.{set-get_or}
-use Rattle.system.specs.Lists.{In, Every}
+use Rattle.syntax.specs.Lists.{In, Every}
 use Rattle.address.specs.Places.{Before}
 use Rattle.value.specs.Word.{Word, resized}
 use Rattle.system.specs.Expression.{Store, get, put, word}

@@ -1,6 +1,6 @@
 -- An event in the middle of a list is undone by its record, and respecting orders grow the same.
 use Rattle.std.proofs.Common.{◌≡◌, ◌↔◌, suc, List, [], ◌∷◌, ◌++◌, length, Option, Some, option_map, inl, inr, refl, sym, ap, ap₂, subst, ◌∙◌}
-use Rattle.system.specs.Lists.{In, Every}
+use Rattle.syntax.specs.Lists.{In, Every}
 use Rattle.calculus.specs.Dependence.{Directly, Respecting}
 use Rattle.calculus.specs.Steps.{Run}
 use Rattle.calculus.specs.Steps.{State}

@@ -1,6 +1,6 @@
 -- The laws of a tree with records.
 use Rattle.std.specs.Prelude.{◌≡◌, ◌↔◌, List, [], ◌∷◌, ◌++◌, length, Some}
-use Rattle.system.specs.Lists.{In}
+use Rattle.syntax.specs.Lists.{In}
 use Rattle.system.specs.declared.system.System.{System}
 use Rattle.calculus.specs.Dependence.{Directly, Respecting}
 use Rattle.calculus.specs.Steps.{State, Step, Allowed, Run, opening}

@@ -1,6 +1,6 @@
 -- The arm that a choice took is that of the event that acts there.
 use Rattle.std.proofs.Common.{◌≡◌, List, [], ◌∷◌, Bool, true, false, refl, sym, ◌∙◌, inl, inr, ap}
-use Rattle.system.specs.Lists.{In}
+use Rattle.syntax.specs.Lists.{In}
 use Rattle.calculus.specs.Dependence.{Earlier}
 use Rattle.calculus.specs.Events.{acting}
 use Rattle.calculus.specs.walking.EventLaws.{same_place-decides}

@@ -1,6 +1,6 @@
 -- What the arms that were taken are, in a run.
 use Rattle.std.specs.Prelude.{◌≡◌, List, None}
-use Rattle.system.specs.Lists.{In}
+use Rattle.syntax.specs.Lists.{In}
 use Rattle.system.specs.declared.system.System.{System}
 use Rattle.calculus.specs.Events.{acting}
 use Rattle.calculus.specs.Moves.{Place}

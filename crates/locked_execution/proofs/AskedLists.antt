@@ -1,6 +1,6 @@
 -- Lists of commands that sessions ask, one more at a time.
 use Rattle.std.proofs.Common.{◌≡◌, ℕ, ◌+◌, ◌<◌, ◌≤◌, List, [], ◌∷◌, ◌++◌, length, take, get_or, refl, sym, ap, subst}
-use Rattle.system.specs.Lists.{Every}
+use Rattle.syntax.specs.Lists.{Every}
 use Rattle.calculus.proofs.Lists.{every-in}
 use Rattle.machine.proofs.Gathering.{take-more, take-all, in-item}
 use Rattle.locked_execution.specs.AtDesk.{AtDesk}

@@ -1,6 +1,6 @@
 -- What a command of a session leaves as it is.
 use Rattle.std.proofs.Common.{◌≡◌, ◌≢◌, ◌⊎◌, ◌↔◌, inl, inr, ℕ, ◌<◌, List, [], ◌∷◌, length, refl, sym, ◌∙◌, ap, subst, get_or, get_or-set_same, get_or-set_other}
-use Rattle.system.specs.Lists.{In}
+use Rattle.syntax.specs.Lists.{In}
 use Rattle.calculus.specs.Does.{Does, MayWantMemory}
 use Rattle.calculus.specs.declared.command.Command as calculus_command
 use Rattle.calculus.specs.declared.command.Reply as calculus_reply

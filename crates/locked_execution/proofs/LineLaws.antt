@@ -1,7 +1,7 @@
 -- The lines that have a breakpoint once one is set or cleared.
 use Rattle.std.proofs.Common.{◌≡◌, ◌≢◌, ◌⊎◌, ◌↔◌, inl, inr, ℕ, ◌==◌, List, [], ◌∷◌, Bool, true, false, cond, not, refl, sym, ◌∙◌, eqb-true, eq-eqb}
 use Rattle.std.specs.Prelude.{nat_lt}
-use Rattle.system.specs.Lists.{In}
+use Rattle.syntax.specs.Lists.{In}
 use Rattle.machine.specs.Breakpoints.{with_line, without_line}
 
 -- a line among them is the new one or was there

@@ -1,6 +1,6 @@
 -- What a desk holds: an execution, and the breakpoints of sixteen sessions.
 use Rattle.std.specs.Prelude.{◌≡◌, ℕ, ◌<◌, ◌≤◌, List, [], length, replicate, slice_index_or, slice_set}
-use Rattle.system.specs.Lists.{Every}
+use Rattle.syntax.specs.Lists.{Every}
 use Rattle.calculus.specs.InOrder.{InOrder}
 use Rattle.calculus.specs.Object.{Object}
 use Rattle.machine.specs.Breakpoints.{most_breaks}

@@ -1,6 +1,6 @@
 // The commands of several sessions.
 ghost use Rattle.std.specs.Prelude.{◌≡◌, ◌<◌, IfOk, OnErr};
-ghost use Rattle.system.specs.Lists.{Every};
+ghost use Rattle.syntax.specs.Lists.{Every};
 ghost use Rattle.machine.specs.Headline.{Headline, Grows};
 ghost use Rattle.locked_execution.specs.AtDesk.{execution};
 ghost use Rattle.locked_execution.specs.Answered.{Answered};

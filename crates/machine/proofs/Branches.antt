@@ -2,7 +2,7 @@
 use Rattle.std.proofs.Common.{◌≡◌, ◌⊎◌, inl, inr, ℕ, suc, ◌+◌, ◌<◌, ◌≤◌, List, [], ◌∷◌, ◌++◌, Bool, true, false, cond, length, take, drop, get_or, Option, Some, None, Result, Ok, Err, refl, sym, ◌∙◌, ap, subst, slice_get}
 use Rattle.std.specs.Prelude.{IfOk, OnErr, MatchOption, MatchResult, filter}
 use Rattle.std.proofs.lemmas.List.Elements.{filter-append}
-use Rattle.system.specs.Lists.{Every}
+use Rattle.syntax.specs.Lists.{Every}
 use Rattle.sharing_check.specs.declared.checked.Checked.{Checked}
 use Rattle.system_places.specs.SystemBranches.{branch_at}
 use Rattle.event_places.specs.EventPlaces.{line_after}

@@ -3,7 +3,7 @@ use Rattle.std.proofs.Common.{◌≡◌, ℕ, suc, ◌==◌, ◌<◌, ◌≤◌,
 use Rattle.std.specs.Prelude.{nat_lt, filter, insert}
 use Rattle.std.proofs.lemmas.Bool.{ltb-true}
 use Rattle.std.proofs.lemmas.Bool.Decides.{nat_tests}
-use Rattle.system.specs.Lists.{Every}
+use Rattle.syntax.specs.Lists.{Every}
 use Rattle.system.specs.Expression.{is_in}
 use Rattle.calculus.specs.InOrder.{InOrder}
 use Rattle.calculus.proofs.Lists.{every-in, every-map}

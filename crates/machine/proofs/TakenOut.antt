@@ -1,7 +1,7 @@
 -- What a rollback takes out, and what it and the questions about followers answer.
 use Rattle.std.proofs.Common.{◌≡◌, inl, inr, ℕ, ◌-◌, ◌≤◌, List, [], ◌∷◌, length, Bool, true, false, not, cond, filter, Result, Ok, Err, refl, sym, subst, arith}
 use Rattle.std.specs.Prelude.{IfOk}
-use Rattle.system.specs.Lists.{In}
+use Rattle.syntax.specs.Lists.{In}
 use Rattle.system.specs.Expression.{is_in}
 use Rattle.calculus.specs.Dependence.{ended, stays, leaves}
 use Rattle.calculus.specs.Live.{Live, LiveAt, Follows, WithoutTickets, FollowersList, LastWriter}

@@ -1,6 +1,6 @@
 -- What a branch does: the first of its events that no breakpoint keeps back is taken.
 use Rattle.std.specs.Prelude.{◌≡◌, ◌⊎◌, ℕ, ◌==◌, List, [], ◌∷◌, ◌++◌, Bool, true, false, not, Option, Some, None, filter}
-use Rattle.system.specs.Lists.{Every}
+use Rattle.syntax.specs.Lists.{Every}
 use Rattle.system.specs.Expression.{is_in}
 use Rattle.system_places.specs.SystemBranches.{branch_at}
 use Rattle.calculus.specs.Steps.{State}

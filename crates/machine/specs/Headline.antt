@@ -1,6 +1,6 @@
 -- What a designer may rely on after any commands by any sessions.
 use Rattle.std.specs.Prelude.{◌≡◌, ◌⊎◌, ◌↔◌, ℕ, ◌+◌, ◌<◌, ◌≤◌, List, length, Some}
-use Rattle.system.specs.Lists.{In}
+use Rattle.syntax.specs.Lists.{In}
 use Rattle.calculus.specs.Steps.{State}
 use Rattle.calculus.specs.Dependence.{Causes, Without}
 use Rattle.calculus.specs.Live.{events, LiveAt, LastWriter}

@@ -1,6 +1,6 @@
 // A step of a branch: its first ready event whose line has no breakpoint.
 ghost use Rattle.std.specs.Prelude.{◌≡◌, ◌<◌, false, length, slice_get, Some, IfOk, OnErr, MatchOption, MatchResult};
-ghost use Rattle.system.specs.Lists.{Every};
+ghost use Rattle.syntax.specs.Lists.{Every};
 ghost use Rattle.system_places.specs.SystemBranches.{branch_at};
 ghost use Rattle.calculus.specs.Events.{acting};
 ghost use Rattle.calculus.specs.Choices.{choice_of};

@@ -3,7 +3,7 @@ use Rattle.std.proofs.Common.{◌≡◌, ◌⊎◌, inl, inr, ⊎_elim, ℕ, ◌
 use Rattle.address.specs.declared.Entry.{Entry}
 use Rattle.address.specs.declared.Entry.TheVariants.{Ordered, Branch}
 use Rattle.address.specs.Places.{Apart}
-use Rattle.system.specs.Lists.{In}
+use Rattle.syntax.specs.Lists.{In}
 use Rattle.sharing_check.specs.walking.Crossing.{Table, touched_here, noted}
 use Rattle.sharing_check.specs.walking.Gathering.{Gathered, gathered, Gathers}
 use Rattle.sharing_check.specs.Uses.{VariableUse, farther, behind}

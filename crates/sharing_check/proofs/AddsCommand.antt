@@ -4,7 +4,7 @@ use Rattle.std.proofs.lemmas.List.{map-append}
 use Rattle.address.specs.declared.Entry.{Entry}
 use Rattle.address.specs.declared.Entry.TheVariants.{Ordered, Branch}
 use Rattle.address.specs.Places.{Apart}
-use Rattle.system.specs.Lists.{In}
+use Rattle.syntax.specs.Lists.{In}
 use Rattle.system.specs.declared.expression.Use.{Use}
 use Rattle.system.specs.declared.expression.Expression.{Expression}
 use Rattle.system.specs.declared.expression.Expression.TheOpen.{Expression-F}

@@ -3,7 +3,7 @@ use Rattle.std.proofs.Common.{◌≡◌, ◌≢◌, ⊎_elim, ℕ, suc, ◌≤�
 use Rattle.address.specs.declared.Entry.{Entry}
 use Rattle.address.specs.declared.Entry.TheVariants.{Ordered}
 use Rattle.address.specs.Places.{Apart}
-use Rattle.system.specs.Lists.{In}
+use Rattle.syntax.specs.Lists.{In}
 use Rattle.sharing_check.specs.walking.Gathering.{Gathers, in_turn}
 use Rattle.sharing_check.specs.Uses.{VariableUse, behind, numbered}
 use Rattle.sharing_check.proofs.FitsParts.{in_either, from_behind}

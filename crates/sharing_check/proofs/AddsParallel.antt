@@ -4,7 +4,7 @@ use Rattle.std.proofs.lemmas.List.{append-nil}
 use Rattle.address.specs.declared.Entry.{Entry}
 use Rattle.address.specs.declared.Entry.TheVariants.{Branch}
 use Rattle.address.specs.Places.{Apart}
-use Rattle.system.specs.Lists.{In}
+use Rattle.syntax.specs.Lists.{In}
 use Rattle.system.specs.declared.system.Variable.{Variable}
 use Rattle.sharing_check.specs.walking.Crossing.{Table}
 use Rattle.sharing_check.specs.walking.Gathering.{Gathered, gathered, put_back, beside, all_beside, side_by_side}

@@ -6,7 +6,7 @@ use Rattle.std.proofs.lemmas.Map.Keys.{IsDistinct-tail}
 use Rattle.std.specs.Cmp.{nat_eq_equiv}
 use Rattle.std.specs.List.{IsDistinct}
 use Rattle.std.specs.Map.{keys_of, lookup}
-use Rattle.system.specs.Lists.{In}
+use Rattle.syntax.specs.Lists.{In}
 use Rattle.system.specs.declared.system.System.{System}
 use Rattle.sharing_check.specs.declared.widths.Width.{Width}
 use Rattle.sharing_check.specs.Rule.{is_sync, width}

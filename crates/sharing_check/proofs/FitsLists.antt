@@ -3,7 +3,7 @@ use Rattle.std.proofs.Common.{◌≡◌, ◌≢◌, inl, ⊎_elim, ℕ, suc, ◌
 use Rattle.address.specs.declared.Entry.{Entry}
 use Rattle.address.specs.declared.Entry.TheVariants.{Ordered, Branch}
 use Rattle.address.specs.Places.{Apart}
-use Rattle.system.specs.Lists.{In}
+use Rattle.syntax.specs.Lists.{In}
 use Rattle.system.specs.Residual.{Residual, Arms, no_arms, arm}
 use Rattle.system.specs.Translation.{in_sequence, in_parallel, arms_of}
 use Rattle.sharing_check.specs.Uses.{VariableUse, behind, numbered}

@@ -3,7 +3,7 @@ use Rattle.std.proofs.Common.{◌≡◌, ◌⊎◌, inl, inr, ⊎_elim, ℕ, Lis
 use Rattle.address.specs.declared.Entry.{Entry}
 use Rattle.address.specs.declared.Entry.TheVariants.{Ordered, Branch}
 use Rattle.address.specs.Places.{Apart}
-use Rattle.system.specs.Lists.{In}
+use Rattle.syntax.specs.Lists.{In}
 use Rattle.system.specs.Residual.{Residual, done, inside, beside, within, along, Arms}
 use Rattle.sharing_check.specs.Sharing.{Writes, WritesInArms, Mentions, MentionsInArms, OneBranchWrites, OneBranchWritesInArms}
 use Rattle.sharing_check.specs.Uses.{VariableUse, farther, behind}

@@ -1,6 +1,6 @@
 -- The variables that an expression names are those of its value.
 use Rattle.std.proofs.Common.{◌≡◌, ◌⊎◌, inl, inr, ⊎_elim, ℕ, List, [], ◌∷◌, ◌++◌, map, refl, sym, subst, false}
-use Rattle.system.specs.Lists.{In}
+use Rattle.syntax.specs.Lists.{In}
 use Rattle.system.specs.Expression as model
 use Rattle.system.specs.Translation.{expression_of, expression_layer}
 use Rattle.system.specs.declared.expression.Use.{Use}

@@ -1,7 +1,7 @@
 -- In a command whose uses do not clash, a variable that one branch writes is used by no other.
 use Rattle.std.proofs.Common.{◌≡◌, ◌⊎◌, inl, inr, ⊎_elim, ℕ, suc, List, [], ◌∷◌, ◌++◌, map, None, Some, refl, sym, ap, subst, false}
 use Rattle.address.specs.declared.Entry.TheVariants.{Ordered, Branch}
-use Rattle.system.specs.Lists.{In}
+use Rattle.syntax.specs.Lists.{In}
 use Rattle.system.specs.Expression.{variables, variables_of_all, Decision, decision_variables}
 use Rattle.system.specs.Residual.{Residual, Arms, test}
 use Rattle.system.specs.Translation.{OnChannel, OnGuard, OnLabels, in_sequence, in_parallel, arms_of, if_of, choose_of, action_layer, arm_layer, command_layer, guarded_layer, labelled_layer, expression_of, residual_of}

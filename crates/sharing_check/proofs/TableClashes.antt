@@ -1,6 +1,6 @@
 -- The least offset at which two tables clash.
 use Rattle.std.proofs.Common.{◌≡◌, ◌⊎◌, inl, inr, ⊎_elim, ℕ, List, [], ◌∷◌, Bool, true, false, cond, nat_lt, length, Option, None, Some, is_some, slice_get, refl, sym, ap, ◌∙◌, subst, le_refl}
-use Rattle.system.specs.Lists.{In}
+use Rattle.syntax.specs.Lists.{In}
 use Rattle.system.specs.declared.system.Variable.{Variable}
 use Rattle.sharing_check.specs.declared.touched.Touched.{Touched}
 use Rattle.sharing_check.specs.walking.Crossing.{Table, lesser, together, clashing, clash, touched_at, noted, least_after, least_with}

@@ -2,7 +2,7 @@
 use Rattle.std.proofs.Common.{◌≡◌, ◌⊎◌, inl, inr, ⊎_elim, ℕ, [], ◌∷◌, Bool, true, false, cond, nat_eq, nat_lt, length, eqb-true, eq-eqb, Option, Some, unwrap_or, refl, sym, ap, ◌∙◌, subst}
 use Rattle.std.specs.Map.{lookup}
 use Rattle.indexmap.specs.IndexMap.{insert_entry}
-use Rattle.system.specs.Lists.{In}
+use Rattle.syntax.specs.Lists.{In}
 use Rattle.sharing_check.specs.declared.touched.Touched.{Touched}
 use Rattle.sharing_check.specs.walking.Crossing.{Table, lesser, nowhere, together, touched_at, noted, noted_all}
 use Rattle.sharing_check.specs.walking.Gathering.{in_one}

@@ -1,6 +1,6 @@
 -- The laws of the rule on sharing.
 use Rattle.std.specs.Prelude.{◌≡◌, ℕ, false}
-use Rattle.system.specs.Lists.{In}
+use Rattle.syntax.specs.Lists.{In}
 use Rattle.system.specs.Translation.{residual_of}
 use Rattle.system.specs.declared.system.System.{System}
 use Rattle.sharing_check.specs.Sharing.{OneBranchWrites}

@@ -4,7 +4,7 @@ use Rattle.system.specs.declared.system.System.{System}
 use Rattle.sharing_check.specs.Rule.{SharesWell, is_sync, is_shared, width, sender_on, receiver_on, user_on}
 use Rattle.refusals.specs.declared.sharing_check.Fault.{Fault}
 use Rattle.refusals.specs.declared.sharing_check.Fault.TheVariants.{Memory, Shared, Width}
-use Rattle.system.specs.Lists.{In}
+use Rattle.syntax.specs.Lists.{In}
 use Rattle.address.specs.Places.{Apart}
 use Rattle.system.specs.declared.system.Channel.{Channel}
 use Rattle.sharing_check.specs.Measure.{sending, receiving, syncing}

@@ -1,6 +1,6 @@
 -- That a variable which one branch writes is neither read nor written in another.
 use Rattle.std.specs.Prelude.{◌≡◌, ◌⊎◌, ℕ}
-use Rattle.system.specs.Lists.{In}
+use Rattle.syntax.specs.Lists.{In}
 use Rattle.system.specs.Expression.{variables, decision_variables}
 use Rattle.system.specs.Residual.{Residual, inside, beside, assign, send, receive, loop, while, test, choose, Arms, no_arms, arm}
 

@@ -7,7 +7,7 @@ use Rattle.std.proofs.lemmas.Bool.{eqb-true, eqb-false, ne_eqb, not-true, not_fr
 use Rattle.address.specs.Order.{order_of}
 use Rattle.address.specs.walking.OrderLaws.{greater-not-less}
 use Rattle.address.proofs.Total.{order-antisymmetric}
-use Rattle.system.specs.Lists.{In}
+use Rattle.syntax.specs.Lists.{In}
 use Rattle.calculus.specs.Choices.{choice_of}
 use Rattle.calculus.specs.Events.{acting}
 use Rattle.calculus.specs.walking.EventLaws.{same_place-decides}

@@ -1,4 +1,3 @@
-pub use Rattle.syntax.specs.Lists
 pub mod Expression
 pub mod Residual
 pub mod Translation

@@ -3,7 +3,7 @@
 use Rattle.std.specs.Prelude.{◌≡◌, ◌↔◌, List, Some}
 use Rattle.calculus.specs.walking.StepOf.{run_of}
 use Rattle.calculus.specs.walking.AllowedEvents.{allowed_events}
-use Rattle.system.specs.Lists.{In}
+use Rattle.syntax.specs.Lists.{In}
 use Rattle.system.specs.declared.system.System.{System}
 use Rattle.calculus.specs.Steps.{opening, Run, State, Allowed}
 use Rattle.calculus.specs.WellFormed.{WellFormed}

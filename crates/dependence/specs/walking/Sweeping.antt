@@ -1,7 +1,7 @@
 -- The sweep down over places that finds the topmost of some events.
 -- No reader has to believe it: `topmost` ties it to `Topmost`.
 use Rattle.std.specs.Prelude.{◌≡◌, ◌↔◌, ℕ, ◌+◌, ◌<◌, ◌≤◌, List, length, Bool, true, Some, slice_get}
-use Rattle.system.specs.Lists.{In}
+use Rattle.syntax.specs.Lists.{In}
 use Rattle.calculus.specs.Live.{Live}
 use Rattle.dependence.specs.walking.Tables.{StandsAt, Falling, Topmost, Reaches}
 

@@ -1,7 +1,7 @@
 -- The event of a list that is taken, and why none is.
 -- No reader has to believe it: the proofs of `step` and `branch_step` tie it to `Steps` of `calculus` and to `StepsBranch` of `Branching.antt`.
 use Rattle.std.specs.Prelude.{◌≡◌, ◌<◌, ◌≤◌, ℕ, List, Option, Some, None, IsSome, take, slice_get, Bool, true, false, [], ◌∷◌, cond}
-use Rattle.system.specs.Lists.{In, Every}
+use Rattle.syntax.specs.Lists.{In, Every}
 use Rattle.calculus.specs.Choices.{choice_of}
 use Rattle.calculus.specs.Object.{most_live, last_ticket}
 use Rattle.calculus.specs.declared.event.Event.{Event}

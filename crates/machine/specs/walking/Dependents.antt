@@ -1,7 +1,7 @@
 -- Which of the live events after an event depends directly on it.
 -- No reader has to believe it: `proofs/Direct.antt` ties it to `FirstDependent` of `calculus`.
 use Rattle.std.specs.Prelude.{◌≡◌, ℕ, ◌∷◌, ◌++◌, Some, slice_get}
-use Rattle.system.specs.Lists.{Every}
+use Rattle.syntax.specs.Lists.{Every}
 use Rattle.calculus.specs.Dependence.{Directly}
 use Rattle.calculus.specs.Live.{Live}
 use Rattle.calculus.specs.declared.event.Event.{Event}

@@ -1,7 +1,7 @@
 -- Who follows, as it is gathered from the first live event to the last.
 -- No reader has to believe it: the proofs of `followers` and `last_writer` tie it to `FollowersList` and `LastWriter` of `calculus`.
 use Rattle.std.specs.Prelude.{◌≡◌, ◌↔◌, ℕ, ◌<◌, List, ◌∷◌, ◌++◌, Some}
-use Rattle.system.specs.Lists.{In}
+use Rattle.syntax.specs.Lists.{In}
 use Rattle.calculus.specs.Dependence.{Directly}
 use Rattle.calculus.specs.InOrder.{InOrder}
 use Rattle.calculus.specs.Live.{Live, LiveAt, Follows, NoWriter}

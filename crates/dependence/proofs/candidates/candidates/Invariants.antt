@@ -1,5 +1,5 @@
 use Rattle.std.proofs.Common.{◌↔◌, ℕ, take}
-use Rattle.system.specs.Lists.{In}
+use Rattle.syntax.specs.Lists.{In}
 use Rattle.calculus.specs.Live.{LiveAt}
 use Rattle.calculus.specs.Dependence.{Directly}
 use Rattle.calculus.specs.declared.event.Event.{Event}

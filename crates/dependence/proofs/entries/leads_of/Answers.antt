@@ -1,6 +1,6 @@
 use Rattle.std.proofs.Common.{◌↔◌, ℕ, List, subst, arith}
 use Rattle.std.proofs.lemmas.Result.{IfOk-weaker}
-use Rattle.system.specs.Lists.{In}
+use Rattle.syntax.specs.Lists.{In}
 use Rattle.dependence.specs.walking.Tables.{Topmost}
 use Rattle.dependence.proofs.Edges.{candidates-stand}
 use Rattle.dependence.proofs.entries.leads_of.Goals as goal

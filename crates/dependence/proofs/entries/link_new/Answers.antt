@@ -1,6 +1,6 @@
 use Rattle.std.proofs.Common.{◌≡◌, ◌∙◌, ℕ, List, [], ◌∷◌, ◌++◌, length, refl, sym, ap, subst}
 use Rattle.std.proofs.lemmas.Result.{MatchResult-from_err}
-use Rattle.system.specs.Lists.{In}
+use Rattle.syntax.specs.Lists.{In}
 use Rattle.dependence.specs.declared.links.Links.{Links}
 use Rattle.dependence.specs.walking.Tables.{PartLinked, Falling}
 use Rattle.dependence.proofs.Linking.{next-absent}

@@ -1,5 +1,5 @@
 use Rattle.std.proofs.Common.{ℕ, ◌<◌, List, take, refl, subst}
-use Rattle.system.specs.Lists.{In}
+use Rattle.syntax.specs.Lists.{In}
 use Rattle.dependence.specs.walking.Tables.{PartLinked}
 use Rattle.dependence.proofs.ListPlaces.{in-read, in-take, in-order-take, take-all}
 use Rattle.dependence.proofs.Linking.{link-next, link-same, next-absent}

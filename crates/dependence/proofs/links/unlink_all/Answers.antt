@@ -1,5 +1,5 @@
 use Rattle.std.proofs.Common.{ℕ, List, drop, refl, subst}
-use Rattle.system.specs.Lists.{In}
+use Rattle.syntax.specs.Lists.{In}
 use Rattle.dependence.specs.walking.Tables.{PartLinked}
 use Rattle.dependence.proofs.ListPlaces.{in-read, drop-all}
 use Rattle.dependence.proofs.Linking.{lists-ascend, unlink-next}

@@ -1,6 +1,6 @@
 use Rattle.std.proofs.Common.{ℕ, ◌⊎◌, ◌↔◌, List, subst, ◌<◌, ◌≡◌, length, arith}
 use Rattle.std.proofs.lemmas.Option.{slice_get_within}
-use Rattle.system.specs.Lists.{In}
+use Rattle.syntax.specs.Lists.{In}
 use Rattle.dependence.specs.walking.Marking.{MarkedAt}
 use Rattle.dependence.proofs.ListPlaces.{in-read, take-all}
 use Rattle.dependence.proofs.Markings.{marked-next}

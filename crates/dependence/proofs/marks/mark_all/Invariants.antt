@@ -1,5 +1,5 @@
 use Rattle.std.proofs.Common.{◌⊎◌, ◌↔◌, ℕ, take}
-use Rattle.system.specs.Lists.{In}
+use Rattle.syntax.specs.Lists.{In}
 use Rattle.dependence.specs.walking.Marking.{MarkedAt}
 use Rattle.dependence.proofs.marks.mark_all.Given as goal
 

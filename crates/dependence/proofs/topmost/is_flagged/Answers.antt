@@ -1,5 +1,5 @@
 use Rattle.std.proofs.Common.{ℕ, List, get_or, refl, sym, subst}
-use Rattle.system.specs.Lists.{In}
+use Rattle.syntax.specs.Lists.{In}
 use Rattle.dependence.specs.walking.Sweeping.{FlagAt}
 use Rattle.dependence.proofs.ListPlaces.{in-read, none-more, take-all}
 use Rattle.dependence.proofs.topmost.is_flagged.Goals as goal

@@ -1,7 +1,7 @@
 use Rattle.std.proofs.Common.{◌≡◌, ◌∙◌, ◌<◌, ◌-◌, ◌+◌, ◌↔◌, ℕ, suc, List, Bool, [], ◌∷◌, ◌++◌, cond, length, get_or, IsTrue, sym, ap, subst, arith}
 use Rattle.system.specs.Expression.{is_in}
 use Rattle.calculus.specs.declared.event.Event.{Event}
-use Rattle.system.specs.Lists.{In}
+use Rattle.syntax.specs.Lists.{In}
 use Rattle.dependence.specs.Followers.{ListsFollowers}
 use Rattle.dependence.specs.walking.Sweeping.{FlagAt, Swept}
 use Rattle.dependence.proofs.Linking.{linked-here}

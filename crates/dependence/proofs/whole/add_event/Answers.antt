@@ -1,5 +1,5 @@
 use Rattle.std.proofs.Common.{◌≡◌, ◌∙◌, ◌++◌, ◌∷◌, [], ℕ, List, Bool, false, sym, ap, subst, arith}
-use Rattle.system.specs.Lists.{In}
+use Rattle.syntax.specs.Lists.{In}
 use Rattle.calculus.specs.Live.{Live, Rising}
 use Rattle.dependence.specs.Shown.{tickets_marked}
 use Rattle.dependence.specs.declared.links.Links.{Links}

@@ -1,7 +1,7 @@
 use Rattle.std.proofs.Common.{◌≡◌, List, false, subst}
 use Rattle.std.specs.Prelude.{MatchOption}
 use Rattle.std.proofs.lemmas.Result.{IfOk-weaker}
-use Rattle.system.specs.Lists.{Every}
+use Rattle.syntax.specs.Lists.{Every}
 use Rattle.calculus.specs.declared.event.Event.{Event}
 use Rattle.machine.specs.walking.Choosing.{FirstAt, Takes, moves, line_of_first}
 use Rattle.machine.specs.Held.{held}

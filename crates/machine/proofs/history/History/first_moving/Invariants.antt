@@ -1,5 +1,5 @@
 use Rattle.std.proofs.Common.{◌≡◌, false, take}
-use Rattle.system.specs.Lists.{Every}
+use Rattle.syntax.specs.Lists.{Every}
 use Rattle.machine.specs.Held.{held}
 use Rattle.machine.specs.walking.Choosing.{moves}
 use Rattle.machine.proofs.history.History.first_moving.Given as goal
