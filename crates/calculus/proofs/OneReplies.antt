@@ -2,7 +2,7 @@
 use Rattle.std.proofs.Common.{◌≡◌, ℕ, ◌+◌, ◌<◌, ◌≤◌, List, [], ◌∷◌, length, Some, refl, sym, ◌∙◌, ap, subst, arith, slice_get}
 use Rattle.value.specs.Word.{Word}
 use Rattle.calculus.specs.Steps.{State}
-use Rattle.calculus.specs.Ready.{Possible, Chosen, ReadyList, Sooner}
+use Rattle.calculus.specs.Ready.{ChoiceAllowed, Chosen, ReadyList, Sooner}
 use Rattle.calculus.specs.Dependence.{ended, stays, leaves}
 use Rattle.calculus.specs.Live.{Live, events, LiveAt, Follows, WithoutTickets, NoDependent, LastWriter, FollowersList}
 use Rattle.calculus.specs.Object.{Object, Reaches, most_live, last_ticket, with_event, with_live}
@@ -49,12 +49,12 @@ state-formed o T s r = run-formed o.opening T (events o.live) (sound-formed o s)
 -- a step
 step-refusals : (o : Object) (c : Choice) (why other : Refusal) → Sound o → RefusesStep o c why → RefusesStep o c other → why ≡ other
 step-refusals o c NotReady NotReady s h g = refl
-step-refusals o c NotReady HistoryFull s h g = absurd (h.2 (subst (λ (T : State). Possible T c) (reaches-one o g.0.0 h.0 s g.0.1 h.1) g.0.2))
-step-refusals o c NotReady Spent s h g = absurd (h.2 (subst (λ (T : State). Possible T c) (reaches-one o g.0.0 h.0 s g.0.1 h.1) g.0.2))
-step-refusals o c HistoryFull NotReady s h g = absurd (g.2 (subst (λ (T : State). Possible T c) (reaches-one o h.0.0 g.0 s h.0.1 g.1) h.0.2))
+step-refusals o c NotReady HistoryFull s h g = absurd (h.2 (subst (λ (T : State). ChoiceAllowed T c) (reaches-one o g.0.0 h.0 s g.0.1 h.1) g.0.2))
+step-refusals o c NotReady Spent s h g = absurd (h.2 (subst (λ (T : State). ChoiceAllowed T c) (reaches-one o g.0.0 h.0 s g.0.1 h.1) g.0.2))
+step-refusals o c HistoryFull NotReady s h g = absurd (g.2 (subst (λ (T : State). ChoiceAllowed T c) (reaches-one o h.0.0 g.0 s h.0.1 g.1) h.0.2))
 step-refusals o c HistoryFull HistoryFull s h g = refl
 step-refusals o c HistoryFull Spent s h g = let full : most_live ≤ length o.live = h.1 in let room : length o.live < most_live = g.1 in absurd (omega arith)
-step-refusals o c Spent NotReady s h g = absurd (g.2 (subst (λ (T : State). Possible T c) (reaches-one o h.0.0 g.0 s h.0.1 g.1) h.0.2))
+step-refusals o c Spent NotReady s h g = absurd (g.2 (subst (λ (T : State). ChoiceAllowed T c) (reaches-one o h.0.0 g.0 s h.0.1 g.1) h.0.2))
 step-refusals o c Spent HistoryFull s h g = let full : most_live ≤ length o.live = g.1 in let room : length o.live < most_live = h.1 in absurd (omega arith)
 step-refusals o c Spent Spent s h g = refl
 step-refusals o c NotReady _ s h g = absurd g
@@ -64,7 +64,7 @@ step-refusals o c _ other s h g = absurd h
 
 step-or-refused : (o p : Object) (c : Choice) (t : ℕ) (e : Event) (why : Refusal) → Sound o → Steps o c (Reply.Stepped t e) p → RefusesStep o c why → ⊥
 step-or-refused o p c t e NotReady s h g =
-    g.2 (subst (λ (T : State). Possible T c) (reaches-one o h.3.0 g.0 s h.3.1 g.1) (e, h.3.2.allowed, h.3.2.choice))
+    g.2 (subst (λ (T : State). ChoiceAllowed T c) (reaches-one o h.3.0 g.0 s h.3.1 g.1) (e, h.3.2.allowed, h.3.2.choice))
 step-or-refused o p c t e HistoryFull s h g = let full : most_live ≤ length o.live = g.1 in let room : length o.live < most_live = h.1 in omega arith
 step-or-refused o p c t e Spent s h g = let over : last_ticket < o.next = g.2 in let within : o.next ≤ last_ticket = h.2 in omega arith
 step-or-refused o p c t e _ s h g = absurd g

@@ -15,7 +15,7 @@ use Rattle.calculus.specs.Steps.{State, Allowed}
 use Rattle.calculus.specs.walking.AllowedEvents.{allowed_events}
 use Rattle.calculus.specs.Choices.{choice_of}
 use Rattle.calculus.specs.InOrder.{InOrder}
-use Rattle.calculus.specs.Ready.{other, Sooner, ReadyList, Possible, Chosen}
+use Rattle.calculus.specs.Ready.{other, Sooner, ReadyList, ChoiceAllowed, Chosen}
 use Rattle.calculus.specs.declared.event.Event.{Event}
 use Rattle.calculus.specs.declared.event.Choice.{Choice}
 use Rattle.calculus.specs.declared.event.Kind.{Kind}
@@ -252,7 +252,7 @@ first? c (e ∷ es) order =
     ]
 
 -- a choice means an event, or none with it is allowed
-pub chosen? : (S : State) (c : Choice) → WellFormed S.residual → ((e : Event) × Chosen S c e) ⊎ (Possible S c → ⊥)
+pub chosen? : (S : State) (c : Choice) → WellFormed S.residual → ((e : Event) × Chosen S c e) ⊎ (ChoiceAllowed S c → ⊥)
 chosen? S c w =
     let ready = ready-list S w in
     elim (first? c ready.0 ready.1.in_order) [

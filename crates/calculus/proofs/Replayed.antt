@@ -25,7 +25,7 @@ answered : (system : System) (h : List Event) (r : Option Plain) → option_map 
 answered system h None e = λ T run. none-some T (e ∙ run-found (opening system) h T (opening-formed system) run)
 answered system h (Some p) e = run-only (opening system) h (state_of p) (sym e)
 
--- a state is answered where the event leads to it, and none where the event is not possible
+-- a state is answered where the event leads to it, and none where the event is not allowed
 after_one : (S : State) (e : Event) (r : Option Plain) → WellFormed S.residual → option_map state_of r ≡ step_of S e
     → MatchOption r ((T : State) → Step S e T → ⊥) (λ p. Step S e (state_of p))
 after_one S e None w is = λ T step. none-some T (is ∙ step-found S e T w step)

@@ -1,7 +1,7 @@
 -- What each command answers and leaves: for each a function of the reply, a line for each reply that it can have.
 use Rattle.std.specs.Prelude.{◌≡◌, ◌⊎◌, ℕ, ◌+◌, ◌<◌, ◌≤◌, length, Some, None, slice_get}
 use Rattle.calculus.specs.Steps.{State}
-use Rattle.calculus.specs.Ready.{ReadyList, Possible, Chosen}
+use Rattle.calculus.specs.Ready.{ReadyList, ChoiceAllowed, Chosen}
 use Rattle.calculus.specs.Live.{Live, LiveAt, NoneAt, Follows, WithoutTickets, FirstDependent, NoDependent, LastWriter, NoWriter, FollowersList}
 use Rattle.calculus.specs.Object.{Object, Reaches, most_live, last_ticket, with_event, with_live}
 use Rattle.calculus.specs.declared.event.Event.{Event}
@@ -13,11 +13,11 @@ use Rattle.calculus.specs.declared.command.Refusal.TheVariants.{Memory, NotReady
 
 -- an event with this choice is allowed in the state of o
 abbrev pub CanStep : Object → Choice → Type 0
-CanStep o c = (T : State) × Reaches o T × Possible T c
+CanStep o c = (T : State) × Reaches o T × ChoiceAllowed T c
 
 -- why a step at the choice c is refused
 abbrev pub RefusesStep : Object → Choice → Refusal → Type 0
-RefusesStep o c NotReady = (T : State) × Reaches o T × (Possible T c → ⊥)
+RefusesStep o c NotReady = (T : State) × Reaches o T × (ChoiceAllowed T c → ⊥)
 RefusesStep o c HistoryFull = CanStep o c × (most_live ≤ length o.live)
 RefusesStep o c Spent = CanStep o c × (length o.live < most_live) × (last_ticket < o.next)
 RefusesStep o c _ = ⊥

@@ -39,8 +39,8 @@ pub record ReadyList (S : State) (es : List Event) : Type 0 where
   pub in_order : InOrder Sooner es
 
 -- an event with this choice is allowed in S
-abbrev pub Possible : State → Choice → Type 0
-Possible S c = (e : Event) × Allowed S e × (choice_of e ≡ c)
+abbrev pub ChoiceAllowed : State → Choice → Type 0
+ChoiceAllowed S c = (e : Event) × Allowed S e × (choice_of e ≡ c)
 
 -- e is the event that the choice means in S: it is allowed, and no allowed event with this choice
 -- has a lesser other address

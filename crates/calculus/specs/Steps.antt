@@ -18,14 +18,14 @@ abbrev pub Moves : Residual → List Located → Residual → Type 0
 Moves r [] q = r ≡ q
 Moves r (l ∷ ls) q = (t : Residual) × Local r l.place l.move t × Moves t ls q
 
--- the event e is possible in S, and leads to T
+-- the event e is allowed in S, and leads to T
 pub record Step (S : State) (e : Event) (T : State) : Type 0 where
   pub moves : List Located
   pub makes : Makes S.store moves e
   pub moved : Moves S.residual moves T.residual
   pub stored : T.store ≡ store_after e S.store
 
--- the event e is possible in S
+-- the event e is allowed in S
 abbrev pub Allowed : State → Event → Type 0
 Allowed S e = (T : State) × Step S e T
 

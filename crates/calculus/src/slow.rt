@@ -14,7 +14,7 @@ use std::alloc::{AllocError, Global};
 use system::System;
 
 /// The state to which the events lead in their order, from the state before the first event. `None` where one of them
-/// is not possible when its turn comes.
+/// is not allowed when its turn comes.
 ///
 /// It goes through all events from the first: it is slow, and is there to be compared with.
 pub fn replay(
@@ -31,7 +31,7 @@ pub fn replay(
     state_after(alloc, system.system(), events)
 }
 
-/// The state after the events in their order, if they are possible.
+/// The state after the events in their order, if they are allowed in turn.
 fn state_after(
     alloc: Global,
     system: &System,
@@ -61,7 +61,7 @@ pub fn replay_live(
     state_after_live(alloc, system.system(), live)
 }
 
-/// The state after the live events in their order, if they are possible.
+/// The state after the live events in their order, if they are allowed in turn.
 fn state_after_live(
     alloc: Global,
     system: &System,

@@ -26,7 +26,7 @@ use syntax::Shared;
 use value::Value;
 
 impl Plain {
-    /// The state after the event. `None` where the event is not possible.
+    /// The state after the event. `None` where the event is not allowed.
     pub fn after(&self, alloc: Global, event: &Event) -> Result<Option<Plain>, AllocError>
         ensures computed { IfOk result (λ r. option_map state_of r ≡ step_of (state_of self.now) event.now) }
         ensures step { WellFormed (state_of self.now).residual → IfOk result (λ r. MatchOption r ((T : State) → Step (state_of self.now) event.now T → ⊥) (λ p. Step (state_of self.now) event.now (state_of p))) }
@@ -35,7 +35,7 @@ impl Plain {
     }
 }
 
-/// The state after the event. `None` where the event is not possible.
+/// The state after the event. `None` where the event is not allowed.
 pub(crate) fn step(alloc: Global, state: &Plain, event: &Event) -> Result<Option<Plain>, AllocError>
     ensures { IfOk result (λ r. option_map state_of r ≡ step_of (state_of state.now) event.now) }
 {

@@ -19,7 +19,7 @@ use syntax::{Boxed, Items};
 use system::{Decision, Expression};
 use value::{Value, Width};
 
-/// A move that is possible at a place; of an open it is not said yet what is received.
+/// A move that is offered at a place; of an open it is not said yet what is received.
 #[derive(Drop)]
 pub(crate) struct Offer {
     pub(crate) place: Address,

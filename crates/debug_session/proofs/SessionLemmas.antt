@@ -241,6 +241,6 @@ more-by-line s t o m o' read left left' wrote held held' number line text comple
 
 -- the session on a new desk
 pub begun : (o : AtLine) (system : System) (source : List ℕ) (read left wrote held : Option (List ℕ)) (r : Result (Unit {0}) Fault)
-    → o ≡ first_line system source → Ends o.desk.held.checked o read left wrote held r
+    → o ≡ first_line system source → Ends o.desk.machine.checked o read left wrote held r
     → Ends system (first_line system source) read left wrote held r
-begun o system source read left wrote held r e ends = subst (λ x. Ends x.desk.held.checked x read left wrote held r) e ends
+begun o system source read left wrote held r e ends = subst (λ x. Ends x.desk.machine.checked x read left wrote held r) e ends

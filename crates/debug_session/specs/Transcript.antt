@@ -22,7 +22,7 @@ SaidAnswered system a (Line.Asked c) answer a' =
     × (answer ≡ answer_text system c reply)
 SaidAnswered system a (Line.Session session) answer a' =
     (answer ≡ session_text session) × (a' ≡ record { desk = a.desk; session = session; source = a.source })
-SaidAnswered system a Line.View answer a' = IsView a.desk.held (breaks_of a.desk a.session) a.source answer × (a' ≡ a)
+SaidAnswered system a Line.View answer a' = IsView a.desk.machine (breaks_of a.desk a.session) a.source answer × (a' ≡ a)
 SaidAnswered system a Line.Empty answer a' = (answer ≡ []) × (a' ≡ a)
 
 -- the line is answered so, and leaves a'

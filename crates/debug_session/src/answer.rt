@@ -22,7 +22,7 @@ pub(crate) fn answer_lines<R: BufRead, W: Write>(
     reader: &mut Counted<R>,
     writer: &mut Counted<W>,
 ) -> Result<(), Fault>
-    ensures ends { Ends sitting.old.desk.held.checked sitting.old (R.remaining (device reader.old)) (R.remaining (device reader.new))
+    ensures ends { Ends sitting.old.desk.machine.checked sitting.old (R.remaining (device reader.old)) (R.remaining (device reader.new))
         (W.contents (device writer.old)) (W.contents (device writer.new)) result }
     ensures read_failures { failures reader.new ≡ after_reading result (failures reader.old) }
     ensures write_failures { failures writer.new ≡ after_writing result (failures writer.old) }
@@ -47,11 +47,11 @@ fn answer_line<W: Write>(
     line: &[u8],
     number: u64,
 ) -> Result<(), Fault>
-    ensures checked { sitting.new.desk.held.checked ≡ sitting.old.desk.held.checked }
+    ensures checked { sitting.new.desk.machine.checked ≡ sitting.old.desk.machine.checked }
     ensures answered { (given : List ℕ) × Appends (W.contents (device writer.old)) (W.contents (device writer.new)) given
         × MatchResult result
-        (λ _. LineAnswered sitting.old.desk.held.checked sitting.old line.now given sitting.new)
-        (λ fault. LineStops sitting.old.desk.held.checked sitting.old line.now number given fault) }
+        (λ _. LineAnswered sitting.old.desk.machine.checked sitting.old line.now given sitting.new)
+        (λ fault. LineStops sitting.old.desk.machine.checked sitting.old line.now number given fault) }
     ensures failures { failures writer.new ≡ after_writing result (failures writer.old) }
 {
     let said = read_command(alloc, sitting.checked(), line, number)?;
@@ -62,8 +62,8 @@ fn answer_line<W: Write>(
 /// What is answered to a line, once the desk has performed its command.
 fn answer_to(alloc: Global, sitting: &mut Sitting<'_>, said: &Line) -> Result<Vec<u8>, AllocError>
     requires { SaysSession said.now }
-    ensures checked { sitting.new.desk.held.checked ≡ sitting.old.desk.held.checked }
-    ensures answered { IfOk result (λ answer. SaidAnswered sitting.old.desk.held.checked sitting.old said.now answer.items sitting.new) }
+    ensures checked { sitting.new.desk.machine.checked ≡ sitting.old.desk.machine.checked }
+    ensures answered { IfOk result (λ answer. SaidAnswered sitting.old.desk.machine.checked sitting.old said.now answer.items sitting.new) }
     ensures memory { OnErr result (said.now ≢ Line.Empty) }
 {
     match said {
@@ -83,8 +83,8 @@ fn answer_command(
     sitting: &mut Sitting<'_>,
     command: &Command,
 ) -> Result<Vec<u8>, AllocError>
-    ensures checked { sitting.new.desk.held.checked ≡ sitting.old.desk.held.checked }
-    ensures answered { IfOk result (λ answer. SaidAnswered sitting.old.desk.held.checked sitting.old (Line.Asked command.now) answer.items sitting.new) }
+    ensures checked { sitting.new.desk.machine.checked ≡ sitting.old.desk.machine.checked }
+    ensures answered { IfOk result (λ answer. SaidAnswered sitting.old.desk.machine.checked sitting.old (Line.Asked command.now) answer.items sitting.new) }
 {
     let reply = sitting.ask(command);
     write_reply(alloc, sitting.checked(), command, &reply)

@@ -46,7 +46,7 @@ impl<'a> Sitting<'a> {
 
     /// The system.
     pub(crate) fn checked(&self) -> &Checked
-        ensures { result.now ≡ self.now.desk.held.checked }
+        ensures { result.now ≡ self.now.desk.machine.checked }
     {
         self.desk.machine().checked()
     }
@@ -56,7 +56,7 @@ impl<'a> Sitting<'a> {
         ensures answers { Answers self.old.desk self.old.session command.now result self.new.desk }
         ensures session { self.new.session ≡ self.old.session }
         ensures source { self.new.source ≡ self.old.source }
-        ensures system { self.new.desk.held.checked ≡ self.old.desk.held.checked }
+        ensures system { self.new.desk.machine.checked ≡ self.old.desk.machine.checked }
     {
         self.desk.perform(self.session, command)
     }
@@ -71,7 +71,7 @@ impl<'a> Sitting<'a> {
 
     /// The view that the session has of the source.
     pub(crate) fn view(&self, alloc: Global) -> Result<Vec<u8>, AllocError>
-        ensures { IfOk result (λ bytes. IsView self.now.desk.held (breaks_of self.now.desk self.now.session) self.now.source bytes.items) }
+        ensures { IfOk result (λ bytes. IsView self.now.desk.machine (breaks_of self.now.desk self.now.session) self.now.source bytes.items) }
     {
         let breaks = self.desk.breaks(self.session);
         view(alloc, self.desk.machine(), breaks, self.source)

@@ -23,7 +23,7 @@ use Rattle.calculus.proofs.StateLaws.{reaches-one}
 use Rattle.calculus.proofs.ReadyLists.{ready-list, sooner-asymmetric}
 use Rattle.calculus.proofs.SortedLists.{same-elements}
 use Rattle.calculus.proofs.OneReplies.{one-reply}
-use Rattle.machine.specs.Held.{Held, object}
+use Rattle.machine.specs.AtMachine.{AtMachine, object}
 use Rattle.machine.specs.Branching.{in_branch, is_free, FirstFree, AllKeptBack, Branched, StepsBranch}
 use Rattle.machine.specs.walking.Choosing.{line_of_first, moves, FirstAt, Takes}
 use Rattle.machine.specs.declared.branching.BranchReply.{BranchReply}
@@ -60,19 +60,19 @@ some-free free es e h none =
 none-there : (free : Event → Bool) (es : List Event) (e : Event) → FirstFree free es e → es ≡ [] → ⊥
 none-there free es e h empty = some-free free es e h (subst (λ (l : List Event). Every (λ f. free f ≡ false) l) (sym empty) tt)
 
-back-every : (h : Held) (breaks : List ℕ) (es : List Event) (line : ℕ) → AllKeptBack h breaks es line → Every (λ e. is_free h breaks e ≡ false) es
+back-every : (h : AtMachine) (breaks : List ℕ) (es : List Event) (line : ℕ) → AllKeptBack h breaks es line → Every (λ e. is_free h breaks e ≡ false) es
 back-every h breaks [] line back = tt
 back-every h breaks (e ∷ es) line back = back.1
 
-back-there : (h : Held) (breaks : List ℕ) (es : List Event) (line : ℕ) → AllKeptBack h breaks es line → es ≡ [] → ⊥
+back-there : (h : AtMachine) (breaks : List ℕ) (es : List Event) (line : ℕ) → AllKeptBack h breaks es line → es ≡ [] → ⊥
 back-there h breaks es line back empty = subst (λ (l : List Event). AllKeptBack h breaks l line) empty back
 
-one-line : (h : Held) (breaks : List ℕ) (es : List Event) (m n : ℕ) → AllKeptBack h breaks es m → AllKeptBack h breaks es n → m ≡ n
+one-line : (h : AtMachine) (breaks : List ℕ) (es : List Event) (m n : ℕ) → AllKeptBack h breaks es m → AllKeptBack h breaks es n → m ≡ n
 one-line h breaks [] m n back again = absurd back
 one-line h breaks (e ∷ es) m n back again = some-injective m n (sym back.0 ∙ again.0)
 
 -- a step that is taken is not refused
-taken-or-refused : (h p : Held) (breaks : List ℕ) (es : List Event) (t : ℕ) (e f : Event) (why : Refusal) → Sound (object h) →
+taken-or-refused : (h p : AtMachine) (breaks : List ℕ) (es : List Event) (t : ℕ) (e f : Event) (why : Refusal) → Sound (object h) →
     Branched h breaks es (Stepped t e) p → FirstFree (is_free h breaks) es f → RefusesStep (object h) (choice_of f) why → ⊥
 taken-or-refused h p breaks es t e f why s b first refuses =
     let same : e ≡ f = one-free (is_free h breaks) es e f b.0 first in
@@ -87,10 +87,10 @@ reason other (Reply.Refused why) = why
 reason other _ = other
 
 -- two replies, and the executions after them, are the same
-abbrev Same : BranchReply → BranchReply → Held → Held → Type 0
+abbrev Same : BranchReply → BranchReply → AtMachine → AtMachine → Type 0
 Same reply other p q = (reply ≡ other) × (object p ≡ object q)
 
-one-branched : (h p q : Held) (breaks : List ℕ) (es : List Event) (reply other : BranchReply) → Sound (object h) →
+one-branched : (h p q : AtMachine) (breaks : List ℕ) (es : List Event) (reply other : BranchReply) → Sound (object h) →
     Branched h breaks es reply p → Branched h breaks es other q → Same reply other p q
 one-branched h p q breaks es (Stepped t e) (Stepped u f) s b c =
     let same : e ≡ f = one-free (is_free h breaks) es e f b.0 c.0 in
@@ -126,7 +126,7 @@ one-list S es fs h g =
     (λ e i. (g.exactly e).1 ((h.exactly e).0 i)) (λ e i. (h.exactly e).1 ((g.exactly e).0 i))
 
 -- at most one reply, and that determines the execution after it
-pub one-branch : (h p q : Held) (k : ℕ) (breaks : List ℕ) (reply other : BranchReply) → Sound (object h) →
+pub one-branch : (h p q : AtMachine) (k : ℕ) (breaks : List ℕ) (reply other : BranchReply) → Sound (object h) →
     StepsBranch h k breaks reply p → StepsBranch h k breaks other q → Same reply other p q
 one-branch h p q k breaks reply other s b c =
     let states : c.0 ≡ b.0 = reaches-one (object h) c.0 b.0 s c.2 b.2 in
@@ -146,12 +146,12 @@ first? test (e ∷ es) = pick (test e) refl (first? test es)
     pick false is (inr none) = inr (is, none)
 
 -- a reply to a step in a branch
-abbrev Replied : Held → ℕ → List ℕ → Type 0
-Replied h k breaks = (reply : BranchReply) × (h' : Held) × (h'.checked ≡ h.checked) × StepsBranch h k breaks reply h'
+abbrev Replied : AtMachine → ℕ → List ℕ → Type 0
+Replied h k breaks = (reply : BranchReply) × (h' : AtMachine) × (h'.checked ≡ h.checked) × StepsBranch h k breaks reply h'
 
 -- an event that is chosen is taken or refused
-some-take : (h : Held) (T : State) (e : Event) → Reaches (object h) T → Chosen T (choice_of e) e →
-    (reply : BranchReply) × (h' : Held) × (h'.checked ≡ h.checked) × Takes h e reply h'
+some-take : (h : AtMachine) (T : State) (e : Event) → Reaches (object h) T → Chosen T (choice_of e) e →
+    (reply : BranchReply) × (h' : AtMachine) × (h'.checked ≡ h.checked) × Takes h e reply h'
 some-take h T e r chosen =
     let can : CanStep (object h) (choice_of e) = (T, r, (e, chosen.allowed, chosen.choice)) in
     elim (cases_lt (length h.live) most_live) [
@@ -168,7 +168,7 @@ some-take h T e r chosen =
     ]
 
 -- where all are kept back
-some-back : (h : Held) (k : ℕ) (breaks : List ℕ) (T : State) (es : List Event) → Reaches (object h) T → ReadyList T es →
+some-back : (h : AtMachine) (k : ℕ) (breaks : List ℕ) (T : State) (es : List Event) → Reaches (object h) T → ReadyList T es →
     Every (λ e. moves h k breaks e ≡ false) es → Replied h k breaks
 some-back h k breaks T es r ready none = pick (line_of_first h (in_branch h k es)) refl
   where
@@ -186,7 +186,7 @@ some-back h k breaks T es r ready none = pick (line_of_first h (in_branch h k es
     pick None is = told None Idle is refl
     pick (Some n) is = told (Some n) (Stopped n) is refl
 
-pub some-branch : (h : Held) (k : ℕ) (breaks : List ℕ) → Sound (object h) → Replied h k breaks
+pub some-branch : (h : AtMachine) (k : ℕ) (breaks : List ℕ) → Sound (object h) → Replied h k breaks
 some-branch h k breaks s =
     let T : State = s.runs.0 in
     let r : Reaches (object h) T = s.runs.1 in

@@ -6,7 +6,7 @@ use Rattle.calculus.specs.Does.{Answers, MayWantMemory}
 use Rattle.calculus.specs.declared.command.Command as calculus_command
 use Rattle.calculus.specs.declared.command.Reply as calculus_reply
 use Rattle.calculus.specs.declared.command.Refusal.TheVariants.{Memory}
-use Rattle.machine.specs.Held.{Held, object}
+use Rattle.machine.specs.AtMachine.{AtMachine, object}
 use Rattle.machine.specs.Branching.{StepsBranch}
 use Rattle.machine.specs.declared.branching.BranchReply.{BranchReply}
 use Rattle.locked_execution.specs.AtDesk.{AtDesk, execution, breaks_of}
@@ -21,7 +21,7 @@ IsAnswered d d' reply c = (answer : calculus_reply.Reply) × (shown answer ≡ r
 
 -- what the command of the session, if it is one of the execution, is there
 Carries : AtDesk → AtDesk → Command → Reply → Type 0
-Carries d d' command reply = MatchOption (on_execution command reply) (d'.held ≡ d.held) (λ c. IsAnswered d d' reply c)
+Carries d d' command reply = MatchOption (on_execution command reply) (d'.machine ≡ d.machine) (λ c. IsAnswered d d' reply c)
 
 one : (d d' : AtDesk) (c : calculus_command.Command) (reply : Reply) →
     OnExecution d c reply d' ⊎ (MayWantMemory (execution d) c × (reply ≡ Reply.Refused Memory) × (d' ≡ d)) → IsAnswered d d' reply c
@@ -29,7 +29,7 @@ unfolding IsAnswered
 one d d' c reply (inl h) = (h.0, sym h.1, inl h.2)
 one d d' c reply (inr h) = (calculus_reply.Reply.Refused Memory, sym h.1, inr (h.0, refl, ap execution h.2))
 
-branch : (d d' : AtDesk) (session k : ℕ) (answer : BranchReply) → StepsBranch d.held k (breaks_of d session) answer d'.held →
+branch : (d d' : AtDesk) (session k : ℕ) (answer : BranchReply) → StepsBranch d.machine k (breaks_of d session) answer d'.machine →
     Carries d d' (Command.Branch k) (shown_branch answer)
 unfolding Carries IsAnswered
 branch d d' session k (BranchReply.Stepped t e) h = (calculus_reply.Reply.Stepped t e, refl, inl h.4.1)
@@ -37,13 +37,13 @@ branch d d' session k (BranchReply.Stopped line) h = h.4.1
 branch d d' session k BranchReply.Idle h = h.4.1
 branch d d' session k (BranchReply.Refused why) h = h.4.1
 
-set : (d d' : AtDesk) (session line : ℕ) (reply : Reply) → SetsBreak d session line reply d' → d'.held ≡ d.held
-set d d' session line Reply.Done h = ap (λ (a : AtDesk). a.held) h.2
-set d d' session line (Reply.Refused why) h = ap (λ (a : AtDesk). a.held) h.1
+set : (d d' : AtDesk) (session line : ℕ) (reply : Reply) → SetsBreak d session line reply d' → d'.machine ≡ d.machine
+set d d' session line Reply.Done h = ap (λ (a : AtDesk). a.machine) h.2
+set d d' session line (Reply.Refused why) h = ap (λ (a : AtDesk). a.machine) h.1
 set d d' session line _ h = absurd h
 
-cleared : (d d' : AtDesk) (session line : ℕ) (reply : Reply) → ClearsBreak d session line reply d' → d'.held ≡ d.held
-cleared d d' session line Reply.Done h = ap (λ (a : AtDesk). a.held) h
+cleared : (d d' : AtDesk) (session line : ℕ) (reply : Reply) → ClearsBreak d session line reply d' → d'.machine ≡ d.machine
+cleared d d' session line Reply.Done h = ap (λ (a : AtDesk). a.machine) h
 cleared d d' session line _ h = absurd h
 
 pub is-on-execution : IsOnExecution
@@ -60,7 +60,7 @@ is-on-execution d d' session (Command.Value x) reply h = one d d' (calculus_comm
 is-on-execution d d' session (Command.Branch k) reply (inl h) =
     subst (λ (r : Reply). Carries d d' (Command.Branch k) r) (sym h.1) (branch d d' session k h.0 h.2)
 is-on-execution d d' session (Command.Branch k) reply (inr h) =
-    let held : d'.held ≡ d.held = ap (λ (a : AtDesk). a.held) h.2 in
+    let held : d'.machine ≡ d.machine = ap (λ (a : AtDesk). a.machine) h.2 in
     subst (λ (r : Reply). Carries d d' (Command.Branch k) r) (sym h.1) held
 is-on-execution d d' session (Command.Break line) reply (inl h) = set d d' session line reply h
 is-on-execution d d' session (Command.Break line) reply (inr h) = absurd h.0
@@ -68,16 +68,16 @@ is-on-execution d d' session (Command.Clear line) reply (inl h) = cleared d d' s
 is-on-execution d d' session (Command.Clear line) reply (inr h) = absurd h.0
 
 -- these commands of the execution, of which the sessions are told these replies, lead from what is held to d'
-Leads : Held → AtDesk → List calculus_command.Command → List Reply → Type 0
+Leads : AtMachine → AtDesk → List calculus_command.Command → List Reply → Type 0
 Leads h d' commands replies =
     (answers : List calculus_reply.Reply) × (map shown answers ≡ replies) × calculus.Answered (object h) commands answers (execution d')
 
 -- one more in front
 in-front : (d m d' : AtDesk) (o : Option calculus_command.Command) (reply : Reply) (commands : List calculus_command.Command) (replies : List Reply) →
-    MatchOption o (m.held ≡ d.held) (λ c. IsAnswered d m reply c) → Leads m.held d' commands replies →
-    Leads d.held d' (onto o commands) (onto (option_map (λ _. reply) o) replies)
+    MatchOption o (m.machine ≡ d.machine) (λ c. IsAnswered d m reply c) → Leads m.machine d' commands replies →
+    Leads d.machine d' (onto o commands) (onto (option_map (λ _. reply) o) replies)
 unfolding Leads IsAnswered
-in-front d m d' None reply commands replies held rest = subst (λ (h : Held). Leads h d' commands replies) held rest
+in-front d m d' None reply commands replies held rest = subst (λ (h : AtMachine). Leads h d' commands replies) held rest
 in-front d m d' (Some c) reply commands replies now rest =
     let first : shown now.0 ≡ reply = now.1 in
     let others : map shown rest.0 ≡ replies = rest.1 in
@@ -87,6 +87,6 @@ pub are-on-execution : AreOnExecution
 unfolding Leads IsAnswered
 are-on-execution d d' [] replies h = ([], refl, (refl, ap execution h.1))
 are-on-execution d d' (x ∷ xs) replies h =
-    subst (λ (rs : List Reply). Leads d.held d' (commands_of (x ∷ xs) rs) (replies_of (x ∷ xs) rs)) (sym h.3)
+    subst (λ (rs : List Reply). Leads d.machine d' (commands_of (x ∷ xs) rs) (replies_of (x ∷ xs) rs)) (sym h.3)
     (in-front d h.2 d' (on_execution x.1 h.0) h.0 (commands_of xs h.1) (replies_of xs h.1)
     (is-on-execution d h.2 x.0 x.1 h.0 h.4) (are-on-execution h.2 d' xs h.1 h.5))

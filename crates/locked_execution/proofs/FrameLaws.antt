@@ -6,7 +6,7 @@ use Rattle.calculus.specs.declared.command.Command as calculus_command
 use Rattle.calculus.specs.declared.command.Reply as calculus_reply
 use Rattle.calculus.specs.declared.command.Refusal.{Refusal}
 use Rattle.calculus.specs.declared.command.Refusal.TheVariants.{Memory}
-use Rattle.machine.specs.Held.{object}
+use Rattle.machine.specs.AtMachine.{object}
 use Rattle.machine.specs.Branching.{StepsBranch}
 use Rattle.machine.specs.declared.branching.BranchReply.{BranchReply}
 use Rattle.locked_execution.specs.AtDesk.{AtDesk, execution, breaks_of, with_breaks}
@@ -76,13 +76,13 @@ others-keep-theirs-over-lists d d' other [] replies h none = same d d' other h.1
 others-keep-theirs-over-lists d d' other (x ∷ xs) replies h none =
     others-keep-theirs-over-lists h.2 d' other xs h.1 h.5 none.1 ∙ others-keep-theirs d h.2 x.0 other x.1 h.0 h.4 none.0
 
-set-leaves : (d d' : AtDesk) (session line : ℕ) (reply : Reply) → SetsBreak d session line reply d' → d'.held ≡ d.held
-set-leaves d d' session line Reply.Done h = ap (λ (a : AtDesk). a.held) h.2
-set-leaves d d' session line (Reply.Refused why) h = ap (λ (a : AtDesk). a.held) h.1
+set-leaves : (d d' : AtDesk) (session line : ℕ) (reply : Reply) → SetsBreak d session line reply d' → d'.machine ≡ d.machine
+set-leaves d d' session line Reply.Done h = ap (λ (a : AtDesk). a.machine) h.2
+set-leaves d d' session line (Reply.Refused why) h = ap (λ (a : AtDesk). a.machine) h.1
 set-leaves d d' session line _ h = absurd h
 
-clear-leaves : (d d' : AtDesk) (session line : ℕ) (reply : Reply) → ClearsBreak d session line reply d' → d'.held ≡ d.held
-clear-leaves d d' session line Reply.Done h = ap (λ (a : AtDesk). a.held) h
+clear-leaves : (d d' : AtDesk) (session line : ℕ) (reply : Reply) → ClearsBreak d session line reply d' → d'.machine ≡ d.machine
+clear-leaves d d' session line Reply.Done h = ap (λ (a : AtDesk). a.machine) h
 clear-leaves d d' session line _ h = absurd h
 
 pub break-leaves-execution : BreakLeavesExecution
@@ -107,7 +107,7 @@ refused d d' c why (inr h) = h.2
 branch-refused : (d d' : AtDesk) (session k : ℕ) (why : Refusal) → OnBranch d session k (Reply.Refused why) d' → d' ≡ d
 branch-refused d d' session k why h = by_answer h.0 h.1 h.2
   where
-    by_answer : (answer : BranchReply) → Reply.Refused why ≡ shown_branch answer → StepsBranch d.held k (breaks_of d session) answer d'.held → d' ≡ d
+    by_answer : (answer : BranchReply) → Reply.Refused why ≡ shown_branch answer → StepsBranch d.machine k (breaks_of d session) answer d'.machine → d' ≡ d
     by_answer (BranchReply.Refused because) is steps = all-same d d' h.3 (ap object steps.4.1) h.4
     by_answer _ is steps = cc
 

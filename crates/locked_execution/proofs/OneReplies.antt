@@ -29,16 +29,16 @@ on-execution d p q c reply other s h g =
 on-branch : (d p q : AtDesk) (session k : ℕ) (reply other : Reply) → Sound (execution d) →
     OnBranch d session k reply p → OnBranch d session k other q → Same reply other p q
 on-branch d p q session k reply other s h g =
-    let one = one-branch d.held p.held q.held k (breaks_of d session) h.0 g.0 s h.2 g.2 in
+    let one = one-branch d.machine p.machine q.machine k (breaks_of d session) h.0 g.0 s h.2 g.2 in
     (h.1 ∙ ap shown_branch one.0 ∙ sym g.1, all-same q p (h.3 ∙ sym g.3) one.1 (h.4 ∙ sym g.4))
 
 -- a breakpoint is refused for one reason
 break-refusals : (d : AtDesk) (session line : ℕ) (why other : Refusal) → RefusesBreak d session line why → RefusesBreak d session line other → why ≡ other
 break-refusals d session line NoSuchLine NoSuchLine h g = refl
 break-refusals d session line NoSuchLine BreaksFull h g =
-    let off : begins line d.held.checked.main ≡ false = h in let on : begins line d.held.checked.main ≡ true = g.0 in cc
+    let off : begins line d.machine.checked.main ≡ false = h in let on : begins line d.machine.checked.main ≡ true = g.0 in cc
 break-refusals d session line BreaksFull NoSuchLine h g =
-    let off : begins line d.held.checked.main ≡ false = g in let on : begins line d.held.checked.main ≡ true = h.0 in cc
+    let off : begins line d.machine.checked.main ≡ false = g in let on : begins line d.machine.checked.main ≡ true = h.0 in cc
 break-refusals d session line BreaksFull BreaksFull h g = refl
 break-refusals d session line NoSuchLine _ h g = absurd g
 break-refusals d session line BreaksFull _ h g = absurd g
@@ -47,7 +47,7 @@ break-refusals d session line _ other h g = absurd h
 -- and one that is set is not refused
 set-or-refused : (d p : AtDesk) (session line : ℕ) (why : Refusal) → SetsBreak d session line Reply.Done p → RefusesBreak d session line why → ⊥
 set-or-refused d p session line NoSuchLine h g =
-    let on : begins line d.held.checked.main ≡ true = h.0 in let off : begins line d.held.checked.main ≡ false = g in cc
+    let on : begins line d.machine.checked.main ≡ true = h.0 in let off : begins line d.machine.checked.main ≡ false = g in cc
 set-or-refused d p session line BreaksFull h g =
     elim h.1 [
       | inl there ↦ let absent : is_in line (breaks_of d session) ≡ false = g.1 in cc

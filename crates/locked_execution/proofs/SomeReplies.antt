@@ -33,24 +33,24 @@ same-opening o o' (taken k back is) = ap (λ (p : Object). p.opening) is
 on-execution : (d : AtDesk) (c : calculus_command.Command) → Sound (execution d) → (reply : Reply) × (d' : AtDesk) × OnExecution d c reply d'
 on-execution d c s =
     let some = some-reply (execution d) c s in
-    let after : AtDesk = record { held = record { checked = d.held.checked; live = some.1.live; next = some.1.next }; breaks = d.breaks } in
-    let begun : some.1.opening ≡ opening d.held.checked = same-opening (execution d) some.1 (does-effect (execution d) c some.0 some.1 s some.2) in
+    let after : AtDesk = record { machine = record { checked = d.machine.checked; live = some.1.live; next = some.1.next }; breaks = d.breaks } in
+    let begun : some.1.opening ≡ opening d.machine.checked = same-opening (execution d) some.1 (does-effect (execution d) c some.0 some.1 s some.2) in
     let one : some.1 ≡ execution after = (λ i. record { opening = begun i; live = some.1.live; next = some.1.next }) in
     (shown some.0, after, (some.0, refl, subst (λ (o : Object). Does (execution d) c some.0 o) one some.2, refl, refl))
 
 on-branch : (d : AtDesk) (session k : ℕ) → Sound (execution d) → Replied d session (Command.Branch k)
 on-branch d session k s =
-    let some = some-branch d.held k (breaks_of d session) s in
-    (shown_branch some.0, record { held = some.1; breaks = d.breaks }, (some.0, refl, some.3, some.2, refl))
+    let some = some-branch d.machine k (breaks_of d session) s in
+    (shown_branch some.0, record { machine = some.1; breaks = d.breaks }, (some.0, refl, some.3, some.2, refl))
 
 -- the desk with a breakpoint of the session on the line
 abbrev set-there : AtDesk → ℕ → ℕ → AtDesk
 set-there d session line = with_breaks d session (with_line line (breaks_of d session))
 
 some-set : (d : AtDesk) (session line : ℕ) → Replied d session (Command.Break line)
-some-set d session line = pick (begins line d.held.checked.main) refl (is_in line (breaks_of d session)) refl
+some-set d session line = pick (begins line d.machine.checked.main) refl (is_in line (breaks_of d session)) refl
   where
-    pick : (begun : Bool) → begins line d.held.checked.main ≡ begun → (there : Bool) → is_in line (breaks_of d session) ≡ there →
+    pick : (begun : Bool) → begins line d.machine.checked.main ≡ begun → (there : Bool) → is_in line (breaks_of d session) ≡ there →
         Replied d session (Command.Break line)
     pick false off there is = (Reply.Refused NoSuchLine, d, (off, refl))
     pick true on true is = (Reply.Done, set-there d session line, (on, inl is, refl))

@@ -5,7 +5,7 @@ use Rattle.calculus.specs.Does.{Does}
 use Rattle.calculus.specs.declared.command.Command as calculus_command
 use Rattle.calculus.specs.declared.command.Reply as calculus_reply
 use Rattle.calculus.specs.declared.command.Refusal.{Refusal}
-use Rattle.machine.specs.Held.{Held, object}
+use Rattle.machine.specs.AtMachine.{AtMachine, object}
 use Rattle.locked_execution.specs.AtDesk.{AtDesk, execution}
 
 -- a refusal leaves the execution
@@ -21,14 +21,14 @@ refused-leaves o o' calculus_command.Command.Live why h = absurd h
 refused-leaves o o' (calculus_command.Command.Value x) why h = h.1
 
 -- one system and one execution are one
-pub held-same : (h k : Held) → k.checked ≡ h.checked → object k ≡ object h → k ≡ h
+pub held-same : (h k : AtMachine) → k.checked ≡ h.checked → object k ≡ object h → k ≡ h
 held-same h k system same =
     let live : k.live ≡ h.live = ap (λ (o : Object). o.live) same in
     let next = ap (λ (o : Object). o.next) same in
     λ i. record { checked = system i; live = live i; next = next i }
 
 -- and with the same breakpoints all is the same
-pub all-same : (d d' : AtDesk) → d'.held.checked ≡ d.held.checked → execution d' ≡ execution d → d'.breaks ≡ d.breaks → d' ≡ d
+pub all-same : (d d' : AtDesk) → d'.machine.checked ≡ d.machine.checked → execution d' ≡ execution d → d'.breaks ≡ d.breaks → d' ≡ d
 all-same d d' system same breaks =
-    let held = held-same d.held d'.held system same in
-    λ i. record { held = held i; breaks = breaks i }
+    let held = held-same d.machine d'.machine system same in
+    λ i. record { machine = held i; breaks = breaks i }

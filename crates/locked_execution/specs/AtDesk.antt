@@ -4,10 +4,10 @@ use Rattle.syntax.specs.Lists.{Every}
 use Rattle.calculus.specs.InOrder.{InOrder}
 use Rattle.calculus.specs.Object.{Object}
 use Rattle.machine.specs.Breakpoints.{most_breaks}
-use Rattle.machine.specs.Held.{Held, object}
+use Rattle.machine.specs.AtMachine.{AtMachine, object}
 
 pub record AtDesk : Type 0 where
-  pub held : Held
+  pub machine : AtMachine
   -- the lines with a breakpoint of session k stand at place k
   pub breaks : List (List ℕ)
 
@@ -25,12 +25,12 @@ pub record OfSessions (breaks : List (List ℕ)) : Type 0 where
   pub few : Every AreFew breaks
 
 -- before its first command
-abbrev pub new_desk : Held → AtDesk
-new_desk h = record { held = h; breaks = replicate sessions [] }
+abbrev pub new_desk : AtMachine → AtDesk
+new_desk h = record { machine = h; breaks = replicate sessions [] }
 
 -- the execution
 abbrev pub execution : AtDesk → Object
-execution d = object d.held
+execution d = object d.machine
 
 -- the lines with a breakpoint of the session
 abbrev pub breaks_of : AtDesk → ℕ → List ℕ
@@ -38,4 +38,4 @@ breaks_of d session = slice_index_or d.breaks session []
 
 -- d, where these are the lines with a breakpoint of the session
 abbrev pub with_breaks : AtDesk → ℕ → List ℕ → AtDesk
-with_breaks d session lines = record { held = d.held; breaks = slice_set d.breaks session lines }
+with_breaks d session lines = record { machine = d.machine; breaks = slice_set d.breaks session lines }

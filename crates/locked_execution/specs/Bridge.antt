@@ -51,7 +51,7 @@ replies_of (x ∷ xs) (reply ∷ replies) = onto (replied x.1 reply) (replies_of
 abbrev pub IsOnExecution : Type 0
 IsOnExecution = (d d' : AtDesk) (session : ℕ) (command : Command) (reply : Reply) → performs.Answers d session command reply d' →
     MatchOption (on_execution command reply)
-    (d'.held ≡ d.held)
+    (d'.machine ≡ d.machine)
     (λ c. (answer : calculus_reply.Reply) × (performs.shown answer ≡ reply) × Answers (execution d) c answer (execution d'))
 
 -- and so it is with lists

@@ -26,12 +26,12 @@ OthersKeepTheirsOverLists = (d d' : AtDesk) (other : ℕ) (commands : List (ℕ 
 -- a break leaves the execution
 abbrev pub BreakLeavesExecution : Type 0
 BreakLeavesExecution = (d d' : AtDesk) (session line : ℕ) (reply : Reply) → Answers d session (Command.Break line) reply d' →
-    d'.held ≡ d.held
+    d'.machine ≡ d.machine
 
 -- and so does a clear
 abbrev pub ClearLeavesExecution : Type 0
 ClearLeavesExecution = (d d' : AtDesk) (session line : ℕ) (reply : Reply) → Answers d session (Command.Clear line) reply d' →
-    d'.held ≡ d.held
+    d'.machine ≡ d.machine
 
 -- a refusal leaves everything
 abbrev pub RefusalLeavesAll : Type 0

@@ -20,7 +20,7 @@ pub fn run_commands(
     ensures refused { OnErr result (desk.new ≡ desk.old) }
     ensures headline { Headline (execution desk.new) }
     ensures tickets { Grows (execution desk.old) (execution desk.new) }
-    ensures system { desk.new.held.checked ≡ desk.old.held.checked }
+    ensures system { desk.new.machine.checked ≡ desk.old.machine.checked }
 {
     desk.is_sound();
     let mut replies = Vec::with_capacity(alloc, commands.len())?;

@@ -21,7 +21,7 @@ impl Model for Desk {
 
     ghost coded = { Prim.hlevel (codes, whole.the_row.coded) };
 
-    ghost view = { λ desk. record { held = desk.machine; breaks = desk.sessions } };
+    ghost view = { λ desk. record { machine = desk.machine; breaks = desk.sessions } };
 
     ghost invariant = { λ desk. OfSessions desk.sessions };
 }
@@ -39,7 +39,7 @@ impl Desk {
 
     /// The machine.
     pub fn machine(&self) -> &Machine
-        ensures { result.now ≡ self.now.held }
+        ensures { result.now ≡ self.now.machine }
     {
         &self.machine
     }

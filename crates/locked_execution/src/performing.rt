@@ -14,7 +14,7 @@ impl Desk {
     pub fn perform(&mut self, session: u32, command: &Command) -> Reply
         requires { session < 16 }
         ensures answers { Answers self.old session command.now result self.new }
-        ensures system { self.new.held.checked ≡ self.old.held.checked }
+        ensures system { self.new.machine.checked ≡ self.old.machine.checked }
     {
         match command {
             Command::Step(choice) => shown(self.machine.step(choice)),
@@ -36,7 +36,7 @@ impl Desk {
     fn step_branch(&mut self, session: u32, branch: u32) -> Reply
         requires { session < 16 }
         ensures answers { Answers self.old session (Command.Branch branch) result self.new }
-        ensures system { self.new.held.checked ≡ self.old.held.checked }
+        ensures system { self.new.machine.checked ≡ self.old.machine.checked }
     {
         step_past(&mut self.machine, &self.sessions, session, branch)
     }

@@ -24,7 +24,7 @@ use Rattle.calculus.specs.declared.command.Refusal.TheVariants.{Memory}
 use Rattle.calculus.proofs.Options.{some-injective}
 use Rattle.calculus.proofs.Lists.{every-in, every-of, in-parts}
 use Rattle.calculus.proofs.Effects.{stays-sound}
-use Rattle.machine.specs.Held.{Held, object, held}
+use Rattle.machine.specs.AtMachine.{AtMachine, object, at_machine}
 use Rattle.machine.specs.walking.Histories.{execution}
 use Rattle.machine.specs.walking.Choosing.{NotTaken, FirstAt, Takes, moves, line_of_first}
 use Rattle.machine.specs.Branching.{is_branch, acts_in, in_branch, has_no_break, line_of, is_free, FirstFree, Branched, StepsBranch, AnswersBranch, SteppedIsStep, OthersLeave}
@@ -35,9 +35,9 @@ use Rattle.machine.proofs.Entries.{parts-at, item-at}
 use Rattle.machine.proofs.Gathering.{take-more, take-all}
 use Rattle.machine.proofs.Stepped.{chosen-first, not-taken}
 
--- the same execution of one system is the same held
-pub held-same : (checked : Checked) (h h' : History) → execution checked h' ≡ execution checked h → held checked h' ≡ held checked h
-held-same checked h h' e = λ i. record { checked = checked; live = (e i).live; next = (e i).next }
+-- the same execution of one system is the same `AtMachine`
+pub at_machine-same : (checked : Checked) (h h' : History) → execution checked h' ≡ execution checked h → at_machine checked h' ≡ at_machine checked h
+at_machine-same checked h h' e = λ i. record { checked = checked; live = (e i).live; next = (e i).next }
 
 -- one more event that does not pass
 pub fails-more : (test : Event → Bool) (es : List Event) (i : ℕ) (e : Event) (b : Bool) → Every (λ f. test f ≡ false) (take i es) → i < length es →
@@ -99,16 +99,16 @@ first-chosen test same T es i e ready at on before =
     cc)
 
 -- whether an event moves is told by its acting address
-same-moves : (h : Held) (k : ℕ) (breaks : List ℕ) (x y : Event) → acting x ≡ acting y → moves h k breaks x ≡ moves h k breaks y
+same-moves : (h : AtMachine) (k : ℕ) (breaks : List ℕ) (x y : Event) → acting x ≡ acting y → moves h k breaks x ≡ moves h k breaks y
 same-moves h k breaks x y e =
     ap (λ (p : Place). cond (is_branch k (branch_at h.checked p)) (has_no_break breaks (line_after (events h.live) h.checked p)) false) e
 
-pub moving-chosen : (h : Held) (k : ℕ) (breaks : List ℕ) (T : State) (es : List Event) (i : ℕ) → ReadyList T es → (first : FirstAt (moves h k breaks) es i) →
+pub moving-chosen : (h : AtMachine) (k : ℕ) (breaks : List ℕ) (T : State) (es : List Event) (i : ℕ) → ReadyList T es → (first : FirstAt (moves h k breaks) es i) →
     Chosen T (choice_of first.0) first.0
 moving-chosen h k breaks T es i ready first = first-chosen (moves h k breaks) (same-moves h k breaks) T es i first.0 ready first.1 first.2 first.3
 
 -- the event at the place is taken
-pub take-done : (h h' : Held) (T : State) (e x f : Event) (entry : ℕ × Event) → Reaches (object h) T → Chosen T (choice_of e) e → x ≡ e → Some x ≡ Some f →
+pub take-done : (h h' : AtMachine) (T : State) (e x f : Event) (entry : ℕ × Event) → Reaches (object h) T → Chosen T (choice_of e) e → x ≡ e → Some x ≡ Some f →
     length h.live < most_live → h.next ≤ last_ticket → entry ≡ (h.next, f) → object h' ≡ with_event (object h) f → Takes h e (Stepped entry.0 entry.1) h'
 take-done h h' T e x f entry reaches chosen is found room left told after =
     let one : f ≡ e = sym (some-injective x f found) ∙ is in
@@ -116,13 +116,13 @@ take-done h h' T e x f entry reaches chosen is found room left told after =
     (refl, (refl, room, left, (T, reaches, chosen), after ∙ ap (with_event (object h)) one))
 
 -- it is not
-pub take-refused : (h : Held) (T : State) (e x : Event) (why : Refusal) → Reaches (object h) T → Chosen T (choice_of e) e → x ≡ e →
+pub take-refused : (h : AtMachine) (T : State) (e x : Event) (why : Refusal) → Reaches (object h) T → Chosen T (choice_of e) e → x ≡ e →
     NotTaken (Some x) (length h.live) h.next why → RefusesStep (object h) (choice_of e) why
 take-refused h T e x why reaches chosen is h-not =
     not-taken (object h) (choice_of e) (Some x) why T reaches (subst (λ (y : Event). Chosen T (choice_of e) y) (sym is) chosen) h-not
 
 -- what was taken is the first free event of the branch
-pub taken-branched : (h h' : Held) (k : ℕ) (breaks : List ℕ) (T : State) (es : List Event) (i : ℕ) (reply : BranchReply) → Reaches (object h) T → ReadyList T es →
+pub taken-branched : (h h' : AtMachine) (k : ℕ) (breaks : List ℕ) (T : State) (es : List Event) (i : ℕ) (reply : BranchReply) → Reaches (object h) T → ReadyList T es →
     (first : FirstAt (moves h k breaks) es i) → Takes h first.0 reply h' → StepsBranch h k breaks reply h'
 taken-branched h h' k breaks T es i reply reaches ready first takes =
     (T, es, reaches, ready, by-reply reply (first-free (acts_in h k) (is_free h breaks) es i first.0 first.1 first.2 first.3) takes)
@@ -134,7 +134,7 @@ taken-branched h h' k breaks T es i reply reaches ready first takes =
     by-reply _ found w = absurd w
 
 -- breakpoints keep all back, or there is none
-all-back : (h : Held) (breaks : List ℕ) (es : List Event) (reply : BranchReply) → Every (λ e. is_free h breaks e ≡ false) es →
+all-back : (h : AtMachine) (breaks : List ℕ) (es : List Event) (reply : BranchReply) → Every (λ e. is_free h breaks e ≡ false) es →
     MatchOption (line_of_first h es) (reply ≡ Idle) (λ line. reply ≡ Stopped line) → Branched h breaks es reply h
 all-back h breaks [] reply none told = subst (λ (r : BranchReply). Branched h breaks [] r h) (sym told) (refl, refl)
 all-back h breaks (e ∷ es) reply none told = by-line (line_of h e) refl none.0 told
@@ -144,31 +144,31 @@ all-back h breaks (e ∷ es) reply none told = by-line (line_of h e) refl none.0
     by-line None is off said = cc
     by-line (Some n) is off said = subst (λ (r : BranchReply). Branched h breaks (e ∷ es) r h) (sym said) ((is, none), refl)
 
-pub back-branched : (h : Held) (k : ℕ) (breaks : List ℕ) (T : State) (es : List Event) (reply : BranchReply) → Reaches (object h) T → ReadyList T es →
+pub back-branched : (h : AtMachine) (k : ℕ) (breaks : List ℕ) (T : State) (es : List Event) (reply : BranchReply) → Reaches (object h) T → ReadyList T es →
     Every (λ e. moves h k breaks e ≡ false) es → MatchOption (line_of_first h (in_branch h k es)) (reply ≡ Idle) (λ line. reply ≡ Stopped line) →
     StepsBranch h k breaks reply h
 back-branched h k breaks T es reply reaches ready none told =
     (T, es, reaches, ready, all-back h breaks (in_branch h k es) reply (none-free (acts_in h k) (is_free h breaks) es none) told)
 
 -- what is answered where the step may want memory
-pub branch-answers : {E : Type 0} (h h' : Held) (k : ℕ) (breaks : List ℕ) (r : Result BranchReply E) (reply : BranchReply) →
+pub branch-answers : {E : Type 0} (h h' : AtMachine) (k : ℕ) (breaks : List ℕ) (r : Result BranchReply E) (reply : BranchReply) →
     IfOk r (λ told. StepsBranch h k breaks told h') → OnErr r (h' ≡ h) → MatchResult r (λ told. reply ≡ told) (λ _. reply ≡ Refused Memory) →
     AnswersBranch h k breaks reply h'
 branch-answers h h' k breaks (Ok told) reply done same is = inl (subst (λ (x : BranchReply). StepsBranch h k breaks x h') (sym is) done)
 branch-answers h h' k breaks (Err x) reply done same is = inr (is, same)
 
 -- it leaves a sound execution sound
-branched-sound : (h h' : Held) (breaks : List ℕ) (es : List Event) (reply : BranchReply) → Sound (object h) → Branched h breaks es reply h' → Sound (object h')
+branched-sound : (h h' : AtMachine) (breaks : List ℕ) (es : List Event) (reply : BranchReply) → Sound (object h) → Branched h breaks es reply h' → Sound (object h')
 branched-sound h h' breaks es (Stepped t e) s b = stays-sound (object h) (Command.Step (choice_of e)) (Reply.Stepped t e) (object h') s (inl b.1)
-branched-sound h h' breaks es (Stopped line) s b = subst (λ (x : Held). Sound (object x)) (sym b.1) s
-branched-sound h h' breaks es Idle s b = subst (λ (x : Held). Sound (object x)) (sym b.1) s
-branched-sound h h' breaks es (Refused why) s b = subst (λ (x : Held). Sound (object x)) (sym b.1) s
+branched-sound h h' breaks es (Stopped line) s b = subst (λ (x : AtMachine). Sound (object x)) (sym b.1) s
+branched-sound h h' breaks es Idle s b = subst (λ (x : AtMachine). Sound (object x)) (sym b.1) s
+branched-sound h h' breaks es (Refused why) s b = subst (λ (x : AtMachine). Sound (object x)) (sym b.1) s
 
-pub answers-sound : (h h' : Held) (k : ℕ) (breaks : List ℕ) (reply : BranchReply) → Sound (object h) → AnswersBranch h k breaks reply h' → Sound (object h')
+pub answers-sound : (h h' : AtMachine) (k : ℕ) (breaks : List ℕ) (reply : BranchReply) → Sound (object h) → AnswersBranch h k breaks reply h' → Sound (object h')
 answers-sound h h' k breaks reply s a =
     elim a [
       | inl b ↦ branched-sound h h' breaks (in_branch h k b.1) reply s b.4
-      | inr b ↦ subst (λ (x : Held). Sound (object x)) (sym b.1) s
+      | inr b ↦ subst (λ (x : AtMachine). Sound (object x)) (sym b.1) s
     ]
 
 pub stepped-is-step : SteppedIsStep

@@ -7,7 +7,7 @@ use Rattle.calculus.specs.walking.StepOf.{run_of}
 use Rattle.std.specs.Option.{option_map}
 use Rattle.calculus.specs.Live.{Live, events}
 use Rattle.calculus.specs.Choices.{choice_of}
-use Rattle.calculus.specs.Ready.{ReadyList, Possible, Chosen}
+use Rattle.calculus.specs.Ready.{ReadyList, ChoiceAllowed, Chosen}
 use Rattle.calculus.specs.Object.{Object, Reaches, most_live, last_ticket, with_event}
 use Rattle.calculus.specs.Does.{Does, Answers, MayWantMemory, RefusesStep}
 use Rattle.calculus.specs.Sound.{Sound}
@@ -47,7 +47,7 @@ ready-of o p r reaches i =
     IfOk-weaker r (λ es. ReadyList (state_of p) es) (λ es. (T : State) × Reaches o T × ReadyList T es) (λ es h. (state_of p, reaches, h)) i
 
 -- no event of the ready list has the choice
-chosen-none : (T : State) (c : Choice) (es : List Event) → ReadyList T es → HasNone c es → Possible T c → ⊥
+chosen-none : (T : State) (c : Choice) (es : List Event) → ReadyList T es → HasNone c es → ChoiceAllowed T c → ⊥
 chosen-none T c es ready none p = none p.0 ((ready.exactly p.0).1 p.1) p.2
 
 -- the first event of the ready list with the choice
@@ -57,13 +57,13 @@ chosen-first T c es i e ready at same none =
     first-chosen T c (take i es) (drop (suc i) es) e (subst (λ (k : List Event). ReadyList T k) (parts-at es i e at) ready) same none
 
 -- the event that the choice means, where it was found
-pub chosen-of : (T : State) (c : Choice) (found : Option Event) (e : Event) → MatchOption found (Possible T c → ⊥) (λ f. Chosen T c f) → found ≡ Some e →
+pub chosen-of : (T : State) (c : Choice) (found : Option Event) (e : Event) → MatchOption found (ChoiceAllowed T c → ⊥) (λ f. Chosen T c f) → found ≡ Some e →
     Chosen T c e
-chosen-of T c found e told is = subst (λ (x : Option Event). MatchOption x (Possible T c → ⊥) (λ f. Chosen T c f)) is told
+chosen-of T c found e told is = subst (λ (x : Option Event). MatchOption x (ChoiceAllowed T c → ⊥) (λ f. Chosen T c f)) is told
 
 -- why a step is refused, from what was found
 pub not-taken : (o : Object) (c : Choice) (found : Option Event) (why : Refusal) (T : State) → Reaches o T →
-    MatchOption found (Possible T c → ⊥) (λ e. Chosen T c e) → NotTaken found (length o.live) o.next why → RefusesStep o c why
+    MatchOption found (ChoiceAllowed T c → ⊥) (λ e. Chosen T c e) → NotTaken found (length o.live) o.next why → RefusesStep o c why
 not-taken o c None NotReady T reaches none h = (T, reaches, none)
 not-taken o c (Some e) NotReady T reaches one h = cc
 not-taken o c None HistoryFull T reaches none h = let off = h.0 in cc
@@ -107,5 +107,5 @@ chosen-here T c es items slice i x ready ei is first taken =
     subst (λ (e : Event). Chosen T c e) (sym one)
     (chosen-first T c es i first.0 ready at first.2 (subst (λ (k : List Event). HasNone c (take i k)) (is ∙ ei) first.3))
 
-pub chosen-nowhere : (T : State) (c : Choice) (es items slice : List Event) → ReadyList T es → items ≡ es → slice ≡ items → HasNone c slice → Possible T c → ⊥
+pub chosen-nowhere : (T : State) (c : Choice) (es items slice : List Event) → ReadyList T es → items ≡ es → slice ≡ items → HasNone c slice → ChoiceAllowed T c → ⊥
 chosen-nowhere T c es items slice ready ei is none = chosen-none T c es ready (subst (λ (k : List Event). HasNone c k) (is ∙ ei) none)

@@ -15,12 +15,12 @@ use Rattle.calculus.specs.declared.command.Command.{Command}
 use Rattle.calculus.specs.declared.command.Reply.{Reply}
 use Rattle.calculus.specs.declared.command.Refusal.TheVariants.{Memory}
 use Rattle.event_places.specs.EventPlaces.{line_after}
-use Rattle.machine.specs.Held.{Held, object}
+use Rattle.machine.specs.AtMachine.{AtMachine, object}
 use Rattle.machine.specs.declared.branching.BranchReply.{BranchReply}
 use Rattle.machine.specs.declared.branching.BranchReply.TheVariants.{Stepped, Stopped, Idle, Refused}
 
 -- the line of the command at which an event acts, after the live events
-abbrev pub line_of : Held → Event → Option ℕ
+abbrev pub line_of : AtMachine → Event → Option ℕ
 line_of h e = line_after (events h.live) h.checked (acting e)
 
 -- whether this is branch k
@@ -29,11 +29,11 @@ is_branch k None = false
 is_branch k (Some b) = b == k
 
 -- whether an event acts in branch k
-abbrev pub acts_in : Held → ℕ → Event → Bool
+abbrev pub acts_in : AtMachine → ℕ → Event → Bool
 acts_in h k e = is_branch k (branch_at h.checked (acting e))
 
 -- the events that act in branch k, in order
-abbrev pub in_branch : Held → ℕ → List Event → List Event
+abbrev pub in_branch : AtMachine → ℕ → List Event → List Event
 in_branch h k es = filter (acts_in h k) es
 
 -- whether a line has no breakpoint
@@ -42,7 +42,7 @@ has_no_break breaks None = true
 has_no_break breaks (Some line) = not (is_in line breaks)
 
 -- whether no breakpoint keeps an event back
-abbrev pub is_free : Held → List ℕ → Event → Bool
+abbrev pub is_free : AtMachine → List ℕ → Event → Bool
 is_free h breaks e = has_no_break breaks (line_of h e)
 
 -- e is the first event of the list that is free
@@ -54,32 +54,32 @@ pub record FirstFree (free : Event → Bool) (es : List Event) (e : Event) : Typ
   pub kept_back : Every (λ f. free f ≡ false) before
 
 -- breakpoints keep all events back, and `line` is that of the first
-abbrev pub AllKeptBack : Held → List ℕ → List Event → ℕ → Type 0
+abbrev pub AllKeptBack : AtMachine → List ℕ → List Event → ℕ → Type 0
 AllKeptBack h breaks [] line = ⊥
 AllKeptBack h breaks (e ∷ es) line = (line_of h e ≡ Some line) × Every (λ f. is_free h breaks f ≡ false) (e ∷ es)
 
 -- what is answered where these are the events of the branch that are ready, and what is left
-abbrev pub Branched : Held → List ℕ → List Event → BranchReply → Held → Type 0
+abbrev pub Branched : AtMachine → List ℕ → List Event → BranchReply → AtMachine → Type 0
 Branched h breaks es (Stepped t e) h' = FirstFree (is_free h breaks) es e × Steps (object h) (choice_of e) (Reply.Stepped t e) (object h')
 Branched h breaks es (Stopped line) h' = AllKeptBack h breaks es line × (h' ≡ h)
 Branched h breaks es Idle h' = (es ≡ []) × (h' ≡ h)
 Branched h breaks es (Refused why) h' = ((e : Event) × FirstFree (is_free h breaks) es e × RefusesStep (object h) (choice_of e) why) × (h' ≡ h)
 
 -- a step of branch k
-abbrev pub StepsBranch : Held → ℕ → List ℕ → BranchReply → Held → Type 0
+abbrev pub StepsBranch : AtMachine → ℕ → List ℕ → BranchReply → AtMachine → Type 0
 StepsBranch h k breaks reply h' =
     (T : State) × (es : List Event) × Reaches (object h) T × ReadyList T es × Branched h breaks (in_branch h k es) reply h'
 
 -- the same, or there was no memory for it and nothing changed
-abbrev pub AnswersBranch : Held → ℕ → List ℕ → BranchReply → Held → Type 0
+abbrev pub AnswersBranch : AtMachine → ℕ → List ℕ → BranchReply → AtMachine → Type 0
 AnswersBranch h k breaks reply h' = StepsBranch h k breaks reply h' ⊎ ((reply ≡ Refused Memory) × (h' ≡ h))
 
 -- a branch that takes an event takes a step at its choice
 abbrev pub SteppedIsStep : Type 0
-SteppedIsStep = (h h' : Held) (k t : ℕ) (breaks : List ℕ) (e : Event) → AnswersBranch h k breaks (Stepped t e) h' →
+SteppedIsStep = (h h' : AtMachine) (k t : ℕ) (breaks : List ℕ) (e : Event) → AnswersBranch h k breaks (Stepped t e) h' →
     Does (object h) (Command.Step (choice_of e)) (Reply.Stepped t e) (object h')
 
 -- one that takes none leaves all as it was
 abbrev pub OthersLeave : Type 0
-OthersLeave = (h h' : Held) (k : ℕ) (breaks : List ℕ) (reply : BranchReply) → AnswersBranch h k breaks reply h' →
+OthersLeave = (h h' : AtMachine) (k : ℕ) (breaks : List ℕ) (reply : BranchReply) → AnswersBranch h k breaks reply h' →
     ((t : ℕ) × (e : Event) × (reply ≡ Stepped t e)) ⊎ (h' ≡ h)

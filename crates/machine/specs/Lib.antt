@@ -1,5 +1,5 @@
+pub mod AtMachine
 pub mod Branching
 pub mod Breakpoints
 pub mod Headline
-pub mod Held
 pub mod walking

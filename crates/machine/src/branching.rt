@@ -10,7 +10,7 @@ ghost use Rattle.calculus.specs.Object.{Reaches};
 ghost use Rattle.calculus.specs.Sound.{Sound};
 ghost use Rattle.machine.specs.Branching.{is_branch, acts_in, in_branch, is_free, StepsBranch};
 ghost use Rattle.machine.specs.walking.Choosing.{moves, line_of_first, FirstAt, Takes};
-ghost use Rattle.machine.specs.Held.{held};
+ghost use Rattle.machine.specs.AtMachine.{at_machine};
 ghost use Rattle.machine.specs.walking.Histories.{execution, KeepsState};
 
 use crate::following::is_among;
@@ -45,8 +45,8 @@ impl History {
     ) -> Result<BranchReply, AllocError>
         requires sound { Sound (execution system.now self.old) }
         requires kept { KeepsState system.now self.old }
-        ensures done { IfOk result (λ reply. StepsBranch (held system.now self.old) branch breaks.now reply (held system.now self.new)) }
-        ensures unchanged { OnErr result (held system.now self.new ≡ held system.now self.old) }
+        ensures done { IfOk result (λ reply. StepsBranch (at_machine system.now self.old) branch breaks.now reply (at_machine system.now self.new)) }
+        ensures unchanged { OnErr result (at_machine system.now self.new ≡ at_machine system.now self.old) }
         ensures kept { KeepsState system.now self.new }
     {
         self.keep_state(alloc, system)?;
@@ -63,8 +63,8 @@ impl History {
     ) -> Result<BranchReply, AllocError>
         requires sound { Sound (execution system.now self.old) }
         requires kept { KeepsState system.now self.old }
-        ensures done { IfOk result (λ reply. StepsBranch (held system.now self.old) branch breaks.now reply (held system.now self.new)) }
-        ensures unchanged { OnErr result (held system.now self.new ≡ held system.now self.old) }
+        ensures done { IfOk result (λ reply. StepsBranch (at_machine system.now self.old) branch breaks.now reply (at_machine system.now self.new)) }
+        ensures unchanged { OnErr result (at_machine system.now self.new ≡ at_machine system.now self.old) }
         ensures kept { KeepsState system.now self.new }
     {
         let events = self.ready(alloc, system)?;
@@ -82,8 +82,8 @@ impl History {
         place: usize,
     ) -> Result<BranchReply, AllocError>
         requires { place < length events }
-        ensures done { (system : Checked) (T : State) (e : Event) → Reaches (execution system self.old) T → slice_get events place ≡ Some e → Chosen T (choice_of e) e → IfOk result (λ reply. Takes (held system self.old) e reply (held system self.new)) }
-        ensures unchanged { (system : Checked) → OnErr result (held system self.new ≡ held system self.old) }
+        ensures done { (system : Checked) (T : State) (e : Event) → Reaches (execution system self.old) T → slice_get events place ≡ Some e → Chosen T (choice_of e) e → IfOk result (λ reply. Takes (at_machine system self.old) e reply (at_machine system self.new)) }
+        ensures unchanged { (system : Checked) → OnErr result (at_machine system self.new ≡ at_machine system self.old) }
         ensures kept { (system : Checked) → KeepsState system self.old → KeepsState system self.new }
     {
         let mut events = events.into_vec();
@@ -104,7 +104,7 @@ impl History {
         branch: u32,
         breaks: &[u64],
     ) -> Option<usize>
-        ensures { MatchOption result (Every (λ e. moves (held system.now self.now) branch breaks.now e ≡ false) events.now) (λ i. FirstAt (moves (held system.now self.now) branch breaks.now) events.now i) }
+        ensures { MatchOption result (Every (λ e. moves (at_machine system.now self.now) branch breaks.now e ≡ false) events.now) (λ i. FirstAt (moves (at_machine system.now self.now) branch breaks.now) events.now i) }
     {
         for (i, event) in events.iter().enumerate() {
             if self.moves(system, event, branch, breaks) {
@@ -116,14 +116,14 @@ impl History {
 
     /// Whether the event acts in the branch and its line is not among these.
     fn moves(&self, system: &Checked, event: &Event, branch: u32, breaks: &[u64]) -> bool
-        ensures { result ≡ moves (held system.now self.now) branch breaks.now event.now }
+        ensures { result ≡ moves (at_machine system.now self.now) branch breaks.now event.now }
     {
         acts_in(system, event, branch) && self.is_free(system, event, breaks)
     }
 
     /// Whether the line of the event is not among these.
     fn is_free(&self, system: &Checked, event: &Event, breaks: &[u64]) -> bool
-        ensures { result ≡ is_free (held system.now self.now) breaks.now event.now }
+        ensures { result ≡ is_free (at_machine system.now self.now) breaks.now event.now }
     {
         match line_after(system, self.live.as_slice(), event.acting_place()) {
             Some(line) => !is_among(breaks, line),
@@ -133,7 +133,7 @@ impl History {
 
     /// The answer where no event of the branch is taken: the line of the first, or that there is none.
     fn kept_back(&self, system: &Checked, events: &[Event], branch: u32) -> BranchReply
-        ensures { MatchOption (line_of_first (held system.now self.now) (in_branch (held system.now self.now) branch events.now)) (result ≡ BranchReply.Idle) (λ line. result ≡ BranchReply.Stopped line) }
+        ensures { MatchOption (line_of_first (at_machine system.now self.now) (in_branch (at_machine system.now self.now) branch events.now)) (result ≡ BranchReply.Idle) (λ line. result ≡ BranchReply.Stopped line) }
     {
         match self.first_line(system, events, branch) {
             Some(line) => BranchReply::Stopped(line),
@@ -143,7 +143,7 @@ impl History {
 
     /// The line of the first of these events that acts in the branch.
     fn first_line(&self, system: &Checked, events: &[Event], branch: u32) -> Option<u64>
-        ensures { result ≡ line_of_first (held system.now self.now) (in_branch (held system.now self.now) branch events.now) }
+        ensures { result ≡ line_of_first (at_machine system.now self.now) (in_branch (at_machine system.now self.now) branch events.now) }
     {
         for event in events {
             if acts_in(system, event, branch) {

@@ -7,7 +7,7 @@ ghost use Rattle.calculus.specs.Does.{Answers};
 ghost use Rattle.calculus.specs.declared.command.Command.{Command};
 ghost use Rattle.event_places.specs.EventPlaces.{line_after, is_open_after};
 ghost use Rattle.machine.specs.Branching.{AnswersBranch};
-ghost use Rattle.machine.specs.Held.{object};
+ghost use Rattle.machine.specs.AtMachine.{object};
 ghost use Rattle.machine.specs.Headline.{Headline};
 
 use crate::Breaks;
@@ -32,19 +32,19 @@ pub struct Machine {
 }
 
 impl Model for Machine {
-    ghost use Rattle.machine.specs.Held.{Held};
+    ghost use Rattle.machine.specs.AtMachine.{AtMachine};
     ghost use Rattle.std.specs.Coded.{codes};
     ghost use Rattle.system.specs.contracts.system.System as whole;
 
-    ghost Value = { Held };
+    ghost Value = { AtMachine };
 
     ghost coded = { Prim.hlevel (codes, whole.the_row.coded) };
 
     ghost use Rattle.calculus.specs.Sound.{Sound};
-    ghost use Rattle.machine.specs.Held.{held, object};
+    ghost use Rattle.machine.specs.AtMachine.{at_machine, object};
     ghost use Rattle.machine.specs.walking.Histories.{execution, KeepsState};
 
-    ghost view = { λ machine. held machine.system machine.history };
+    ghost view = { λ machine. at_machine machine.system machine.history };
 
     ghost invariant = { λ machine. Sound (execution machine.system machine.history) × KeepsState machine.system machine.history };
 }

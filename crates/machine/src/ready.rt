@@ -4,7 +4,7 @@ ghost use Rattle.calculus.specs.Left.{state_of};
 ghost use Rattle.calculus.specs.Tests.{same_event};
 ghost use Rattle.calculus.specs.Steps.{State};
 ghost use Rattle.calculus.specs.InOrder.{InOrder};
-ghost use Rattle.calculus.specs.Ready.{Sooner, ReadyList, Possible, Chosen};
+ghost use Rattle.calculus.specs.Ready.{Sooner, ReadyList, ChoiceAllowed, Chosen};
 ghost use Rattle.calculus.specs.WellFormed.{WellFormed};
 ghost use Rattle.machine.specs.walking.Choosing.{HasNone, FirstWith};
 ghost use Rattle.machine.specs.walking.Sorting.{inserted};
@@ -56,7 +56,7 @@ fn is_there(sorted: &[Event], place: usize, event: &Event) -> bool
 /// The event that the choice means, where these are the events that are allowed, in order. `None` where no event has
 /// the choice.
 pub(crate) fn chosen(events: Items<Event>, choice: &Choice) -> Option<Event>
-    ensures { (S : State) → ReadyList S events → MatchOption result (Possible S choice.now → ⊥) (λ event. Chosen S choice.now event) }
+    ensures { (S : State) → ReadyList S events → MatchOption result (ChoiceAllowed S choice.now → ⊥) (λ event. Chosen S choice.now event) }
 {
     let mut events = events.into_vec();
     match first_with(events.as_slice(), choice) {

@@ -10,7 +10,7 @@ use Rattle.calculus.specs.Ready.{ReadyList, Sooner}
 use Rattle.calculus.specs.Steps.{State}
 use Rattle.calculus.specs.declared.event.Event.{Event}
 use Rattle.event_places.specs.EventPlaces.{line_after}
-use Rattle.machine.specs.Held.{Held, object}
+use Rattle.machine.specs.AtMachine.{AtMachine, object}
 use Rattle.syntax.specs.Texts.{lines}
 use Rattle.source_view.specs.View.{is_line, acts_on, is_ready_on, marks_on, line_text, lines_text, view_text}
 use Rattle.source_view.specs.walking.Marking.{no_marks, marks_at, AreMarks, break_mark, conflicts_with_next, neighbours_on, with_event, with_events}
@@ -29,7 +29,7 @@ or-joins true b c = refl
 or-joins false b c = refl
 
 -- the marks of an event, and then those of the events behind it
-pub one-more : (h : Held) (e : Event) (es : List Event) (n : ℕ) (marks : Marks) →
+pub one-more : (h : AtMachine) (e : Event) (es : List Event) (n : ℕ) (marks : Marks) →
     with_events h (e ∷ es) n marks ≡ with_events h es n (with_event (acts_on h n e) (conflicts_with_next h e es) marks)
 one-more h e es n marks =
     ap (λ (b : Bool). record { is_ready = b; has_break = marks.has_break; in_conflict = marks.in_conflict || neighbours_on h (e ∷ es) n })
@@ -46,7 +46,7 @@ first-and-rest (y ∷ ys) x some is =
     ∙ (ap (λ (n : ℕ). y ∷ take n ys) less ∙ ap (λ (es : List Event). y ∷ es) (take-length ys))
 
 -- what is left to add, when the marks of the first event were
-pub after-one : (h : Held) (rest after : List Event) (e : Event) (n : ℕ) (old new all : Marks) (line : Option ℕ) (conflicts : Bool) →
+pub after-one : (h : AtMachine) (rest after : List Event) (e : Event) (n : ℕ) (old new all : Marks) (line : Option ℕ) (conflicts : Bool) →
     e ∷ after ≡ rest → line ≡ line_after (events h.live) h.checked (acting e) → conflicts ≡ conflicts_with_next h e after → new ≡ with_event (is_line line n) conflicts old →
     with_events h rest n old ≡ all → with_events h after n new ≡ all
 after-one h rest after e n old new all line conflicts parts line-is conflicts-is added before =
@@ -56,12 +56,12 @@ after-one h rest after e n old new all line conflicts parts line-is conflicts-is
     ∙ (sym (one-more h e after n old) ∙ (ap (λ (es : List Event). with_events h es n old) parts ∙ before))
 
 -- the marks of a line, where events in order were added to its breakpoint
-marks-are : (h : Held) (es : List Event) (breaks : List ℕ) (n : ℕ) → InOrder Sooner es → with_events h es n (break_mark breaks n) ≡ marks_on h es breaks n
+marks-are : (h : AtMachine) (es : List Event) (breaks : List ℕ) (n : ℕ) → InOrder Sooner es → with_events h es n (break_mark breaks n) ≡ marks_on h es breaks n
 marks-are h es breaks n order =
     ap (λ (b : Bool). record { is_ready = is_ready_on h es n; has_break = is_in n breaks; in_conflict = b }) (neighbours-are-all h es n order)
 
 -- the marks of each line, as they were gathered
-pub gathered : (h : Held) (es : List Event) (breaks : List ℕ) (count : ℕ) (old new : List Marks) → InOrder Sooner es → AreMarks old count (break_mark breaks) →
+pub gathered : (h : AtMachine) (es : List Event) (breaks : List ℕ) (count : ℕ) (old new : List Marks) → InOrder Sooner es → AreMarks old count (break_mark breaks) →
     length new ≡ length old → ((k : ℕ) → k < length old → get_or new k no_marks ≡ with_events h es (suc k) (get_or old k no_marks)) →
     AreMarks new count (marks_on h es breaks)
 gathered h es breaks count old new order begun long added = (
@@ -80,7 +80,7 @@ by-number marks count of_line are zero low high = absurd (omega arith)
 by-number marks count of_line are (suc k) low high = are.1 k (omega arith)
 
 -- the bytes that are written are the view
-pub shown : {X E : Type 0} (h : Held) (breaks source : List ℕ) (ready : List Event) (marks : List Marks) (count : ℕ)
+pub shown : {X E : Type 0} (h : AtMachine) (breaks source : List ℕ) (ready : List Event) (marks : List Marks) (count : ℕ)
     (bytes_of : X → List ℕ) (r : Result X E) → ((T : State) × Reaches (object h) T × ReadyList T ready) →
     length (lines source) ≤ count → AreMarks marks count (marks_on h ready breaks) →
     IfOk r (λ bytes. bytes_of bytes ≡ lines_text (marks_at marks) 1 (lines source)) →

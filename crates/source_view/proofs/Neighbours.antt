@@ -19,7 +19,7 @@ use Rattle.calculus.specs.Tests.{same_place}
 use Rattle.calculus.specs.declared.event.Event.{Event}
 use Rattle.calculus.proofs.Lists.{every-in}
 use Rattle.event_places.specs.EventPlaces.{line_after, is_open_after}
-use Rattle.machine.specs.Held.{Held}
+use Rattle.machine.specs.AtMachine.{AtMachine}
 use Rattle.source_view.specs.View.{is_line, acts_on, are_in_conflict, is_conflict_on}
 use Rattle.source_view.specs.walking.Marking.{conflicts_with_next, neighbours_on}
 
@@ -32,12 +32,12 @@ between x y f (inl less) (inl more) same =
     absurd (greater-not-less (sym (ap ordering_reverse less) ∙ sym (order-antisymmetric (acting y) (acting x)) ∙ back))
 
 -- what it is to be in conflict
-record Conflict (h : Held) (e f : Event) : Type 0 where
+record Conflict (h : AtMachine) (e f : Event) : Type 0 where
   place : acting e ≡ acting f
   arms : (choice_of e).arm ≡ (choice_of f).arm → ⊥
   opens : is_open_after (events h.live) h.checked (acting e) ≡ true
 
-conflict-is : (h : Held) (e f : Event) → are_in_conflict h e f ≡ true → Conflict h e f
+conflict-is : (h : AtMachine) (e f : Event) → are_in_conflict h e f ≡ true → Conflict h e f
 conflict-is h e f is =
     let parts = and_parts (same_place (acting e) (acting f)) (not ((choice_of e).arm == (choice_of f).arm) && is_open_after (events h.live) h.checked (acting e)) is in
     let others = and_parts (not ((choice_of e).arm == (choice_of f).arm)) (is_open_after (events h.live) h.checked (acting e)) parts.1 in
@@ -47,7 +47,7 @@ conflict-is h e f is =
       opens = others.1;
     }
 
-conflict-of : (h : Held) (e f : Event) → Conflict h e f → are_in_conflict h e f ≡ true
+conflict-of : (h : AtMachine) (e f : Event) → Conflict h e f → are_in_conflict h e f ≡ true
 conflict-of h e f c =
     and_from (same_place (acting e) (acting f)) (not ((choice_of e).arm == (choice_of f).arm) && is_open_after (events h.live) h.checked (acting e))
     ((same_place-decides (acting e) (acting f)).1 c.place)
@@ -56,27 +56,27 @@ conflict-of h e f c =
     c.opens)
 
 -- events at one place act on one line, and there a `select` opens for both or for none
-acts-there : (h : Held) (n : ℕ) (e f : Event) → acting e ≡ acting f → acts_on h n e ≡ true → acts_on h n f ≡ true
+acts-there : (h : AtMachine) (n : ℕ) (e f : Event) → acting e ≡ acting f → acts_on h n e ≡ true → acts_on h n f ≡ true
 acts-there h n e f same acts = subst (λ (p : Place). is_line (line_after (events h.live) h.checked p) n ≡ true) same acts
 
-opens-there : (h : Held) (e f : Event) → acting e ≡ acting f → is_open_after (events h.live) h.checked (acting e) ≡ true →
+opens-there : (h : AtMachine) (e f : Event) → acting e ≡ acting f → is_open_after (events h.live) h.checked (acting e) ≡ true →
     is_open_after (events h.live) h.checked (acting f) ≡ true
 opens-there h e f same opens = subst (λ (p : Place). is_open_after (events h.live) h.checked p ≡ true) same opens
 
-turned : (h : Held) (e f : Event) → Conflict h e f → Conflict h f e
+turned : (h : AtMachine) (e f : Event) → Conflict h e f → Conflict h f e
 turned h e f c = record { place = sym c.place; arms = λ is. c.arms (sym is); opens = opens-there h e f c.place c.opens }
 
-here : (h : Held) (n : ℕ) (x : Event) (xs : List Event) → acts_on h n x ≡ true → conflicts_with_next h x xs ≡ true → neighbours_on h (x ∷ xs) n ≡ true
+here : (h : AtMachine) (n : ℕ) (x : Event) (xs : List Event) → acts_on h n x ≡ true → conflicts_with_next h x xs ≡ true → neighbours_on h (x ∷ xs) n ≡ true
 here h n x xs acts conflicts = or_left (acts_on h n x && conflicts_with_next h x xs) (neighbours_on h xs n) (and_from (acts_on h n x) (conflicts_with_next h x xs) acts conflicts)
 
-later : (h : Held) (n : ℕ) (x : Event) (xs : List Event) → neighbours_on h xs n ≡ true → neighbours_on h (x ∷ xs) n ≡ true
+later : (h : AtMachine) (n : ℕ) (x : Event) (xs : List Event) → neighbours_on h xs n ≡ true → neighbours_on h (x ∷ xs) n ≡ true
 later h n x xs is = or_right (acts_on h n x && conflicts_with_next h x xs) (neighbours_on h xs n) is
 
-same-place : (h : Held) (x y : Event) (ys : List Event) (f : Event) → InOrder Sooner (x ∷ y ∷ ys) → In f ys → Conflict h x f → acting x ≡ acting y
+same-place : (h : AtMachine) (x y : Event) (ys : List Event) (f : Event) → InOrder Sooner (x ∷ y ∷ ys) → In f ys → Conflict h x f → acting x ≡ acting y
 same-place h x y ys f order is c = between x y f order.0.0 (every-in (Sooner y) ys f order.1.0 is) c.place
 
 -- from an event to one behind it there are neighbours in conflict
-onward : (h : Held) (n : ℕ) (x : Event) (xs : List Event) (f : Event) → InOrder Sooner (x ∷ xs) → In f xs → acts_on h n x ≡ true → Conflict h x f →
+onward : (h : AtMachine) (n : ℕ) (x : Event) (xs : List Event) (f : Event) → InOrder Sooner (x ∷ xs) → In f xs → acts_on h n x ≡ true → Conflict h x f →
     neighbours_on h (x ∷ xs) n ≡ true
 onward h n x [] f order is acts c = elim is [ ]
 onward h n x (y ∷ ys) f order (inl same) acts c = here h n x (y ∷ ys) acts (subst (λ (g : Event). are_in_conflict h x g ≡ true) same (conflict-of h x f c))
@@ -101,7 +101,7 @@ onward h n x (y ∷ ys) f order (inr is) acts c =
         (conflict-of h x y (record { place = same; arms = eqb-false (choice_of x).arm (choice_of y).arm two; opens = c.opens }))
 
 -- where two events are in conflict, neighbours are
-of-two : (h : Held) (n : ℕ) (es : List Event) (e f : Event) → InOrder Sooner es → In e es → In f es → acts_on h n e ≡ true → Conflict h e f →
+of-two : (h : AtMachine) (n : ℕ) (es : List Event) (e f : Event) → InOrder Sooner es → In e es → In f es → acts_on h n e ≡ true → Conflict h e f →
     neighbours_on h es n ≡ true
 of-two h n [] e f order is there acts c = elim is [ ]
 of-two h n (x ∷ xs) e f order (inl e-is) (inl f-is) acts c = absurd (c.arms (ap (λ (g : Event). (choice_of g).arm) (e-is ∙ sym f-is)))
@@ -127,7 +127,7 @@ passes p (x ∷ xs) e (inl same) h = or_left (p x) (list_any p xs) (subst (λ (g
 passes p (x ∷ xs) e (inr is) h = or_right (p x) (list_any p xs) (passes p xs e is h)
 
 -- neighbours in conflict are two events of the list
-pair : (h : Held) (n : ℕ) (es : List Event) → neighbours_on h es n ≡ true →
+pair : (h : AtMachine) (n : ℕ) (es : List Event) → neighbours_on h es n ≡ true →
     (e : Event) × (f : Event) × In e es × In f es × (acts_on h n e ≡ true) × (are_in_conflict h e f ≡ true)
 pair h n [] is = absurd (cc)
 pair h n (x ∷ []) is =
@@ -147,7 +147,7 @@ same-test false true on back = back refl
 same-test false false on back = refl
 
 -- neighbours are in conflict exactly where two events are
-pub neighbours-are-all : (h : Held) (es : List Event) (n : ℕ) → InOrder Sooner es → neighbours_on h es n ≡ is_conflict_on h es n
+pub neighbours-are-all : (h : AtMachine) (es : List Event) (n : ℕ) → InOrder Sooner es → neighbours_on h es n ≡ is_conflict_on h es n
 neighbours-are-all h es n order = same-test (neighbours_on h es n) (is_conflict_on h es n) on back
   where
     on : neighbours_on h es n ≡ true → is_conflict_on h es n ≡ true

@@ -13,7 +13,7 @@ use Rattle.calculus.specs.Steps.{State}
 use Rattle.calculus.specs.Tests.{same_place}
 use Rattle.calculus.specs.declared.event.Event.{Event}
 use Rattle.event_places.specs.EventPlaces.{is_open_after}
-use Rattle.machine.specs.Held.{Held, object}
+use Rattle.machine.specs.AtMachine.{AtMachine, object}
 use Rattle.machine.specs.Branching.{line_of}
 use Rattle.source_view.specs.declared.marks.Marks.{Marks}
 
@@ -23,25 +23,25 @@ is_line None n = false
 is_line (Some line) n = line == n
 
 -- whether e acts on line n
-abbrev pub acts_on : Held → ℕ → Event → Bool
+abbrev pub acts_on : AtMachine → ℕ → Event → Bool
 acts_on h n e = is_line (line_of h e) n
 
 -- whether e and f open different arms of the `select` at one place
-abbrev pub are_in_conflict : Held → Event → Event → Bool
+abbrev pub are_in_conflict : AtMachine → Event → Event → Bool
 are_in_conflict h e f =
     same_place (acting e) (acting f)
     && (not ((choice_of e).arm == (choice_of f).arm) && is_open_after (events h.live) h.checked (acting e))
 
 -- whether one of the events acts on line n
-abbrev pub is_ready_on : Held → List Event → ℕ → Bool
+abbrev pub is_ready_on : AtMachine → List Event → ℕ → Bool
 is_ready_on h es n = list_any (acts_on h n) es
 
 -- whether one of the events acts on line n and is in conflict with another
-abbrev pub is_conflict_on : Held → List Event → ℕ → Bool
+abbrev pub is_conflict_on : AtMachine → List Event → ℕ → Bool
 is_conflict_on h es n = list_any (λ e. acts_on h n e && list_any (are_in_conflict h e) es) es
 
 -- the marks of line n, where these events are ready
-abbrev pub marks_on : Held → List Event → List ℕ → ℕ → Marks
+abbrev pub marks_on : AtMachine → List Event → List ℕ → ℕ → Marks
 marks_on h es breaks n =
     record { is_ready = is_ready_on h es n; has_break = is_in n breaks; in_conflict = is_conflict_on h es n }
 
@@ -66,10 +66,10 @@ lines_text marks number [] = []
 lines_text marks number (line ∷ rest) = line_text number (marks number) line ++ lines_text marks (suc number) rest
 
 -- the view, where these events are ready
-abbrev pub view_text : Held → List Event → List ℕ → List ℕ → List ℕ
+abbrev pub view_text : AtMachine → List Event → List ℕ → List ℕ → List ℕ
 view_text h es breaks source = lines_text (marks_on h es breaks) 1 (lines source)
 
 -- the bytes are the view, where just those events are ready that are allowed after the live ones
-abbrev pub IsView : Held → List ℕ → List ℕ → List ℕ → Type 0
+abbrev pub IsView : AtMachine → List ℕ → List ℕ → List ℕ → Type 0
 IsView h breaks source bytes =
     (T : State) × (es : List Event) × Reaches (object h) T × ReadyList T es × (bytes ≡ view_text h es breaks source)

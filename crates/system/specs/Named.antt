@@ -31,6 +31,6 @@ abbrev pub prefix_of_call : List ℕ → ℕ → List ℕ
 prefix_of_call prefix call = prefix ++ decimal call ++ 58 ∷ []
 
 -- what a prefix shows: the bytes of the calls, the outermost first
-abbrev pub shown : Option (Arc Call Global) → List ℕ
-shown None = []
-shown (Some call) = call.value.around ++ call.value.text.items
+abbrev pub prefix_bytes : Option (Arc Call Global) → List ℕ
+prefix_bytes None = []
+prefix_bytes (Some call) = call.value.around ++ call.value.text.items

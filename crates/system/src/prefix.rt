@@ -33,10 +33,10 @@ impl Model for Prefix {
 
     ghost Value = { List ℕ };
 
-    ghost use Rattle.system.specs.Named.{shown};
+    ghost use Rattle.system.specs.Named.{prefix_bytes};
     ghost use Rattle.system.specs.walking.SharedPrefix.{IsHashed};
 
-    ghost view = { λ prefix. shown prefix.innermost };
+    ghost view = { λ prefix. prefix_bytes prefix.innermost };
 
     ghost invariant = { λ prefix. IsHashed prefix.innermost };
 

@@ -17,7 +17,7 @@ use Rattle.system_places.specs.CommandPlaces.{is_body_number}
 use Rattle.system_places.specs.declared.command_places.Form.TheVariants.{Turns, Test, Choice}
 use Rattle.system_places.specs.LinesBegun.{any_onto, last_of, begun_layer, begun_arm, begun_command, begun_guarded, begun_labelled, begins}
 use Rattle.system_places.specs.walking.Parts.{arm_begins, guarded_begins, labelled_begins}
-use Rattle.system_places.specs.TakenArms.{Taken, Doing, doing, line_of_command, is_place, else_at, guarded_at, labelled_at, channel_arm_at, body_at, part_at, child_at, part, acting_in, acting_command}
+use Rattle.system_places.specs.TakenArms.{ArmsByPlace, Doing, doing, line_of_command, is_place, else_at, guarded_at, labelled_at, channel_arm_at, body_at, part_at, child_at, part, acting_in, acting_command}
 use Rattle.system_places.specs.Laws.{LinesAreBegun}
 
 -- what is held
@@ -155,7 +155,7 @@ part-within line arm c x e is h = opened line c ∙ or_right (line_of_command c 
 same-line : (c e : Command) → Some c ≡ Some e → begins (line_of_command e) c ≡ true
 same-line c e is = subst (λ d. begins (line_of_command d) c ≡ true) (some-same c e is) (on-own-line c)
 
-acting-begins : (taken : Taken) (before : List Entry) (c : Command) (way : List Entry) (e : Command) → acting_in taken before c way ≡ Some e → begins (line_of_command e) c ≡ true
+acting-begins : (taken : ArmsByPlace) (before : List Entry) (c : Command) (way : List Entry) (e : Command) → acting_in taken before c way ≡ Some e → begins (line_of_command e) c ≡ true
 acting-begins taken before c [] e is = pick (is_place (doing c) []) is
   where
     pick : (b : Bool) → (if b then Some c else None) ≡ Some e → begins (line_of_command e) c ≡ true
@@ -174,7 +174,7 @@ acting-begins taken before c (x ∷ way) e is =
     pick true more at = same-line c e at
     pick false more at = below (part (taken before) (doing c) x) refl more at
 
-command-begins : (taken : Taken) (system : System) (place : List Entry) (e : Command) → acting_command taken system place ≡ Some e → begins (line_of_command e) system.main ≡ true
+command-begins : (taken : ArmsByPlace) (system : System) (place : List Entry) (e : Command) → acting_command taken system place ≡ Some e → begins (line_of_command e) system.main ≡ true
 command-begins taken system [] e is = cc
 command-begins taken system (Ordered n ∷ way) e is = cc
 command-begins taken system (Branch n ∷ way) e is = pick (n == 0) is

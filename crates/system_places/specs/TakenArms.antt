@@ -17,8 +17,8 @@ use Rattle.system_places.specs.CommandPlaces.{is_body_number, is_own}
 use Rattle.system_places.specs.declared.command_places.Form.TheVariants.{Held, Turns, Test, Choice}
 
 -- for each place of an `if`, a `case`, a `select` or an `arbitrate` the arm that it took, from 0; none where it took none
-abbrev pub Taken : Type 0
-Taken = List Entry → Option ℕ
+abbrev pub ArmsByPlace : Type 0
+ArmsByPlace = List Entry → Option ℕ
 
 -- what a command does, with its parts
 abbrev pub Doing : Type 0
@@ -96,20 +96,20 @@ part arm d (Ordered n) = part_at arm d n
 part arm d (Branch n) = child_at d n
 
 -- the command, at or within the one at `before`, that has the place to which the way leads on from there
-abbrev pub acting_in : Taken → List Entry → Command → List Entry → Option Command
+abbrev pub acting_in : ArmsByPlace → List Entry → Command → List Entry → Option Command
 acting_in taken before c [] = if is_place (doing c) [] then Some c else None
 acting_in taken before c (x ∷ way) =
     if is_place (doing c) (x ∷ way) then Some c
     else option_and_then (λ d. acting_in taken (before ++ x ∷ []) d way) (part (taken before) (doing c) x)
 
 -- the same in a system, whose body stands at /0
-abbrev pub acting_command : Taken → System → List Entry → Option Command
+abbrev pub acting_command : ArmsByPlace → System → List Entry → Option Command
 acting_command taken system [] = None
 acting_command taken system (Ordered n ∷ way) = None
 acting_command taken system (Branch n ∷ way) = if n == 0 then acting_in taken (Branch n ∷ []) system.main way else None
 
 -- the line of the command of a place
-abbrev pub line_under : Taken → System → List Entry → Option ℕ
+abbrev pub line_under : ArmsByPlace → System → List Entry → Option ℕ
 line_under taken system place = option_map line_of_command (acting_command taken system place)
 
 abbrev pub is_select : Doing → Bool
@@ -127,6 +127,6 @@ is_zero (Some (Ordered n)) = n == 0
 is_zero _ = false
 
 -- whether a `select` opens at the place, which is its p.0
-abbrev pub is_open_under : Taken → System → List Entry → Bool
+abbrev pub is_open_under : ArmsByPlace → System → List Entry → Bool
 is_open_under taken system place =
     is_some_select (acting_command taken system place) && is_zero (slice_get place (length place - 1))

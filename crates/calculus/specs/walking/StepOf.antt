@@ -24,12 +24,12 @@ abbrev pub agreed : State → Event → Residual → Option Event → Option Sta
 agreed S e q None = None
 agreed S e q (Some f) = cond (same_event f e) (Some (record { residual = q; store = store_after e S.store })) None
 
--- the state after the event e, where e is possible
+-- the state after the event e, where e is allowed
 abbrev pub step_of : State → Event → Option State
 step_of S e =
     option_and_then (λ ks. option_and_then (λ x. agreed S e x.1 (event_of S.store x.0)) (moves_of S.residual ks)) (asked e)
 
--- the state after the events of h in their order, where they are possible
+-- the state after the events of h in their order, where they are allowed in turn
 abbrev pub run_of : State → List Event → Option State
 run_of S [] = Some S
 run_of S (e ∷ h) = option_and_then (λ U. run_of U h) (step_of S e)

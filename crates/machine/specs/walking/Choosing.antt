@@ -10,7 +10,7 @@ use Rattle.calculus.specs.declared.command.Refusal.{Refusal}
 use Rattle.calculus.specs.declared.command.Refusal.TheVariants.{NotReady, HistoryFull, Spent}
 use Rattle.calculus.specs.Does.{Steps, RefusesStep}
 use Rattle.calculus.specs.declared.command.Reply.{Reply}
-use Rattle.machine.specs.Held.{Held, object}
+use Rattle.machine.specs.AtMachine.{AtMachine, object}
 use Rattle.machine.specs.declared.branching.BranchReply.{BranchReply}
 use Rattle.machine.specs.declared.branching.BranchReply.TheVariants.{Stepped, Refused}
 use Rattle.machine.specs.Branching.{line_of, acts_in, is_free}
@@ -35,16 +35,16 @@ abbrev pub FirstAt : (Event → Bool) → List Event → ℕ → Type 0
 FirstAt test es i = (e : Event) × (slice_get es i ≡ Some e) × (test e ≡ true) × Every (λ f. test f ≡ false) (take i es)
 
 -- what is answered where e is to be taken, and what is left
-abbrev pub Takes : Held → Event → BranchReply → Held → Type 0
+abbrev pub Takes : AtMachine → Event → BranchReply → AtMachine → Type 0
 Takes h e (Stepped t f) h' = (f ≡ e) × Steps (object h) (choice_of e) (Reply.Stepped t e) (object h')
 Takes h e (Refused why) h' = RefusesStep (object h) (choice_of e) why × (h' ≡ h)
 Takes h e _ h' = ⊥
 
 -- whether an event acts in branch k and no breakpoint keeps it back
-abbrev pub moves : Held → ℕ → List ℕ → Event → Bool
+abbrev pub moves : AtMachine → ℕ → List ℕ → Event → Bool
 moves h k breaks e = cond (acts_in h k e) (is_free h breaks e) false
 
 -- the line of the first event of the list
-abbrev pub line_of_first : Held → List Event → Option ℕ
+abbrev pub line_of_first : AtMachine → List Event → Option ℕ
 line_of_first h [] = None
 line_of_first h (e ∷ es) = line_of h e

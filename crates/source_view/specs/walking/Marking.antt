@@ -3,7 +3,7 @@
 use Rattle.std.specs.Prelude.{◌≡◌, ◌<◌, ℕ, zero, suc, ◌&&◌, ◌||◌, Bool, false, List, [], ◌∷◌, length, slice_index_or}
 use Rattle.system.specs.Expression.{is_in}
 use Rattle.calculus.specs.declared.event.Event.{Event}
-use Rattle.machine.specs.Held.{Held}
+use Rattle.machine.specs.AtMachine.{AtMachine}
 use Rattle.source_view.specs.declared.marks.Marks.{Marks}
 use Rattle.source_view.specs.View.{acts_on, are_in_conflict, is_ready_on}
 
@@ -29,12 +29,12 @@ abbrev pub break_mark : List ℕ → ℕ → Marks
 break_mark breaks n = record { is_ready = false; has_break = is_in n breaks; in_conflict = false }
 
 -- whether e is in conflict with the first of these
-abbrev pub conflicts_with_next : Held → Event → List Event → Bool
+abbrev pub conflicts_with_next : AtMachine → Event → List Event → Bool
 conflicts_with_next h e [] = false
 conflicts_with_next h e (f ∷ es) = are_in_conflict h e f
 
 -- whether one of the events acts on line n and is in conflict with the one behind it
-abbrev pub neighbours_on : Held → List Event → ℕ → Bool
+abbrev pub neighbours_on : AtMachine → List Event → ℕ → Bool
 neighbours_on h [] n = false
 neighbours_on h (e ∷ es) n = (acts_on h n e && conflicts_with_next h e es) || neighbours_on h es n
 
@@ -48,7 +48,7 @@ with_event acts conflicts marks =
     }
 
 -- the marks of line n with those of the events
-abbrev pub with_events : Held → List Event → ℕ → Marks → Marks
+abbrev pub with_events : AtMachine → List Event → ℕ → Marks → Marks
 with_events h es n marks =
     record {
       is_ready = marks.is_ready || is_ready_on h es n;

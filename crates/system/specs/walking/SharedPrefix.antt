@@ -1,5 +1,5 @@
 -- The hash that a shared prefix keeps beside its bytes.
--- No reader has to believe it: contracts see a prefix as its bytes, which `shown` of `Named.antt` gives.
+-- No reader has to believe it: contracts see a prefix as its bytes, which `prefix_bytes` of `Named.antt` gives.
 use Rattle.std.specs.Prelude.{◌≡◌, ◌<◌, ◌++◌, Option, Some, None, length}
 use Rattle.std.specs.declared.alloc.Global.{Global}
 use Rattle.std.specs.declared.sync.Arc.{Arc}

@@ -8,7 +8,7 @@ use Rattle.debug_session.proofs.answer.answer_lines.Goals as goal
 pub loop-number-init : goal.loop-number-init
 loop-number-init g c = (
   refl,
-  progress-start c.args.sitting.now.desk.held.checked c.args.sitting.now (g.R.Read.remaining c.args.reader.now.device) (g.W.Write.contents c.args.writer.now.device),
+  progress-start c.args.sitting.now.desk.machine.checked c.args.sitting.now (g.R.Read.remaining c.args.reader.now.device) (g.W.Write.contents c.args.writer.now.device),
   refl,
   refl,
 )
@@ -16,7 +16,7 @@ loop-number-init g c = (
 pub returns-in_err-is_complete-clause-ends : goal.returns-in_err-is_complete-clause-ends
 returns-in_err-is_complete-clause-ends g c =
     let p = err_from_is_err_and c.from_residual.result c.from_residual.ensures.1 in
-    unread-by-line c.args.sitting.now.desk.held.checked c.args.sitting.now c.loop-number.sitting
+    unread-by-line c.args.sitting.now.desk.machine.checked c.args.sitting.now c.loop-number.sitting
     (g.R.Read.remaining c.args.reader.now.device) (g.R.Read.remaining c.loop-number.reader.device) (g.R.Read.remaining c.read_line.new.reader.device)
     (g.W.Write.contents c.args.writer.now.device) (g.W.Write.contents c.loop-number.writer.device) c.loop-number.number c.read_line.new.line.items
     c.in_err-is_complete.field-0.0 c.from_residual.result c.loop-number.invariant.1 c.in_err-is_complete.ensures.line (p.1 ∙ ap Err p.2)
@@ -24,7 +24,7 @@ returns-in_err-is_complete-clause-ends g c =
 pub returns-in_err-answer_line-clause-ends : goal.returns-in_err-answer_line-clause-ends
 returns-in_err-answer_line-clause-ends g c =
     let p = err_from_is_err_and c.from_residual-in_err-answer_line.result c.from_residual-in_err-answer_line.ensures.1 in
-    stopped-by-line c.args.sitting.now.desk.held.checked c.loop-number.sitting.desk.held.checked c.args.sitting.now c.loop-number.sitting
+    stopped-by-line c.args.sitting.now.desk.machine.checked c.loop-number.sitting.desk.machine.checked c.args.sitting.now c.loop-number.sitting
     (g.R.Read.remaining c.args.reader.now.device) (g.R.Read.remaining c.loop-number.reader.device) (g.R.Read.remaining c.read_line.new.reader.device)
     (g.W.Write.contents c.args.writer.now.device) (g.W.Write.contents c.loop-number.writer.device) (g.W.Write.contents c.answer_line.new.writer.device)
     c.loop-number.number c.read_line.new.line.items c.as_slice.result.now c.in_ok-is_complete.is_complete
@@ -33,7 +33,7 @@ returns-in_err-answer_line-clause-ends g c =
 
 pub returns-then-not-is_complete-clause-ends : goal.returns-then-not-is_complete-clause-ends
 returns-then-not-is_complete-clause-ends g c =
-    done-by-line c.args.sitting.now.desk.held.checked c.loop-number.sitting.desk.held.checked c.args.sitting.now c.loop-number.sitting c.answer_line.new.sitting
+    done-by-line c.args.sitting.now.desk.machine.checked c.loop-number.sitting.desk.machine.checked c.args.sitting.now c.loop-number.sitting c.answer_line.new.sitting
     (g.R.Read.remaining c.args.reader.now.device) (g.R.Read.remaining c.loop-number.reader.device) (g.R.Read.remaining c.read_line.new.reader.device)
     (g.W.Write.contents c.args.writer.now.device) (g.W.Write.contents c.loop-number.writer.device) (g.W.Write.contents c.answer_line.new.writer.device)
     c.loop-number.number c.read_line.new.line.items c.as_slice.result.now c.in_ok-is_complete.is_complete
@@ -43,7 +43,7 @@ returns-then-not-is_complete-clause-ends g c =
 pub loop-number-preserved : goal.loop-number-preserved
 loop-number-preserved g c = (
   c.answer_line.ensures.checked ∙ c.loop-number.invariant.0,
-  more-by-line c.args.sitting.now.desk.held.checked c.loop-number.sitting.desk.held.checked c.args.sitting.now c.loop-number.sitting c.answer_line.new.sitting
+  more-by-line c.args.sitting.now.desk.machine.checked c.loop-number.sitting.desk.machine.checked c.args.sitting.now c.loop-number.sitting c.answer_line.new.sitting
       (g.R.Read.remaining c.args.reader.now.device) (g.R.Read.remaining c.loop-number.reader.device) (g.R.Read.remaining c.read_line.new.reader.device)
       (g.W.Write.contents c.args.writer.now.device) (g.W.Write.contents c.loop-number.writer.device) (g.W.Write.contents c.answer_line.new.writer.device)
       c.loop-number.number c.read_line.new.line.items c.as_slice.result.now c.in_ok-is_complete.is_complete
@@ -55,7 +55,7 @@ loop-number-preserved g c = (
 
 pub returns-clause-ends : goal.returns-clause-ends
 returns-clause-ends g c =
-    session-endless c.args.sitting.now.desk.held.checked c.args.sitting.now c.loop-number.sitting
+    session-endless c.args.sitting.now.desk.machine.checked c.args.sitting.now c.loop-number.sitting
     (g.R.Read.remaining c.args.reader.now.device) (g.R.Read.remaining c.loop-number.reader.device)
     (g.W.Write.contents c.args.writer.now.device) (g.W.Write.contents c.loop-number.writer.device) c.loop-number.number c.loop-number.invariant.1
 
@@ -78,7 +78,7 @@ returns-in_err-answer_line-clause-read_failures g c =
     let p = err_from_is_err_and c.from_residual-in_err-answer_line.result c.from_residual-in_err-answer_line.ensures.1 in
     reads-on (failures c.read_line.new.reader) (failures c.read_line.new.reader) (failures c.args.reader.now)
     c.in_err-answer_line.field-0.0 c.from_residual-in_err-answer_line.result
-    (sym (stops-reads c.loop-number.sitting.desk.held.checked c.loop-number.sitting c.as_slice.result.now c.loop-number.number
+    (sym (stops-reads c.loop-number.sitting.desk.machine.checked c.loop-number.sitting c.as_slice.result.now c.loop-number.number
     c.in_err-answer_line.ensures.answered.0 c.in_err-answer_line.field-0.0 (failures c.read_line.new.reader)
     c.in_err-answer_line.ensures.answered.2))
     (c.in_ok-is_complete.ensures.failures ∙ c.loop-number.invariant.2) (p.1 ∙ ap Err p.2)

@@ -6,7 +6,7 @@ use Rattle.locked_execution.proofs.asked.run_commands.Given as goal
 abbrev pub invariant-loop-session : goal.invariant-loop-session
 invariant-loop-session l = record {
   answered : Answered l.initial.desk (take l.session-index l.commands) l.replies.items l.desk;
-  system : l.desk.held.checked ≡ l.initial.desk.held.checked;
+  system : l.desk.machine.checked ≡ l.initial.desk.machine.checked;
   room : vec_capacity l.replies ≡ length l.commands;
   number : vec_len l.replies ≡ l.session-index;
 }

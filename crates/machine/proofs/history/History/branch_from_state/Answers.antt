@@ -4,7 +4,7 @@ use Rattle.std.proofs.lemmas.Result.{IfOk-weaker}
 use Rattle.syntax.specs.Lists.{Every}
 use Rattle.calculus.specs.declared.event.Event.{Event}
 use Rattle.machine.specs.walking.Choosing.{FirstAt, Takes, moves, line_of_first}
-use Rattle.machine.specs.Held.{held}
+use Rattle.machine.specs.AtMachine.{at_machine}
 use Rattle.machine.specs.Branching.{in_branch, StepsBranch}
 use Rattle.machine.specs.declared.branching.BranchReply.{BranchReply}
 use Rattle.machine.proofs.Entries.{within-at}
@@ -13,15 +13,15 @@ use Rattle.machine.proofs.history.History.branch_from_state.Goals as goal
 
 pub take_at-requires : goal.take_at-requires
 take_at-requires c =
-    let h = held c.args.system.now c.args.self.now in
+    let h = at_machine c.args.system.now c.args.self.now in
     let first : FirstAt (moves h c.args.branch c.args.breaks.now) c.in_ok-events.events c.in-Some.place =
     subst (λ (k : List Event). FirstAt (moves h c.args.branch c.args.breaks.now) k c.in-Some.place) c.as_slice.ensures c.in-Some.ensures in
     within-at c.in_ok-events.events c.in-Some.place first.0 first.1
 
 pub returns-in-Some-clause-done : goal.returns-in-Some-clause-done
 returns-in-Some-clause-done c =
-    let h = held c.args.system.now c.args.self.now in
-    let h' = held c.args.system.now c.take_at.new.self in
+    let h = at_machine c.args.system.now c.args.self.now in
+    let h' = at_machine c.args.system.now c.take_at.new.self in
     let state = c.in_ok-events.ensures in
     let first : FirstAt (moves h c.args.branch c.args.breaks.now) c.in_ok-events.events c.in-Some.place =
     subst (λ (k : List Event). FirstAt (moves h c.args.branch c.args.breaks.now) k c.in-Some.place) c.as_slice.ensures c.in-Some.ensures in
@@ -32,7 +32,7 @@ returns-in-Some-clause-done c =
 
 pub returns-in-None-clause-done : goal.returns-in-None-clause-done
 returns-in-None-clause-done c =
-    let h = held c.args.system.now c.args.self.now in
+    let h = at_machine c.args.system.now c.args.self.now in
     let state = c.in_ok-events.ensures in
     back-branched h c.args.branch c.args.breaks.now state.0 c.in_ok-events.events c.kept_back.result state.1 state.2
     (subst (λ (k : List Event). Every (λ e. moves h c.args.branch c.args.breaks.now e ≡ false) k) c.as_slice.ensures c.in-None.ensures)

@@ -1,10 +1,10 @@
 use Rattle.std.proofs.Common.{inl, subst}
 use Rattle.calculus.specs.Does.{Answers}
 use Rattle.calculus.specs.declared.command.Command.{Command}
-use Rattle.machine.specs.Held.{Held, object}
+use Rattle.machine.specs.AtMachine.{AtMachine, object}
 use Rattle.machine.proofs.machine.Machine.blame.Goals as goal
 
 pub returns : goal.returns
 returns c =
-    subst (λ (h : Held). Answers (object h) (Command.Blame c.args.variable) c.tell_blame.result (object h)) c.self.view_is
+    subst (λ (h : AtMachine). Answers (object h) (Command.Blame c.args.variable) c.tell_blame.result (object h)) c.self.view_is
     (inl (c.tell_blame.ensures c.self.inside.system c.self.invariant.0))

@@ -1,21 +1,21 @@
 use Rattle.std.proofs.Common.{List, ℕ, subst}
-use Rattle.machine.specs.Held.{Held, held}
+use Rattle.machine.specs.AtMachine.{AtMachine, at_machine}
 use Rattle.machine.specs.Branching.{AnswersBranch}
 use Rattle.machine.proofs.Branches.{branch-answers, answers-sound}
 use Rattle.machine.proofs.machine.Machine.branch_step.Goals as goal
 
 pub returns-clause-answers : goal.returns-clause-answers
 returns-clause-answers c =
-    let h' = held c.self.inside.system c.branch_step.new.self in
-    subst (λ (h : Held). AnswersBranch h c.args.branch c.args.breaks.now c.or_refused.result h') c.self.view_is
-    (subst (λ (l : List ℕ). AnswersBranch (held c.self.inside.system c.self.inside.history) c.args.branch l c.or_refused.result h') c.lines.ensures
-    (branch-answers (held c.self.inside.system c.self.inside.history) h' c.args.branch c.lines.result.now c.branch_step.result c.or_refused.result
+    let h' = at_machine c.self.inside.system c.branch_step.new.self in
+    subst (λ (h : AtMachine). AnswersBranch h c.args.branch c.args.breaks.now c.or_refused.result h') c.self.view_is
+    (subst (λ (l : List ℕ). AnswersBranch (at_machine c.self.inside.system c.self.inside.history) c.args.branch l c.or_refused.result h') c.lines.ensures
+    (branch-answers (at_machine c.self.inside.system c.self.inside.history) h' c.args.branch c.lines.result.now c.branch_step.result c.or_refused.result
     c.branch_step.ensures.done c.branch_step.ensures.unchanged c.or_refused.ensures))
 
 pub invariant_of-self : goal.invariant_of-self
 invariant_of-self c =
-    let h = held c.self.inside.system c.self.inside.history in
-    let h' = held c.self.inside.system c.branch_step.new.self in (
+    let h = at_machine c.self.inside.system c.self.inside.history in
+    let h' = at_machine c.self.inside.system c.branch_step.new.self in (
       answers-sound h h' c.args.branch c.lines.result.now c.or_refused.result c.self.invariant.0
           (branch-answers h h' c.args.branch c.lines.result.now c.branch_step.result c.or_refused.result c.branch_step.ensures.done c.branch_step.ensures.unchanged
           c.or_refused.ensures),

@@ -1,7 +1,7 @@
 use Rattle.std.proofs.Common.{refl, subst}
 use Rattle.calculus.specs.Does.{Answers}
 use Rattle.calculus.specs.declared.command.Command.{Command}
-use Rattle.machine.specs.Held.{Held, object}
+use Rattle.machine.specs.AtMachine.{AtMachine, object}
 use Rattle.machine.specs.walking.Histories.{execution}
 use Rattle.machine.proofs.Stepped.{answers-of, on-error}
 use Rattle.machine.proofs.machine.Machine.consequences.Goals as goal
@@ -9,7 +9,7 @@ use Rattle.machine.proofs.machine.Machine.consequences.Goals as goal
 pub returns : goal.returns
 returns c =
     let o = execution c.self.inside.system c.self.inside.history in
-    subst (λ (h : Held). Answers (object h) (Command.Consequences c.args.ticket) c.or_no_memory.result (object h)) c.self.view_is
+    subst (λ (h : AtMachine). Answers (object h) (Command.Consequences c.args.ticket) c.or_no_memory.result (object h)) c.self.view_is
     (answers-of o o (Command.Consequences c.args.ticket) c.tell_consequences.result c.or_no_memory.result
     (c.tell_consequences.ensures.done c.self.inside.system c.self.invariant.0) c.tell_consequences.ensures.wanted
     (on-error c.tell_consequences.result refl) c.or_no_memory.ensures)

@@ -1,8 +1,8 @@
 use Rattle.std.proofs.Common.{subst}
 use Rattle.calculus.specs.Sound.{Sound}
-use Rattle.machine.specs.Held.{Held, object}
+use Rattle.machine.specs.AtMachine.{AtMachine, object}
 use Rattle.machine.proofs.HeadlineLaws.{headline}
 use Rattle.machine.proofs.machine.Machine.is_sound.Goals as goal
 
 pub returns : goal.returns
-returns c = headline (object c.args.self.now) (subst (λ (h : Held). Sound (object h)) c.self.view_is c.self.invariant.0)
+returns c = headline (object c.args.self.now) (subst (λ (h : AtMachine). Sound (object h)) c.self.view_is c.self.invariant.0)

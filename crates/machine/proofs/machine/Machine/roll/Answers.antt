@@ -2,7 +2,7 @@ use Rattle.std.proofs.Common.{subst}
 use Rattle.calculus.specs.Does.{Answers}
 use Rattle.calculus.specs.declared.command.Command.{Command}
 use Rattle.calculus.proofs.Effects.{stays-sound}
-use Rattle.machine.specs.Held.{Held, object}
+use Rattle.machine.specs.AtMachine.{AtMachine, object}
 use Rattle.machine.specs.walking.Histories.{execution}
 use Rattle.machine.proofs.Stepped.{answers-of}
 use Rattle.machine.proofs.machine.Machine.roll.Goals as goal
@@ -10,7 +10,7 @@ use Rattle.machine.proofs.machine.Machine.roll.Goals as goal
 pub returns-clause-answers : goal.returns-clause-answers
 returns-clause-answers c =
     subst
-    (λ (h : Held). Answers (object h) (Command.Roll c.args.ticket) c.or_no_memory.result (execution c.self.inside.system c.roll.new.self))
+    (λ (h : AtMachine). Answers (object h) (Command.Roll c.args.ticket) c.or_no_memory.result (execution c.self.inside.system c.roll.new.self))
     c.self.view_is
     (answers-of (execution c.self.inside.system c.self.inside.history) (execution c.self.inside.system c.roll.new.self) (Command.Roll c.args.ticket)
     c.roll.result c.or_no_memory.result (c.roll.ensures.done c.self.inside.system c.self.invariant.0) c.roll.ensures.wanted

@@ -7,15 +7,15 @@ use Rattle.calculus.specs.Object.{Object}
 use Rattle.machine.specs.declared.history.History.{History}
 
 -- a system, its live events and the ticket of the next step
-pub record Held : Type 0 where
+pub record AtMachine : Type 0 where
   pub checked : Checked
   pub live : Live
   pub next : ℕ
 
 -- the execution: it began as the system opens
-abbrev pub object : Held → Object
+abbrev pub object : AtMachine → Object
 object h = record { opening = opening h.checked; live = h.live; next = h.next }
 
 -- what a machine shows: its system, and the live events as they lie in memory
-abbrev pub held : Checked → History → Held
-held checked h = record { checked = checked; live = h.live.items; next = h.next }
+abbrev pub at_machine : Checked → History → AtMachine
+at_machine checked h = record { checked = checked; live = h.live.items; next = h.next }
