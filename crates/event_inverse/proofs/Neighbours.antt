@@ -21,12 +21,12 @@ use Rattle.calculus.proofs.Options.{none-some, and_then-at}
 use Rattle.calculus.proofs.Stores.{get-after, after-other}
 use Rattle.process_tree.specs.Proc.{Proc}
 use Rattle.process_tree.proofs.Asking.{some-elim, map-elim, then-elim}
-use Rattle.event_inverse.specs.Grown.{TreeAndStore, Taken, state_of, all_advanced, after_moves, applied}
+use Rattle.event_inverse.specs.Grown.{TreeAndStore, Taken, state_of_tree, all_advanced, after_moves, applied}
 use Rattle.event_inverse.specs.walking.Reverted.{all_retreated, written_back, reverted}
 use Rattle.event_inverse.proofs.Moving.{Walked, all-does, all-back, all-past}
 
 -- a step of the state is made by the tree
-pub applies : (T : TreeAndStore) (e : Event) (U : State) → Step (state_of T) e U → (x : TreeAndStore × Taken) × (applied T e ≡ Some x) × (state_of x.0 ≡ U)
+pub applies : (T : TreeAndStore) (e : Event) (U : State) → Step (state_of_tree T) e U → (x : TreeAndStore × Taken) × (applied T e ≡ Some x) × (state_of_tree x.0 ≡ U)
 applies T e U s =
     let d = all-does T.proc s.moves U.residual s.moved in (
       after_moves T e d.0,

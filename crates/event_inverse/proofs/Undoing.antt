@@ -11,7 +11,7 @@ use Rattle.calculus.proofs.Orders.{Woven}
 use Rattle.calculus.proofs.Respecting.{woven, run-distinct}
 use Rattle.process_tree.proofs.Asking.{some-elim, map-elim, then-elim}
 use Rattle.process_tree.proofs.Formed.{left-formed}
-use Rattle.event_inverse.specs.Grown.{TreeAndStore, Taken, state_of, applied, Records, grown}
+use Rattle.event_inverse.specs.Grown.{TreeAndStore, Taken, state_of_tree, applied, Records, grown}
 use Rattle.event_inverse.specs.walking.Reverted.{reverted}
 use Rattle.event_inverse.proofs.Neighbours.{applies, reverts, neighbours}
 
@@ -104,7 +104,7 @@ grown-onwards T (f ∷ h) y e x g d =
     (λ u w i j d. first-grown T f (h ++ e ∷ []) u (x.0, w.1 ++ (e, x.1) ∷ []) i (grown-onwards u.0 h w e x j d)) d
 
 -- what runs grows
-pub grows : (h : List Event) (T : TreeAndStore) (U : State) → Run (state_of T) h U → (x : Grew) × (grown T h ≡ Some x) × (state_of x.0 ≡ U)
+pub grows : (h : List Event) (T : TreeAndStore) (U : State) → Run (state_of_tree T) h U → (x : Grew) × (grown T h ≡ Some x) × (state_of_tree x.0 ≡ U)
 grows [] T U r = ((T, []), refl, r)
 grows (e ∷ h) T U r =
     let s = applies T e r.0 r.1 in
@@ -175,5 +175,5 @@ woven-grows T (e ∷ h) g y d o =
     )
 
 -- respecting orders of a run grow the same
-pub respecting-grows : (h g : List Event) (T : TreeAndStore) (U : State) (y : Grew) → Run (state_of T) h U → grown T h ≡ Some y → Respecting h g → Alike T g y
-respecting-grows h g T U y r d o = woven-grows T h g y d (woven h g (run-distinct (state_of T) U h (left-formed T.proc []) r) o.rearranged o.keeps)
+pub respecting-grows : (h g : List Event) (T : TreeAndStore) (U : State) (y : Grew) → Run (state_of_tree T) h U → grown T h ≡ Some y → Respecting h g → Alike T g y
+respecting-grows h g T U y r d o = woven-grows T h g y d (woven h g (run-distinct (state_of_tree T) U h (left-formed T.proc []) r) o.rearranged o.keeps)

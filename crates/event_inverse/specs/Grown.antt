@@ -27,8 +27,8 @@ pub record Taken : Type 0 where
   pub old : Option Word
 
 -- the state that the tree stands for
-abbrev pub state_of : TreeAndStore → State
-state_of T = record { residual = left [] T.proc; store = T.store }
+abbrev pub state_of_tree : TreeAndStore → State
+state_of_tree T = record { residual = left [] T.proc; store = T.store }
 
 -- the tree of a system before its first event
 abbrev pub opening_tree : System → TreeAndStore
@@ -59,5 +59,5 @@ grown T (e ∷ h) = option_and_then (λ x. option_map (λ y. (y.0, (e, x.1) ∷ 
 -- the tree and the records stand for the run of the list h: it runs to the state of the tree, and tree and records are what its events
 -- leave, the finished processes as they were left
 pub record StandFor (system : System) (h : List Event) (T : TreeAndStore) (records : Records) : Type 0 where
-  pub runs : Run (opening system) h (state_of T)
+  pub runs : Run (opening system) h (state_of_tree T)
   pub grows : grown (opening_tree system) h ≡ Some (T, records)

@@ -5,16 +5,16 @@ use Rattle.system.specs.declared.system.System.{System}
 use Rattle.calculus.specs.Dependence.{Directly, Respecting}
 use Rattle.calculus.specs.Steps.{State, Step, Allowed, Run, opening}
 use Rattle.calculus.specs.declared.event.Event.{Event}
-use Rattle.event_inverse.specs.Grown.{TreeAndStore, Taken, state_of, opening_tree, applied, Records, StandFor}
+use Rattle.event_inverse.specs.Grown.{TreeAndStore, Taken, state_of_tree, opening_tree, applied, Records, StandFor}
 use Rattle.event_inverse.specs.walking.Reverted.{reverted}
 
 -- the tree of a system opens in the state in which the system opens
 abbrev pub TreesOpenAlike : Type 0
-TreesOpenAlike = (system : System) → state_of (opening_tree system) ≡ opening system
+TreesOpenAlike = (system : System) → state_of_tree (opening_tree system) ≡ opening system
 
 -- a step of the state is made by the tree, which then stands for the state after it
 abbrev pub StepsAreApplied : Type 0
-StepsAreApplied = (T : TreeAndStore) (e : Event) (U : State) → Step (state_of T) e U → (x : TreeAndStore × Taken) × (applied T e ≡ Some x) × (state_of x.0 ≡ U)
+StepsAreApplied = (T : TreeAndStore) (e : Event) (U : State) → Step (state_of_tree T) e U → (x : TreeAndStore × Taken) × (applied T e ≡ Some x) × (state_of_tree x.0 ≡ U)
 
 -- the record of an event takes it back: tree and store are as they were, finished processes included
 abbrev pub RecordsRevert : Type 0
@@ -30,13 +30,13 @@ NeighboursKeepRecords =
 abbrev pub RunsHaveTrees : Type 0
 RunsHaveTrees =
     (system : System) (h : List Event) (U : State) → Run (opening system) h U →
-    (T : TreeAndStore) × (records : Records) × StandFor system h T records × (state_of T ≡ U)
+    (T : TreeAndStore) × (records : Records) × StandFor system h T records × (state_of_tree T ≡ U)
 
--- one more event that is possible puts its record behind the others
+-- one more event that is allowed puts its record behind the others
 abbrev pub OneMore : Type 0
 OneMore =
     (system : System) (h : List Event) (T : TreeAndStore) (records : Records) (e : Event) (x : TreeAndStore × Taken) →
-    StandFor system h T records → Allowed (state_of T) e → applied T e ≡ Some x → StandFor system (h ++ e ∷ []) x.0 (records ++ (e, x.1) ∷ [])
+    StandFor system h T records → Allowed (state_of_tree T) e → applied T e ≡ Some x → StandFor system (h ++ e ∷ []) x.0 (records ++ (e, x.1) ∷ [])
 
 -- the undo of e, behind h and in front of k: its record leads from T to a tree that stands, with the other records, for the run without e
 pub record Undone (system : System) (h k : List Event) (e : Event) (T : TreeAndStore) (records : Records) : Type 0 where

@@ -5,7 +5,7 @@ use Rattle.std.specs.List.{list_all}
 use Rattle.std.specs.Fmt.{decimal}
 use Rattle.lexer.specs.Bytes.{is_name_byte}
 use Rattle.lexer.specs.Names.{is_name, is_word}
-use Rattle.stimulus.specs.walking.CutAt.{Without, StartsWith, IsBefore}
+use Rattle.stimulus.specs.walking.CutAt.{Lacks, StartsWith, IsBefore}
 use Rattle.syntax.specs.Texts.{Text}
 use Rattle.stimulus.specs.StimulusText.{numbers_text, given_text, Gives, HasForm}
 use Rattle.stimulus.specs.walking.LineParts.{IsNoNumbers, ReadsGiven, IsNoGiven, IsNoEntry}
@@ -45,14 +45,14 @@ both_true true b h = (refl, h)
 both_true false b h = absurd (true≢false (sym h))
 
 -- bytes of names are no spaces
-bytes_without : (text : Text) → list_all is_name_byte text ≡ true → Without 32 text
+bytes_without : (text : Text) → list_all is_name_byte text ≡ true → Lacks 32 text
 bytes_without [] h = tt
 bytes_without (x ∷ xs) h =
     let both = both_true (is_name_byte x) (list_all is_name_byte xs) h in
     (λ e. true≢false (sym (subst (λ b. is_name_byte b ≡ true) e both.0)), bytes_without xs both.1)
 
 -- a name has no space
-name_without : (name : Text) → is_name name ≡ true → Without 32 name
+name_without : (name : Text) → is_name name ≡ true → Lacks 32 name
 name_without name h =
     let word = both_true (is_word name) _ h in let bytes = both_true _ (list_all is_name_byte name) word.0 in bytes_without name bytes.1
 

@@ -2,7 +2,7 @@
 use Rattle.std.proofs.Common.{◌≡◌, ℕ, ◌+◌, ◌<◌, ◌≤◌, ◌==◌, List, [], ◌∷◌, ◌++◌, length, take, drop, refl, ap, sym, ◌∙◌, subst, true, false, arith, inl, inr, append_assoc, eq-eqb, ne_eqb, length-drop, add-one}
 use Rattle.std.specs.List.{onto_first}
 use Rattle.std.proofs.lemmas.List.{take-append-drop, append-nil}
-use Rattle.stimulus.specs.walking.CutAt.{Without, StartsWith, IsBefore}
+use Rattle.stimulus.specs.walking.CutAt.{Lacks, StartsWith, IsBefore}
 use Rattle.syntax.specs.Texts.{Text, lines}
 use Rattle.stimulus.specs.StimulusText.{Gives, HasForm, AreEntries, FirstOther}
 use Rattle.stimulus.specs.walking.LineParts.{IsAdded}
@@ -16,7 +16,7 @@ lines_at y r e = let t : (y == 10) ≡ true = eq-eqb y 10 e in rw t
 lines_on : (x : ℕ) (r : Text) → (x ≡ 10 → ⊥) → lines (x ∷ r) ≡ onto_first x (lines r)
 lines_on x r n = let t : (x == 10) ≡ false = ne_eqb x 10 n in rw t
 
-lines_cut : (xs u : Text) → Without 10 xs → StartsWith 10 u → (xs ++ u ≡ [] → ⊥) → lines (xs ++ u) ≡ xs ∷ lines (drop 1 u)
+lines_cut : (xs u : Text) → Lacks 10 xs → StartsWith 10 u → (xs ++ u ≡ [] → ⊥) → lines (xs ++ u) ≡ xs ∷ lines (drop 1 u)
 lines_cut [] [] h k some = absurd (some refl)
 lines_cut [] (y ∷ r) h k some = lines_at y r k
 lines_cut (x ∷ []) [] h k some = lines_on x [] h.0

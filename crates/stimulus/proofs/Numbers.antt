@@ -6,14 +6,14 @@ use Rattle.std.specs.Str.Parse.{AllDigits}
 use Rattle.std.proofs.lemmas.Bool.Decides.{nat_tests}
 use Rattle.std.proofs.lemmas.Fmt.{decimal_injective}
 use Rattle.decimal.specs.Reading.{Reads, IsNoNumber}
-use Rattle.stimulus.specs.walking.CutAt.{Without}
+use Rattle.stimulus.specs.walking.CutAt.{Lacks}
 
 -- what is not empty has a first
 pub not_empty : (n : ℕ) (r : Bool) → r ≡ eqb n 0 → r ≡ false → 0 < n
 not_empty n r e h = grind (arith, nat_tests)
 
 -- a text of digits has no space
-pub digits_without : (ds : List ℕ) → AllDigits 10 ds → Without 32 ds
+pub digits_without : (ds : List ℕ) → AllDigits 10 ds → Lacks 32 ds
 digits_without [] h = tt
 digits_without (d ∷ ds) h = (λ e. let low : digit_value d < 10 = h.0 in grind (arith, nat_tests), digits_without ds h.1)
 

@@ -3,7 +3,7 @@ use Rattle.std.proofs.Common.{◌≡◌, ℕ, ◌<◌, ◌^◌, List, [], ◌∷
 use Rattle.std.proofs.lemmas.List.{take-append-drop, append-nil}
 use Rattle.std.specs.Fmt.{decimal}
 use Rattle.syntax.specs.Lists.{Every}
-use Rattle.stimulus.specs.walking.CutAt.{Without, StartsWith, IsBefore}
+use Rattle.stimulus.specs.walking.CutAt.{Lacks, StartsWith, IsBefore}
 use Rattle.syntax.specs.Texts.{Text}
 use Rattle.stimulus.specs.StimulusText.{numbers_text}
 use Rattle.decimal.specs.Reading.{Reads, IsNoNumber}
@@ -13,7 +13,7 @@ use Rattle.decimal.proofs.DigitLemmas.{decimal-digits}
 use Rattle.stimulus.proofs.Numbers.{digits_without, one_number}
 
 -- the text of a number has no space
-number_without : (n : ℕ) → n < 2 ^ 64 → Without 32 (decimal n)
+number_without : (n : ℕ) → n < 2 ^ 64 → Lacks 32 (decimal n)
 number_without n small = digits_without (decimal n) (decimal-digits n small)
 
 -- no number stands in the empty text

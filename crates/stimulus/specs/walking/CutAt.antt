@@ -3,9 +3,9 @@
 use Rattle.std.specs.Prelude.{◌≡◌, ℕ, ◌≤◌, List, [], ◌∷◌, length, take, drop}
 
 -- the byte does not stand in the text
-abbrev pub Without : ℕ → List ℕ → Type 0
-Without b [] = Unit {0}
-Without b (x ∷ xs) = (x ≡ b → ⊥) × Without b xs
+abbrev pub Lacks : ℕ → List ℕ → Type 0
+Lacks b [] = Unit {0}
+Lacks b (x ∷ xs) = (x ≡ b → ⊥) × Lacks b xs
 
 -- the text begins with the byte, or is empty
 abbrev pub StartsWith : ℕ → List ℕ → Type 0
@@ -14,4 +14,4 @@ StartsWith b (x ∷ xs) = x ≡ b
 
 -- so many bytes stand before the first of this byte, or before the end
 abbrev pub IsBefore : ℕ → List ℕ → ℕ → Type 0
-IsBefore b text count = (count ≤ length text) × Without b (take count text) × StartsWith b (drop count text)
+IsBefore b text count = (count ≤ length text) × Lacks b (take count text) × StartsWith b (drop count text)

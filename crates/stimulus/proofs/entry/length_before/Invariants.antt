@@ -1,7 +1,7 @@
 use Rattle.std.proofs.Common.{take}
-use Rattle.stimulus.specs.walking.CutAt.{Without}
+use Rattle.stimulus.specs.walking.CutAt.{Lacks}
 use Rattle.stimulus.proofs.entry.length_before.Given as goal
 
 -- the byte is not among those passed
 abbrev pub invariant-loop-count : goal.invariant-loop-count
-invariant-loop-count l = Without l.byte (take l.count l.text)
+invariant-loop-count l = Lacks l.byte (take l.count l.text)
