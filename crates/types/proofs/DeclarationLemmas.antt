@@ -103,7 +103,7 @@ module _ (v : Scope) (p : tree_procedure.Procedure)
         (types : Verdict (Unit {0})) (body : Verdict Command) (named right : Verdict (Unit {0})) (name : List ℕ) (result : Verdict Procedure) (kept : VisibleNames) (visible : ℕ)
         → visible ≡ length v.names
         → kept ≡ take visible ln
-        → types ≡ and least (port_types least ln (Ok tt) p.ports) (local_types least ln (Ok tt) p.locals)
+        → types ≡ and least (port_types least ln p.ports) (local_types least ln p.locals)
         → body ≡ judged_command least p.body (record { names = ln; procedures = v.procedures }) []
         → named ≡ is_fresh kept p.name.name p.name.span.start
         → right ≡ and least named (and least (and least pr lr) types)

@@ -1,6 +1,6 @@
 -- The answer to what is found: of all faults the least.
 use Rattle.std.proofs.Common.{◌≡◌, List, [], ◌∷◌, ◌++◌, map, Ok, Err, inl, inr, refl, ap, sym, subst, ◌∙◌}
-use Rattle.types.specs.Findings.{Verdict, Findings, becomes, if_right, both, and, with_next, with_all, all, and_all, found, every, IsRefused}
+use Rattle.types.specs.Findings.{Verdict, Findings, becomes, if_right, both, and, with_next, with_all, all, and_all, demands, found, every, IsRefused}
 use Rattle.types.specs.Refusal.{lesser}
 use Rattle.types.specs.walking.Least.{least}
 use Rattle.refusals.specs.declared.types.Fault.{Fault}
@@ -74,16 +74,16 @@ answer-with_all l (x ∷ xs) =
 pub all_is : {A : Type 0} (xs : List (Findings every A)) (ys : List (Verdict A)) → map answer xs ≡ ys → answer (all every xs) ≡ all least ys
 all_is xs ys e = answer-with_all (Ok []) xs ∙ ap (with_all least (Ok [])) e
 
-answer-and_all : (l : Findings every (Unit {0})) (xs : List (Findings every (Unit {0}))) → answer (and_all every l xs) ≡ and_all least (answer l) (map answer xs)
+answer-and_all : (l : Findings every (Unit {0})) (verdicts : List (Verdict (Unit {0}))) → answer (and_all every l verdicts) ≡ and_all least (answer l) verdicts
 answer-and_all l [] = refl
-answer-and_all l (x ∷ xs) =
-    answer-and_all (and every l x) xs ∙ ap (λ z. and_all least z (map answer xs)) (and_is l x (answer l) (answer x) refl refl)
+answer-and_all l (next ∷ rest) =
+    answer-and_all (and every l (found next)) rest
+    ∙ ap (λ z. and_all least z rest) (and_is l (found next) (answer l) next refl (answer-found next))
 
-pub and_all_is : (xs : List (Findings every (Unit {0}))) (ys : List (Verdict (Unit {0}))) → map answer xs ≡ ys
-    → answer (and_all every (Ok tt) xs) ≡ and_all least (Ok tt) ys
-and_all_is xs ys e = answer-and_all (Ok tt) xs ∙ ap (and_all least (Ok tt)) e
+pub demands_are : (verdicts : List (Verdict (Unit {0}))) → answer (demands every verdicts) ≡ demands least verdicts
+demands_are verdicts = answer-and_all (Ok tt) verdicts
 
--- single demands, each found alone
+-- verdicts, each found alone
 pub found-each : {X A : Type 0} (f : X → Verdict A) (xs : List X) → map answer (map (λ x. found (f x)) xs) ≡ map f xs
 found-each f [] = refl
 found-each f (x ∷ xs) = ap (λ z. z ∷ map answer (map (λ y. found (f y)) xs)) (answer-found (f x)) ∙ ap (λ zs. f x ∷ zs) (found-each f xs)

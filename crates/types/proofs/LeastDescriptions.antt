@@ -1,7 +1,7 @@
 -- What is answered of a description is the least of all its faults.
 use Rattle.std.proofs.Common.{◌≡◌, ℕ, suc, List, [], ◌∷◌, length, Ok, Err, IfOk, IfErr, ◌⊎◌, inr, refl, ap, sym, ◌∙◌}
 use Rattle.types.specs.Commands.{Scope, judged_command}
-use Rattle.types.specs.Declarations.{SoFar, with_name, with_elements, with_definition, with_demand, with_types, enumeration_width, width_or_one, demanded, Declared, with_one, with_ports, with_locals, all_ports, all_locals, one_port, one_local, port_kind, local_kind, port_type, local_type, port_types, local_types, behind, ports_of, locals_of, inside, after_procedure, types_of, declarations_right, judged_procedure, with_procedures, judged_description, found_description}
+use Rattle.types.specs.Declarations.{SoFar, with_name, with_elements, with_definition, with_demand, with_types, enumeration_width, width_or_one, demanded, Declared, with_one, with_ports, with_locals, all_ports, all_locals, one_port, one_local, port_kind, local_kind, port_types, local_types, behind, ports_of, locals_of, inside, after_procedure, types_of, declarations_right, judged_procedure, with_procedures, judged_description, found_description}
 use Rattle.types.specs.Expressions.{declared_width}
 use Rattle.types.specs.Findings.{Verdict, Findings, becomes, both, and, with_next, found, every, IsRefused}
 use Rattle.types.specs.Names.{VisibleNames, declared, is_fresh, port_meaning, local_meaning}
@@ -22,7 +22,7 @@ use Rattle.syntax.specs.declared.declaration.TypeDeclaration.{TypeDeclaration}
 use Rattle.syntax.specs.declared.declaration.TypeDefinition.{TypeDefinition}
 use Rattle.syntax.specs.declared.declaration.TypeDefinition.TheVariants.{Bits, Enumeration}
 use Rattle.syntax.specs.declared.name.Identifier.{Identifier}
-use Rattle.types.proofs.Least.{answer, answer-found, joined_is, and_is, with_next_is, right_from, refused_from}
+use Rattle.types.proofs.Least.{answer, answer-found, joined_is, and_is, demands_are, with_next_is, right_from, refused_from}
 use Rattle.types.proofs.LeastCommands.{command_agrees}
 
 -- one more demand
@@ -98,20 +98,6 @@ all_locals_are s (d ∷ rest) =
     all_locals_are (with_locals every (local_kind s.names d.kind) s d.names) rest
     ∙ ap (λ z. all_locals least z rest) (locals_are (local_kind s.names d.kind) s d.names)
 
-port_types_are : (names : VisibleNames) (before : Findings every (Unit {0})) (ds : List tree_port.Port)
-    → answer (port_types every names before ds) ≡ port_types least names (answer before) ds
-port_types_are names before [] = refl
-port_types_are names before (d ∷ rest) =
-    port_types_are names (and every before (found (port_type names d.kind))) rest
-    ∙ ap (λ z. port_types least names z rest) (more_is before (port_type names d.kind))
-
-local_types_are : (names : VisibleNames) (before : Findings every (Unit {0})) (ds : List tree_local.Local)
-    → answer (local_types every names before ds) ≡ local_types least names (answer before) ds
-local_types_are names before [] = refl
-local_types_are names before (d ∷ rest) =
-    local_types_are names (and every before (found (local_type names d.kind))) rest
-    ∙ ap (λ z. local_types least names z rest) (more_is before (local_type names d.kind))
-
 -- ---- procedures
 
 ports_of_is : (names : VisibleNames) (p : tree_procedure.Procedure) → made_of (ports_of every names p) ≡ ports_of least names p
@@ -135,8 +121,8 @@ declarations_are scope p =
     (and_is _ _ _ _
     (and_is _ _ _ _ (ap (λ (z : Declared least Port). z.right) (ports_of_is scope.names p)) (ap (λ (z : Declared least Local). z.right) (locals_of_is scope.names p)))
     (and_is _ _ _ _
-    (port_types_are (inside every scope p).names (Ok tt) p.ports ∙ ap (λ (z : Scope). port_types least z.names (Ok tt) p.ports) (inside_is scope p))
-    (local_types_are (inside every scope p).names (Ok tt) p.locals ∙ ap (λ (z : Scope). local_types least z.names (Ok tt) p.locals) (inside_is scope p))))
+    (demands_are _ ∙ ap (λ (z : Scope). port_types least z.names p.ports) (inside_is scope p))
+    (demands_are _ ∙ ap (λ (z : Scope). local_types least z.names p.locals) (inside_is scope p))))
 
 -- the procedure with these ports and these locals
 abbrev procedure_with : Scope → tree_procedure.Procedure → List Port → VisibleNames → List Local → Verdict Procedure

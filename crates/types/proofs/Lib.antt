@@ -5,3 +5,4 @@ pub mod LeastCommands
 pub mod LeastDescriptions
 pub mod NameLemmas
 pub mod Order
+pub mod Owed

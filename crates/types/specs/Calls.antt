@@ -1,8 +1,9 @@
 -- Calls: the arguments against the ports of the procedure.
-use Rattle.std.specs.Prelude.{ℕ, List, [], ◌∷◌, map, Option, Some, None, Bool, true, false, ◌&&◌, not, nat_eq, slice_get, if◌then◌else◌, Ok, Err}
-use Rattle.types.specs.Arms.{with_channel}
+use Rattle.std.specs.Prelude.{ℕ, List, [], ◌∷◌, map, Option, Some, None, Bool, true, false, ◌&&◌, nat_eq, is_ok, slice_get, if◌then◌else◌, Ok, Err}
+use Rattle.std.specs.List.{list_all}
+use Rattle.types.specs.Arms.{new_channels}
 use Rattle.types.specs.Findings.{Verdict, Keeping, Findings, if_right, both, all}
-use Rattle.types.specs.Names.{VisibleNames, look_up, find, is_among}
+use Rattle.types.specs.Names.{VisibleNames, look_up, find}
 use Rattle.types.specs.Uses.{procedure_use, argument_use}
 use Rattle.refusals.specs.declared.types.Fault.TheVariants.{PortMismatch}
 use Rattle.types.specs.declared.scope.Meaning.{Meaning}
@@ -49,15 +50,10 @@ all_fit names [] (argument ∷ arguments) = false
 all_fit names (kind ∷ kinds) [] = false
 all_fit names (kind ∷ kinds) (argument ∷ arguments) = fits_port kind (look_up names argument.name) && all_fit names kinds arguments
 
--- no channel stands twice, nor was seen before
-abbrev pub all_differ : List Binding → List ChannelUse → Bool
-all_differ seen [] = true
-all_differ seen (c ∷ rest) = not (is_among seen c.channel) && all_differ (with_channel seen c.channel) rest
-
--- the call fits the procedure, if there is one
+-- the call fits the procedure, if there is one, and no channel stands twice
 abbrev pub fits : VisibleNames → Option (List PortKind) → List Identifier → List ChannelUse → Bool
 fits names None arguments channels = false
-fits names (Some kinds) arguments channels = all_fit names kinds arguments && all_differ [] channels
+fits names (Some kinds) arguments channels = all_fit names kinds arguments && list_all is_ok (new_channels [] channels)
 
 -- an argument of a call
 abbrev pub judged_argument : VisibleNames → List Binding → Identifier → Verdict ChannelUse

@@ -1,12 +1,11 @@
 -- Commands: what they become where names are visible and channels are open.
 use Rattle.std.specs.Prelude.{ℕ, List, [], ◌∷◌, ◌++◌, map, Option, Some, None, nat_le, nat_eq, if◌then◌else◌, Ok, Err}
-use Rattle.types.specs.Arms.{guarded, one_bit, conditional, judged_labels, labelled, labels_own, width_of, cased, arm_of, distinct}
+use Rattle.types.specs.Arms.{GuardedArm, LabelledArm, guarded, conditional, judged_labels, labelled, cased, arm_of, distinct}
 use Rattle.types.specs.Calls.{called}
 use Rattle.types.specs.Expressions.{judged_expression}
-use Rattle.types.specs.Findings.{Verdict, Keeping, Findings, becomes, if_right, both, all, and_all}
+use Rattle.types.specs.Findings.{Verdict, Keeping, Findings, becomes, if_right, both, all}
 use Rattle.types.specs.Names.{VisibleNames, find}
 use Rattle.types.specs.Uses.{target_use, sending_use, receiving_use, sync_use, arm_use}
-use Rattle.types.specs.declared.arms.LabelUse.{LabelUse}
 use Rattle.types.specs.declared.expression.Valued.{Valued}
 use Rattle.refusals.specs.declared.types.Fault.TheVariants.{TooWide, GuardNotOneBit}
 use Rattle.typed.specs.declared.tree.Action.{Action}
@@ -14,8 +13,6 @@ use Rattle.typed.specs.declared.tree.Action.TheVariants as typed
 use Rattle.typed.specs.declared.tree.Arm.{Arm}
 use Rattle.typed.specs.declared.tree.ChannelUse.{ChannelUse}
 use Rattle.typed.specs.declared.tree.Command.{Command, roll-Command}
-use Rattle.typed.specs.declared.tree.Guarded.{Guarded}
-use Rattle.typed.specs.declared.tree.Labelled.{Labelled}
 use Rattle.typed.specs.declared.tree.Binding.{Binding}
 use Rattle.typed.specs.declared.tree.PortKind.{PortKind}
 use Rattle.typed.specs.declared.tree.VariableUse.{VariableUse}
@@ -90,38 +87,16 @@ module _ (k : Keeping) where
   unfoldable pub enclosing : Verdict (ChannelUse × ℕ) → Findings k Command → Findings k Action
   enclosing channel body = becomes (λ p. typed.Input p.0.0 p.1) (both k (k.alone channel) body)
 
-  -- an arm of `if`, and what it owes where its guard is right
-  pub record GuardedArm : Type 0 where
-    pub arm : Judged Guarded
-    pub own : Judged (Unit {0})
-
-  -- an arm of `case`, and its labels
-  pub record LabelledArm : Type 0 where
-    pub arm : Judged Labelled
-    pub labels : Judged (List LabelUse)
-
   abbrev pub last_of : Option (Judged Command) → Judged (Option Command)
   last_of None scope opened = Ok None
   last_of (Some body) scope opened = becomes (λ c. Some c) (body scope opened)
 
-  -- each of the commands
+  -- each of the commands or arms
   abbrev pub each : {A : Type 0} → List (Judged A) → Judged (List A)
   each children scope opened = all k (map (λ child. child scope opened) children)
 
-  abbrev pub guarded_arms : List GuardedArm → Judged (List Guarded)
-  guarded_arms arms scope opened = all k (map (λ a. a.arm scope opened) arms)
-
-  abbrev pub guards_own : List GuardedArm → Judged (Unit {0})
-  guards_own arms scope opened = and_all k (Ok tt) (map (λ a. a.own scope opened) arms)
-
-  abbrev pub labelled_arms : List LabelledArm → Judged (List Labelled)
-  labelled_arms arms scope opened = all k (map (λ a. a.arm scope opened) arms)
-
-  abbrev pub case_own : ℕ → List LabelledArm → Judged (Unit {0})
-  case_own width arms scope opened = labels_own k width [] (Ok tt) (map (λ a. a.labels scope opened) arms)
-
   -- one layer of what a command does, one line a form
-  abbrev pub action_layer : Action-F (Judged Action) (Judged Arm) LabelledArm (Judged Command) GuardedArm → Judged Action
+  abbrev pub action_layer : Action-F (Judged Action) (Judged Arm) (Judged LabelledArm) (Judged Command) (Judged GuardedArm) → Judged Action
   action_layer Action-F.Continue scope opened = Ok typed.Continue
   action_layer Action-F.Halt scope opened = Ok typed.Halt
   action_layer (Action-F.Sync c) scope opened =
@@ -129,10 +104,9 @@ module _ (k : Keeping) where
   action_layer (Action-F.Loop body) scope opened = becomes (λ b. typed.Loop b) (body scope opened)
   action_layer (Action-F.While guard body) scope opened = guarded_loop (value guard scope opened) (start_of guard) (body scope opened)
   action_layer (Action-F.If arms last) scope opened =
-      conditional k (guarded_arms arms scope opened) (guards_own arms scope opened) (last_of last scope opened)
+      conditional k (each arms scope opened) (last_of last scope opened)
   action_layer (Action-F.Case subject arms last) scope opened =
-      cased k (value subject scope opened) (labelled_arms arms scope opened)
-      (case_own (width_of (value subject scope opened)) arms scope opened) (last_of last scope opened)
+      cased k (value subject scope opened) (each arms scope opened) (last_of last scope opened)
   action_layer (Action-F.Select arms) scope opened = becomes (λ these. typed.Select these) (distinct k (each arms scope opened))
   action_layer (Action-F.Arbitrate first second) scope opened =
       becomes (λ these. typed.Arbitrate these) (distinct k (each (first ∷ second ∷ []) scope opened))
@@ -145,27 +119,21 @@ module _ (k : Keeping) where
   action_layer (Action-F.Sequence children) scope opened = becomes (λ cs. typed.Sequence cs) (each children scope opened)
   action_layer (Action-F.Parallel children) scope opened = becomes (λ cs. typed.Parallel cs) (each children scope opened)
 
-  abbrev pub arm_layer : Arm-F (Judged Action) (Judged Arm) LabelledArm (Judged Command) GuardedArm → Judged Arm
+  abbrev pub arm_layer : Arm-F (Judged Action) (Judged Arm) (Judged LabelledArm) (Judged Command) (Judged GuardedArm) → Judged Arm
   arm_layer a scope opened =
       let channel = arm_use (find scope.names opened a.channel.name) a.channel.span.start in
       arm_of k channel (a.body scope (opened_by opened channel))
 
-  abbrev pub case_arm_layer : CaseArm-F (Judged Action) (Judged Arm) LabelledArm (Judged Command) GuardedArm → LabelledArm
-  case_arm_layer a = record {
-    arm = λ scope opened. labelled k (judged_labels k scope.names opened a.labels) (a.body scope opened);
-    labels = λ scope opened. judged_labels k scope.names opened a.labels;
-  }
+  abbrev pub case_arm_layer : CaseArm-F (Judged Action) (Judged Arm) (Judged LabelledArm) (Judged Command) (Judged GuardedArm) → Judged LabelledArm
+  case_arm_layer a scope opened = labelled k (judged_labels k scope.names opened a.labels) (a.body scope opened)
 
-  abbrev pub command_layer : Command-F (Judged Action) (Judged Arm) LabelledArm (Judged Command) GuardedArm → Judged Command
+  abbrev pub command_layer : Command-F (Judged Action) (Judged Arm) (Judged LabelledArm) (Judged Command) (Judged GuardedArm) → Judged Command
   command_layer c scope opened = becomes (made c.span.line) (c.action scope opened)
 
-  abbrev pub guarded_layer : Guarded-F (Judged Action) (Judged Arm) LabelledArm (Judged Command) GuardedArm → GuardedArm
-  guarded_layer a = record {
-    arm = λ scope opened. guarded k (value a.guard scope opened) (a.body scope opened);
-    own = λ scope opened. one_bit k (value a.guard scope opened) (start_of a.guard);
-  }
+  abbrev pub guarded_layer : Guarded-F (Judged Action) (Judged Arm) (Judged LabelledArm) (Judged Command) (Judged GuardedArm) → Judged GuardedArm
+  guarded_layer a scope opened = guarded k (value a.guard scope opened) (start_of a.guard) (a.body scope opened)
 
   -- what a command is
   abbrev pub judged_command : syntax.Command → Judged Command
   judged_command =
-      fold-Command (Judged Action) (Judged Arm) LabelledArm (Judged Command) GuardedArm action_layer arm_layer case_arm_layer command_layer guarded_layer
+      fold-Command (Judged Action) (Judged Arm) (Judged LabelledArm) (Judged Command) (Judged GuardedArm) action_layer arm_layer case_arm_layer command_layer guarded_layer

@@ -3,7 +3,7 @@ use Rattle.std.specs.Prelude.{ℕ, suc, ◌-◌, List, [], ◌∷◌, ◌++◌, 
 use Rattle.value.specs.Word.{least_width_of}
 use Rattle.types.specs.Commands.{Scope, judged_command}
 use Rattle.types.specs.Expressions.{declared_width, type_width}
-use Rattle.types.specs.Findings.{Verdict, Keeping, Findings, every, becomes, both, and, with_next}
+use Rattle.types.specs.Findings.{Verdict, Keeping, Findings, every, becomes, both, and, demands, with_next}
 use Rattle.types.specs.Names.{VisibleNames, declared, is_fresh, port_meaning, local_meaning}
 use Rattle.types.specs.declared.scope.Meaning.{Meaning}
 use Rattle.types.specs.declared.scope.Meaning.TheVariants as meaning
@@ -150,13 +150,11 @@ module _ (k : Keeping) where
   abbrev pub behind : {A : Type 0} → VisibleNames → Declared A
   behind names = record { names = names; made = []; right = Ok tt }
 
-  abbrev pub port_types : VisibleNames → Findings k (Unit {0}) → List tree_port.Port → Findings k (Unit {0})
-  port_types names outcome [] = outcome
-  port_types names outcome (d ∷ rest) = port_types names (and k outcome (k.alone (port_type names d.kind))) rest
+  abbrev pub port_types : VisibleNames → List tree_port.Port → Findings k (Unit {0})
+  port_types names ports = demands k (map (λ d. port_type names d.kind) ports)
 
-  abbrev pub local_types : VisibleNames → Findings k (Unit {0}) → List tree_local.Local → Findings k (Unit {0})
-  local_types names outcome [] = outcome
-  local_types names outcome (d ∷ rest) = local_types names (and k outcome (k.alone (local_type names d.kind))) rest
+  abbrev pub local_types : VisibleNames → List tree_local.Local → Findings k (Unit {0})
+  local_types names locals = demands k (map (λ d. local_type names d.kind) locals)
 
   -- ---- procedures
 
@@ -172,7 +170,7 @@ module _ (k : Keeping) where
 
   -- what the types of the ports and locals owe, where all of these are visible
   abbrev pub types_right : VisibleNames → tree_procedure.Procedure → Findings k (Unit {0})
-  types_right names p = and k (port_types names (Ok tt) p.ports) (local_types names (Ok tt) p.locals)
+  types_right names p = and k (port_types names p.ports) (local_types names p.locals)
 
   -- what the declarations of a procedure owe
   unfoldable pub declarations_right : Scope → tree_procedure.Procedure → Findings k (Unit {0})

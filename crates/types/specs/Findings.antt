@@ -58,9 +58,13 @@ module _ (k : Keeping) where
   all parts = with_all (Ok []) parts
 
   -- more demands beside others
-  abbrev pub and_all : Findings k (Unit {0}) → List (Findings k (Unit {0})) → Findings k (Unit {0})
+  abbrev pub and_all : Findings k (Unit {0}) → List (Verdict (Unit {0})) → Findings k (Unit {0})
   and_all first [] = first
-  and_all first (next ∷ rest) = and_all (and first next) rest
+  and_all first (next ∷ rest) = and_all (and first (k.alone next)) rest
+
+  -- any number of demands
+  abbrev pub demands : List (Verdict (Unit {0})) → Findings k (Unit {0})
+  demands verdicts = and_all (Ok tt) verdicts
 
 -- ---- all faults, and the one that is answered
 

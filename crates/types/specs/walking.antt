@@ -1,3 +1,4 @@
 pub mod CommandParts
 pub mod Least
+pub mod Owed
 pub mod Scopes

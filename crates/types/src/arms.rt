@@ -1,8 +1,10 @@
 // What the arms of `if`, `case`, `select` and `arbitrate` owe as a whole, beside what each of them is.
 ghost use Rattle.std.specs.Prelude.{◌≡◌, [], ◌∷◌, Ok, IfOk, OnOk, map};
 ghost use Rattle.types.specs.Arms as spec;
-ghost use Rattle.types.specs.walking.Scopes.{entries};
+ghost use Rattle.types.specs.Findings as findings;
 ghost use Rattle.types.specs.walking.Least.{least};
+ghost use Rattle.types.specs.walking.Owed as owed;
+ghost use Rattle.types.specs.walking.Scopes.{entries};
 
 use crate::expression::{Valued, least_value};
 use crate::scope::{Names, Scope};
@@ -22,9 +24,8 @@ pub(crate) struct Arms<T> {
 }
 
 /// An `if` with these arms and what stands after `else`.
-#[tactic(auto, unfolding(crate::specs::Arms::conditional))]
 pub(crate) fn conditional(arms: Arms<Guarded>, last: Verdict<Option<Command>>) -> Verdict<Action>
-    ensures { result ≡ spec.conditional least arms.arms arms.own last }
+    ensures { result ≡ owed.conditional_owing arms.arms arms.own last }
 {
     let Arms { arms, own } = arms;
     let (arms, last) = both(arms, last)?;
@@ -33,9 +34,8 @@ pub(crate) fn conditional(arms: Arms<Guarded>, last: Verdict<Option<Command>>) -
 }
 
 /// An arm of `if`.
-#[tactic(auto, unfolding(crate::specs::Arms::guarded))]
 pub(crate) fn guarded(guard: Verdict<Valued>, body: Verdict<Command>) -> Verdict<Guarded>
-    ensures { result ≡ spec.guarded least guard body }
+    ensures { result ≡ findings.becomes owed.guarded_by (findings.both least guard body) }
 {
     let (guard, body) = both(guard, body)?;
     Ok(Guarded {
@@ -46,7 +46,7 @@ pub(crate) fn guarded(guard: Verdict<Valued>, body: Verdict<Command>) -> Verdict
 
 /// That a guard that is right is one bit wide.
 pub(crate) fn one_bit(guard: &Verdict<Valued>, start: u64) -> Verdict<()>
-    ensures { result ≡ spec.one_bit least guard.now start }
+    ensures { result ≡ owed.guard_owes guard.now start }
 {
     match guard {
         Ok(guard) => {
@@ -61,13 +61,12 @@ pub(crate) fn one_bit(guard: &Verdict<Valued>, start: u64) -> Verdict<()>
 }
 
 /// A `case` over the expression with these arms and what stands after `else`.
-#[tactic(auto, unfolding(crate::specs::Arms::cased))]
 pub(crate) fn cased(
     subject: Verdict<Valued>,
     arms: Arms<Labelled>,
     last: Verdict<Option<Command>>,
 ) -> Verdict<Action>
-    ensures { result ≡ spec.cased least subject arms.arms arms.own last }
+    ensures { result ≡ owed.case_owing subject arms.arms arms.own last }
 {
     let Arms { arms, own } = arms;
     let (subject, (arms, last)) = both(subject, both(arms, last))?;
@@ -77,7 +76,7 @@ pub(crate) fn cased(
 
 /// How wide the expression is, if it is right.
 pub(crate) fn width_of(subject: &Verdict<Valued>) -> u8
-    ensures { result ≡ spec.width_of subject.now }
+    ensures { result ≡ owed.width_of subject.now }
 {
     match subject {
         Ok(subject) => subject.width,
@@ -125,8 +124,8 @@ pub(crate) fn new_labels(
     width: u8,
     labels: &Verdict<Items<LabelUse>>,
 ) -> Settled<()>
-    ensures made { IfOk result (λ made. made ≡ spec.new_labels least width seen.old.keys labels.now) }
-    ensures seen { OnOk result (seen.new.keys ≡ spec.seen_after seen.old.keys labels.now) }
+    ensures made { IfOk result (λ made. made ≡ owed.labels_owe width seen.old.keys labels.now) }
+    ensures seen { OnOk result (seen.new.keys ≡ owed.seen_after seen.old.keys labels.now) }
 {
     match labels {
         Ok(labels) => all_new(seen, width, labels.as_slice()),
@@ -135,8 +134,8 @@ pub(crate) fn new_labels(
 }
 
 fn all_new(seen: &mut IndexSet<u64>, width: u8, labels: &[LabelUse]) -> Settled<()>
-    ensures made { IfOk result (λ made. made ≡ spec.all_new least width seen.old.keys (Ok tt) labels.now) }
-    ensures seen { OnOk result (seen.new.keys ≡ spec.with_all_seen seen.old.keys labels.now) }
+    ensures made { IfOk result (λ made. made ≡ findings.demands least (spec.new_labels width seen.old.keys labels.now)) }
+    ensures seen { OnOk result (seen.new.keys ≡ owed.with_all_seen seen.old.keys labels.now) }
 {
     let mut outcome = Ok(());
     for label in labels {
@@ -158,13 +157,12 @@ fn new_label(seen: &mut IndexSet<u64>, width: u8, label: LabelUse) -> Settled<()
 }
 
 /// An arm of `case`.
-#[tactic(auto, unfolding(crate::specs::Arms::labelled))]
 pub(crate) fn labelled(
     alloc: Global,
     labels: Verdict<Items<LabelUse>>,
     body: Verdict<Command>,
 ) -> Settled<Labelled>
-    ensures { IfOk result (λ made. made ≡ spec.labelled least labels body) }
+    ensures { IfOk result (λ made. made ≡ findings.becomes owed.labelled_by (findings.both least labels body)) }
 {
     match both(labels, body) {
         Ok((labels, body)) => Ok(Ok(Labelled {
@@ -210,7 +208,7 @@ pub(crate) fn distinct(alloc: Global, arms: Verdict<Items<Arm>>) -> Settled<Item
 
 /// That no channel stands in two of the arms.
 fn different_channels(alloc: Global, arms: &[Arm]) -> Settled<()>
-    ensures { IfOk result (λ made. made ≡ spec.different_channels least arms.now) }
+    ensures { IfOk result (λ made. made ≡ findings.demands least (spec.new_channels [] (map spec.channel_of_arm arms.now))) }
 {
     let mut seen = IndexSet::new(alloc);
     different(&mut seen, arms)
@@ -218,7 +216,7 @@ fn different_channels(alloc: Global, arms: &[Arm]) -> Settled<()>
 
 /// That no channel stands in two of the arms, nor was seen before.
 fn different(seen: &mut IndexSet<Binding>, arms: &[Arm]) -> Settled<()>
-    ensures { IfOk result (λ made. made ≡ spec.different least seen.old.keys (Ok tt) (map spec.channel_of_arm arms.now)) }
+    ensures { IfOk result (λ made. made ≡ findings.demands least (spec.new_channels seen.old.keys (map spec.channel_of_arm arms.now))) }
 {
     let mut outcome = Ok(());
     for arm in arms {

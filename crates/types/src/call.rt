@@ -1,8 +1,10 @@
-ghost use Rattle.std.specs.Prelude.{◌≡◌, [], slice_get, IfOk};
+ghost use Rattle.std.specs.List.{list_all};
+ghost use Rattle.std.specs.Prelude.{◌≡◌, [], is_ok, slice_get, IfOk};
+ghost use Rattle.types.specs.Arms.{new_channels};
 ghost use Rattle.types.specs.Calls as calls;
-ghost use Rattle.types.specs.walking.Scopes.{entries};
 ghost use Rattle.types.specs.Names.{look_up};
 ghost use Rattle.types.specs.walking.Least.{least};
+ghost use Rattle.types.specs.walking.Scopes.{entries};
 
 use crate::scope::{Meaning, Names, Scope};
 use crate::verdict::{Settled, both, with_next};
@@ -144,7 +146,7 @@ fn fits_sync(meaning: &Meaning) -> bool
 
 /// Whether no channel is passed twice.
 fn all_differ(alloc: Global, channels: &[ChannelUse]) -> Result<bool, AllocError>
-    ensures { IfOk result (λ answer. answer ≡ calls.all_differ [] channels.now) }
+    ensures { IfOk result (λ answer. answer ≡ list_all is_ok (new_channels [] channels.now)) }
 {
     let mut seen = IndexSet::new(alloc);
     differ_from(&mut seen, channels)
@@ -152,7 +154,7 @@ fn all_differ(alloc: Global, channels: &[ChannelUse]) -> Result<bool, AllocError
 
 /// Whether no channel is passed twice, nor was seen before.
 fn differ_from(seen: &mut IndexSet<Binding>, channels: &[ChannelUse]) -> Result<bool, AllocError>
-    ensures { IfOk result (λ answer. answer ≡ calls.all_differ seen.old.keys channels.now) }
+    ensures { IfOk result (λ answer. answer ≡ list_all is_ok (new_channels seen.old.keys channels.now)) }
 {
     for channel in channels {
         if !seen.insert(channel.channel)? {

@@ -2,10 +2,11 @@ ghost use Rattle.std.specs.Prelude.{◌≡◌, [], ◌∷◌, Ok, IfOk, OnOk, ma
 ghost use Rattle.std.specs.Option.{option_map};
 ghost use Rattle.types.specs.Arms as arms_of;
 ghost use Rattle.types.specs.Commands as spec;
-ghost use Rattle.types.specs.walking.CommandParts.{judged_action, judged_guarded, judged_labelled, judged_arm};
 ghost use Rattle.types.specs.Commands.{judged_command};
 ghost use Rattle.types.specs.Findings as findings;
+ghost use Rattle.types.specs.walking.CommandParts.{judged_action, judged_arm, judged_guarded, judged_labelled};
 ghost use Rattle.types.specs.walking.Least.{least};
+ghost use Rattle.types.specs.walking.Owed as owed;
 ghost use Rattle.types.specs.walking.Scopes.{scope_of};
 ghost use Rattle.syntax.specs.declared.command.Action.TheVariants as form;
 ghost use Rattle.typed.specs.declared.tree.Action.TheVariants as typed;
@@ -167,7 +168,7 @@ fn settled_if(
     arms: &[syntax::Guarded],
     last: Verdict<Option<Command>>,
 ) -> Settled<Action>
-    ensures { IfOk result (λ made. made ≡ arms_of.conditional least (spec.guarded_arms least (map (judged_guarded least) arms.now) (scope_of scope.now) opened.now) (spec.guards_own least (map (judged_guarded least) arms.now) (scope_of scope.now) opened.now) last) }
+    ensures { IfOk result (λ made. made ≡ arms_of.conditional least (spec.each least (map (judged_guarded least) arms.now) (scope_of scope.now) opened.now) last) }
 {
     let arms = settled_guarded(alloc, scope, opened, arms)?;
     Ok(conditional(arms, last))
@@ -182,7 +183,7 @@ fn settled_case(
     last: Verdict<Option<Command>>,
     subject: &Expression,
 ) -> Settled<Action>
-    ensures { IfOk result (λ made. made ≡ arms_of.cased least (spec.value least subject.now (scope_of scope.now) opened.now) (spec.labelled_arms least (map (judged_labelled least) arms.now) (scope_of scope.now) opened.now) (spec.case_own least (arms_of.width_of (spec.value least subject.now (scope_of scope.now) opened.now)) (map (judged_labelled least) arms.now) (scope_of scope.now) opened.now) last) }
+    ensures { IfOk result (λ made. made ≡ arms_of.cased least (spec.value least subject.now (scope_of scope.now) opened.now) (spec.each least (map (judged_labelled least) arms.now) (scope_of scope.now) opened.now) last) }
 {
     let subject = settled_expression(alloc, &scope.names, opened, subject)?;
     let arms = settled_labelled(alloc, scope, opened, width_of(&subject), arms)?;
@@ -299,8 +300,8 @@ fn settled_guarded(
     opened: &[Binding],
     arms: &[syntax::Guarded],
 ) -> Result<Arms<Guarded>, AllocError>
-    ensures arms { IfOk result (λ made. made.arms ≡ spec.guarded_arms least (map (judged_guarded least) arms.now) (scope_of scope.now) opened.now) }
-    ensures own { IfOk result (λ made. made.own ≡ spec.guards_own least (map (judged_guarded least) arms.now) (scope_of scope.now) opened.now) }
+    ensures arms { IfOk result (λ made. made.arms ≡ findings.all least (map (owed.guarded_arm (scope_of scope.now) opened.now) arms.now)) }
+    ensures own { IfOk result (λ made. made.own ≡ findings.demands least (map (owed.guard_owed (scope_of scope.now) opened.now) arms.now)) }
 {
     let mut settled = Ok(Items::new(alloc));
     let mut own = Ok(());
@@ -320,8 +321,8 @@ fn settled_guarded_arm(
     opened: &[Binding],
     arm: &syntax::Guarded,
 ) -> Result<(Verdict<Guarded>, Verdict<()>), AllocError>
-    ensures arm { IfOk result (λ made. made.0 ≡ (judged_guarded least arm.now).arm (scope_of scope.now) opened.now) }
-    ensures own { IfOk result (λ made. made.1 ≡ (judged_guarded least arm.now).own (scope_of scope.now) opened.now) }
+    ensures arm { IfOk result (λ made. made.0 ≡ owed.guarded_arm (scope_of scope.now) opened.now arm.now) }
+    ensures own { IfOk result (λ made. made.1 ≡ owed.guard_owed (scope_of scope.now) opened.now arm.now) }
 {
     let guard = settled_expression(alloc, &scope.names, opened, &arm.guard)?;
     let own = one_bit(&guard, arm.guard.span.start);
@@ -338,8 +339,8 @@ fn settled_labelled(
     width: u8,
     arms: &[syntax::CaseArm],
 ) -> Result<Arms<Labelled>, AllocError>
-    ensures arms { IfOk result (λ made. made.arms ≡ spec.labelled_arms least (map (judged_labelled least) arms.now) (scope_of scope.now) opened.now) }
-    ensures own { IfOk result (λ made. made.own ≡ spec.case_own least width (map (judged_labelled least) arms.now) (scope_of scope.now) opened.now) }
+    ensures arms { IfOk result (λ made. made.arms ≡ findings.all least (map (owed.labelled_arm (scope_of scope.now) opened.now) arms.now)) }
+    ensures own { IfOk result (λ made. made.own ≡ owed.labels_owed width [] (Ok tt) (map (owed.labels_of (scope_of scope.now) opened.now) arms.now)) }
 {
     let mut seen = IndexSet::new(alloc);
     let mut settled = Ok(Items::new(alloc));
@@ -362,9 +363,9 @@ fn settled_labelled_arm(
     arm: &syntax::CaseArm,
     seen: &mut IndexSet<u64>,
 ) -> Result<(Verdict<Labelled>, Verdict<()>), AllocError>
-    ensures arm { IfOk result (λ made. made.0 ≡ (judged_labelled least arm.now).arm (scope_of scope.now) opened.now) }
-    ensures own { IfOk result (λ made. made.1 ≡ arms_of.new_labels least width seen.old.keys ((judged_labelled least arm.now).labels (scope_of scope.now) opened.now)) }
-    ensures seen { OnOk result (seen.new.keys ≡ arms_of.seen_after seen.old.keys ((judged_labelled least arm.now).labels (scope_of scope.now) opened.now)) }
+    ensures arm { IfOk result (λ made. made.0 ≡ owed.labelled_arm (scope_of scope.now) opened.now arm.now) }
+    ensures own { IfOk result (λ made. made.1 ≡ owed.labels_owe width seen.old.keys (owed.labels_of (scope_of scope.now) opened.now arm.now)) }
+    ensures seen { OnOk result (seen.new.keys ≡ owed.seen_after seen.old.keys (owed.labels_of (scope_of scope.now) opened.now arm.now)) }
 {
     let labels = settled_labels(alloc, scope, opened, arm.labels.as_slice())?;
     let own = new_labels(seen, width, &labels)?;

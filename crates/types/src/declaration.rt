@@ -358,7 +358,7 @@ fn declare_local(
 
 /// That the types of the ports are right where all names of the procedure are visible.
 fn port_types(names: &Names, declarations: &[syntax::Port]) -> Verdict<()>
-    ensures { result ≡ spec.port_types least (entries names.now) (Ok tt) declarations.now }
+    ensures { result ≡ spec.port_types least (entries names.now) declarations.now }
 {
     let mut outcome = Ok(());
     for declaration in declarations {
@@ -380,7 +380,7 @@ fn port_type(names: &Names, kind: &syntax::PortKind) -> Verdict<()>
 
 /// That the types of the locals are right where all names of the procedure are visible.
 fn local_types(names: &Names, declarations: &[syntax::Local]) -> Verdict<()>
-    ensures { result ≡ spec.local_types least (entries names.now) (Ok tt) declarations.now }
+    ensures { result ≡ spec.local_types least (entries names.now) declarations.now }
 {
     let mut outcome = Ok(());
     for declaration in declarations {

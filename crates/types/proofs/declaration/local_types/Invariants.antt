@@ -1,5 +1,6 @@
-use Rattle.std.proofs.Common.{◌≡◌, drop, Ok}
-use Rattle.types.specs.Declarations.{local_types}
+use Rattle.std.proofs.Common.{◌≡◌, drop, map}
+use Rattle.types.specs.Declarations.{local_type, local_types}
+use Rattle.types.specs.Findings.{and_all}
 use Rattle.types.specs.walking.Scopes.{entries}
 use Rattle.types.specs.walking.Least.{least}
 use Rattle.types.proofs.declaration.local_types.Given as goal
@@ -7,5 +8,5 @@ use Rattle.types.proofs.declaration.local_types.Given as goal
 -- with the declarations that are left, the outcome is that of all
 abbrev pub invariant-loop-declaration : goal.invariant-loop-declaration
 invariant-loop-declaration l =
-    local_types least (entries l.names) l.outcome (drop l.declaration-index l.declarations)
-    ≡ local_types least (entries l.names) (Ok tt) l.declarations
+    and_all least l.outcome (map (λ d. local_type (entries l.names) d.kind) (drop l.declaration-index l.declarations))
+    ≡ local_types least (entries l.names) l.declarations
