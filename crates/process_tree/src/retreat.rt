@@ -1,7 +1,7 @@
 // Moves taken back.
 ghost use Rattle.std.specs.Prelude.{◌≡◌, ℕ, Option, Some, map, cond, IsSome};
 ghost use Rattle.process_tree.specs.Code.{Sender, Code};
-ghost use Rattle.process_tree.specs.Proc.{Proc, sender, drained, fresh, untested, took, unopened, sequence, parallel};
+ghost use Rattle.process_tree.specs.Proc.{sender, drained, fresh, untested, took, unopened, sequence, parallel};
 ghost use Rattle.process_tree.specs.View.{repeat_view, decide_view, await_view, row_view, phase_view, proc_view, turns_view, turn_of, tested_view, gate_view, opened_of, out_view, procs_of, begun_of};
 ghost use Rattle.process_tree.specs.walking.Retreated.{retreated, before_turn};
 ghost use Rattle.process_tree.specs.Proc as model;
@@ -34,7 +34,7 @@ pub(crate) fn retreat(proc: &mut Proc, place: &[Entry], out: Option<Box<Proc>>)
 
 /// How far a send or sync was before the move at the place.
 fn phase_before(phase: Phase, place: &[Entry]) -> Phase
-    ensures { (s : Sender) (out : Option Proc) → IsSome (retreated (sender s (phase_view phase)) place.now out) →
+    ensures { (s : Sender) (out : Option model.Proc) → IsSome (retreated (sender s (phase_view phase)) place.now out) →
         retreated (sender s (phase_view phase)) place.now out ≡ Some (sender s (phase_view result)) }
 {
     match phase {
@@ -63,7 +63,7 @@ fn from_drain(channel: u32, count: &mut u64, place: &[Entry], out: Option<Box<Pr
 
 /// How often an output port had received before the receive at the place.
 fn count_before(place: &[Entry]) -> u64
-    ensures { (c n : ℕ) (out : Option Proc) → IsSome (retreated (drained c n) place.now out) →
+    ensures { (c n : ℕ) (out : Option model.Proc) → IsSome (retreated (drained c n) place.now out) →
         retreated (drained c n) place.now out ≡ Some (drained c result) }
 {
     match ordered_step(place) {
