@@ -11,7 +11,7 @@ mod retreat;
 mod translate;
 mod tree;
 
-pub use code::{Act, Await, Code, Decide, Offer, Repeat, Row};
+pub use code::{Await, Code, Decide, Once, Repeat, Row, Sender};
 pub use laws::{
     finished_is_done, left_is_formed, moves_are_local, moves_go_back, moves_swap, one_child_moves,
     started_has_all_left, systems_open_alike,
