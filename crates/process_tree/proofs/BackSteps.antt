@@ -6,7 +6,7 @@ use Rattle.calculus.proofs.Options.{none-some, some-injective}
 use Rattle.process_tree.specs.Code.{Code, continues, halts, moves_once, may_be_held, repeats, decides, awaits, in_turn, side_by_side, drains, Codes, no_code, code}
 use Rattle.process_tree.specs.Proc.{Proc, once, Procs, no_procs, proc, sequence, parallel, started, all_started}
 use Rattle.process_tree.specs.View.{proc_view, begun_of}
-use Rattle.process_tree.specs.declared.proc.Proc.{Proc}
+use Rattle.process_tree.specs.declared.proc.Proc as made
 use Rattle.process_tree.specs.Children.{proc_at, with_proc, BackChild}
 use Rattle.process_tree.specs.walking.Retreated.{retreated, retreated_sequence, retreated_parallel}
 use Rattle.process_tree.specs.walking.Steps.{ordered_step, branch_step}
@@ -128,14 +128,14 @@ started-at no_code i p h = none-some p h
 started-at (code c cs) zero p h = (c, sym (some-injective (started c) p h))
 started-at (code c cs) (suc i) p h = started-at cs i p h
 
-unbegun : (xs : List Proc) (cs : Codes) (i : ℕ) (p : Proc) → length xs ≤ i → proc_at (begun_of (map proc_view xs) cs) i ≡ Some p → (c : Code) × (p ≡ started c)
+unbegun : (xs : List made.Proc) (cs : Codes) (i : ℕ) (p : Proc) → length xs ≤ i → proc_at (begun_of (map proc_view xs) cs) i ≡ Some p → (c : Code) × (p ≡ started c)
 unbegun [] cs i p l h = started-at cs i p h
 unbegun (x ∷ xs) no_code i p l h = none-some p h
 unbegun (x ∷ xs) (code c cs) zero p l h = absurd (omega (arith, l))
 unbegun (x ∷ xs) (code c cs) (suc i) p l h = unbegun xs cs i p (omega (arith, l)) h
 
 -- stays as it is
-pub unbegun-stays : (xs : List Proc) (cs : Codes) (i : ℕ) (b : Place) (out : Option Proc) (o : Option Procs) → length xs ≤ i → GoesBack (begun_of (map proc_view xs) cs) i b out o
+pub unbegun-stays : (xs : List made.Proc) (cs : Codes) (i : ℕ) (b : Place) (out : Option Proc) (o : Option Procs) → length xs ≤ i → GoesBack (begun_of (map proc_view xs) cs) i b out o
     → o ≡ Some (begun_of (map proc_view xs) cs)
 unbegun-stays xs cs i b out o l m =
     let c = unbegun xs cs i m.child.child l m.child.is in

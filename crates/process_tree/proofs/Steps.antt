@@ -16,7 +16,7 @@ use Rattle.process_tree.specs.Translation.{row_of}
 use Rattle.process_tree.specs.View.{code_view, row_view, proc_view, procs_of, begun_of, turn_of, opened_of}
 use Rattle.process_tree.specs.declared.code.Code.{Code}
 use Rattle.process_tree.specs.declared.code.Row.{Row}
-use Rattle.process_tree.specs.declared.proc.Proc.{Proc}
+use Rattle.process_tree.specs.declared.proc.Proc as made
 use Rattle.process_tree.specs.Children.{proc_at, with_proc, MovedChild}
 use Rattle.process_tree.specs.walking.Steps.{ordered_step, branch_step, takes_none}
 use Rattle.process_tree.proofs.Asking.{some-elim, wrap-elim}
@@ -234,29 +234,29 @@ child-moved row i b k o child next out m c d =
     ∙ ap (λ y. Some (with_proc row i y.0, y.1)) (some-injective m.child.moved (next, out) (sym same ∙ d))
 
 -- the children of a parallel in memory
-pub branch-at : (xs : List Proc) (i : ℕ) (x : Proc) → i < length xs → x ≡ slice_index_or xs i x → IsChild (procs_of (map proc_view xs)) i (proc_view x)
+pub branch-at : (xs : List made.Proc) (i : ℕ) (x : made.Proc) → i < length xs → x ≡ slice_index_or xs i x → IsChild (procs_of (map proc_view xs)) i (proc_view x)
 branch-at [] i x l e p h = none-some p h
 branch-at (y ∷ xs) zero x l e p h = sym (some-injective (proc_view y) p h) ∙ sym (ap proc_view e)
 branch-at (y ∷ xs) (suc i) x l e p h = branch-at xs i x (omega (arith, l)) e p h
 
-pub branch-set : (xs : List Proc) (i : ℕ) (w : Proc) → with_proc (procs_of (map proc_view xs)) i (proc_view w) ≡ procs_of (map proc_view (slice_set xs i w))
+pub branch-set : (xs : List made.Proc) (i : ℕ) (w : made.Proc) → with_proc (procs_of (map proc_view xs)) i (proc_view w) ≡ procs_of (map proc_view (slice_set xs i w))
 branch-set [] i w = refl
 branch-set (x ∷ xs) zero w = refl
 branch-set (x ∷ xs) (suc i) w = ap (proc (proc_view x)) (branch-set xs i w)
 
-pub branch-within : (xs : List Proc) (i : ℕ) (p : Proc) → proc_at (procs_of (map proc_view xs)) i ≡ Some p → i < length xs
+pub branch-within : (xs : List made.Proc) (i : ℕ) (p : Proc) → proc_at (procs_of (map proc_view xs)) i ≡ Some p → i < length xs
 branch-within [] i p h = none-some p h
 branch-within (x ∷ xs) zero p h = omega arith
 branch-within (x ∷ xs) (suc i) p h = let l = branch-within xs i p h in omega arith
 
 -- the children of a sequence in memory that have begun
-pub begun-at : (xs : List Proc) (cs : Codes) (i : ℕ) (x : Proc) → i < length xs → x ≡ slice_index_or xs i x → IsChild (begun_of (map proc_view xs) cs) i (proc_view x)
+pub begun-at : (xs : List made.Proc) (cs : Codes) (i : ℕ) (x : made.Proc) → i < length xs → x ≡ slice_index_or xs i x → IsChild (begun_of (map proc_view xs) cs) i (proc_view x)
 begun-at [] cs i x l e p h = absurd (omega (arith, l))
 begun-at (y ∷ xs) no_code i x l e p h = none-some p h
 begun-at (y ∷ xs) (code c cs) zero x l e p h = sym (some-injective (proc_view y) p h) ∙ sym (ap proc_view e)
 begun-at (y ∷ xs) (code c cs) (suc i) x l e p h = begun-at xs cs i x (omega (arith, l)) e p h
 
-pub begun-set : (xs : List Proc) (cs : Codes) (i : ℕ) (w : Proc) → i < length xs → with_proc (begun_of (map proc_view xs) cs) i (proc_view w) ≡ begun_of (map proc_view (slice_set xs i w)) cs
+pub begun-set : (xs : List made.Proc) (cs : Codes) (i : ℕ) (w : made.Proc) → i < length xs → with_proc (begun_of (map proc_view xs) cs) i (proc_view w) ≡ begun_of (map proc_view (slice_set xs i w)) cs
 begun-set [] cs i w l = absurd (omega (arith, l))
 begun-set (x ∷ xs) no_code zero w l = refl
 begun-set (x ∷ xs) no_code (suc i) w l = refl
@@ -269,32 +269,32 @@ started-within [] i p h = none-some p h
 started-within (c ∷ cs) zero p h = omega arith
 started-within (c ∷ cs) (suc i) p h = let l = started-within cs i p h in omega arith
 
-pub begun-within : (xs : List Proc) (cs : List Code) (i : ℕ) (p : Proc) → proc_at (begun_of (map proc_view xs) (row_of (map code_view cs))) i ≡ Some p → i < length cs
+pub begun-within : (xs : List made.Proc) (cs : List Code) (i : ℕ) (p : Proc) → proc_at (begun_of (map proc_view xs) (row_of (map code_view cs))) i ≡ Some p → i < length cs
 begun-within [] cs i p h = started-within cs i p h
 begun-within (x ∷ xs) [] i p h = none-some p h
 begun-within (x ∷ xs) (c ∷ cs) zero p h = omega arith
 begun-within (x ∷ xs) (c ∷ cs) (suc i) p h = let l = begun-within xs cs i p h in omega arith
 
 -- one child more has begun, and made no move
-one-more : (xs : List Proc) (cs : List Code) (x : Proc) (c : Code) → slice_get cs (length xs) ≡ Some c → proc_view x ≡ started (code_view c)
+one-more : (xs : List made.Proc) (cs : List Code) (x : made.Proc) (c : Code) → slice_get cs (length xs) ≡ Some c → proc_view x ≡ started (code_view c)
     → begun_of (map proc_view (xs ++ x ∷ [])) (row_of (map code_view cs)) ≡ begun_of (map proc_view xs) (row_of (map code_view cs))
 one-more xs [] x c h e = none-some c h
 one-more [] (d ∷ cs) x c h e =
     ap (λ p. proc p (all_started (row_of (map code_view cs)))) (e ∙ ap (λ (c : Code). started (code_view c)) (sym (some-injective d c h)))
 one-more (y ∷ xs) (d ∷ cs) x c h e = ap (proc (proc_view y)) (one-more xs cs x c h e)
 
-pub begun-more : (xs : List Proc) (row : Row) (x : Proc) (c : Code) → slice_get row.codes (length xs) ≡ Some c → proc_view x ≡ started (code_view c)
+pub begun-more : (xs : List made.Proc) (row : Row) (x : made.Proc) (c : Code) → slice_get row.codes (length xs) ≡ Some c → proc_view x ≡ started (code_view c)
     → begun_of (map proc_view (xs ++ x ∷ [])) (row_view row) ≡ begun_of (map proc_view xs) (row_view row)
 begun-more xs row x c h e =
     ap (begun_of (map proc_view (xs ++ x ∷ []))) (row_codes row) ∙ one-more xs row.codes x c h e ∙ sym (ap (begun_of (map proc_view xs)) (row_codes row))
 
-pub begun-in-row : (xs : List Proc) (row : Row) (i : ℕ) → IsSome (proc_at (begun_of (map proc_view xs) (row_view row)) i) → i < length row.codes
+pub begun-in-row : (xs : List made.Proc) (row : Row) (i : ℕ) → IsSome (proc_at (begun_of (map proc_view xs) (row_view row)) i) → i < length row.codes
 begun-in-row xs row i h =
     let p = some-of (proc_at (begun_of (map proc_view xs) (row_view row)) i) h in
     begun-within xs row.codes i p.0 (subst (λ cs. proc_at (begun_of (map proc_view xs) cs) i ≡ Some p.0) (row_codes row) p.1)
 
 -- a list of children with one that is seen as before
-pub view-same : (xs : List Proc) (i : ℕ) (x w : Proc) → x ≡ slice_index_or xs i x → proc_view w ≡ proc_view x → map proc_view (slice_set xs i w) ≡ map proc_view xs
+pub view-same : (xs : List made.Proc) (i : ℕ) (x w : made.Proc) → x ≡ slice_index_or xs i x → proc_view w ≡ proc_view x → map proc_view (slice_set xs i w) ≡ map proc_view xs
 view-same [] i x w e h = refl
 view-same (y ∷ xs) zero x w e h = ap (λ p. p ∷ map proc_view xs) (h ∙ ap proc_view e)
 view-same (y ∷ xs) (suc i) x w e h = ap (λ ps. proc_view y ∷ ps) (view-same xs i x w e h)
