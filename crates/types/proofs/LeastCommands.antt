@@ -1,6 +1,6 @@
 -- What is answered of an expression or a command is the least of all its faults.
-use Rattle.std.proofs.Common.{◌≡◌, ℕ, List, [], ◌∷◌, map, Option, Some, None, Ok, Err, refl, ap, sym, subst, ◌∙◌}
-use Rattle.types.specs.Arms.{GuardedArm, LabelledArm, guarded, conditional, labelled, cased, arm_of, distinct, judged_label, judged_labels, opened_arm}
+use Rattle.std.proofs.Common.{◌≡◌, ℕ, List, [], ◌∷◌, map, flat_map, Option, Some, None, Ok, Err, refl, ap, sym, subst, ◌∙◌}
+use Rattle.types.specs.Arms.{GuardedArm, LabelledArm, typed_guarded, one_bit, typed_labelled, new_labels, new_channels, channel_of_arm, guarded, conditional, labelled, cased, arm_of, distinct, judged_label, judged_labels, opened_arm}
 use Rattle.types.specs.Calls.{called, judged_argument}
 use Rattle.types.specs.Commands.{Scope, Judged, start_of, made, value, action_layer, arm_layer, case_arm_layer, command_layer, guarded_layer, each, judged_command, assignment, sending, receiving, guarded_loop, enclosing, target, sender, receiver, opened_by, channel_alone}
 use Rattle.types.specs.Expressions.{JudgedValue, judged_expression, shape_layer, expression_layer, binary, complement, cast, type_width}
@@ -13,6 +13,7 @@ use Rattle.types.specs.declared.expression.Valued.{Valued}
 use Rattle.typed.specs.declared.tree.Arm as typed_arm
 use Rattle.typed.specs.declared.tree.Command as typed_command
 use Rattle.typed.specs.declared.tree.Action as typed_action
+use Rattle.typed.specs.declared.tree.Action.TheVariants as action
 use Rattle.typed.specs.declared.tree.Binding.{Binding}
 use Rattle.syntax.specs.declared.command.Action.{Action}
 use Rattle.syntax.specs.declared.command.Arm.{Arm}
@@ -78,7 +79,8 @@ conditional_is : (arms : Findings every (List GuardedArm)) (last : Findings ever
     → answer arms ≡ a → answer last ≡ l → answer (conditional every arms last) ≡ conditional least a l
 unfolding conditional
 conditional_is arms last a l x y =
-    if_right_is (both every arms last) (both least a l) _ _ (both_is arms last a l x y) (λ p. becomes_is _ (demands every _) _ (demands_are _))
+    if_right_is (both every arms last) (both least a l) _ _ (both_is arms last a l x y) (λ p.
+    becomes_is (λ u. action.If (map typed_guarded p.0) p.1) (demands every (map one_bit p.0)) _ (demands_are (map one_bit p.0)))
 
 cased_is : (subject : Findings every Valued) (arms : Findings every (List LabelledArm)) (last : Findings every (Option typed_command.Command))
     (s : Verdict Valued) (a : Verdict (List LabelledArm)) (l : Verdict (Option typed_command.Command))
@@ -86,11 +88,14 @@ cased_is : (subject : Findings every Valued) (arms : Findings every (List Labell
 unfolding cased
 cased_is subject arms last s a l x y z =
     if_right_is (both every subject (both every arms last)) (both least s (both least a l)) _ _
-    (both_is subject (both every arms last) s (both least a l) x (both_is arms last a l y z)) (λ p. becomes_is _ (demands every _) _ (demands_are _))
+    (both_is subject (both every arms last) s (both least a l) x (both_is arms last a l y z)) (λ p.
+    let ls = new_labels p.0.width [] (flat_map (λ (a : LabelledArm). a.labels) p.1.0) in
+    becomes_is (λ u. action.Case p.0.expression (map typed_labelled p.1.0) p.1.1) (demands every ls) _ (demands_are ls))
 
 distinct_is : (arms : Findings every (List typed_arm.Arm)) (a : Verdict (List typed_arm.Arm)) → answer arms ≡ a → answer (distinct every arms) ≡ distinct least a
 unfolding distinct
-distinct_is arms a x = if_right_is arms a _ _ x (λ these. becomes_is _ (demands every _) _ (demands_are _))
+distinct_is arms a x = if_right_is arms a _ _ x (λ these.
+    becomes_is (λ u. these) (demands every (new_channels [] (map channel_of_arm these))) _ (demands_are (new_channels [] (map channel_of_arm these))))
 
 -- ---- commands
 

@@ -1,7 +1,7 @@
 -- What is answered of a description is the least of all its faults.
-use Rattle.std.proofs.Common.{◌≡◌, ℕ, suc, List, [], ◌∷◌, length, Ok, Err, IfOk, IfErr, ◌⊎◌, inr, refl, ap, sym, ◌∙◌}
+use Rattle.std.proofs.Common.{◌≡◌, ℕ, suc, List, [], ◌∷◌, length, map, Ok, Err, IfOk, IfErr, ◌⊎◌, inr, refl, ap, sym, ◌∙◌}
 use Rattle.types.specs.Commands.{Scope, judged_command}
-use Rattle.types.specs.Declarations.{SoFar, with_name, with_elements, with_definition, with_demand, with_types, enumeration_width, width_or_one, demanded, Declared, with_one, with_ports, with_locals, all_ports, all_locals, one_port, one_local, port_kind, local_kind, port_types, local_types, behind, ports_of, locals_of, inside, after_procedure, types_of, declarations_right, judged_procedure, with_procedures, judged_description, found_description}
+use Rattle.types.specs.Declarations.{SoFar, with_name, with_elements, with_definition, with_demand, with_types, enumeration_width, width_or_one, demanded, Declared, with_one, with_ports, with_locals, all_ports, all_locals, one_port, one_local, port_kind, local_kind, port_type, local_type, port_types, local_types, behind, ports_of, locals_of, inside, after_procedure, types_of, declarations_right, judged_procedure, with_procedures, judged_description, found_description}
 use Rattle.types.specs.Expressions.{declared_width}
 use Rattle.types.specs.Findings.{Verdict, Findings, becomes, both, and, with_next, found, every, IsRefused}
 use Rattle.types.specs.Names.{VisibleNames, declared, is_fresh, port_meaning, local_meaning}
@@ -121,8 +121,8 @@ declarations_are scope p =
     (and_is _ _ _ _
     (and_is _ _ _ _ (ap (λ (z : Declared least Port). z.right) (ports_of_is scope.names p)) (ap (λ (z : Declared least Local). z.right) (locals_of_is scope.names p)))
     (and_is _ _ _ _
-    (demands_are _ ∙ ap (λ (z : Scope). port_types least z.names p.ports) (inside_is scope p))
-    (demands_are _ ∙ ap (λ (z : Scope). local_types least z.names p.locals) (inside_is scope p))))
+    (demands_are (map (λ d. port_type (inside every scope p).names d.kind) p.ports) ∙ ap (λ (z : Scope). port_types least z.names p.ports) (inside_is scope p))
+    (demands_are (map (λ d. local_type (inside every scope p).names d.kind) p.locals) ∙ ap (λ (z : Scope). local_types least z.names p.locals) (inside_is scope p))))
 
 -- the procedure with these ports and these locals
 abbrev procedure_with : Scope → tree_procedure.Procedure → List Port → VisibleNames → List Local → Verdict Procedure
