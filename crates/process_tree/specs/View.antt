@@ -8,10 +8,10 @@ use Rattle.process_tree.specs.Code as model
 use Rattle.process_tree.specs.Proc as model_proc
 use Rattle.process_tree.specs.Proc.{all_started}
 use Rattle.process_tree.specs.Translation.{row_of}
-use Rattle.process_tree.specs.declared.code.Act.{Act}
-use Rattle.process_tree.specs.declared.code.Act.TheVariants as act
-use Rattle.process_tree.specs.declared.code.Offer.{Offer}
-use Rattle.process_tree.specs.declared.code.Offer.TheVariants as offer
+use Rattle.process_tree.specs.declared.code.Once.{Once}
+use Rattle.process_tree.specs.declared.code.Once.TheVariants as once
+use Rattle.process_tree.specs.declared.code.Sender.{Sender}
+use Rattle.process_tree.specs.declared.code.Sender.TheVariants as sender
 use Rattle.process_tree.specs.declared.code.Code.{Code}
 use Rattle.process_tree.specs.declared.code.Await.{Await}
 use Rattle.process_tree.specs.declared.code.Decide.{Decide}
