@@ -33,33 +33,6 @@ pub const BUFFER: Example = Example {
     stimulus: "i = 5 7",
 };
 
-/// A value that is held until both branches have sent it.
-pub const FORK: Example = Example {
-    source: "procedure p (input i : 8 bits ; output a, b : 8 bits) is
-        variable x : 8 bits begin i -> then a <- i || b <- i end ; i -> x end",
-    stimulus: "i = 5 7",
-};
-
-/// A value of channel 0 or of channel 2.
-pub const ARBITER: Example = Example {
-    source: "procedure p (input a : 8 bits ; output o : 8 bits ; input b : 8 bits) is
-        begin arbitrate a then o <- a | b then o <- b end end",
-    stimulus: "a = 5\nb = 7",
-};
-
-/// Two branches, one of them with two steps.
-pub const BRANCHES: Example = Example {
-    source: "procedure p is variable x, y : 8 bits begin x := 1 || [y := 2 ; y := 3] end",
-    stimulus: "",
-};
-
-/// A loop of two turns.
-pub const COUNTER: Example = Example {
-    source: "procedure p is variable x : 8 bits begin
-        loop while x < 2 then x := (x + 1 as 8 bits) end end",
-    stimulus: "",
-};
-
 pub const CASE_WITH_ELSE: Example = Example {
     source: "procedure p is variable x : 8 bits begin case x of 1 then halt else x := 4 end end",
     stimulus: "",
@@ -90,12 +63,6 @@ pub const NO_GUARD: Example = Example {
 pub const NO_ARM: Example = Example {
     source: "procedure p is variable x : 8 bits begin
         if x = 7 then x := 1 | x = 8 then x := 2 end end",
-    stimulus: "",
-};
-
-/// A choice that a handshake opens.
-pub const SELECTION: Example = Example {
-    source: "procedure p is sync s begin sync s || select s then continue end end",
     stimulus: "",
 };
 

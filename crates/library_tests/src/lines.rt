@@ -1,5 +1,6 @@
 //! The line of a place in the arm that was taken, and whether a `select` opens there.
 
+use crate::sessions::reply_to;
 use crate::told::place;
 use address::Address;
 use calculus::Choice;
@@ -39,8 +40,8 @@ fn desk(alloc: Global, source: &str) -> Result<Desk, Fail> {
 /// Takes a step, and answers the live events.
 fn live_after(alloc: Global, desk: &mut Desk, step: &[u8]) -> Result<Reply, Fail> {
     let place = place(alloc, step)?;
-    let _stepped = desk.perform(0, &Command::Step(Choice { place, arm: 0 }));
-    Ok(desk.perform(0, &Command::Live))
+    reply_to(desk, 0, &Command::Step(Choice { place, arm: 0 }))?;
+    reply_to(desk, 0, &Command::Live)
 }
 
 fn line_in(checked: &Checked, live: &Reply, place: &Address) -> Option<u64> {
@@ -62,7 +63,7 @@ fn a_place_has_the_line_in_the_arm_that_was_taken(rt: HostRuntime) -> Result<(),
     let mut desk = desk(rt.alloc(), IF_ON_2)?;
     let test = place(rt.alloc(), b"/0.0")?;
     let arm = place(rt.alloc(), b"/0.1")?;
-    let before = desk.perform(0, &Command::Live);
+    let before = reply_to(&mut desk, 0, &Command::Live)?;
     assert_eq!(rt; line_in(desk.machine().checked(), &before, &test), Some(2));
     assert_eq!(rt; line_in(desk.machine().checked(), &before, &arm), None);
     let after = live_after(rt.alloc(), &mut desk, b"/0.0")?;

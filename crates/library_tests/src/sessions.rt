@@ -6,7 +6,7 @@ use crate::examples::*;
 use crate::told::place;
 use calculus::{Choice, Event, Kind, Refusal};
 use locked_execution::{Command, Desk, Reply, run_commands};
-use machine::{Breaks, Machine};
+use machine::Machine;
 use std::alloc::Global;
 use std::test::Fail;
 
@@ -70,6 +70,16 @@ fn desk(alloc: Global, example: Example) -> Result<Desk, Fail> {
     Ok(Desk::new(Machine::new(alloc, checked)?))
 }
 
+/// What the desk answers. A refusal for want of memory fails the test.
+pub fn reply_to(desk: &mut Desk, session: u32, command: &Command) -> Result<Reply, Fail>
+    requires { session < 16 }
+{
+    match desk.perform(session, command) {
+        Reply::Refused(Refusal::Memory) => Err(Fail::from(Refusal::Memory)),
+        reply => Ok(reply),
+    }
+}
+
 /// Whether the desk answers the command so.
 fn answers(alloc: Global, desk: &mut Desk, asked: Asked, told: Told) -> Result<bool, Fail> {
     let command = command(alloc, asked)?;
@@ -117,49 +127,4 @@ fn a_list_of_commands_is_answered_in_order(rt: HostRuntime) -> Result<(), Fail> 
         assert!(rt; is_told(reply, told)?);
     }
     Ok(())
-}
-
-/// What the desk answers. A refusal for want of memory fails the test.
-fn reply_to(desk: &mut Desk, session: u32, command: &Command) -> Result<Reply, Fail>
-    requires { session < 16 }
-{
-    match desk.perform(session, command) {
-        Reply::Refused(Refusal::Memory) => Err(Fail::from(Refusal::Memory)),
-        reply => Ok(reply),
-    }
-}
-
-#[test]
-fn a_breakpoint_stops_its_own_session(rt: HostRuntime) -> Result<(), Fail> {
-    let mut desk = desk(rt.alloc(), ONCE)?;
-    assert!(rt; matches!(reply_to(&mut desk, 3, &Command::Break(2))?, Reply::Done));
-    assert!(rt;
-        matches!(
-            reply_to(&mut desk, 3, &Command::Branch(0))?,
-            Reply::Stopped(2)
-        )
-    );
-    assert!(rt; matches!(reply_to(&mut desk, 2, &Command::Branch(9))?, Reply::Idle));
-    assert!(rt;
-        matches!(
-            reply_to(&mut desk, 2, &Command::Branch(0))?,
-            Reply::Stepped(1, _)
-        )
-    );
-    assert!(rt; desk.breaks(3).has(2));
-    assert!(rt; !desk.breaks(2).has(2));
-    Ok(())
-}
-
-#[test]
-fn a_session_has_64_breakpoints(rt: HostRuntime) {
-    let mut breaks = Breaks::new();
-    for line in 1..65 {
-        assert!(rt; breaks.set(line).is_ok());
-    }
-    assert!(rt; matches!(breaks.set(65), Err(Refusal::BreaksFull)));
-    assert!(rt; breaks.set(64).is_ok());
-    breaks.clear(1);
-    assert!(rt; !breaks.has(1));
-    assert!(rt; breaks.set(65).is_ok());
 }

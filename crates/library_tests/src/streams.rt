@@ -1,6 +1,7 @@
 //! How a session uses its reader and its writer: when it asks, when it flushes, and what their failures become.
 
 use crate::one::over;
+use crate::transcripts::has_memory;
 use debug_session::Fault;
 use std::cell::Cell;
 use std::io;
@@ -109,11 +110,20 @@ fn a_writer_with_a_buffer_is_flushed(rt: HostRuntime) -> Result<(), Fail> {
     let mut reader: &[u8] = b"live\nvalue x";
     let mut out = BufWriter::new(rt.alloc(), Vec::with_capacity(rt.alloc(), 64)?)?;
     over(rt.alloc(), &mut reader, &mut out)?;
+    has_memory(out.get_ref().as_slice())?;
     assert_eq!(rt; out.get_ref().as_slice(), b"live 0\nvalue x 0\n".as_slice());
     Ok(())
 }
 
-/// A reader that fails once in this way, and then gives a line.
+/// Whether the session ended so. Another fault, as want of memory, fails the test.
+fn has_ended(ended: Result<(), Fault>, expected: Result<(), Fault>) -> Result<bool, Fault> {
+    match ended {
+        Err(fault) if expected != Err(fault) => Err(fault),
+        ended => Ok(ended == expected),
+    }
+}
+
+/// A reader that fails once in this way, and then is at its end.
 #[derive(Drop)]
 struct Failing {
     first: Option<ErrorKind>,
@@ -148,7 +158,7 @@ fn a_failed_read_is_what_its_kind_says(rt: HostRuntime) -> Result<(), Fail> {
         let mut reader = Failing { first: Some(kind) };
         let mut out: Vec<u8> = Vec::new(rt.alloc());
         let ended = over(rt.alloc(), &mut reader, &mut out);
-        assert!(rt; ended == expected, "{kind:?}");
+        assert!(rt; has_ended(ended, expected)?, "{kind:?}");
     }
     Ok(())
 }
@@ -201,7 +211,8 @@ fn a_write_is_made_again_after_an_interruption_alone(rt: HostRuntime) -> Result<
             taken,
         };
         let ended = over(rt.alloc(), &mut reader, &mut out);
-        assert!(rt; ended == expected, "{first:?}");
+        assert!(rt; has_ended(ended, expected)?, "{first:?}");
+        has_memory(out.taken.as_slice())?;
         assert!(rt; out.taken.as_slice() == bytes, "{first:?}");
     }
     Ok(())
@@ -229,7 +240,7 @@ fn a_failed_flush_ends_the_session(rt: HostRuntime) -> Result<(), Fail> {
         let mut reader: &[u8] = b"live\nlive\n";
         let mut out = Unflushed { kind };
         let ended = over(rt.alloc(), &mut reader, &mut out);
-        assert!(rt; ended == Err(Fault::WriteFailed), "{kind:?}");
+        assert!(rt; has_ended(ended, Err(Fault::WriteFailed))?, "{kind:?}");
     }
     Ok(())
 }

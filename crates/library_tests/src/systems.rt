@@ -123,24 +123,6 @@ fn places_have_branches_lines_and_selects(rt: HostRuntime) -> Result<(), Fail> {
     Ok(())
 }
 
-const BEGINS: [(u64, bool); 6] = [
-    (0, false),
-    (1, false),
-    (2, true),
-    (3, true),
-    (4, true),
-    (5, false),
-];
-
-#[test]
-fn commands_begin_on_lines(rt: HostRuntime) -> Result<(), Fail> {
-    let checked = checked(rt.alloc(), BUFFER)?;
-    for (line, begins) in BEGINS {
-        assert_eq!(rt; checked.begins(line), begins, "{line}");
-    }
-    Ok(())
-}
-
 /// Whether there is a name, and it is this one.
 fn is_named(name: Option<&QualifiedName>, text: &str) -> bool {
     match name {

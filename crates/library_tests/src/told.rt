@@ -69,11 +69,6 @@ pub fn assign(place: &'static [u8], variable: u32, value: u64) -> Told {
     }
 }
 
-/// An assignment to variable 0 that reads it.
-pub fn count(place: &'static [u8], value: u64) -> Told {
-    reading(&[0], assign(place, 0, value))
-}
-
 /// A meeting that neither reads nor writes a variable.
 pub fn meet(first: &'static [u8], second: &'static [u8], channel: u32, value: u64) -> Told {
     Told {
@@ -108,10 +103,6 @@ pub fn open(
         value,
         ..between(Kind::Open, first, second, channel)
     }
-}
-
-pub fn close(first: &'static [u8], second: &'static [u8], channel: u32) -> Told {
-    between(Kind::Close, first, second, channel)
 }
 
 pub fn sync(first: &'static [u8], second: &'static [u8], channel: u32) -> Told {

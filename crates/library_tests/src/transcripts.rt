@@ -17,7 +17,7 @@ fn ends(ended: Result<(), Fault>, expected: Fault) -> Result<(), Fail> {
 }
 
 /// That no command was refused for want of memory.
-fn has_memory(transcript: &[u8]) -> Result<(), Refusal> {
+pub fn has_memory(transcript: &[u8]) -> Result<(), Refusal> {
     for start in 0..transcript.len() {
         if transcript[start..].starts_with(b"refused 1\n") {
             return Err(Refusal::Memory);
