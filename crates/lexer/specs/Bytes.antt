@@ -2,7 +2,7 @@
 use Rattle.std.specs.Prelude.{ℕ, Bool, ◌||◌, ◌==◌}
 use Rattle.std.specs.Char.{is_ascii_alphanumeric}
 
--- a tab, the two ends of a line, a space
+-- a tab, the end of a line, a carriage return, a space
 abbrev pub is_blank : ℕ → Bool
 is_blank b = ((b == 9 || b == 10) || b == 13) || b == 32
 

@@ -4,7 +4,7 @@ use Rattle.value.specs.Word.{Word}
 use Rattle.system.specs.Expression.{Expression, Decision}
 use Rattle.process_tree.specs.Code.{Once, Sender, Code, continues, halts, moves_once, may_be_held, repeats, decides, awaits, in_turn, side_by_side, drains, Codes, no_code, code}
 
--- how far a send or sync is; it holds from the open that took it until the close
+-- how far a send or sync is; it is held from the open that took it until the close
 pub data Phase : Type 0 where
   waiting : Phase
   holding : Phase

@@ -18,7 +18,7 @@ most_bits = 64
 abbrev pub IsWidth : ℕ → Type 0
 IsWidth n = (1 ≤ n) × (n ≤ most_bits)
 
--- the width is one, and the number fits it
+-- the width is from 1 to 64, and the number fits it
 abbrev pub IsWord : Word → Type 0
 IsWord w = IsWidth w.width × (w.bits < 2 ^ w.width)
 

@@ -1,5 +1,5 @@
 -- The sweep down over places that finds the topmost of some events.
--- No reader has to believe it: `topmost` ties it to `Topmost`.
+-- No reader has to believe it: `proofs/AddedEvent.antt` ties what is topmost to `Follower`.
 use Rattle.std.specs.Prelude.{◌≡◌, ◌↔◌, ℕ, ◌+◌, ◌<◌, ◌≤◌, List, length, Bool, true, Some, slice_get}
 use Rattle.syntax.specs.Lists.{In}
 use Rattle.calculus.specs.Live.{Live}

@@ -1,5 +1,5 @@
 -- The tables of followers beside the live events, at the same places.
--- No reader has to believe it: contracts see a `Live` as `Shown`, which has no tables.
+-- No reader has to believe it: contracts see a `Live` as `Shown`, which has no tables; `IsLive` says there that a ticket is live.
 use Rattle.std.specs.Prelude.{◌≡◌, ◌⊎◌, ◌↔◌, ℕ, ◌<◌, List, [], ◌∷◌, ◌++◌, length, Some, slice_get, slice_set}
 use Rattle.syntax.specs.Lists.{In}
 use Rattle.calculus.specs.InOrder.{InOrder}

@@ -1,4 +1,4 @@
--- The arms of a command as the code makes them, one by one: what each waits for, and what it does.
+-- The arms of a command as the code makes them, one by one: its channel, guard or labels, and what it does.
 -- No reader has to believe it: `proofs/Translated.antt` ties them, in `code_of`, to the arms of the system's residual.
 use Rattle.system.specs.declared.command.Arm.{Arm}
 use Rattle.system.specs.declared.command.Guarded.{Guarded}

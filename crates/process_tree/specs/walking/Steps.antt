@@ -1,5 +1,5 @@
--- The first step of a place, as the code takes it apart; and what code asks an ask.
--- No reader has to believe it: `proofs/Steps.antt` ties it to the answers by places.
+-- The first step of a place, as the code takes it apart; and whether an ask is a test that takes no arm.
+-- No reader has to believe it: `proofs/Steps.antt` ties it to the answers by places of `ByPlace.antt`.
 use Rattle.std.specs.Prelude.{ℕ, [], ◌∷◌, Bool, true, false, Option, Some, None}
 use Rattle.address.specs.declared.Entry.TheVariants.{Ordered, Branch}
 use Rattle.calculus.specs.Moves.{Place}

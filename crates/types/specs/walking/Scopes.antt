@@ -1,5 +1,5 @@
 -- What the code holds where definitions have the visible names.
--- No reader has to believe it: contracts of private functions alone speak of it, and a description is judged from an empty scope.
+-- No reader has to believe it: the clauses of `check_types` cite `found_description`, which begins with no names.
 use Rattle.std.specs.Prelude.{map}
 use Rattle.types.specs.Commands.{Scope}
 use Rattle.types.specs.Names.{VisibleNames}
