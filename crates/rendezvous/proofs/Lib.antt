@@ -1,0 +1,7 @@
+pub mod Entries
+pub mod FirstChosen
+pub mod FromSides
+pub mod Listed
+pub mod Partners
+pub mod Placed
+pub mod Sooner

@@ -1,0 +1,3 @@
+pub mod ReadyBelow
+pub mod Sides
+pub mod walking

@@ -1,0 +1,3 @@
+pub mod Choosing
+pub mod Meeting
+pub mod Sorting

@@ -1,0 +1,90 @@
+-- The events that sides make, by the one that acts.
+-- No reader has to believe it: `proofs/FromSides.antt` ties it to `Allowed` of `calculus`.
+use Rattle.std.specs.Prelude.{ℕ, ◌==◌, ◌&&◌, Bool, true, false, List, [], ◌∷◌, ◌++◌, cond, Option, Some, None}
+use Rattle.std.specs.Ordering.{is_lt}
+use Rattle.address.specs.Order.{order_of}
+use Rattle.address.specs.declared.Entry.TheVariants.{Ordered, Branch}
+use Rattle.calculus.specs.Moves.{Place}
+use Rattle.calculus.specs.walking.AllowedEvents.{those}
+use Rattle.calculus.specs.declared.event.Event.{Event}
+use Rattle.calculus.specs.declared.event.Kind.TheVariants.{Assign, Test, Turn, Meet, Open, Close, Sync}
+use Rattle.rendezvous.specs.declared.side.Ready.{Ready}
+use Rattle.rendezvous.specs.declared.side.Side.{Side}
+use Rattle.rendezvous.specs.declared.side.Side.TheVariants.{Assigns, Tests, Turns, Sends, Receives, Syncs, Opens, Releases, Closes}
+
+-- the event that a side makes alone
+abbrev pub solo : Place → Side → Option Event
+solo a (Assigns x v read) =
+    Some (record { kind = Assign; first = a; second = None; arm = None; channel = None; value = Some v; written = Some x; read = read })
+solo a (Tests k read) =
+    Some (record { kind = Test; first = a; second = None; arm = k; channel = None; value = None; written = None; read = read })
+solo a Turns =
+    Some (record { kind = Turn; first = a; second = None; arm = None; channel = None; value = None; written = None; read = [] })
+solo a _ = None
+
+-- of a receive and its partner
+abbrev pub received : Place → ℕ → Option ℕ → Place → Side → Option Event
+received b c x a (Sends d v read) =
+    cond (c == d)
+    (Some (record { kind = Meet; first = a; second = Some b; arm = None; channel = Some c; value = Some v; written = x; read = read }))
+    None
+received b c x a _ = None
+
+-- of the opening of an arm and its partner
+abbrev pub opened : Place → ℕ → ℕ → Place → Side → Option Event
+opened b c k a (Sends d v read) =
+    cond (c == d)
+    (Some (record { kind = Open; first = a; second = Some b; arm = Some k; channel = Some c; value = Some v; written = None; read = read }))
+    None
+opened b c k a (Syncs d) =
+    cond (c == d)
+    (Some (record { kind = Open; first = a; second = Some b; arm = Some k; channel = Some c; value = None; written = None; read = [] }))
+    None
+opened b c k a _ = None
+
+-- of a close and its partner
+abbrev pub closed : Place → ℕ → Place → Side → Option Event
+closed b c a (Releases d) =
+    cond (c == d)
+    (Some (record { kind = Close; first = a; second = Some b; arm = None; channel = Some c; value = None; written = None; read = [] }))
+    None
+closed b c a _ = None
+
+-- of a sync and its partner, which has the greater place
+abbrev pub synced : Place → ℕ → Place → Side → Option Event
+synced b c a (Syncs d) =
+    cond ((c == d) && is_lt (order_of b a))
+    (Some (record { kind = Sync; first = b; second = Some a; arm = None; channel = Some c; value = None; written = None; read = [] }))
+    None
+synced b c a _ = None
+
+-- the event in which the first side acts, with the second as its partner
+abbrev pub met : Place → Side → Place → Side → Option Event
+met b (Receives c x) a y = received b c x a y
+met b (Opens c k) a y = opened b c k a y
+met b (Closes c) a y = closed b c a y
+met b (Syncs c) a y = synced b c a y
+met b _ a y = None
+
+-- the events in which this side acts, with one of the others
+abbrev pub met_with : Ready → List Ready → List Event
+met_with l [] = []
+met_with l (k ∷ ks) = those (met l.place l.side k.place k.side) (met_with l ks)
+
+-- and alone
+abbrev pub acted : Ready → List Ready → List Event
+acted l ks = those (solo l.place l.side) (met_with l ks)
+
+-- whether the second place is the first or below it
+abbrev pub is_under : Place → Place → Bool
+is_under [] a = true
+is_under (x ∷ p) [] = false
+is_under (Ordered i ∷ p) (Ordered j ∷ a) = (i == j) && is_under p a
+is_under (Ordered i ∷ p) (Branch j ∷ a) = false
+is_under (Branch i ∷ p) (Ordered j ∷ a) = false
+is_under (Branch i ∷ p) (Branch j ∷ a) = (i == j) && is_under p a
+
+-- the events in which one of these acts, below a place
+abbrev pub acted_below : Place → List Ready → List Ready → List Event
+acted_below p [] ks = []
+acted_below p (l ∷ ls) ks = cond (is_under p l.place) (acted l ks) [] ++ acted_below p ls ks
