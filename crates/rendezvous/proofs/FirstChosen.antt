@@ -5,16 +5,16 @@ use Rattle.std.specs.Prelude.{nat_lt, ◌==◌, ◌↔◌}
 use Rattle.std.specs.Ordering.{is_lt}
 use Rattle.std.specs.declared.cmp.Ordering.{Ordering}
 use Rattle.std.specs.declared.cmp.Ordering.TheVariants.{Less, Equal}
-use Rattle.system.specs.Lists.{In}
+use Rattle.syntax.specs.Lists.{In}
 use Rattle.address.specs.Order.{order_of}
-use Rattle.address.specs.OrderLaws.{less-not-equal}
+use Rattle.address.specs.walking.OrderLaws.{less-not-equal}
 use Rattle.address.proofs.Total.{order-itself}
 use Rattle.calculus.specs.Moves.{Place}
 use Rattle.calculus.specs.Events.{acting}
 use Rattle.calculus.specs.Steps.{State}
 use Rattle.calculus.specs.Choices.{choice_of}
 use Rattle.calculus.specs.InOrder.{InOrder}
-use Rattle.calculus.specs.Ready.{other, Sooner, Possible, Chosen}
+use Rattle.calculus.specs.Ready.{other, Sooner, ChoiceAllowed, Chosen}
 use Rattle.calculus.specs.declared.event.Event.{Event}
 use Rattle.calculus.specs.declared.event.Choice.{Choice}
 use Rattle.calculus.proofs.Lists.{in-right, in-parts, every-in}
@@ -48,7 +48,7 @@ not-less e f h same less =
 
 module _ (S : State) (c : Choice) (es : List Event) (ready : ReadyBelow S c.place es) where
   -- no event of the list has the choice
-  chosen-none : HasNone c es → Possible S c → ⊥
+  chosen-none : HasNone c es → ChoiceAllowed S c → ⊥
   chosen-none none p = none p.0 ((ready.exactly p.0).1 (p.1, acts-there c p.0 p.2)) p.2
 
   -- the first event of the list with the choice
@@ -77,7 +77,7 @@ chosen-here S c es items slice i x ready ei is first taken =
     (chosen-first S c es ready i first.0 at first.2 (subst (λ (k : List Event). HasNone c (take i k)) (is ∙ ei) first.3))
 
 pub chosen-nowhere : (S : State) (c : Choice) (es items slice : List Event) → ReadyBelow S c.place es → items ≡ es → slice ≡ items → HasNone c slice →
-    Possible S c → ⊥
+    ChoiceAllowed S c → ⊥
 chosen-nowhere S c es items slice ready ei is none = chosen-none S c es ready (subst (λ (k : List Event). HasNone c k) (is ∙ ei) none)
 
 -- one more event without the choice

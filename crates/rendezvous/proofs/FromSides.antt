@@ -7,7 +7,7 @@ use Rattle.std.specs.declared.cmp.Ordering.TheVariants.{Less, Equal, Greater}
 use Rattle.value.specs.Word.{Word}
 use Rattle.address.specs.Places.{Apart}
 use Rattle.address.specs.Order.{order_of}
-use Rattle.address.specs.OrderLaws.{less-not-equal}
+use Rattle.address.specs.walking.OrderLaws.{less-not-equal}
 use Rattle.address.proofs.Total.{order-itself}
 use Rattle.system.specs.Expression.{Expression, Store}
 use Rattle.system.specs.Residual.{Residual, done, halted, inside, beside, assign, send, receive, sync, held, loop, while, test, choose, closing, drain, within, along, arm_at, opened}

@@ -2,7 +2,7 @@
 use Rattle.std.proofs.Common.{◌≡◌, inl, ℕ, zero, suc, ◌<◌, ◌≤◌, List, [], ◌∷◌, ◌++◌, length, take, drop, Bool, true, false, cond, Some, get_or, refl, sym, ◌∙◌, ap, subst, arith, slice_get, IsTrue}
 use Rattle.calculus.specs.Tests.{same_event}
 use Rattle.calculus.specs.declared.event.Event.{Event}
-use Rattle.system.specs.Lists.{Every}
+use Rattle.syntax.specs.Lists.{Every}
 use Rattle.calculus.specs.InOrder.{InOrder}
 use Rattle.calculus.specs.Ready.{Sooner}
 use Rattle.calculus.proofs.Lists.{every-in, every-map, in-right}

@@ -1,6 +1,6 @@
 -- The events that are allowed in a state and act below a place.
 use Rattle.std.specs.Prelude.{◌≡◌, ◌↔◌, List, ◌++◌}
-use Rattle.system.specs.Lists.{In}
+use Rattle.syntax.specs.Lists.{In}
 use Rattle.calculus.specs.Moves.{Place}
 use Rattle.calculus.specs.Events.{acting}
 use Rattle.calculus.specs.Steps.{State, Allowed}

@@ -1,7 +1,7 @@
 -- What a place of a state offers, with its values: one side of an event.
 use Rattle.std.specs.Prelude.{◌≡◌, ◌↔◌, List}
 use Rattle.system.specs.Expression.{Store, variables, decision_variables, decide, ascending}
-use Rattle.system.specs.Lists.{In}
+use Rattle.syntax.specs.Lists.{In}
 use Rattle.system.specs.Residual.{Residual}
 use Rattle.calculus.specs.Moves.{Move, Local, assigns, tests, turns, sends, receives, syncs, opens, releases, closes}
 use Rattle.calculus.specs.Events.{sent}

@@ -1,7 +1,7 @@
 // The events that may be taken, in order, and the one that a choice means.
 ghost use Rattle.std.specs.Prelude.{◌≡◌, IfOk, IsTrue, MatchOption, Some, true, false, slice_get};
 ghost use Rattle.calculus.specs.InOrder.{InOrder};
-ghost use Rattle.calculus.specs.Ready.{Sooner, Possible, Chosen};
+ghost use Rattle.calculus.specs.Ready.{Sooner, ChoiceAllowed, Chosen};
 ghost use Rattle.calculus.specs.Steps.{State};
 ghost use Rattle.calculus.specs.Tests.{same_event};
 ghost use Rattle.rendezvous.specs.ReadyBelow.{ReadyBelow};
@@ -43,7 +43,7 @@ pub fn chosen_among(
     choice: &Choice,
 ) -> Result<Option<Event>, AllocError>
     ensures { (S : State) → OffersExactly S sides.now →
-        IfOk result (λ found. MatchOption found (Possible S choice.now → ⊥) (λ event. Chosen S choice.now event)) }
+        IfOk result (λ found. MatchOption found (ChoiceAllowed S choice.now → ⊥) (λ event. Chosen S choice.now event)) }
 {
     let events = ready_among(alloc, sides, choice.place.entries())?;
     Ok(first_with(events, choice))
@@ -74,7 +74,7 @@ fn is_there(sorted: &[Event], place: usize, event: &Event) -> bool
 
 /// The first of the events that has the choice.
 fn first_with(events: Items<Event>, choice: &Choice) -> Option<Event>
-    ensures { (S : State) → ReadyBelow S choice.now.place events → MatchOption result (Possible S choice.now → ⊥) (λ event. Chosen S choice.now event) }
+    ensures { (S : State) → ReadyBelow S choice.now.place events → MatchOption result (ChoiceAllowed S choice.now → ⊥) (λ event. Chosen S choice.now event) }
 {
     let mut events = events.into_vec();
     match place_with(events.as_slice(), choice) {

@@ -1,7 +1,7 @@
 -- The first event of a list that has a choice.
 -- No reader has to believe it: the proofs of `event_at` tie it to `Chosen` of `calculus`.
 use Rattle.std.specs.Prelude.{◌≡◌, ℕ, List, Some, take, slice_get}
-use Rattle.system.specs.Lists.{In}
+use Rattle.syntax.specs.Lists.{In}
 use Rattle.calculus.specs.Choices.{choice_of}
 use Rattle.calculus.specs.declared.event.Event.{Event}
 use Rattle.calculus.specs.declared.event.Choice.{Choice}

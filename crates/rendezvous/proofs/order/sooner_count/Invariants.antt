@@ -1,5 +1,5 @@
 use Rattle.std.proofs.Common.{◌≡◌, ◌≤◌, false, length, drop}
-use Rattle.system.specs.Lists.{Every}
+use Rattle.syntax.specs.Lists.{Every}
 use Rattle.rendezvous.specs.walking.Sorting.{is_sooner}
 use Rattle.rendezvous.proofs.order.sooner_count.Given as goal
 
