@@ -1,0 +1,3 @@
+pub mod ForkLaws
+pub mod PlaceLaws
+pub mod UseLaws

@@ -1,0 +1,2 @@
+pub mod LastEvents
+pub mod walking

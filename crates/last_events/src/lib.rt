@@ -1,0 +1,10 @@
+//! Tables of last events: which event stands at which place, and which events use which number. They hold tickets, and fall
+//! back to what they were when an event is taken out.
+#![tactic(auto)]
+
+mod forks;
+mod places;
+mod uses;
+
+pub use places::PlaceTable;
+pub use uses::UseTable;
