@@ -2,7 +2,7 @@
 use Rattle.std.proofs.Common.{◌≡◌, ◌⊎◌, inl, inr, ℕ, suc, ◌<◌, ◌≤◌, List, [], ◌∷◌, ◌++◌, refl, sym, ◌∙◌, ap, subst, arith}
 use Rattle.std.proofs.lemmas.List.{append-nil, append_assoc}
 use Rattle.calculus.specs.Dependence.{Directly}
-use Rattle.calculus.specs.Live.{Live, Rising, LiveAt, Follows, same, later}
+use Rattle.calculus.specs.Live.{Live, Rising, LiveAt, DependsOn, same, later}
 use Rattle.calculus.specs.Object.{Object}
 use Rattle.calculus.specs.Does.{Answers}
 use Rattle.calculus.specs.Answered.{Answered}
@@ -104,7 +104,7 @@ gone-direct low next l k t u e f r (drops {x = x} {l = l'} free b) i out j less 
 
 -- no follower of what is not kept is kept
 pub gone-follows : (low next : ℕ) (l k : Live) (t u : ℕ) (e f : Event) → Rising low l next → Back l k → LiveAt l t e → (LiveAt k t e → ⊥) →
-    Follows l t u → LiveAt l u f → LiveAt k u f → ⊥
+    DependsOn l t u → LiveAt l u f → LiveAt k u f → ⊥
 gone-follows low next l k t u e f r b i out same j kept =
     out (subst (λ (g : Event). LiveAt k t g) (rising-one low next l t f e r j i) kept)
 gone-follows low next l k t u e f r b i out (later {u = v} g h before iv iu less d) j kept =
@@ -113,7 +113,7 @@ gone-follows low next l k t u e f r b i out (later {u = v} g h before iv iu less
 
 -- whoever loses a live event loses all that depend on it
 pub least-rollback : (o o' : Object) (t u : ℕ) (e f : Event) → Sound o → Sound o' → After o o' → LiveAt o.live t e → (LiveAt o'.live t e → ⊥) →
-    LiveAt o.live u f → Follows o.live t u → LiveAt o'.live u f → ⊥
+    LiveAt o.live u f → DependsOn o.live t u → LiveAt o'.live u f → ⊥
 least-rollback o o' t u e f s s' a i out j follows kept =
     elim (live-parts a.kept a.new (u, f) (subst (λ (l : Live). LiveAt l u f) a.is kept)) [
       | inl m ↦ gone-follows 1 o.next o.live a.kept t u e f s.rising a.back i

@@ -8,10 +8,10 @@ use Rattle.calculus.proofs.SharingWidths.{KeepsSharing}
 use Rattle.calculus.specs.Steps.{State, Run}
 use Rattle.calculus.specs.Dependence.{Directly}
 use Rattle.calculus.specs.Choices.{choice_of}
-use Rattle.calculus.specs.Live.{Live, events, Rising, LiveAt, Follows, same, later}
+use Rattle.calculus.specs.Live.{Live, events, Rising, LiveAt, DependsOn, same, later}
 use Rattle.calculus.specs.Object.{Object, Reaches, most_live, last_ticket, with_event, with_live}
 use Rattle.calculus.specs.Does.{Does}
-use Rattle.calculus.specs.Answered.{Done}
+use Rattle.calculus.specs.Answered.{DoesAll}
 use Rattle.calculus.specs.BackAndForth.{tickets, missing_from, undo_each, undone_each, step_each, stepped_each, back_and_forth, back_and_forth_replies}
 use Rattle.calculus.specs.Sound.{Sound}
 use Rattle.calculus.specs.declared.event.Event.{Event}
@@ -29,17 +29,17 @@ use Rattle.calculus.proofs.UndoLaws.{without-one}
 use Rattle.calculus.proofs.ChoiceMeansOne.{means}
 
 -- commands that are done, and then more
-pub done-join : (o m p : Object) (cs ds : List Command) (rs qs : List Reply) → Done o cs rs m → Done m ds qs p → Done o (cs ++ ds) (rs ++ qs) p
+pub done-join : (o m p : Object) (cs ds : List Command) (rs qs : List Reply) → DoesAll o cs rs m → DoesAll m ds qs p → DoesAll o (cs ++ ds) (rs ++ qs) p
 done-join o m p [] ds rs qs d e =
-    subst (λ (r : List Reply). Done o ds (r ++ qs) p) (sym d.0) (subst (λ (x : Object). Done x ds qs p) d.1 e)
+    subst (λ (r : List Reply). DoesAll o ds (r ++ qs) p) (sym d.0) (subst (λ (x : Object). DoesAll x ds qs p) d.1 e)
 done-join o m p (c ∷ cs) ds rs qs d e =
     (d.0, d.1 ++ qs, d.2, ap (λ (r : List Reply). r ++ qs) d.3, d.4, done-join d.2 m p cs ds d.1 qs d.5 e)
 
 -- where no later event depends directly on the event of an entry, nothing follows it
-free-follows : (next : ℕ) (p k : Live) (x : ℕ × Event) (u : ℕ) → Rising 1 (p ++ x ∷ k) next → Free x.1 k → Follows (p ++ x ∷ k) x.0 u → u ≡ x.0
-free-follows next p k x u r free same = refl
-free-follows next p k x u r free (later {u = v} g h before iv iu less d) =
-    let one : v ≡ x.0 = free-follows next p k x v r free before in
+free-depends : (next : ℕ) (p k : Live) (x : ℕ × Event) (u : ℕ) → Rising 1 (p ++ x ∷ k) next → Free x.1 k → DependsOn (p ++ x ∷ k) x.0 u → u ≡ x.0
+free-depends next p k x u r free same = refl
+free-depends next p k x u r free (later {u = v} g h before iv iu less d) =
+    let one : v ≡ x.0 = free-depends next p k x v r free before in
     let is : g ≡ x.1 = rising-one 1 next (p ++ x ∷ k) x.0 g x.1 r (subst (λ y. LiveAt (p ++ x ∷ k) y g) one iv) (live-right p (x ∷ k) (x.0, x.1) (inl refl)) in
     let parts = rising-parts 1 next p (x ∷ k) r in
     let low : parts.0 ≤ x.0 = parts.2.0 in
@@ -50,7 +50,7 @@ free-follows next p k x u r free (later {u = v} g h before iv iu less d) =
     ]
 
 one-undone : (o : Object) (p k : Live) (x : ℕ × Event) → Rising 1 (p ++ x ∷ k) o.next → Free x.1 k →
-    Done (with_live o (p ++ x ∷ k)) (Command.Undo x.0 ∷ []) (Reply.Undone x.0 x.1 ∷ []) (with_live o (p ++ k))
+    DoesAll (with_live o (p ++ x ∷ k)) (Command.Undo x.0 ∷ []) (Reply.Undone x.0 x.1 ∷ []) (with_live o (p ++ k))
 one-undone o p k x r free =
     let parts = rising-parts 1 o.next p (x ∷ k) r in
     let low : parts.0 ≤ x.0 = parts.2.0 in (
@@ -61,7 +61,7 @@ one-undone o p k x r free =
       (
         refl,
         live-right p (x ∷ k) (x.0, x.1) (inl refl),
-        (λ u f i follows. free-follows o.next p k x u r free follows),
+        (λ u f i follows. free-depends o.next p k x u r free follows),
         (
           p ++ k,
           without-one x.0 x.1 p k
@@ -75,26 +75,26 @@ one-undone o p k x r free =
 
 -- the undos of what is not kept, from the greatest ticket down
 pub back-undoes : (o : Object) (p l k : Live) (b : Back l k) → Rising 1 (p ++ l) o.next →
-    Done (with_live o (p ++ l)) (undo_each (dropped b)) (undone_each (dropped b)) (with_live o (p ++ k))
+    DoesAll (with_live o (p ++ l)) (undo_each (dropped b)) (undone_each (dropped b)) (with_live o (p ++ k))
 back-undoes o p l k nothing r = (refl, refl)
 back-undoes o p l k (keeps {x = x} {l = l'} {k = k'} b) r =
     let rest = back-undoes o (p ++ x ∷ []) l' k' b (subst (λ (z : Live). Rising 1 z o.next) (sym (append_assoc p (x ∷ []) l')) r) in
-    subst (λ (z : Live). Done (with_live o (p ++ x ∷ l')) (undo_each (dropped b)) (undone_each (dropped b)) (with_live o z)) (append_assoc p (x ∷ []) k')
-    (subst (λ (z : Live). Done (with_live o z) (undo_each (dropped b)) (undone_each (dropped b)) (with_live o ((p ++ x ∷ []) ++ k'))) (append_assoc p (x ∷ []) l') rest)
+    subst (λ (z : Live). DoesAll (with_live o (p ++ x ∷ l')) (undo_each (dropped b)) (undone_each (dropped b)) (with_live o z)) (append_assoc p (x ∷ []) k')
+    (subst (λ (z : Live). DoesAll (with_live o z) (undo_each (dropped b)) (undone_each (dropped b)) (with_live o ((p ++ x ∷ []) ++ k'))) (append_assoc p (x ∷ []) l') rest)
 back-undoes o p l k (drops {x = x} {l = l'} free b) r =
     let rest = back-undoes o (p ++ x ∷ []) l' k b (subst (λ (z : Live). Rising 1 z o.next) (sym (append_assoc p (x ∷ []) l')) r) in
     let parts = rising-parts 1 o.next p (x ∷ l') r in
     let left : Rising 1 (p ++ x ∷ k) o.next = rising-join 1 parts.0 o.next p (x ∷ k) parts.1 (parts.2.0, back-rising (suc x.0) o.next l' k b parts.2.1) in
     done-join (with_live o (p ++ x ∷ l')) (with_live o (p ++ x ∷ k)) (with_live o (p ++ k))
     (undo_each (dropped b)) (Command.Undo x.0 ∷ []) (undone_each (dropped b)) (Reply.Undone x.0 x.1 ∷ [])
-    (subst (λ (z : Live). Done (with_live o (p ++ x ∷ l')) (undo_each (dropped b)) (undone_each (dropped b)) (with_live o z)) (append_assoc p (x ∷ []) k)
-    (subst (λ (z : Live). Done (with_live o z) (undo_each (dropped b)) (undone_each (dropped b)) (with_live o ((p ++ x ∷ []) ++ k))) (append_assoc p (x ∷ []) l') rest))
+    (subst (λ (z : Live). DoesAll (with_live o (p ++ x ∷ l')) (undo_each (dropped b)) (undone_each (dropped b)) (with_live o z)) (append_assoc p (x ∷ []) k)
+    (subst (λ (z : Live). DoesAll (with_live o z) (undo_each (dropped b)) (undone_each (dropped b)) (with_live o ((p ++ x ∷ []) ++ k))) (append_assoc p (x ∷ []) l') rest))
     (one-undone o p k x left free)
 
 -- the object after the steps of some live events
 pub record Forth (o : Object) (new : Live) : Type 0 where
   pub last : Object
-  pub done : Done o (step_each new) (stepped_each o.next new) last
+  pub done : DoesAll o (step_each new) (stepped_each o.next new) last
   pub events_are : events last.live ≡ events o.live ++ events new
   pub opening : last.opening ≡ o.opening
 
@@ -216,7 +216,7 @@ same-state p q is equal T = (
 )
 
 pub back-then-forth : (is_sync is_shared : ℕ → Bool) (o o' : Object) → KeepsSharing is_sync is_shared o.opening.residual → Sound o → Sound o' → After o o' →
-    (p : Object) × Done o (back_and_forth o.live o'.live) (back_and_forth_replies o.next o.live o'.live) p
+    (p : Object) × DoesAll o (back_and_forth o.live o'.live) (back_and_forth_replies o.next o.live o'.live) p
     × (events p.live ≡ events o'.live) × ((T : State) → Reaches p T ↔ Reaches o' T)
 back-then-forth is_sync is_shared o o' keep s s' a =
     let w = sound-formed o s in
@@ -234,8 +234,8 @@ back-then-forth is_sync is_shared o o' keep s s' a =
     let fresh : missing_from o.live o'.live ≡ a.new = ap (λ (z : Live). missing_from o.live z) a.is ∙ lists.fresh in
     let equal : events ahead.last.live ≡ events o'.live = ahead.events_are ∙ sym (events-join a.kept a.new) ∙ sym (ap events a.is) in (
       ahead.last,
-      subst (λ (z : Live). Done o (undo_each z ++ step_each (missing_from o.live o'.live)) (undone_each z ++ stepped_each o.next (missing_from o.live o'.live)) ahead.last) (sym old)
-          (subst (λ (z : Live). Done o (undo_each (dropped a.back) ++ step_each z) (undone_each (dropped a.back) ++ stepped_each o.next z) ahead.last) (sym fresh) both),
+      subst (λ (z : Live). DoesAll o (undo_each z ++ step_each (missing_from o.live o'.live)) (undone_each z ++ stepped_each o.next (missing_from o.live o'.live)) ahead.last) (sym old)
+          (subst (λ (z : Live). DoesAll o (undo_each (dropped a.back) ++ step_each z) (undone_each (dropped a.back) ++ stepped_each o.next z) ahead.last) (sym fresh) both),
       equal,
       same-state ahead.last o' (ahead.opening ∙ sym a.opening) equal,
     )

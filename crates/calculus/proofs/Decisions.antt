@@ -7,7 +7,7 @@ use Rattle.address.proofs.Places.{before?}
 use Rattle.calculus.specs.Moves.{Place}
 use Rattle.calculus.specs.Events.{places}
 use Rattle.calculus.specs.Dependence.{Directly, SomeBefore, OnOneChannel, WritesFor}
-use Rattle.calculus.specs.Live.{Live, Rising, LiveAt, NoneAt, Follows, same, later, FirstDependent, NoDependent, LastWriter, NoWriter}
+use Rattle.calculus.specs.Live.{Live, Rising, LiveAt, IsLive, NoneAt, DependsOn, same, later, FirstDependent, NoDependent, LastWriter, NoWriter}
 use Rattle.calculus.specs.declared.event.Event.{Event}
 use Rattle.calculus.proofs.Options.{some-injective}
 use Rattle.calculus.proofs.Tickets.{rising-in, rising-one}
@@ -95,9 +95,9 @@ directly? e f =
 
 -- an earlier entry that follows t, and on which f depends directly
 abbrev Link : Live → ℕ → ℕ → Event → ℕ × Event → Type 0
-Link l t u f x = (x.0 < u) × Directly x.1 f × Follows l t x.0
+Link l t u f x = (x.0 < u) × Directly x.1 f × DependsOn l t x.0
 
-link? : (l : Live) (t u : ℕ) (f : Event) (x : ℕ × Event) → (x.0 < u → Or (Follows l t x.0)) → Or (Link l t u f x)
+link? : (l : Live) (t u : ℕ) (f : Event) (x : ℕ × Event) → (x.0 < u → Or (DependsOn l t x.0)) → Or (Link l t u f x)
 link? l t u f x decide =
     elim (cases_lt x.0 u) [
       | inr high ↦ inr (λ h. let low : x.0 < u = h.0 in omega arith)
@@ -108,29 +108,29 @@ link? l t u f x decide =
     ]
 
 -- a follower is the same, or has a link
-unlinked : (low next : ℕ) (l : Live) (t u : ℕ) (f : Event) → Rising low l next → LiveAt l u f → (u ≡ t → ⊥) → Follows l t u → (x : ℕ × Event) × In x l × Link l t u f x
+unlinked : (low next : ℕ) (l : Live) (t u : ℕ) (f : Event) → Rising low l next → LiveAt l u f → (u ≡ t → ⊥) → DependsOn l t u → (x : ℕ × Event) × In x l × Link l t u f x
 unlinked low next l t u f r i differs same = absurd (differs refl)
 unlinked low next l t u f r i differs (later {u = v} g h before iv iu less d) =
     ((v, g), iv, (less, subst (λ (y : Event). Directly g y) (rising-one low next l u h f r iu i) d, before))
 
-follows-below : (n low next : ℕ) (l : Live) (t u : ℕ) (f : Event) → Rising low l next → u < n → LiveAt l u f → Or (Follows l t u)
-follows-below zero low next l t u f r h i = absurd (omega arith)
-follows-below (suc n) low next l t u f r h i =
+depends-below : (n low next : ℕ) (l : Live) (t u : ℕ) (f : Event) → Rising low l next → u < n → LiveAt l u f → Or (DependsOn l t u)
+depends-below zero low next l t u f r h i = absurd (omega arith)
+depends-below (suc n) low next l t u f r h i =
     elim (cases_eq u t) [
-      | inl is ↦ inl (subst (λ v. Follows l t v) (sym is) same)
+      | inl is ↦ inl (subst (λ v. DependsOn l t v) (sym is) same)
       | inr differs ↦ elim (search-list (Link l t u f) l
-          (λ x j. link? l t u f x (λ less. follows-below n low next l t x.0 x.1 r (omega arith) j))) [
+          (λ x j. link? l t u f x (λ less. depends-below n low next l t x.0 x.1 r (omega arith) j))) [
             | inl found ↦ inl (later found.0.1 f found.2.2 found.1 i found.2.0 found.2.1)
             | inr none ↦ inr (λ p. let linked = unlinked low next l t u f r i differs p in none linked.0 linked.1 linked.2)
           ]
     ]
 
 -- a live event follows a ticket, or not
-pub follows? : (low next : ℕ) (l : Live) (t u : ℕ) (f : Event) → Rising low l next → LiveAt l u f → Or (Follows l t u)
-follows? low next l t u f r i = follows-below (suc u) low next l t u f r (omega arith) i
+pub depends? : (low next : ℕ) (l : Live) (t u : ℕ) (f : Event) → Rising low l next → LiveAt l u f → Or (DependsOn l t u)
+depends? low next l t u f r i = depends-below (suc u) low next l t u f r (omega arith) i
 
 -- a ticket is live, or not
-pub live? : (l : Live) (t : ℕ) → ((e : Event) × LiveAt l t e) ⊎ NoneAt l t
+pub live? : (l : Live) (t : ℕ) → IsLive l t ⊎ NoneAt l t
 live? l t =
     elim (search-list (λ (x : ℕ × Event). x.0 ≡ t) l (λ x i. cases_eq x.0 t)) [
       | inl u ↦ inl (u.0.1, subst (λ v. LiveAt l v u.0.1) u.2 u.1)
@@ -172,10 +172,10 @@ first-of P low next (y ∷ l) r decide =
 -- another live event depends on that of t, and the first is known, or none does
 pub first-dependent? : (low next : ℕ) (l : Live) (t : ℕ) → Rising low l next → ((u : ℕ) × FirstDependent l t u) ⊎ NoDependent l t
 first-dependent? low next l t r =
-    elim (first-of (λ (x : ℕ × Event). (x.0 ≡ t → ⊥) × Follows l t x.0) low next l r
+    elim (first-of (λ (x : ℕ × Event). (x.0 ≡ t → ⊥) × DependsOn l t x.0) low next l r
     (λ x i. elim (cases_eq x.0 t) [
       | inl is ↦ inr (λ h. h.0 is)
-      | inr differs ↦ elim (follows? low next l t x.0 x.1 r i) [ inl p ↦ inl (differs, p) | inr p ↦ inr (λ h. p h.1) ]
+      | inr differs ↦ elim (depends? low next l t x.0 x.1 r i) [ inl p ↦ inl (differs, p) | inr p ↦ inr (λ h. p h.1) ]
     ])) [
       | inl first ↦ inl (
         first.entry.0,
@@ -183,7 +183,7 @@ first-dependent? low next l t r =
           event = first.entry.1;
           live = first.inside;
           other = first.holds.0;
-          follows = first.holds.1;
+          depends = first.holds.1;
           least = λ v f i differs p. first.least (v, f) i (differs, p);
         },
       )

@@ -2,9 +2,9 @@
 use Rattle.std.proofs.Common.{◌≡◌, inl, inr, ℕ, ◌<◌, ◌≤◌, List, [], ◌∷◌, length, refl, sym, subst, arith}
 use Rattle.std.proofs.lemmas.List.{length_push}
 use Rattle.calculus.specs.Steps.{State, Step, Allowed, Run}
-use Rattle.calculus.specs.Live.{Live, events, Follows, same, later, NoDependent}
+use Rattle.calculus.specs.Live.{Live, events, DependsOn, same, later, NoDependent}
 use Rattle.calculus.specs.Object.{Object, Reaches, most_live, last_ticket, with_event, with_live}
-use Rattle.calculus.specs.Does.{Steps, Undoes, Rolls, RollsValue, Blames, ListsReady, ListsFollowers, ListsLive, TellsValue, TakesOut, Does, Answers}
+use Rattle.calculus.specs.Does.{Steps, Undoes, Rolls, RollsValue, Blames, ListsReady, ListsConsequences, ListsLive, TellsValue, TakesOut, Does, Answers}
 use Rattle.calculus.specs.Sound.{Sound}
 use Rattle.calculus.specs.declared.event.Event.{Event}
 use Rattle.calculus.specs.declared.event.Choice.{Choice}
@@ -23,17 +23,17 @@ pub data Effect (o o' : Object) : Type 0 where
   taken : (k : Live) → Back o.live k → o' ≡ with_live o k → Effect o o'
 
 -- what follows a ticket is closed
-pub follows-closed : (l : Live) (t : ℕ) → ClosedIn l (Follows l t)
-follows-closed l t u v e f i j less depends c = later e f c i j less depends
+pub depends-closed : (l : Live) (t : ℕ) → ClosedIn l (DependsOn l t)
+depends-closed l t u v e f i j less depends c = later e f c i j less depends
 
 -- a ticket on which nothing else depends is closed
 pub alone-closed : (l : Live) (t : ℕ) → NoDependent l t → ClosedIn l (λ v. v ≡ t)
 alone-closed l t none u v e f i j less depends is =
-    none v f j (later e f (subst (λ x. Follows l t x) (sym is) same) i j less depends)
+    none v f j (later e f (subst (λ x. DependsOn l t x) (sym is) same) i j less depends)
 
 taken-out : (o : Object) (t n : ℕ) (o' : Object) → Sound o → TakesOut o t n o' → Effect o o'
 taken-out o t n o' s h =
-    taken h.0 (without-back o.live (Follows o.live t) 1 o.next o.live h.0 (λ x i. i) s.rising (follows-closed o.live t) h.1) h.3
+    taken h.0 (without-back o.live (DependsOn o.live t) 1 o.next o.live h.0 (λ x i. i) s.rising (depends-closed o.live t) h.1) h.3
 
 step-effect : (o : Object) (c : Choice) (reply : Reply) (o' : Object) → Steps o c reply o' → Effect o o'
 step-effect o c (Reply.Stepped t e) o' h = added e h.3.0 h.3.1 h.3.2.allowed h.1 h.2 h.4
@@ -65,10 +65,10 @@ ready-effect : (o : Object) (reply : Reply) (o' : Object) → ListsReady o reply
 ready-effect o (Reply.Ready es) o' h = unchanged h.1
 ready-effect o _ o' h = absurd h
 
-followers-effect : (o : Object) (t : ℕ) (reply : Reply) (o' : Object) → ListsFollowers o t reply o' → Effect o o'
-followers-effect o t (Reply.Consequences ts) o' h = unchanged h.2
-followers-effect o t (Reply.Refused why) o' h = unchanged h.1
-followers-effect o t _ o' h = absurd h
+consequences-effect : (o : Object) (t : ℕ) (reply : Reply) (o' : Object) → ListsConsequences o t reply o' → Effect o o'
+consequences-effect o t (Reply.Consequences ts) o' h = unchanged h.2
+consequences-effect o t (Reply.Refused why) o' h = unchanged h.1
+consequences-effect o t _ o' h = absurd h
 
 live-effect : (o : Object) (reply : Reply) (o' : Object) → ListsLive o reply o' → Effect o o'
 live-effect o (Reply.Live l) o' h = unchanged h.1
@@ -87,7 +87,7 @@ does-effect o (Command.Roll t) reply o' s h = roll-effect o t reply o' s h
 does-effect o (Command.RollValue x) reply o' s h = roll-value-effect o x reply o' s h
 does-effect o (Command.Blame x) reply o' s h = blame-effect o x reply o' h
 does-effect o Command.Ready reply o' s h = ready-effect o reply o' h
-does-effect o (Command.Consequences t) reply o' s h = followers-effect o t reply o' h
+does-effect o (Command.Consequences t) reply o' s h = consequences-effect o t reply o' h
 does-effect o Command.Live reply o' s h = live-effect o reply o' h
 does-effect o (Command.Value x) reply o' s h = value-effect o x reply o' h
 

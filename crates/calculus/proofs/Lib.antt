@@ -19,7 +19,7 @@ pub mod Decisions
 pub mod Effects
 pub mod Elements
 pub mod Firsts
-pub mod FollowersLaw
+pub mod DependsOnLaw
 pub mod FromOpening
 pub mod Kept
 pub mod KeptSharing

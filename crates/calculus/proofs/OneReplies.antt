@@ -4,9 +4,9 @@ use Rattle.value.specs.Word.{Word}
 use Rattle.calculus.specs.Steps.{State}
 use Rattle.calculus.specs.Ready.{ChoiceAllowed, Chosen, ReadyList, Sooner}
 use Rattle.calculus.specs.Dependence.{ended, stays, leaves}
-use Rattle.calculus.specs.Live.{Live, events, LiveAt, Follows, WithoutTickets, NoDependent, LastWriter, FollowersList}
+use Rattle.calculus.specs.Live.{Live, events, LiveAt, DependsOn, WithoutTickets, NoDependent, LastWriter, ConsequencesList}
 use Rattle.calculus.specs.Object.{Object, Reaches, most_live, last_ticket, with_event, with_live}
-use Rattle.calculus.specs.Does.{TakesOut, Steps, Undoes, Rolls, RollsValue, Blames, ListsReady, ListsFollowers, ListsLive, TellsValue, RefusesStep, RefusesUndo, RefusesTicket, RefusesVariable, RefusesValue}
+use Rattle.calculus.specs.Does.{TakesOut, Steps, Undoes, Rolls, RollsValue, Blames, ListsReady, ListsConsequences, ListsLive, TellsValue, RefusesStep, RefusesUndo, RefusesTicket, RefusesVariable, RefusesValue}
 use Rattle.calculus.specs.Sound.{Sound}
 use Rattle.calculus.specs.ObjectLaws.{OneReply}
 use Rattle.calculus.specs.declared.event.Event.{Event}
@@ -91,8 +91,8 @@ undo-refusals o t (NeededBy u) NoSuchEvent h g = absurd (g h.0.0 h.0.1)
 undo-refusals o t (NeededBy u) (NeededBy v) h g =
     let a = h.1 in
     let b = g.1 in
-    let up : u ≤ v = a.least v b.event b.live b.other b.follows in
-    let down : v ≤ u = b.least u a.event a.live a.other a.follows in
+    let up : u ≤ v = a.least v b.event b.live b.other b.depends in
+    let down : v ≤ u = b.least u a.event a.live a.other a.depends in
     let equal : u ≡ v = omega arith in
     ap NeededBy equal
 undo-refusals o t NoSuchEvent _ h g = absurd g
@@ -101,7 +101,7 @@ undo-refusals o t _ other h g = absurd h
 
 undo-or-refused : (o : Object) (t : ℕ) (e : Event) (why : Refusal) → LiveAt o.live t e → NoDependent o.live t → RefusesUndo o t why → ⊥
 undo-or-refused o t e NoSuchEvent i alone g = g e i
-undo-or-refused o t e (NeededBy u) i alone g = g.1.other (alone u g.1.event g.1.live g.1.follows)
+undo-or-refused o t e (NeededBy u) i alone g = g.1.other (alone u g.1.event g.1.live g.1.depends)
 undo-or-refused o t e _ i alone g = absurd g
 
 one-undo : (o p q : Object) (t : ℕ) (reply other : Reply) → Sound o → Undoes o t reply p → Undoes o t other q → Same reply other p q
@@ -121,7 +121,7 @@ one-undo o p q t _ other s h g = absurd h
 -- a rollback
 one-taken : (o p q : Object) (t n m : ℕ) → TakesOut o t n p → TakesOut o t m q → Same (Reply.Rolled n) (Reply.Rolled m) p q
 one-taken o p q t n m h g =
-    let rest : h.0 ≡ g.0 = without-determined (Follows o.live t) o.live h.0 g.0 h.1 g.1 in
+    let rest : h.0 ≡ g.0 = without-determined (DependsOn o.live t) o.live h.0 g.0 h.1 g.1 in
     let sizes : length h.0 ≡ length g.0 = ap (λ (l : Live). length l) rest in
     let first : n + length h.0 ≡ length o.live = h.2 in
     let second : m + length g.0 ≡ length o.live = g.2 in
@@ -193,13 +193,13 @@ one-ready o p q (Reply.Ready es) (Reply.Ready fs) s h g =
 one-ready o p q (Reply.Ready es) _ s h g = absurd g
 one-ready o p q _ other s h g = absurd h
 
-followers-one : (l : Live) (t : ℕ) (ns ms : List ℕ) → FollowersList l t ns → FollowersList l t ms → ns ≡ ms
-followers-one l t ns ms h g =
+consequences-one : (l : Live) (t : ℕ) (ns ms : List ℕ) → ConsequencesList l t ns → ConsequencesList l t ms → ns ≡ ms
+consequences-one l t ns ms h g =
     same-elements ℕ ◌<◌ (λ x y a b. omega arith) ns ms h.ascending g.ascending
     (λ u i. (g.exactly u).1 ((h.exactly u).0 i)) (λ u i. (h.exactly u).1 ((g.exactly u).0 i))
 
-one-consequences : (o p q : Object) (t : ℕ) (reply other : Reply) → ListsFollowers o t reply p → ListsFollowers o t other q → Same reply other p q
-one-consequences o p q t (Reply.Consequences ns) (Reply.Consequences ms) h g = (ap Reply.Consequences (followers-one o.live t ns ms h.1 g.1), h.2 ∙ sym g.2)
+one-consequences : (o p q : Object) (t : ℕ) (reply other : Reply) → ListsConsequences o t reply p → ListsConsequences o t other q → Same reply other p q
+one-consequences o p q t (Reply.Consequences ns) (Reply.Consequences ms) h g = (ap Reply.Consequences (consequences-one o.live t ns ms h.1 g.1), h.2 ∙ sym g.2)
 one-consequences o p q t (Reply.Consequences ns) (Reply.Refused why) h g = absurd (live-or-refused o t h.0.0 why h.0.1 g.0)
 one-consequences o p q t (Reply.Refused why) (Reply.Consequences ms) h g = absurd (live-or-refused o t g.0.0 why g.0.1 h.0)
 one-consequences o p q t (Reply.Refused why) (Reply.Refused because) h g = (ap Reply.Refused (ticket-refusals o t why because h.0 g.0), h.1 ∙ sym g.1)

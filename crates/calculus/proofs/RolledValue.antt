@@ -4,7 +4,7 @@ use Rattle.syntax.specs.Lists.{In}
 use Rattle.system.specs.Expression.{get, Store}
 use Rattle.calculus.specs.Steps.{State, Run}
 use Rattle.calculus.specs.Dependence.{ended, stays, leaves}
-use Rattle.calculus.specs.Live.{Live, events, Rising, LiveAt, Follows, same, WithoutTickets, LastWriter, NoWriter}
+use Rattle.calculus.specs.Live.{Live, events, Rising, LiveAt, DependsOn, same, WithoutTickets, LastWriter, NoWriter}
 use Rattle.calculus.specs.Object.{Object}
 use Rattle.calculus.specs.Sound.{Sound}
 use Rattle.calculus.specs.declared.event.Event.{Event}
@@ -13,7 +13,7 @@ use Rattle.calculus.proofs.StepOf.{run-determined}
 use Rattle.calculus.proofs.Orders.{run-part}
 use Rattle.calculus.proofs.Tickets.{rising-parts, rising-in, live-right, events-join}
 use Rattle.calculus.proofs.Effects.{sound-formed}
-use Rattle.calculus.proofs.FollowersLaw.{follows-up}
+use Rattle.calculus.proofs.DependsOnLaw.{depends-up}
 
 -- a live entry, with what stands before and after it
 pub record Split (l : Live) (t : ℕ) (e : Event) : Type 0 where
@@ -73,7 +73,7 @@ pub record WriterGone (o : Object) (x : ℕ) (k : Live) : Type 0 where
   pub none : NoWriter after x
   pub value : (S T : State) → Run o.opening (events before) S → Run o.opening (events k) T → get T.store x ≡ get S.store x
 
-pub writer-gone : (o : Object) (x t : ℕ) (k : Live) → Sound o → LastWriter o.live x t → WithoutTickets (Follows o.live t) o.live k → WriterGone o x k
+pub writer-gone : (o : Object) (x t : ℕ) (k : Live) → Sound o → LastWriter o.live x t → WithoutTickets (DependsOn o.live t) o.live k → WriterGone o x k
 writer-gone o x t k s last w =
     let parts = split o.live t last.event last.live in
     let l : Live = parts.before ++ (t, last.event) ∷ parts.after in
@@ -84,12 +84,12 @@ writer-gone o x t k s last w =
     let above : suc t ≤ u = (rising-in (suc t) o.next parts.after u f bounds.2.1 i).0 in
     let below : u ≤ t = last.last u f (subst (λ (z : Live). LiveAt z u f) (sym parts.is) (live-right parts.before ((t, last.event) ∷ parts.after) (u, f) (inr i))) is in
     absurd (omega arith) in
-    let begins = without-begins (Follows o.live t) parts.before ((t, last.event) ∷ parts.after) k
+    let begins = without-begins (DependsOn o.live t) parts.before ((t, last.event) ∷ parts.after) k
     (λ u f i follows.
-    let up : t ≤ u = follows-up o.live t u follows in
+    let up : t ≤ u = depends-up o.live t u follows in
     let below : u < bounds.0 = (rising-in 1 bounds.0 parts.before u f bounds.1 i).1 in
     absurd (omega arith))
-    (subst (λ (z : Live). WithoutTickets (Follows o.live t) z k) parts.is w) in
+    (subst (λ (z : Live). WithoutTickets (DependsOn o.live t) z k) parts.is w) in
     record {
       before = parts.before;
       ticket = t;
@@ -102,6 +102,6 @@ writer-gone o x t k s last w =
           let whole = run-part o.opening T (events parts.before) (events begins.rest)
           (subst (λ (h : List Event). Run o.opening h T) (ap events begins.is ∙ events-join parts.before begins.rest) run) in
           run-unwritten whole.middle T begins.rest x whole.second
-          (λ u f i is. none u f (without-head (Follows o.live t) t last.event parts.after begins.rest same begins.left (u, f) i) is)
+          (λ u f i is. none u f (without-head (DependsOn o.live t) t last.event parts.after begins.rest same begins.left (u, f) i) is)
           ∙ ap (λ (U : State). get U.store x) (run-determined o.opening (events parts.before) whole.middle S (sound-formed o s) whole.first before);
     }

@@ -6,11 +6,11 @@ use Rattle.value.specs.Word.{Word}
 use Rattle.calculus.specs.Steps.{State}
 use Rattle.calculus.specs.InOrder.{InOrder}
 use Rattle.calculus.specs.Dependence.{ended, stays, leaves}
-use Rattle.calculus.specs.Live.{Live, events, Rising, LiveAt, Follows, WithoutTickets, FollowersList}
+use Rattle.calculus.specs.Live.{Live, events, Rising, LiveAt, DependsOn, WithoutTickets, ConsequencesList}
 use Rattle.calculus.specs.Object.{Object, Reaches, most_live, last_ticket, with_event, with_live}
 use Rattle.calculus.specs.Does.{Does, TakesOut, CanStep}
 use Rattle.calculus.specs.Sound.{Sound}
-use Rattle.calculus.specs.ObjectLaws.{StepsExactly, RollsWhereLive, RollsValueWhereWritten, SomeReply}
+use Rattle.calculus.specs.ObjectLaws.{OfSound, StepsExactly, RollsWhereLive, RollsValueWhereWritten, SomeReply}
 use Rattle.calculus.specs.declared.event.Event.{Event}
 use Rattle.calculus.specs.declared.event.Choice.{Choice}
 use Rattle.calculus.specs.declared.command.Command.{Command}
@@ -23,7 +23,7 @@ use Rattle.calculus.proofs.Tickets.{rising-in}
 use Rattle.calculus.proofs.Effects.{sound-formed}
 use Rattle.calculus.proofs.UndoLaws.{take-one}
 use Rattle.calculus.proofs.ReadyLists.{ready-list, chosen?}
-use Rattle.calculus.proofs.Decisions.{Or, follows?, live?, first-dependent?, last-writer?}
+use Rattle.calculus.proofs.Decisions.{Or, depends?, live?, first-dependent?, last-writer?}
 
 -- a reply to the command
 abbrev Replied : Object → Command → Type 0
@@ -79,7 +79,7 @@ left D (x ∷ l) decide =
 
 taken : (o : Object) (t : ℕ) → Sound o → (n : ℕ) × (o' : Object) × TakesOut o t n o'
 taken o t s =
-    let rest = left (Follows o.live t) o.live (λ u f i. follows? 1 o.next o.live t u f s.rising i) in
+    let rest = left (DependsOn o.live t) o.live (λ u f i. depends? 1 o.next o.live t u f s.rising i) in
     (rest.number, with_live o rest.rest, (rest.rest, rest.without, rest.is, refl))
 
 some-roll : (o : Object) (t : ℕ) → Sound o → Replied o (Command.Roll t)
@@ -143,16 +143,16 @@ tickets-of D low next (x ∷ l) r decide =
       }
     ]
 
-followers-list : (o : Object) (t : ℕ) → Sound o → (tickets : List ℕ) × FollowersList o.live t tickets
-followers-list o t s =
-    let all = tickets-of (Follows o.live t) 1 o.next o.live s.rising (λ u f i. follows? 1 o.next o.live t u f s.rising i) in
+consequences-list : (o : Object) (t : ℕ) → Sound o → (tickets : List ℕ) × ConsequencesList o.live t tickets
+consequences-list o t s =
+    let all = tickets-of (DependsOn o.live t) 1 o.next o.live s.rising (λ u f i. depends? 1 o.next o.live t u f s.rising i) in
     (all.list, record { exactly = λ u. (all.of u, λ h. all.to u h.0 h.1 h.2); ascending = all.ascending })
 
 some-consequences : (o : Object) (t : ℕ) → Sound o → Replied o (Command.Consequences t)
 some-consequences o t s =
     elim (live? o.live t) [
       | inr none ↦ (Reply.Refused NoSuchEvent, o, (none, refl))
-      | inl at ↦ let list = followers-list o t s in (Reply.Consequences list.0, o, (at, list.1, refl))
+      | inl at ↦ let list = consequences-list o t s in (Reply.Consequences list.0, o, (at, list.1, refl))
     ]
 
 some-value : (o : Object) (x : ℕ) → Sound o → Replied o (Command.Value x)
@@ -173,8 +173,8 @@ some-reply o (Command.Consequences t) s = some-consequences o t s
 some-reply o Command.Live s = (Reply.Live o.live, o, (refl, refl))
 some-reply o (Command.Value x) s = some-value o x s
 
-pub steps-exactly : StepsExactly
-steps-exactly o c s = (
+pub steps-exactly : OfSound StepsExactly
+steps-exactly o s c = (
   (λ h. let step = h.2 in ((step.3.0, step.3.1, (h.0, step.3.2.allowed, step.3.2.choice)), step.1, step.2)),
   (λ h. elim (chosen? h.0.0 c (state-formed o h.0.0 s h.0.1)) [
     | inl found ↦ (found.0, with_event o found.0, (refl, h.1, h.2, (h.0.0, h.0.1, found.1), refl))
@@ -182,14 +182,14 @@ steps-exactly o c s = (
   ]),
 )
 
-pub rolls-where-live : RollsWhereLive
-rolls-where-live o t s = (
+pub rolls-where-live : OfSound RollsWhereLive
+rolls-where-live o s t = (
   (λ h. h.2.0),
   (λ at. let rest = taken o t s in (rest.0, rest.1, (at, rest.2))),
 )
 
-pub rolls-value-where-written : RollsValueWhereWritten
-rolls-value-where-written o x s = (
+pub rolls-value-where-written : OfSound RollsValueWhereWritten
+rolls-value-where-written o s x = (
   (λ h. let last = h.2.1 in (h.2.0, last.event, last.live, last.writes)),
   (λ w. elim (last-writer? 1 o.next o.live x s.rising) [
     | inr none ↦ absurd (none w.0 w.1 w.2 w.3)

@@ -3,7 +3,7 @@ use Rattle.std.proofs.Common.{◌≡◌, inl, inr, ℕ, suc, ◌<◌, ◌≤◌,
 use Rattle.std.proofs.lemmas.List.{append-nil}
 use Rattle.syntax.specs.Lists.{In}
 use Rattle.calculus.specs.Dependence.{Causes, Without, ended, stays, leaves}
-use Rattle.calculus.specs.Live.{Live, events, Rising, LiveAt, Follows, WithoutTickets, NoDependent}
+use Rattle.calculus.specs.Live.{Live, events, Rising, LiveAt, DependsOn, WithoutTickets, NoDependent}
 use Rattle.calculus.specs.Object.{Object, with_event}
 use Rattle.calculus.specs.Sound.{Sound}
 use Rattle.calculus.specs.declared.event.Event.{Event}
@@ -11,7 +11,7 @@ use Rattle.calculus.proofs.Elements.{Distinct}
 use Rattle.calculus.proofs.Respecting.{run-distinct}
 use Rattle.calculus.proofs.Tickets.{rising-in, rising-one, rising-more, live-right, event-in}
 use Rattle.calculus.proofs.Effects.{sound-formed}
-use Rattle.calculus.proofs.FollowersLaw.{follows-up, follows-causes, causes-follows-at, causes-follows, one-ticket}
+use Rattle.calculus.proofs.DependsOnLaw.{depends-up, depends-causes, causes-depends-at, causes-depends, one-ticket}
 
 -- nothing live has the ticket, so nothing leaves
 without-none : (t : ℕ) (l : Live) → ((u : ℕ) (e : Event) → LiveAt l u e → u ≡ t → ⊥) → WithoutTickets (λ v. v ≡ t) l l
@@ -27,7 +27,7 @@ without-one t e (x ∷ l) k none after = stays (none x.0 x.1 (inl refl)) (withou
 -- the newest event has no dependent
 newest-alone : (o : Object) (e : Event) → Sound o → NoDependent (o.live ++ (o.next, e) ∷ []) o.next
 newest-alone o e s u f i follows =
-    let up = follows-up (o.live ++ (o.next, e) ∷ []) o.next u follows in
+    let up = depends-up (o.live ++ (o.next, e) ∷ []) o.next u follows in
     let below : u < suc o.next = (rising-in 1 (suc o.next) (o.live ++ (o.next, e) ∷ []) u f (rising-more 1 o.next o.live e s.rising) i).1 in
     omega arith
 
@@ -64,24 +64,24 @@ sound-distinct o s = run-distinct o.opening s.runs.0 (events o.live) (sound-form
 pub alone-by-causes : (o : Object) (t : ℕ) (e : Event) → Sound o → LiveAt o.live t e →
     ((f : Event) → In f (events o.live) → Causes (events o.live) e f → f ≡ e) → NoDependent o.live t
 alone-by-causes o t e s i alone u f j follows =
-    let one = alone f (event-in o.live u f j) (follows-causes 1 o.next o.live t u e f s.rising i follows j) in
+    let one = alone f (event-in o.live u f j) (depends-causes 1 o.next o.live t u e f s.rising i follows j) in
     one-ticket o.live u t e (sound-distinct o s) (subst (λ (g : Event). LiveAt o.live u g) one j) i
 
 pub causes-by-alone : (o : Object) (t : ℕ) (e : Event) → Sound o → LiveAt o.live t e → NoDependent o.live t →
     (f : Event) → In f (events o.live) → Causes (events o.live) e f → f ≡ e
 causes-by-alone o t e s i alone f j c =
-    let at = causes-follows 1 o.next o.live t e f s.rising (sound-distinct o s) i c in
+    let at = causes-depends 1 o.next o.live t e f s.rising (sound-distinct o s) i c in
     rising-one 1 o.next o.live t f e s.rising (subst (λ v. LiveAt o.live v f) (alone at.0 f at.1 at.2) at.1) i
 
 -- taking out what follows a ticket takes out the events that its event causes
 pub without-kept : (o : Object) (t : ℕ) (e : Event) → Sound o → LiveAt o.live t e → (l k : Live) → ((u : ℕ) (f : Event) → LiveAt l u f → LiveAt o.live u f) →
-    WithoutTickets (Follows o.live t) l k → Without (Causes (events o.live) e) (events l) (events k)
+    WithoutTickets (DependsOn o.live t) l k → Without (Causes (events o.live) e) (events l) (events k)
 without-kept o t e s i l k inside ended = ended
 without-kept o t e s i l k inside (stays {x = (u, f)} {l = l'} {k = k'} out w) =
-    stays (λ c. out (causes-follows-at 1 o.next o.live t u e f s.rising (sound-distinct o s) i (inside u f (inl refl)) c))
+    stays (λ c. out (causes-depends-at 1 o.next o.live t u e f s.rising (sound-distinct o s) i (inside u f (inl refl)) c))
     (without-kept o t e s i l' k' (λ v g j. inside v g (inr j)) w)
 without-kept o t e s i l k inside (leaves {x = (u, f)} {l = l'} gone w) =
-    leaves (follows-causes 1 o.next o.live t u e f s.rising i gone (inside u f (inl refl)))
+    leaves (depends-causes 1 o.next o.live t u e f s.rising i gone (inside u f (inl refl)))
     (without-kept o t e s i l' k (λ v g j. inside v g (inr j)) w)
 
 -- which entries are left

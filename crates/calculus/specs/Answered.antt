@@ -13,8 +13,8 @@ Answered o (c ∷ cs) replies o' =
     × (replies ≡ reply ∷ rest) × Answers o c reply middle × Answered middle cs rest o'
 
 -- the same, where none wants memory
-abbrev pub Done : Object → List Command → List Reply → Object → Type 0
-Done o [] replies o' = (replies ≡ []) × (o' ≡ o)
-Done o (c ∷ cs) replies o' =
+abbrev pub DoesAll : Object → List Command → List Reply → Object → Type 0
+DoesAll o [] replies o' = (replies ≡ []) × (o' ≡ o)
+DoesAll o (c ∷ cs) replies o' =
     (reply : Reply) × (rest : List Reply) × (middle : Object)
-    × (replies ≡ reply ∷ rest) × Does o c reply middle × Done middle cs rest o'
+    × (replies ≡ reply ∷ rest) × Does o c reply middle × DoesAll middle cs rest o'

@@ -9,18 +9,18 @@ use Rattle.calculus.specs.declared.event.Kind.{Kind}
 use Rattle.calculus.specs.declared.event.Kind.TheVariants.{Assign, Test, Turn, Meet, Open, Close, Sync}
 
 -- what a move answers to
-abbrev pub asks : Move → Ask
-asks (assigns x w e) = ask.Assign
-asks (tests d k) = ask.Test k
-asks turns = ask.Turn
-asks (sends c w e false) = ask.Send
-asks (sends c w e true) = ask.Hold
-asks (receives c x) = ask.Receive
-asks (syncs c false) = ask.Sync
-asks (syncs c true) = ask.Hold
-asks (opens c k v) = ask.Open k v
-asks (releases c) = ask.Release
-asks (closes c) = ask.Close
+abbrev pub answers_to : Move → Ask
+answers_to (assigns x w e) = ask.Assign
+answers_to (tests d k) = ask.Test k
+answers_to turns = ask.Turn
+answers_to (sends c w e false) = ask.Send
+answers_to (sends c w e true) = ask.Hold
+answers_to (receives c x) = ask.Receive
+answers_to (syncs c false) = ask.Sync
+answers_to (syncs c true) = ask.Hold
+answers_to (opens c k v) = ask.Open k v
+answers_to (releases c) = ask.Release
+answers_to (closes c) = ask.Close
 
 -- what an event of this kind asks for, and at which places; `None` where a place or an arm is missing
 abbrev pub asked_by : Kind → Place → Option Place → Option ℕ → Option Word → Option (List (Place × Ask))

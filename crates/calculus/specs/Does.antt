@@ -2,7 +2,7 @@
 use Rattle.std.specs.Prelude.{◌≡◌, ◌⊎◌, ℕ, ◌+◌, ◌<◌, ◌≤◌, length, Some, None, slice_get}
 use Rattle.calculus.specs.Steps.{State}
 use Rattle.calculus.specs.Ready.{ReadyList, ChoiceAllowed, Chosen}
-use Rattle.calculus.specs.Live.{Live, LiveAt, NoneAt, Follows, WithoutTickets, FirstDependent, NoDependent, LastWriter, NoWriter, FollowersList}
+use Rattle.calculus.specs.Live.{Live, LiveAt, IsLive, NoneAt, DependsOn, WithoutTickets, FirstDependent, NoDependent, LastWriter, NoWriter, ConsequencesList}
 use Rattle.calculus.specs.Object.{Object, Reaches, most_live, last_ticket, with_event, with_live}
 use Rattle.calculus.specs.declared.event.Event.{Event}
 use Rattle.calculus.specs.declared.event.Choice.{Choice}
@@ -33,7 +33,7 @@ Steps o c _ o' = ⊥
 -- why an undo of ticket t is refused
 abbrev pub RefusesUndo : Object → ℕ → Refusal → Type 0
 RefusesUndo o t NoSuchEvent = NoneAt o.live t
-RefusesUndo o t (NeededBy u) = ((e : Event) × LiveAt o.live t e) × FirstDependent o.live t u
+RefusesUndo o t (NeededBy u) = IsLive o.live t × FirstDependent o.live t u
 RefusesUndo o t _ = ⊥
 
 -- an undo: the event is taken out where no other live event depends on it
@@ -46,7 +46,7 @@ Undoes o t _ o' = ⊥
 
 -- the event of ticket t and the live events that depend on it, n in number, are taken out
 abbrev pub TakesOut : Object → ℕ → ℕ → Object → Type 0
-TakesOut o t n o' = (k : Live) × WithoutTickets (Follows o.live t) o.live k × (n + length k ≡ length o.live) × (o' ≡ with_live o k)
+TakesOut o t n o' = (k : Live) × WithoutTickets (DependsOn o.live t) o.live k × (n + length k ≡ length o.live) × (o' ≡ with_live o k)
 
 -- why a command on the live event of ticket t is refused
 abbrev pub RefusesTicket : Object → ℕ → Refusal → Type 0
@@ -55,7 +55,7 @@ RefusesTicket o t _ = ⊥
 
 -- a rollback
 abbrev pub Rolls : Object → ℕ → Reply → Object → Type 0
-Rolls o t (Reply.Rolled n) o' = ((e : Event) × LiveAt o.live t e) × TakesOut o t n o'
+Rolls o t (Reply.Rolled n) o' = IsLive o.live t × TakesOut o t n o'
 Rolls o t (Reply.Refused why) o' = RefusesTicket o t why × (o' ≡ o)
 Rolls o t _ o' = ⊥
 
@@ -82,11 +82,11 @@ ListsReady o (Reply.Ready es) o' = ((T : State) × Reaches o T × ReadyList T es
 ListsReady o _ o' = ⊥
 
 -- the tickets of an event and of the live events that depend on it
-abbrev pub ListsFollowers : Object → ℕ → Reply → Object → Type 0
-ListsFollowers o t (Reply.Consequences tickets) o' =
-    ((e : Event) × LiveAt o.live t e) × FollowersList o.live t tickets × (o' ≡ o)
-ListsFollowers o t (Reply.Refused why) o' = RefusesTicket o t why × (o' ≡ o)
-ListsFollowers o t _ o' = ⊥
+abbrev pub ListsConsequences : Object → ℕ → Reply → Object → Type 0
+ListsConsequences o t (Reply.Consequences tickets) o' =
+    IsLive o.live t × ConsequencesList o.live t tickets × (o' ≡ o)
+ListsConsequences o t (Reply.Refused why) o' = RefusesTicket o t why × (o' ≡ o)
+ListsConsequences o t _ o' = ⊥
 
 -- the live events
 abbrev pub ListsLive : Object → Reply → Object → Type 0
@@ -112,7 +112,7 @@ Does o (Command.Roll t) reply o' = Rolls o t reply o'
 Does o (Command.RollValue x) reply o' = RollsValue o x reply o'
 Does o (Command.Blame x) reply o' = Blames o x reply o'
 Does o Command.Ready reply o' = ListsReady o reply o'
-Does o (Command.Consequences t) reply o' = ListsFollowers o t reply o'
+Does o (Command.Consequences t) reply o' = ListsConsequences o t reply o'
 Does o Command.Live reply o' = ListsLive o reply o'
 Does o (Command.Value x) reply o' = TellsValue o x reply o'
 
@@ -121,9 +121,9 @@ Does o (Command.Value x) reply o' = TellsValue o x reply o'
 abbrev pub MayWantMemory : Object → Command → Type 0
 MayWantMemory o (Command.Undo t) = ⊥
 MayWantMemory o (Command.Blame x) = ⊥
-MayWantMemory o (Command.Roll t) = (e : Event) × LiveAt o.live t e
+MayWantMemory o (Command.Roll t) = IsLive o.live t
 MayWantMemory o (Command.RollValue x) = (t : ℕ) × LastWriter o.live x t
-MayWantMemory o (Command.Consequences t) = (e : Event) × LiveAt o.live t e
+MayWantMemory o (Command.Consequences t) = IsLive o.live t
 MayWantMemory o _ = Unit {0}
 
 -- the same, or there was no memory for it and nothing changed

@@ -5,25 +5,25 @@ use Rattle.calculus.specs.declared.command.Refusal.{Refusal}
 use Rattle.calculus.specs.declared.command.Refusal.TheVariants.{Memory, NotReady, HistoryFull, NoSuchEvent, NeededBy, NeverWritten, Spent, BreaksFull, NoSuchLine}
 
 -- the number by which programs know a refusal
-abbrev pub number_of : Refusal → ℕ
-number_of Memory = 1
-number_of NotReady = 21
-number_of HistoryFull = 22
-number_of NoSuchEvent = 23
-number_of (NeededBy t) = 24
-number_of NeverWritten = 25
-number_of Spent = 26
-number_of BreaksFull = 27
-number_of NoSuchLine = 28
+abbrev pub refusal_number : Refusal → ℕ
+refusal_number Memory = 1
+refusal_number NotReady = 21
+refusal_number HistoryFull = 22
+refusal_number NoSuchEvent = 23
+refusal_number (NeededBy t) = 24
+refusal_number NeverWritten = 25
+refusal_number Spent = 26
+refusal_number BreaksFull = 27
+refusal_number NoSuchLine = 28
 
 -- the text by which people know a refusal
-abbrev pub message_of : Refusal → List ℕ
-message_of Memory = codes "there is no memory left"
-message_of NotReady = codes "no event may be taken there now"
-message_of HistoryFull = codes "as many events are live as may be"
-message_of NoSuchEvent = codes "no live event has this ticket"
-message_of (NeededBy t) = codes "event " ++ decimal t ++ codes " depends on it"
-message_of NeverWritten = codes "no live event wrote this variable"
-message_of Spent = codes "no ticket is left"
-message_of BreaksFull = codes "as many lines have a breakpoint as may have one"
-message_of NoSuchLine = codes "no command begins on this line"
+abbrev pub refusal_message : Refusal → List ℕ
+refusal_message Memory = codes "there is no memory left"
+refusal_message NotReady = codes "no event may be taken there now"
+refusal_message HistoryFull = codes "as many events are live as may be"
+refusal_message NoSuchEvent = codes "no live event has this ticket"
+refusal_message (NeededBy t) = codes "event " ++ decimal t ++ codes " depends on it"
+refusal_message NeverWritten = codes "no live event wrote this variable"
+refusal_message Spent = codes "no ticket is left"
+refusal_message BreaksFull = codes "as many lines have a breakpoint as may have one"
+refusal_message NoSuchLine = codes "no command begins on this line"

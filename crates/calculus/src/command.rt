@@ -1,5 +1,5 @@
 ghost use Rattle.std.specs.Prelude.{◌≡◌, Some};
-ghost use Rattle.calculus.specs.Refusals.{number_of, message_of};
+ghost use Rattle.calculus.specs.Refusals.{refusal_number, refusal_message};
 
 use crate::{Choice, Event};
 use std::fmt;
@@ -84,7 +84,7 @@ pub enum Refusal {
 impl Refusal {
     /// The number by which programs know the refusal.
     pub fn number(&self) -> u8
-        ensures { result ≡ number_of self.now }
+        ensures { result ≡ refusal_number self.now }
     {
         match self {
             Refusal::Memory => 1,
@@ -101,7 +101,7 @@ impl Refusal {
 }
 
 impl fmt::Display for Refusal {
-    ghost output = { λ r. Some (message_of r) };
+    ghost output = { λ r. Some (refusal_message r) };
 
     fn fmt<W: fmt::Write>(&self, f: &mut fmt::Formatter<W>) -> fmt::Result {
         match self {

@@ -1,8 +1,8 @@
 // The laws of one execution as an object, each a contract of a function that does nothing.
 ghost use Rattle.std.specs.Prelude.{◌≡◌};
 ghost use Rattle.calculus.specs.declared.command.TheConstants.{MOST_LIVE_EVENTS, LAST_TICKET};
-ghost use Rattle.calculus.specs.Object.{most_live, last_ticket};
-ghost use Rattle.calculus.specs.ObjectLaws.{BeginsSound, StaysSound, StaysSoundOverLists, AnsweredJoins, StateInEveryOrder, StepsExactly, StepMakes, NotReadyExactly, LimitsExactly, StepThenUndo, UndoesExactly, UndoTakesOne, NeededExactly, RollsExactly, TicketsGrow, LeastRollback, BackThenForth, RolledValue, FollowsIsCauses, OneReply, SomeReply, StateAfterAnyCommands, FirstIsChosen, RollsWhereLive, RollsValueWhereWritten, RollsValueExactly, ConsequencesExactly};
+ghost use Rattle.calculus.specs.Object.{Object, most_live, last_ticket};
+ghost use Rattle.calculus.specs.ObjectLaws.{OfSound, BeginsSound, StaysSound, StaysSoundOverLists, AnsweredJoins, StateInEveryOrder, StepsExactly, StepMakes, NotReadyExactly, LimitsExactly, StepThenUndo, UndoesExactly, UndoTakesOne, NeededExactly, RollsExactly, TicketsGrow, LeastRollback, BackThenForth, RolledValue, DependsOnIsCauses, OneReply, SomeReply, StateAfterAnyCommands, FirstIsChosen, RollsWhereLive, RollsValueWhereWritten, RollsValueExactly, ConsequencesExactly};
 
 /// The limits that the definitions name are the constants.
 pub fn limit_laws()
@@ -32,29 +32,29 @@ pub fn ready_law()
 
 /// A step is taken exactly where the semantics allows it, within the limits.
 pub fn step_laws()
-    ensures taken { StepsExactly }
-    ensures makes { StepMakes }
-    ensures not_ready { NotReadyExactly }
-    ensures limits { LimitsExactly }
+    ensures taken { OfSound StepsExactly }
+    ensures makes { OfSound StepMakes }
+    ensures not_ready { OfSound NotReadyExactly }
+    ensures limits { OfSound LimitsExactly }
 {}
 
 /// A step and its undo leave everything as it was; an event is undone exactly where no other live
 /// event depends on it, else the first that does is named.
 pub fn undo_laws()
-    ensures restores { StepThenUndo }
-    ensures exactly { UndoesExactly }
-    ensures one { UndoTakesOne }
-    ensures needed { NeededExactly }
+    ensures restores { OfSound StepThenUndo }
+    ensures exactly { OfSound UndoesExactly }
+    ensures one { OfSound UndoTakesOne }
+    ensures needed { OfSound NeededExactly }
 {}
 
 /// An event is rolled back exactly where it is live, and that leaves exactly the events that do not
 /// depend on it. A variable is rolled back exactly where a live event wrote it, and that is the
 /// rollback of the event that is blamed for it.
 pub fn roll_laws()
-    ensures live { RollsWhereLive }
-    ensures exactly { RollsExactly }
-    ensures written { RollsValueWhereWritten }
-    ensures value { RollsValueExactly }
+    ensures live { OfSound RollsWhereLive }
+    ensures exactly { OfSound RollsExactly }
+    ensures written { OfSound RollsValueWhereWritten }
+    ensures value { (o : Object) → RollsValueExactly o }
 {}
 
 /// Tickets only grow, and none is used again.
@@ -74,14 +74,14 @@ pub fn back_then_forth_law()
 
 /// A rollback of a variable leaves it with the value that it had before its last writer.
 pub fn rolled_value_law()
-    ensures { RolledValue }
+    ensures { OfSound RolledValue }
 {}
 
 /// Dependence by tickets is dependence in the list of the live events, and the consequences of an
 /// event are the live events that depend on it.
 pub fn dependence_laws()
-    ensures same { FollowsIsCauses }
-    ensures listed { ConsequencesExactly }
+    ensures same { OfSound DependsOnIsCauses }
+    ensures listed { OfSound ConsequencesExactly }
 {}
 
 /// Each command has exactly one reply, which determines what is live after it.

@@ -1,3 +1,4 @@
+pub mod ReplayLemmas
 pub mod RunningLemmas
 pub mod ServingLemmas
 pub mod TellingLemmas

@@ -3,7 +3,7 @@ use Rattle.std.proofs.Common.{◌≡◌, ℕ, List, ◌++◌, Option, Result, Ok
 use Rattle.std.specs.Io.KnownBytes.{Appends}
 use Rattle.debug_session.specs.Counting.{WritingStops}
 use Rattle.debug_session.specs.declared.fault.Fault.{Fault}
-use Rattle.debug_session.proofs.KnownLemmas.{Appends-then}
+use Rattle.devices.proofs.KnownLemmas.{Appends-then}
 use Rattle.command_line.specs.Serving.{Told}
 
 -- the first text is out, and the second was written so

@@ -1,6 +1,7 @@
 -- The line that tells why a run ended early.
-use Rattle.std.specs.Prelude.{ℕ, List, [], ◌∷◌, ◌++◌, Option, Some, None, codes, decimal}
+use Rattle.std.specs.Prelude.{ℕ, List, ◌++◌, Option, Some, None, codes, decimal}
 use Rattle.debug_session.specs.FaultNumbers.{fault_number, fault_field}
+use Rattle.debug_session.specs.ReplyText.{ending}
 use Rattle.debug_session.specs.declared.fault.Fault.{Fault}
 
 -- a refusal by its number, and what stands behind it
@@ -14,4 +15,4 @@ fault_text fault = refused_text (fault_number fault) (fault_field fault)
 
 -- the line by which a fault is told
 abbrev pub fault_line : Fault → List ℕ
-fault_line fault = fault_text fault ++ 10 ∷ []
+fault_line fault = fault_text fault ++ ending

@@ -1,36 +1,36 @@
 -- What a run does, whatever its words ask for: it serves a request, or says why there is none.
 use Rattle.std.specs.Prelude.{◌≡◌, ◌≢◌, ◌⊎◌, ℕ, List, [], Option, Ok, Err}
 use Rattle.command_line.specs.FaultLine.{fault_line}
-use Rattle.command_line.specs.Serving.{Done, Told, status_of, told_text, Serves}
+use Rattle.command_line.specs.Serving.{Outcome, Told, status_of, told_text, Serves}
 use Rattle.command_line.specs.declared.request.Request.{Request}
 use Rattle.debug_session.specs.declared.fault.Fault.{Fault}
 use Rattle.debug_session.specs.declared.fault.Fault.TheVariants.{Memory, WriteFailed}
 
 -- what is told on a device, `caused` saying that it failed as what ended so has it: a text that is not empty
-abbrev pub TellsSome : (Done → Type 0) → Option (List ℕ) → Option (List ℕ) → Type 0
-TellsSome caused wrote held = (text : List ℕ) × (ended : Done) × (text ≢ []) × Told text wrote held ended × caused ended
+abbrev pub TellsSome : (Outcome → Type 0) → Option (List ℕ) → Option (List ℕ) → Type 0
+TellsSome caused wrote contents = (text : List ℕ) × (ended : Outcome) × (text ≢ []) × Told text wrote contents ended × caused ended
 
 -- a refusal by this fault is told on standard error
-abbrev pub TellsFault : Fault → (Done → Type 0) → Option (List ℕ) → Option (List ℕ) → Type 0
-TellsFault fault caused wrote held = (ended : Done) × Told (fault_line fault) wrote held ended × caused ended
+abbrev pub TellsFault : Fault → (Outcome → Type 0) → Option (List ℕ) → Option (List ℕ) → Type 0
+TellsFault fault caused wrote contents = (ended : Outcome) × Told (fault_line fault) wrote contents ended × caused ended
 
 -- help is told on the output, and where that failed, which is told on standard error
-abbrev pub TellsHelp : ℕ → Type 0 → (Done → Type 0) → (Done → Type 0) → Option (List ℕ) → Option (List ℕ) → Option (List ℕ) → Option (List ℕ) → Type 0
-TellsHelp status untold written told wrote held before behind =
-    (text : List ℕ) × (ended : Done) × (text ≢ []) × Told text wrote held ended × written ended × (status ≡ status_of ended)
+abbrev pub TellsHelp : ℕ → Type 0 → (Outcome → Type 0) → (Outcome → Type 0) → Option (List ℕ) → Option (List ℕ) → Option (List ℕ) → Option (List ℕ) → Type 0
+TellsHelp status untold written told wrote contents before behind =
+    (text : List ℕ) × (ended : Outcome) × (text ≢ []) × Told text wrote contents ended × written ended × (status ≡ status_of ended)
     × (((ended ≡ Ok tt) × untold) ⊎ ((ended ≡ Err WriteFailed) × TellsFault WriteFailed told before behind))
 
 -- there is no request: there was no memory for it, or the words are mistaken, which is told on standard error, or help is told
 -- on the output
-abbrev pub Explains : ℕ → Type 0 → Type 0 → (Done → Type 0) → (Done → Type 0) → Option (List ℕ) → Option (List ℕ) → Option (List ℕ) → Option (List ℕ) → Type 0
-Explains status unwritten untold written told wrote held before behind =
+abbrev pub Explains : ℕ → Type 0 → Type 0 → (Outcome → Type 0) → (Outcome → Type 0) → Option (List ℕ) → Option (List ℕ) → Option (List ℕ) → Option (List ℕ) → Type 0
+Explains status unwritten untold written told wrote contents before behind =
     ((status ≡ 1) × unwritten × TellsFault Memory told before behind)
     ⊎ (((status ≡ 2) × unwritten × TellsSome told before behind)
-    ⊎ TellsHelp status untold written told wrote held before behind)
+    ⊎ TellsHelp status untold written told wrote contents before behind)
 
 -- some request is served, and a refusal of it is told on standard error
-abbrev pub ServesSome : (List ℕ → Option (List ℕ) → Type 0) → ℕ → Type 0 → Type 0 → (Done → Type 0) → (Done → Type 0) → (Done → Type 0) → Option (List ℕ) → Option (List ℕ) → Option (List ℕ) → Option (List ℕ) → Option (List ℕ) → Option (List ℕ) → Type 0
-ServesSome holds status unread unwritten written told caused read left wrote held before behind =
-    (request : Request) × (done : Done) × (ended : Done)
-    × Serves holds request unread unwritten written caused read left wrote held done
+abbrev pub ServesSome : (List ℕ → Option (List ℕ) → Type 0) → ℕ → Type 0 → Type 0 → (Outcome → Type 0) → (Outcome → Type 0) → (Outcome → Type 0) → Option (List ℕ) → Option (List ℕ) → Option (List ℕ) → Option (List ℕ) → Option (List ℕ) → Option (List ℕ) → Type 0
+ServesSome holds status unread unwritten written told caused read left wrote contents before behind =
+    (request : Request) × (done : Outcome) × (ended : Outcome)
+    × Serves holds request unread unwritten written caused read left wrote contents done
     × (status ≡ status_of done) × Told (told_text done) before behind ended × told ended

@@ -62,6 +62,7 @@ standard input, and each line is answered as soon as it is read:
   clear LINE      take it away: `ok`
   session N       go on as session N, 0 to 15. All sessions step one run; each
                   has breakpoints of its own. The session is 0 at first
+  trace           print the trace of the live steps, which `replay` takes again
   view            print FILE with marks: `>` where a step can be taken, `*` for
                   a breakpoint, `!` for a select that could take several arms.
                   What the environment takes at an output port is on no line
@@ -80,6 +81,18 @@ Example, with the lines that are typed behind `>`, which is not printed:
   value x 5
   > undo 1
   undone 1 meet i 5 /1.0.0 /0.0";
+
+pub const TRACE: &str = "The trace, as the script line `trace` answers it";
+
+pub const REPLAY: &str = "Take the steps of a trace again, and list them";
+
+pub const REPLAY_LONG: &str = "\
+Take the steps of a trace again, in its order, and list them with new tickets from
+1, as the script line `live` does. A trace is what the script line `trace` answers:
+the line `balsadbg trace 1`, and for each step that is live a line `step PLACE ARM`.
+
+Example:
+  balsadbg replay examples/one.balsa examples/one.stimulus examples/one.trace";
 
 pub const REFUSALS: &str = "\
 Refusals. The line `balsadbg: refused N ..` on standard error ends a run with
@@ -102,6 +115,9 @@ status 1. Behind most numbers stands the byte of FILE that is meant, from 0:
   15  this variable is written in one parallel branch and used in another
   16  this channel has two senders, two receivers or three syncs at a time
   17  this channel is open around this place
+  31  TRACE does not begin with the line `balsadbg trace 1`
+  32  this line of TRACE, from 1, is no step, or has no end
+  33  the step of this line of TRACE, from 1, cannot be taken there
   41  a file is missing, or reading it or the script failed
   42  writing the answers failed
   51  this line of STIMULUS, from 1, fits no port

@@ -3,6 +3,7 @@
 
 mod files;
 mod help;
+mod replaying;
 mod request;
 mod running;
 mod telling;

@@ -10,9 +10,20 @@ use std::convert::AsStr;
 #[derive(Clone, Copy)]
 pub enum Request<'a> {
     /// Say whether the description in `file` is accepted.
-    Check { file: &'a str },
+    Check {
+        file: &'a str,
+    },
     /// Answer a script over the description in `file`.
-    Debug { file: &'a str, stimulus: &'a str },
+    Debug {
+        file: &'a str,
+        stimulus: &'a str,
+    },
+    /// Tell the events of a trace over the description in `file`.
+    Replay {
+        file: &'a str,
+        stimulus: &'a str,
+        trace: &'a str,
+    },
 }
 
 fn file<'a>(alloc: Global) -> Arg<'a> {
@@ -27,6 +38,13 @@ fn stimulus<'a>(alloc: Global) -> Arg<'a> {
         .required(true)
         .action(ArgAction::Set)
         .help(help::STIMULUS)
+}
+
+fn trace<'a>(alloc: Global) -> Arg<'a> {
+    Arg::new(alloc, "TRACE")
+        .required(true)
+        .action(ArgAction::Set)
+        .help(help::TRACE)
 }
 
 fn check<'a>(alloc: Global) -> Result<Command<'a>, AllocError> {
@@ -46,6 +64,16 @@ fn debug<'a>(alloc: Global) -> Result<Command<'a>, AllocError> {
         .arg(stimulus(alloc))
 }
 
+fn replay<'a>(alloc: Global) -> Result<Command<'a>, AllocError> {
+    Command::new(alloc, "replay")
+        .about(help::REPLAY)
+        .long_about(help::REPLAY_LONG)
+        .after_long_help(help::REFUSALS)
+        .arg(file(alloc))?
+        .arg(stimulus(alloc))?
+        .arg(trace(alloc))
+}
+
 fn balsadbg<'a>(alloc: Global) -> Result<Command<'a>, AllocError> {
     Command::new(alloc, "balsadbg")
         .bin_name("balsadbg")?
@@ -55,7 +83,8 @@ fn balsadbg<'a>(alloc: Global) -> Result<Command<'a>, AllocError> {
         .subcommand_required(true)
         .arg_required_else_help(true)
         .subcommand(check(alloc)?)?
-        .subcommand(debug(alloc)?)
+        .subcommand(debug(alloc)?)?
+        .subcommand(replay(alloc)?)
 }
 
 fn chosen<'a>(matches: &ArgMatches<'a>) -> Option<Request<'a>> {
@@ -64,9 +93,17 @@ fn chosen<'a>(matches: &ArgMatches<'a>) -> Option<Request<'a>> {
     if name == "check" {
         return Some(Request::Check { file });
     }
+    let stimulus = words.get_str("STIMULUS")?;
     if name == "debug" {
-        let stimulus = words.get_str("STIMULUS")?;
         return Some(Request::Debug { file, stimulus });
+    }
+    if name == "replay" {
+        let trace = words.get_str("TRACE")?;
+        return Some(Request::Replay {
+            file,
+            stimulus,
+            trace,
+        });
     }
     None
 }

@@ -1,11 +1,13 @@
 //! One run of the program, over whatever reads and writes.
 
 ghost use Rattle.std.specs.Prelude.{◌≡◌, ◌≢◌, ◌≤◌, ◌⊎◌, [], IfOk};
-ghost use Rattle.debug_session.specs.Counting.{device, failures, after_writing};
-ghost use Rattle.command_line.specs.Serving.{Done, Told, status_of, told_text, WriterBlamed, DevicesBlamed, Checked, ChecksFile, DebugsFiles, Serves};
+ghost use Rattle.devices.specs.Counting.{device, failures};
+ghost use Rattle.debug_session.specs.Counting.{after_writing};
+ghost use Rattle.command_line.specs.Serving.{Outcome, Told, status_of, told_text, WriterBlamed, DevicesBlamed, ChecksSource, ChecksFile, DebugsFiles, Serves};
 ghost use Rattle.command_line.specs.Running.{TellsSome, TellsHelp, Explains, ServesSome};
 
 use crate::files::Files;
+use crate::replaying::replay_files;
 use crate::request::{Request, requested};
 use crate::telling::write_fault;
 use clap::Error;
@@ -17,7 +19,7 @@ use std::io::{BufRead, Write};
 
 /// Says whether the description is accepted.
 fn check_source<O: Write>(alloc: Global, source: &[u8], out: &mut Counted<O>) -> Result<(), Fault>
-    ensures { Checked source.now (out.new ≡ out.old)
+    ensures { ChecksSource source.now (out.new ≡ out.old)
         (WriterBlamed (failures out.old) (failures out.new))
         (O.contents (device out.old)) (O.contents (device out.new)) result }
 {
@@ -105,6 +107,11 @@ fn perform<F: Files, I: BufRead, O: Write>(
         Request::Debug { file, stimulus } => {
             answer_script(alloc, file, stimulus, files, reader, out)
         }
+        Request::Replay {
+            file,
+            stimulus,
+            trace,
+        } => replay_files(alloc, file, stimulus, trace, files, out),
     }
 }
 
@@ -117,7 +124,7 @@ pub fn serve<F: Files, I: BufRead, O: Write, E: Write>(
     out: &mut Counted<O>,
     err: &mut Counted<E>,
 ) -> Ended
-    ensures served { (done : Done)
+    ensures served { (done : Outcome)
         × Serves (F.holds files.now) request.entry (reader.new ≡ reader.old) (out.new ≡ out.old)
         (WriterBlamed (failures out.old) (failures out.new))
         (DevicesBlamed (failures reader.old) (failures reader.new) (failures out.old) (failures out.new))

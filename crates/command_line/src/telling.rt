@@ -1,7 +1,9 @@
 //! The one line by which a run that ends early says why, written piece by piece and without memory, which may be what is wanting.
 
-ghost use Rattle.std.specs.Prelude.{◌≡◌, ◌++◌, ◌∷◌, [], decimal};
-ghost use Rattle.debug_session.specs.Counting.{device, failures, after_writing};
+ghost use Rattle.std.specs.Prelude.{◌≡◌, ◌++◌, decimal};
+ghost use Rattle.devices.specs.Counting.{device, failures};
+ghost use Rattle.debug_session.specs.Counting.{after_writing};
+ghost use Rattle.debug_session.specs.ReplyText.{ending};
 ghost use Rattle.command_line.specs.FaultLine.{fault_line, refused_text};
 ghost use Rattle.command_line.specs.Serving.{Told};
 
@@ -48,7 +50,7 @@ fn write_refused<W: Write>(
     number: u64,
     field: Option<u64>,
 ) -> Result<(), Fault>
-    ensures bytes { Told (refused_text number field ++ 10 ∷ []) (W.contents (device out.old)) (W.contents (device out.new)) result }
+    ensures bytes { Told (refused_text number field ++ ending) (W.contents (device out.old)) (W.contents (device out.new)) result }
     ensures failures { failures out.new ≡ after_writing result (failures out.old) }
 {
     let Some(field) = field else {

@@ -1,92 +1,95 @@
 -- What a line asks for.
 use Rattle.std.proofs.Common.{◌≡◌, ℕ, List, [], ◌++◌, Option, Some, None, MatchOption, Result, Ok, Err, IfOk, IfErr, OnErr, ◌≢◌, ◌⊎◌, inl, inr, refl, sym, ap, ◌∙◌, subst}
 use Rattle.system.specs.declared.system.System.{System}
-use Rattle.debug_session.specs.declared.word.Word.{Word}
-use Rattle.debug_session.specs.declared.word.Word.TheVariants as words
+use Rattle.debug_session.specs.declared.keyword.Keyword.{Keyword}
+use Rattle.debug_session.specs.declared.keyword.Keyword.TheVariants as keywords
 use Rattle.debug_session.specs.EventText.{field}
 use Rattle.debug_session.specs.Fields.{BeginsField, CutAtSpace}
-use Rattle.debug_session.specs.Words.{spelling, SpellsNothing}
+use Rattle.debug_session.specs.Keywords.{spelling}
+use Rattle.debug_session.specs.walking.Spelled.{SpellsNothing}
 use Rattle.debug_session.specs.declared.line.Line.{Line}
 use Rattle.debug_session.specs.declared.fault.Fault.{Fault}
-use Rattle.debug_session.specs.Lines.{IsNoVariable, IsNoChoice, MayBeChoice, MayBeStep, AsksBy, AsksNothingBy, Asks, AsksNothing, Says, SaysSession}
+use Rattle.debug_session.specs.Lines.{MayBeChoice, MayBeStep, AsksBy, Asks, AsksNothing, Says, SaysSession}
+use Rattle.debug_session.specs.walking.NotAsked.{IsNoVariable, IsNoChoice, AsksNothingBy}
 use Rattle.debug_session.proofs.CutLemmas.{cut-same}
-use Rattle.debug_session.proofs.WordLemmas.{spelling-no-space, one-word}
+use Rattle.debug_session.proofs.KeywordLemmas.{spelling-no-space, one-keyword}
 
 -- a field begins with a space
 field-begins : (rest text : List ℕ) → rest ≡ field text → BeginsField rest
 field-begins rest text e = subst BeginsField (sym e) refl
 
--- what stands behind a word is nothing or begins with a space
-pub behind-begins : (system : System) (w : Word) (rest : List ℕ) (c : Line) → AsksBy system w rest c → BeginsField rest
-behind-begins system words.Step rest c (d, h, e) = subst BeginsField (sym h.2.1) refl
-behind-begins system words.Undo rest c (t, h, e) = subst BeginsField (sym h.1) refl
-behind-begins system words.Roll rest c (t, h, e) = subst BeginsField (sym h.1) refl
-behind-begins system words.RollValue rest c (x, h, e) = subst BeginsField (sym h.1) refl
-behind-begins system words.Blame rest c (x, h, e) = subst BeginsField (sym h.1) refl
-behind-begins system words.Ready rest c (h, e) = subst BeginsField (sym h) tt
-behind-begins system words.Consequences rest c (t, h, e) = subst BeginsField (sym h.1) refl
-behind-begins system words.Live rest c (h, e) = subst BeginsField (sym h) tt
-behind-begins system words.Value rest c (x, h, e) = subst BeginsField (sym h.1) refl
-behind-begins system words.Branch rest c (k, h, e) = subst BeginsField (sym h.1) refl
-behind-begins system words.Break rest c (n, h, e) = subst BeginsField (sym h.1) refl
-behind-begins system words.Clear rest c (n, h, e) = subst BeginsField (sym h.1) refl
-behind-begins system words.Session rest c (k, h, e) = subst BeginsField (sym h.1) refl
-behind-begins system words.View rest c (h, e) = subst BeginsField (sym h) tt
+-- what stands behind a keyword is nothing or begins with a space
+pub behind-begins : (system : System) (w : Keyword) (rest : List ℕ) (c : Line) → AsksBy system w rest c → BeginsField rest
+behind-begins system keywords.Step rest c (d, h, e) = subst BeginsField (sym h.2.1) refl
+behind-begins system keywords.Undo rest c (t, h, e) = subst BeginsField (sym h.1) refl
+behind-begins system keywords.Roll rest c (t, h, e) = subst BeginsField (sym h.1) refl
+behind-begins system keywords.RollValue rest c (x, h, e) = subst BeginsField (sym h.1) refl
+behind-begins system keywords.Blame rest c (x, h, e) = subst BeginsField (sym h.1) refl
+behind-begins system keywords.Ready rest c (h, e) = subst BeginsField (sym h) tt
+behind-begins system keywords.Consequences rest c (t, h, e) = subst BeginsField (sym h.1) refl
+behind-begins system keywords.Live rest c (h, e) = subst BeginsField (sym h) tt
+behind-begins system keywords.Value rest c (x, h, e) = subst BeginsField (sym h.1) refl
+behind-begins system keywords.Branch rest c (k, h, e) = subst BeginsField (sym h.1) refl
+behind-begins system keywords.Break rest c (n, h, e) = subst BeginsField (sym h.1) refl
+behind-begins system keywords.Clear rest c (n, h, e) = subst BeginsField (sym h.1) refl
+behind-begins system keywords.Session rest c (k, h, e) = subst BeginsField (sym h.1) refl
+behind-begins system keywords.View rest c (h, e) = subst BeginsField (sym h) tt
+behind-begins system keywords.Trace rest c (h, e) = subst BeginsField (sym h) tt
 
--- the word and the rest are the parts of the line
+-- the keyword and the rest are the parts of the line
 asked-parts : (system : System) (line text rest : List ℕ) (c : Line) → CutAtSpace line text rest → (a : Asks system line c)
-    → (spelling a.word ≡ text) × (a.rest ≡ rest)
+    → (spelling a.keyword ≡ text) × (a.rest ≡ rest)
 asked-parts system line text rest c cut a =
-    cut-same (spelling a.word) text a.rest rest (spelling-no-space a.word) cut.clear
-    (behind-begins system a.word a.rest c a.asked) cut.begins (sym a.spelled ∙ sym cut.joined)
+    cut-same (spelling a.keyword) text a.rest rest (spelling-no-space a.keyword) cut.clear
+    (behind-begins system a.keyword a.rest c a.asked) cut.begins (sym a.spelled ∙ sym cut.joined)
 
--- a line that begins with no word asks for nothing
-pub no-word : (system : System) (line text rest : List ℕ) → CutAtSpace line text rest → SpellsNothing text → AsksNothing system line
-no-word system line text rest cut none c a = none a.word (asked-parts system line text rest c cut a).0
+-- a line that begins with no keyword asks for nothing
+pub no-keyword : (system : System) (line text rest : List ℕ) → CutAtSpace line text rest → SpellsNothing text → AsksNothing system line
+no-keyword system line text rest cut none c a = none a.keyword (asked-parts system line text rest c cut a).0
 
--- a line whose word asks for nothing with what is behind it asks for nothing
-pub nothing-behind : (system : System) (line text rest : List ℕ) (w : Word) → CutAtSpace line text rest → spelling w ≡ text
+-- a line whose keyword asks for nothing with what is behind it asks for nothing
+pub nothing-behind : (system : System) (line text rest : List ℕ) (w : Keyword) → CutAtSpace line text rest → spelling w ≡ text
     → AsksNothingBy system w rest → AsksNothing system line
 nothing-behind system line text rest w cut h none c a =
-    let same : a.word ≡ w = one-word a.word w text (asked-parts system line text rest c cut a).0 h in
+    let same : a.keyword ≡ w = one-keyword a.keyword w text (asked-parts system line text rest c cut a).0 h in
     let moved : AsksBy system w a.rest c = subst (λ v. AsksBy system v a.rest c) same a.asked in
     none c (subst (λ r. AsksBy system w r c) (asked-parts system line text rest c cut a).1 moved)
 
--- a line asks for what its word asks for with what is behind it
-pub asks-behind : (system : System) (line text rest : List ℕ) (w : Word) (c : Line) → CutAtSpace line text rest
+-- a line asks for what its keyword asks for with what is behind it
+pub asks-behind : (system : System) (line text rest : List ℕ) (w : Keyword) (c : Line) → CutAtSpace line text rest
     → spelling w ≡ text → AsksBy system w rest c → Asks system line c
 asks-behind system line text rest w c cut h asked = record {
-  word = w;
+  keyword = w;
   rest = rest;
   spelled = sym cut.joined ∙ ap (λ t. t ++ rest) (sym h);
   asked = asked;
 }
 
 -- where no variable is named
-pub roll-value-nothing : (system : System) (w : Word) (rest : List ℕ) → w ≡ words.RollValue → IsNoVariable system rest → AsksNothingBy system w rest
+pub roll-value-nothing : (system : System) (w : Keyword) (rest : List ℕ) → w ≡ keywords.RollValue → IsNoVariable system rest → AsksNothingBy system w rest
 roll-value-nothing system w rest e none = subst (λ v. AsksNothingBy system v rest) (sym e) (λ c h. none h.0 h.1)
 
 -- where no variable is named
-pub blame-nothing : (system : System) (w : Word) (rest : List ℕ) → w ≡ words.Blame → IsNoVariable system rest → AsksNothingBy system w rest
+pub blame-nothing : (system : System) (w : Keyword) (rest : List ℕ) → w ≡ keywords.Blame → IsNoVariable system rest → AsksNothingBy system w rest
 blame-nothing system w rest e none = subst (λ v. AsksNothingBy system v rest) (sym e) (λ c h. none h.0 h.1)
 
 -- where no variable is named
-pub value-nothing : (system : System) (w : Word) (rest : List ℕ) → w ≡ words.Value → IsNoVariable system rest → AsksNothingBy system w rest
+pub value-nothing : (system : System) (w : Keyword) (rest : List ℕ) → w ≡ keywords.Value → IsNoVariable system rest → AsksNothingBy system w rest
 value-nothing system w rest e none = subst (λ v. AsksNothingBy system v rest) (sym e) (λ c h. none h.0 h.1)
 
 -- where no choice stands
-pub step-nothing : (system : System) (w : Word) (rest : List ℕ) → w ≡ words.Step → IsNoChoice rest → AsksNothingBy system w rest
+pub step-nothing : (system : System) (w : Keyword) (rest : List ℕ) → w ≡ keywords.Step → IsNoChoice rest → AsksNothingBy system w rest
 step-nothing system w rest e none = subst (λ v. AsksNothingBy system v rest) (sym e) (λ c h. none h.0 h.1)
 
--- what is read behind the word is what the line asks for
-asked-found : (system : System) (line text rest : List ℕ) (w : Word) (found : Option Line) → CutAtSpace line text rest
+-- what is read behind the keyword is what the line asks for
+asked-found : (system : System) (line text rest : List ℕ) (w : Keyword) (found : Option Line) → CutAtSpace line text rest
     → spelling w ≡ text → MatchOption found (AsksNothingBy system w rest) (λ c. AsksBy system w rest c)
     → MatchOption found (AsksNothing system line) (λ c. Asks system line c)
 asked-found system line text rest w None cut h none = nothing-behind system line text rest w cut h none
 asked-found system line text rest w (Some c) cut h some = asks-behind system line text rest w c cut h some
 
 -- the same of the answer, unless there was no memory
-pub asked-read : {E : Type 0} → (system : System) (line text rest : List ℕ) (w : Word) (r : Result (Option Line) E) → CutAtSpace line text rest
+pub asked-read : {E : Type 0} → (system : System) (line text rest : List ℕ) (w : Keyword) (r : Result (Option Line) E) → CutAtSpace line text rest
     → spelling w ≡ text
     → IfOk r (λ found. MatchOption found (AsksNothingBy system w rest) (λ c. AsksBy system w rest c))
     → IfOk r (λ found. MatchOption found (AsksNothing system line) (λ c. Asks system line c))
@@ -94,8 +97,8 @@ asked-read system line text rest w (Ok found) cut h is = asked-found system line
 asked-read system line text rest w (Err e) cut h is = tt
 
 -- only a line that may ask for a step takes memory
-pub asked-memory : {A E : Type 0} → (line text rest : List ℕ) (w : Word) (r : Result A E) → CutAtSpace line text rest
-    → spelling w ≡ text → OnErr r ((w ≡ words.Step) × MayBeChoice rest) → OnErr r (MayBeStep line)
+pub asked-memory : {A E : Type 0} → (line text rest : List ℕ) (w : Keyword) (r : Result A E) → CutAtSpace line text rest
+    → spelling w ≡ text → OnErr r ((w ≡ keywords.Step) × MayBeChoice rest) → OnErr r (MayBeStep line)
 asked-memory line text rest w (Ok found) cut h is = tt
 asked-memory line text rest w (Err e) cut h is =
     (rest, sym cut.joined ∙ ap (λ t. t ++ rest) (sym h ∙ ap spelling is.0), is.1)
@@ -108,27 +111,28 @@ found-says system line number None r e h = subst (λ x. IfOk x (λ said. Says sy
 found-says system line number (Some c) r e h = subst (λ x. IfOk x (λ said. Says system line said)) (sym e) (inl h)
 
 -- a session that a line names is one of the sixteen
-session-by : (system : System) (w : Word) (rest : List ℕ) (c : Line) → AsksBy system w rest c → SaysSession c
-session-by system words.Step rest c (x, h, e) = subst SaysSession (sym e) tt
-session-by system words.Undo rest c (x, h, e) = subst SaysSession (sym e) tt
-session-by system words.Roll rest c (x, h, e) = subst SaysSession (sym e) tt
-session-by system words.RollValue rest c (x, h, e) = subst SaysSession (sym e) tt
-session-by system words.Blame rest c (x, h, e) = subst SaysSession (sym e) tt
-session-by system words.Ready rest c (h, e) = subst SaysSession (sym e) tt
-session-by system words.Consequences rest c (x, h, e) = subst SaysSession (sym e) tt
-session-by system words.Live rest c (h, e) = subst SaysSession (sym e) tt
-session-by system words.Value rest c (x, h, e) = subst SaysSession (sym e) tt
-session-by system words.Branch rest c (x, h, e) = subst SaysSession (sym e) tt
-session-by system words.Break rest c (x, h, e) = subst SaysSession (sym e) tt
-session-by system words.Clear rest c (x, h, e) = subst SaysSession (sym e) tt
-session-by system words.Session rest c (k, h, e) = subst SaysSession (sym e) h.0
-session-by system words.View rest c (h, e) = subst SaysSession (sym e) tt
+session-by : (system : System) (w : Keyword) (rest : List ℕ) (c : Line) → AsksBy system w rest c → SaysSession c
+session-by system keywords.Step rest c (x, h, e) = subst SaysSession (sym e) tt
+session-by system keywords.Undo rest c (x, h, e) = subst SaysSession (sym e) tt
+session-by system keywords.Roll rest c (x, h, e) = subst SaysSession (sym e) tt
+session-by system keywords.RollValue rest c (x, h, e) = subst SaysSession (sym e) tt
+session-by system keywords.Blame rest c (x, h, e) = subst SaysSession (sym e) tt
+session-by system keywords.Ready rest c (h, e) = subst SaysSession (sym e) tt
+session-by system keywords.Consequences rest c (x, h, e) = subst SaysSession (sym e) tt
+session-by system keywords.Live rest c (h, e) = subst SaysSession (sym e) tt
+session-by system keywords.Value rest c (x, h, e) = subst SaysSession (sym e) tt
+session-by system keywords.Branch rest c (x, h, e) = subst SaysSession (sym e) tt
+session-by system keywords.Break rest c (x, h, e) = subst SaysSession (sym e) tt
+session-by system keywords.Clear rest c (x, h, e) = subst SaysSession (sym e) tt
+session-by system keywords.Session rest c (k, h, e) = subst SaysSession (sym e) h.0
+session-by system keywords.View rest c (h, e) = subst SaysSession (sym e) tt
+session-by system keywords.Trace rest c (h, e) = subst SaysSession (sym e) tt
 
 pub found-session : (system : System) (line : List ℕ) (number : ℕ) (found : Option Line) (r : Result Line Fault)
     → MatchOption found (r ≡ Err (Fault.BadCommand number)) (λ c. r ≡ Ok c)
     → MatchOption found (AsksNothing system line) (λ c. Asks system line c) → IfOk r SaysSession
 found-session system line number None r e h = subst (λ x. IfOk x SaysSession) (sym e) tt
-found-session system line number (Some c) r e h = subst (λ x. IfOk x SaysSession) (sym e) (session-by system h.word h.rest c h.asked)
+found-session system line number (Some c) r e h = subst (λ x. IfOk x SaysSession) (sym e) (session-by system h.keyword h.rest c h.asked)
 
 -- why a line says nothing
 abbrev pub Unsaid : System → List ℕ → ℕ → Fault → Type 0

@@ -1,4 +1,4 @@
--- Places and arms behind the word of a line.
+-- Places and arms behind the keyword of a line.
 use Rattle.std.proofs.Common.{◌≡◌, ℕ, List, [], ◌∷◌, ◌++◌, Result, Ok, Err, OnErr, refl, sym, ap, ◌∙◌, subst, inl, inr}
 use Rattle.std.specs.Fmt.{decimal}
 use Rattle.address.specs.declared.Entry.{Entry}
@@ -7,8 +7,10 @@ use Rattle.address.specs.Text.{text_of}
 use Rattle.address.specs.Reading.{IsTextOf, HasNoText}
 use Rattle.calculus.specs.declared.event.Choice.{Choice}
 use Rattle.debug_session.specs.EventText.{field}
-use Rattle.debug_session.specs.Fields.{BeginsField, CutAtSpace, IsNoField}
-use Rattle.debug_session.specs.Lines.{IsArm, IsNoArm, IsChoice, IsNoChoice, MayBeChoice}
+use Rattle.debug_session.specs.Fields.{BeginsField, CutAtSpace}
+use Rattle.debug_session.specs.walking.FieldParts.{IsNoField}
+use Rattle.debug_session.specs.Lines.{IsArm, IsChoice, MayBeChoice}
+use Rattle.debug_session.specs.walking.NotAsked.{IsNoArm, IsNoChoice}
 use Rattle.debug_session.proofs.CutLemmas.{cut-same, tails, address-no-space}
 
 -- what stands for an arm is nothing or begins with a space

@@ -11,7 +11,8 @@ use Rattle.address.specs.declared.Entry.{Entry}
 use Rattle.address.specs.declared.Entry.TheVariants.{Ordered, Branch}
 use Rattle.address.specs.Text.{text_of}
 use Rattle.address.specs.Reading.{NumbersFit}
-use Rattle.debug_session.specs.Fields.{IsNoSpace, BeginsField, IsFieldEnd}
+use Rattle.debug_session.specs.Fields.{IsNoSpace, BeginsField}
+use Rattle.debug_session.specs.walking.FieldParts.{IsFieldEnd}
 use Rattle.decimal.proofs.DigitLemmas.{decimal-digits}
 
 -- the first number, or 0

@@ -3,10 +3,10 @@ pub mod AskLemmas
 pub mod ChoiceLemmas
 pub mod CountLemmas
 pub mod CutLemmas
-pub mod KnownLemmas
+pub mod KeywordLemmas
 pub mod LineLemmas
-pub mod MeaningLemmas
 pub mod NumberLemmas
+pub mod OneThingLemmas
 pub mod PieceLemmas
+pub mod ReplayLemmas
 pub mod SessionLemmas
-pub mod WordLemmas

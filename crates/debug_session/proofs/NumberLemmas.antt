@@ -1,4 +1,4 @@
--- Numbers and names behind the word of a line.
+-- Numbers and names behind the keyword of a line.
 use Rattle.std.proofs.Common.{◌≡◌, ℕ, ◌<◌, ◌≤◌, ◌^◌, List, [], Option, Some, None, MatchOption, sym, ap, ◌∙◌, subst, inl, inr, arith}
 use Rattle.std.specs.Option.{SomeIff}
 use Rattle.std.specs.Fmt.{decimal}
@@ -6,9 +6,10 @@ use Rattle.std.proofs.lemmas.Fmt.{decimal_injective}
 use Rattle.system.specs.Named.{variable_from}
 use Rattle.system.specs.declared.system.System.{System}
 use Rattle.debug_session.specs.EventText.{field}
-use Rattle.debug_session.specs.Fields.{IsNoField}
+use Rattle.debug_session.specs.walking.FieldParts.{IsNoField}
 use Rattle.decimal.specs.Reading.{Reads, IsNoNumber}
-use Rattle.debug_session.specs.Lines.{IsNumber, IsNoTicket, IsBranch, IsNoBranch, IsNoSession, IsVariable, IsNoVariable, IsArm, IsNoArm}
+use Rattle.debug_session.specs.Lines.{IsNumber, IsBranch, IsVariable, IsArm}
+use Rattle.debug_session.specs.walking.NotAsked.{IsNoTicket, IsNoBranch, IsNoSession, IsNoVariable, IsNoArm}
 use Rattle.debug_session.proofs.CutLemmas.{tails}
 
 -- equal fields have equal texts

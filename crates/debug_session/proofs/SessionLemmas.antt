@@ -10,9 +10,9 @@ use Rattle.system.specs.declared.system.System.{System}
 use Rattle.debug_session.specs.AtLine.{AtLine, first_line}
 use Rattle.debug_session.specs.declared.fault.Fault.{Fault}
 use Rattle.debug_session.specs.Script.{with_end, IsNoEnd, IsLine, IsEnding, EndWith}
-use Rattle.debug_session.specs.Transcript.{LineAnswered, Transcript, Stopped, Ends}
+use Rattle.debug_session.specs.Transcript.{LineAnswered, Transcript, StoppedByFault, Ends}
 use Rattle.debug_session.specs.walking.OneLine.{TakesLine, ReadingStops, LineStops}
-use Rattle.debug_session.proofs.KnownLemmas.{Appends-none, Consumes-none, Appends-then, Consumes-then, end-known}
+use Rattle.devices.proofs.KnownLemmas.{Appends-none, Consumes-none, Appends-then, Consumes-then, end-known}
 
 -- a transcript goes on with one more line
 pub transcript-push : (s : System) (o m o' : AtLine) (lines : List (List ℕ)) (output line answer : List ℕ)
@@ -44,12 +44,12 @@ length-push [] line = refl
 length-push (l ∷ lines) line = ap suc (length-push lines line)
 
 -- the lines that were taken from the reader are answered, and the answers given to the writer
-pub record Progress (s : System) (o : AtLine) (read left wrote held : Option (List ℕ)) (m : AtLine) (number : ℕ) : Type 0 where
+pub record Progress (s : System) (o : AtLine) (read left wrote contents : Option (List ℕ)) (m : AtLine) (number : ℕ) : Type 0 where
   pub lines : List (List ℕ)
   pub output : List ℕ
   pub each : Every IsLine lines
   pub taken : Consumes read left (flat_map with_end lines)
-  pub given : Appends wrote held output
+  pub given : Appends wrote contents output
   pub answered : Transcript s o lines output m
   pub counted : number ≡ suc (length lines)
 
@@ -66,28 +66,28 @@ progress-start s o read wrote = record {
 }
 
 -- one more line
-pub progress-more : (s : System) (o m o' : AtLine) (read left left' wrote held held' : Option (List ℕ)) (number next : ℕ) (line answer : List ℕ)
-    → Progress s o read left wrote held m number → IsLine line → Consumes left left' (with_end line)
-    → Appends held held' answer → LineAnswered s m line answer o' → next ≡ suc number → Progress s o read left' wrote held' o' next
-progress-more s o m o' read left left' wrote held held' number next line answer p one takes gives a e = record {
+pub progress-more : (s : System) (o m o' : AtLine) (read left left' wrote contents contents' : Option (List ℕ)) (number next : ℕ) (line answer : List ℕ)
+    → Progress s o read left wrote contents m number → IsLine line → Consumes left left' (with_end line)
+    → Appends contents contents' answer → LineAnswered s m line answer o' → next ≡ suc number → Progress s o read left' wrote contents' o' next
+progress-more s o m o' read left left' wrote contents contents' number next line answer p one takes gives a e = record {
   lines = p.lines ++ line ∷ [];
   output = p.output ++ answer;
   each = every-push p.lines line p.each one;
   taken = subst (Consumes read left') (joined-push p.lines line) (Consumes-then read left left' (flat_map with_end p.lines) (with_end line) p.taken takes);
-  given = Appends-then wrote held held' p.output answer p.given gives;
+  given = Appends-then wrote contents contents' p.output answer p.given gives;
   answered = transcript-push s o m o' p.lines p.output line answer p.answered a;
   counted = e ∙ ap suc (p.counted ∙ sym (length-push p.lines line));
 }
 
 -- the last line has no end
-pub session-done : (s : System) (o m o' : AtLine) (read left left' wrote held held' : Option (List ℕ)) (number : ℕ) (line answer : List ℕ)
-    → Progress s o read left wrote held m number → IsLine line → Consumes left left' line → IfSome left (λ _. IsAtEnd left')
-    → Appends held held' answer → LineAnswered s m line answer o' → Ends s o read left' wrote held' (Ok tt)
-session-done s o m o' read left left' wrote held held' number line answer p one takes ended gives a = (
+pub session-done : (s : System) (o m o' : AtLine) (read left left' wrote contents contents' : Option (List ℕ)) (number : ℕ) (line answer : List ℕ)
+    → Progress s o read left wrote contents m number → IsLine line → Consumes left left' line → IfSome left (λ _. IsAtEnd left')
+    → Appends contents contents' answer → LineAnswered s m line answer o' → Ends s o read left' wrote contents' (Ok tt)
+session-done s o m o' read left left' wrote contents contents' number line answer p one takes ended gives a = (
   flat_map with_end p.lines ++ line,
   p.output ++ answer,
   Consumes-then read left left' (flat_map with_end p.lines) line p.taken takes,
-  Appends-then wrote held held' p.output answer p.given gives,
+  Appends-then wrote contents contents' p.output answer p.given gives,
   (
     end-known read left left' (flat_map with_end p.lines) p.taken ended,
     (p.lines, line, record { joined = refl; each = p.each; unended = one }, (o', transcript-push s o m o' p.lines p.output line answer p.answered a)),
@@ -95,17 +95,17 @@ session-done s o m o' read left left' wrote held held' number line answer p one 
 )
 
 -- reading stopped
-pub session-unread : (s : System) (o m : AtLine) (read left left' wrote held : Option (List ℕ)) (number : ℕ) (line : List ℕ) (fault : Fault)
-    → Progress s o read left wrote held m number → ReadingStops left left' line fault → Ends s o read left' wrote held (Err fault)
-session-unread s o m read left left' wrote held number line fault p (one, takes, which) = (
+pub session-unread : (s : System) (o m : AtLine) (read left left' wrote contents : Option (List ℕ)) (number : ℕ) (line : List ℕ) (fault : Fault)
+    → Progress s o read left wrote contents m number → ReadingStops left left' line fault → Ends s o read left' wrote contents (Err fault)
+session-unread s o m read left left' wrote contents number line fault p (one, takes, which) = (
   flat_map with_end p.lines ++ line,
   p.output,
   Consumes-then read left left' (flat_map with_end p.lines) line p.taken takes,
   p.given,
   elim which [
-    | inl memory ↦ subst (Stopped s o (IfSome read (λ _. IsAtEnd left')) (flat_map with_end p.lines ++ line) p.output) (sym memory)
+    | inl memory ↦ subst (StoppedByFault s o (IfSome read (λ _. IsAtEnd left')) (flat_map with_end p.lines ++ line) p.output) (sym memory)
         (p.lines, line, (m, p.answered), inl (record { joined = refl; each = p.each; unended = one }))
-    | inr failed ↦ subst (Stopped s o (IfSome read (λ _. IsAtEnd left')) (flat_map with_end p.lines ++ line) p.output) (sym failed)
+    | inr failed ↦ subst (StoppedByFault s o (IfSome read (λ _. IsAtEnd left')) (flat_map with_end p.lines ++ line) p.output) (sym failed)
         (p.lines, line, record { joined = refl; each = p.each; unended = one }, (m, p.answered))
   ],
 )
@@ -127,13 +127,13 @@ lines-and-line at_end lines line tail h k e = record { tail = tail; joined = ref
 stopped-at : (s : System) (o m : AtLine) (at_end : Type 0) (lines : List (List ℕ)) (output line tail given : List ℕ) (number : ℕ) (fault : Fault)
     → Every IsLine lines → IsLine line → IsEnding at_end tail → Transcript s o lines output m → number ≡ suc (length lines)
     → LineStops s m line number given fault
-    → Stopped s o at_end (flat_map with_end lines ++ (line ++ tail)) (output ++ given) fault
+    → StoppedByFault s o at_end (flat_map with_end lines ++ (line ++ tail)) (output ++ given) fault
 stopped-at s o m at_end lines output line tail given number Fault.Memory h one e t c stops =
-    subst (λ g. Stopped s o at_end (flat_map with_end lines ++ (line ++ tail)) g Fault.Memory)
+    subst (λ g. StoppedByFault s o at_end (flat_map with_end lines ++ (line ++ tail)) g Fault.Memory)
     (sym (append-nil output) ∙ ap (λ g. output ++ g) (sym stops.0))
     (lines, line, (m, t), inr (lines-and-line at_end lines line tail h one e, stops.1))
 stopped-at s o m at_end lines output line tail given number (Fault.BadCommand n) h one e t c stops =
-    subst (λ g. Stopped s o at_end (flat_map with_end lines ++ (line ++ tail)) g (Fault.BadCommand n))
+    subst (λ g. StoppedByFault s o at_end (flat_map with_end lines ++ (line ++ tail)) g (Fault.BadCommand n))
     (sym (append-nil output) ∙ ap (λ g. output ++ g) (sym stops.0))
     (lines, line, lines-and-line at_end lines line tail h one e, (m, t), stops.1 ∙ c, stops.2, stops.3)
 stopped-at s o m at_end lines output line tail given number Fault.WriteFailed h one e t c (answer, missing, o', a, parts) = (
@@ -157,18 +157,19 @@ stopped-at s o m at_end lines output line tail given number (Fault.Parser fault)
 stopped-at s o m at_end lines output line tail given number (Fault.Types fault) h one e t c stops = absurd stops
 stopped-at s o m at_end lines output line tail given number (Fault.Elaborate fault) h one e t c stops = absurd stops
 stopped-at s o m at_end lines output line tail given number (Fault.Sharing fault) h one e t c stops = absurd stops
+stopped-at s o m at_end lines output line tail given number (Fault.Trace fault) h one e t c stops = absurd stops
 
 -- a line stopped the session
-pub session-stopped : (s : System) (o m : AtLine) (read left left' wrote held held' : Option (List ℕ)) (number : ℕ) (line given : List ℕ)
-    (complete : Bool) (fault : Fault) → Progress s o read left wrote held m number → TakesLine left left' line complete
-    → Appends held held' given → LineStops s m line number given fault → Ends s o read left' wrote held' (Err fault)
-session-stopped s o m read left left' wrote held held' number line given complete fault p takes gives stops =
+pub session-stopped : (s : System) (o m : AtLine) (read left left' wrote contents contents' : Option (List ℕ)) (number : ℕ) (line given : List ℕ)
+    (complete : Bool) (fault : Fault) → Progress s o read left wrote contents m number → TakesLine left left' line complete
+    → Appends contents contents' given → LineStops s m line number given fault → Ends s o read left' wrote contents' (Err fault)
+session-stopped s o m read left left' wrote contents contents' number line given complete fault p takes gives stops =
     let piece : (tail : List ℕ) × IsEnding (IfSome read (λ _. IsAtEnd left')) tail × Consumes left left' (line ++ tail) =
     line-taken read left left' (flat_map with_end p.lines) line complete p.taken takes in (
       flat_map with_end p.lines ++ (line ++ piece.0),
       p.output ++ given,
       Consumes-then read left left' (flat_map with_end p.lines) (line ++ piece.0) p.taken piece.2,
-      Appends-then wrote held held' p.output given p.given gives,
+      Appends-then wrote contents contents' p.output given p.given gives,
       stopped-at s o m (IfSome read (λ _. IsAtEnd left')) p.lines p.output line piece.0 given number fault p.each takes.0 piece.1 p.answered p.counted stops,
     )
 
@@ -177,9 +178,9 @@ no-bytes : IsLine []
 no-bytes = All-nil IsNoEnd
 
 -- no line is left to count
-pub session-endless : (s : System) (o m : AtLine) (read left wrote held : Option (List ℕ)) (number : ℕ)
-    → Progress s o read left wrote held m number → Ends s o read left wrote held (Err Fault.Memory)
-session-endless s o m read left wrote held number p = (
+pub session-endless : (s : System) (o m : AtLine) (read left wrote contents : Option (List ℕ)) (number : ℕ)
+    → Progress s o read left wrote contents m number → Ends s o read left wrote contents (Err Fault.Memory)
+session-endless s o m read left wrote contents number p = (
   flat_map with_end p.lines,
   p.output,
   p.taken,
@@ -188,28 +189,28 @@ session-endless s o m read left wrote held number p = (
 )
 
 -- the end that the result is equal to
-pub ends-at : (s : System) (o : AtLine) (read left wrote held : Option (List ℕ)) (r q : Result (Unit {0}) Fault) → r ≡ q
-    → Ends s o read left wrote held q → Ends s o read left wrote held r
-ends-at s o read left wrote held r q e h = subst (λ x. Ends s o read left wrote held x) (sym e) h
+pub ends-at : (s : System) (o : AtLine) (read left wrote contents : Option (List ℕ)) (r q : Result (Unit {0}) Fault) → r ≡ q
+    → Ends s o read left wrote contents q → Ends s o read left wrote contents r
+ends-at s o read left wrote contents r q e h = subst (λ x. Ends s o read left wrote contents x) (sym e) h
 
 -- reading stopped, and the result is its fault
-pub unread-by-line : (s : System) (o m : AtLine) (read left left' wrote held : Option (List ℕ)) (number : ℕ) (line : List ℕ) (fault : Fault)
-    (r : Result (Unit {0}) Fault) → Progress s o read left wrote held m number → ReadingStops left left' line fault → r ≡ Err fault
-    → Ends s o read left' wrote held r
-unread-by-line s o m read left left' wrote held number line fault r p stops e =
-    ends-at s o read left' wrote held r (Err fault) e (session-unread s o m read left left' wrote held number line fault p stops)
+pub unread-by-line : (s : System) (o m : AtLine) (read left left' wrote contents : Option (List ℕ)) (number : ℕ) (line : List ℕ) (fault : Fault)
+    (r : Result (Unit {0}) Fault) → Progress s o read left wrote contents m number → ReadingStops left left' line fault → r ≡ Err fault
+    → Ends s o read left' wrote contents r
+unread-by-line s o m read left left' wrote contents number line fault r p stops e =
+    ends-at s o read left' wrote contents r (Err fault) e (session-unread s o m read left left' wrote contents number line fault p stops)
 
 -- the line stopped the session, and the result is its fault
-pub stopped-by-line : (s t : System) (o m : AtLine) (read left left' wrote held held' : Option (List ℕ)) (number : ℕ) (line text : List ℕ)
+pub stopped-by-line : (s t : System) (o m : AtLine) (read left left' wrote contents contents' : Option (List ℕ)) (number : ℕ) (line text : List ℕ)
     (complete : Bool) (fault : Fault) (r : Result (Unit {0}) Fault) → t ≡ s → text ≡ line
-    → Progress s o read left wrote held m number → TakesLine left left' line complete
-    → (given : List ℕ) × Appends held held' given × LineStops t m text number given fault → r ≡ Err fault
-    → Ends s o read left' wrote held' r
-stopped-by-line s t o m read left left' wrote held held' number line text complete fault r same whole p takes stops e =
+    → Progress s o read left wrote contents m number → TakesLine left left' line complete
+    → (given : List ℕ) × Appends contents contents' given × LineStops t m text number given fault → r ≡ Err fault
+    → Ends s o read left' wrote contents' r
+stopped-by-line s t o m read left left' wrote contents contents' number line text complete fault r same whole p takes stops e =
     let here : LineStops s m line number stops.0 fault =
     subst (λ x. LineStops s m x number stops.0 fault) whole (subst (λ x. LineStops x m text number stops.0 fault) same stops.2) in
-    ends-at s o read left' wrote held' r (Err fault) e
-    (session-stopped s o m read left left' wrote held held' number line stops.0 complete fault p takes stops.1 here)
+    ends-at s o read left' wrote contents' r (Err fault) e
+    (session-stopped s o m read left left' wrote contents contents' number line stops.0 complete fault p takes stops.1 here)
 
 -- an answer on the system and the line
 answered-here : (s t : System) (m o' : AtLine) (line text given : List ℕ) → t ≡ s → text ≡ line → LineAnswered t m text given o'
@@ -218,29 +219,29 @@ answered-here s t m o' line text given same whole a =
     subst (λ x. LineAnswered s m x given o') whole (subst (λ x. LineAnswered x m text given o') same a)
 
 -- the last line without an end was answered
-pub done-by-line : (s t : System) (o m o' : AtLine) (read left left' wrote held held' : Option (List ℕ)) (number : ℕ) (line text : List ℕ)
+pub done-by-line : (s t : System) (o m o' : AtLine) (read left left' wrote contents contents' : Option (List ℕ)) (number : ℕ) (line text : List ℕ)
     (complete : Bool) → t ≡ s → text ≡ line → complete ≡ false
-    → Progress s o read left wrote held m number → TakesLine left left' line complete
-    → (given : List ℕ) × Appends held held' given × LineAnswered t m text given o'
-    → Ends s o read left' wrote held' (Ok tt)
-done-by-line s t o m o' read left left' wrote held held' number line text complete same whole last p takes a =
+    → Progress s o read left wrote contents m number → TakesLine left left' line complete
+    → (given : List ℕ) × Appends contents contents' given × LineAnswered t m text given o'
+    → Ends s o read left' wrote contents' (Ok tt)
+done-by-line s t o m o' read left left' wrote contents contents' number line text complete same whole last p takes a =
     let last_line : TakesLine left left' line false = subst (λ b. TakesLine left left' line b) last takes in
-    session-done s o m o' read left left' wrote held held' number line a.0 p last_line.0 last_line.1.0 last_line.1.1 a.1
+    session-done s o m o' read left left' wrote contents contents' number line a.0 p last_line.0 last_line.1.0 last_line.1.1 a.1
     (answered-here s t m o' line text a.0 same whole a.2)
 
 -- a line with its end was answered
-pub more-by-line : (s t : System) (o m o' : AtLine) (read left left' wrote held held' : Option (List ℕ)) (number : ℕ) (line text : List ℕ)
+pub more-by-line : (s t : System) (o m o' : AtLine) (read left left' wrote contents contents' : Option (List ℕ)) (number : ℕ) (line text : List ℕ)
     (complete : Bool) → t ≡ s → text ≡ line → complete ≡ true
-    → Progress s o read left wrote held m number → TakesLine left left' line complete
-    → (given : List ℕ) × Appends held held' given × LineAnswered t m text given o'
-    → Progress s o read left' wrote held' o' (number + 1)
-more-by-line s t o m o' read left left' wrote held held' number line text complete same whole ended p takes a =
+    → Progress s o read left wrote contents m number → TakesLine left left' line complete
+    → (given : List ℕ) × Appends contents contents' given × LineAnswered t m text given o'
+    → Progress s o read left' wrote contents' o' (number + 1)
+more-by-line s t o m o' read left left' wrote contents contents' number line text complete same whole ended p takes a =
     let whole_line : TakesLine left left' line true = subst (λ b. TakesLine left left' line b) ended takes in
-    progress-more s o m o' read left left' wrote held held' number (number + 1) line a.0 p whole_line.0 whole_line.1 a.1
+    progress-more s o m o' read left left' wrote contents contents' number (number + 1) line a.0 p whole_line.0 whole_line.1 a.1
     (answered-here s t m o' line text a.0 same whole a.2) (add-one number)
 
 -- the session on a new desk
-pub begun : (o : AtLine) (system : System) (source : List ℕ) (read left wrote held : Option (List ℕ)) (r : Result (Unit {0}) Fault)
-    → o ≡ first_line system source → Ends o.desk.machine.checked o read left wrote held r
-    → Ends system (first_line system source) read left wrote held r
-begun o system source read left wrote held r e ends = subst (λ x. Ends x.desk.machine.checked x read left wrote held r) e ends
+pub begun : (o : AtLine) (system : System) (source : List ℕ) (read left wrote contents : Option (List ℕ)) (r : Result (Unit {0}) Fault)
+    → o ≡ first_line system source → Ends o.desk.machine.checked o read left wrote contents r
+    → Ends system (first_line system source) read left wrote contents r
+begun o system source read left wrote contents r e ends = subst (λ x. Ends x.desk.machine.checked x read left wrote contents r) e ends

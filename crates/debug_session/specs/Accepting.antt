@@ -36,8 +36,8 @@ Makes source stimulus system =
     × elaboration.IsAccepted procedures entries × (system ≡ elaboration.system_of procedures entries)
 
 -- source and stimulus are accepted: they make this system, and it keeps the rule on sharing
-abbrev pub Gives : List ℕ → List ℕ → System → Type 0
-Gives source stimulus system = Makes source stimulus system × sharing.Accepts system
+abbrev pub AcceptedAs : List ℕ → List ℕ → System → Type 0
+AcceptedAs source stimulus system = Makes source stimulus system × sharing.Accepts system
 
 -- the procedures and the stimulus make no system, for this reason: a line of another form, or else what does not fit
 abbrev pub MakesNone : List Procedure → List ℕ → elaborate.Fault → Type 0
@@ -61,5 +61,6 @@ IsRefused source stimulus (Fault.Sharing fault) =
     (fault ≢ not_shared.Memory) × ((system : System) × Makes source stimulus system × sharing.Refuses system fault)
 -- nothing else refuses them
 IsRefused source stimulus Fault.ReadFailed = ⊥
+IsRefused source stimulus (Fault.Trace fault) = ⊥
 IsRefused source stimulus Fault.WriteFailed = ⊥
 IsRefused source stimulus (Fault.BadCommand number) = ⊥

@@ -1,7 +1,6 @@
 -- A line cut at its first space.
-use Rattle.std.specs.Prelude.{ℕ, ◌≡◌, ◌≢◌, ◌≤◌, List, [], ◌∷◌, ◌++◌, length, take, drop}
+use Rattle.std.specs.Prelude.{ℕ, ◌≡◌, ◌≢◌, List, [], ◌∷◌, ◌++◌}
 use Rattle.std.specs.List.{All}
-use Rattle.debug_session.specs.EventText.{field}
 
 -- a byte that is no space
 abbrev pub IsNoSpace : ℕ → Type 0
@@ -17,11 +16,3 @@ pub record CutAtSpace (text front back : List ℕ) : Type 0 where
   pub joined : front ++ back ≡ text
   pub clear : All IsNoSpace front
   pub begins : BeginsField back
-
--- so many bytes stand before the first space
-abbrev pub IsFieldEnd : List ℕ → ℕ → Type 0
-IsFieldEnd text count = (count ≤ length text) × All IsNoSpace (take count text) × BeginsField (drop count text)
-
--- the text does not begin with a space
-abbrev pub IsNoField : List ℕ → Type 0
-IsNoField rest = (text : List ℕ) → rest ≡ field text → ⊥

@@ -4,11 +4,12 @@ pub mod Counting
 pub mod EventText
 pub mod FaultNumbers
 pub mod Fields
+pub mod Keywords
 pub mod Lines
-pub mod Meaning
+pub mod OneThing
+pub mod Replaying
 pub mod ReplyText
 pub mod Script
 pub mod Transcript
-pub mod Words
 pub mod Wrapping
 pub mod walking

@@ -6,61 +6,38 @@ use Rattle.address.specs.Reading.{NumbersFit}
 use Rattle.system.specs.declared.system.System.{System}
 use Rattle.system.specs.Named.{variable_from}
 use Rattle.calculus.specs.declared.event.Choice.{Choice}
+use Rattle.locked_execution.specs.AtDesk.{sessions}
 use Rattle.locked_execution.specs.declared.command.Command.{Command}
 use Rattle.debug_session.specs.declared.line.Line.{Line}
-use Rattle.debug_session.specs.declared.word.Word.{Word}
+use Rattle.debug_session.specs.declared.keyword.Keyword.{Keyword}
 use Rattle.debug_session.specs.EventText.{field}
 use Rattle.debug_session.specs.Fields.{CutAtSpace}
-use Rattle.debug_session.specs.Words.{spelling}
+use Rattle.debug_session.specs.Keywords.{spelling}
 
 -- a space and this number, which has 64 bits
 abbrev pub IsNumber : ℕ → List ℕ → Type 0
 IsNumber n rest = (n < 2 ^ 64) × (rest ≡ field (decimal n))
 
--- the rest is no number of 64 bits behind a space
-abbrev pub IsNoTicket : List ℕ → Type 0
-IsNoTicket rest = (n : ℕ) → IsNumber n rest → ⊥
-
 -- a space and this number of a branch, which has 32 bits
 abbrev pub IsBranch : ℕ → List ℕ → Type 0
 IsBranch k rest = (k < 2 ^ 32) × (rest ≡ field (decimal k))
 
--- the rest is no number of a branch
-abbrev pub IsNoBranch : List ℕ → Type 0
-IsNoBranch rest = (k : ℕ) → IsBranch k rest → ⊥
-
 -- a space and this number of a session, of which there are sixteen
 abbrev pub IsSession : ℕ → List ℕ → Type 0
-IsSession k rest = (k < 16) × (rest ≡ field (decimal k))
-
--- the rest is no number of a session
-abbrev pub IsNoSession : List ℕ → Type 0
-IsNoSession rest = (k : ℕ) → IsSession k rest → ⊥
+IsSession k rest = (k < sessions) × (rest ≡ field (decimal k))
 
 -- a space and the name of the variable of this number, the first with that name; the number has 32 bits
 abbrev pub IsVariable : System → ℕ → List ℕ → Type 0
 IsVariable system x rest = (name : List ℕ) × (rest ≡ field name) × (variable_from 0 system.variables name ≡ Some x)
 
--- the rest names no variable
-abbrev pub IsNoVariable : System → List ℕ → Type 0
-IsNoVariable system rest = (x : ℕ) → IsVariable system x rest → ⊥
-
 -- nothing, which stands for arm 0, or a space and the arm, which has 32 bits
 abbrev pub IsArm : ℕ → List ℕ → Type 0
 IsArm arm rest = ((rest ≡ []) × (arm ≡ 0)) ⊎ ((rest ≡ field (decimal arm)) × (arm < 2 ^ 32))
-
--- the rest gives no arm
-abbrev pub IsNoArm : List ℕ → Type 0
-IsNoArm rest = (arm : ℕ) → IsArm arm rest → ⊥
 
 -- a space and a place other than the root, whose numbers have 32 bits, and then the arm
 abbrev pub IsChoice : Choice → List ℕ → Type 0
 IsChoice c rest =
     (c.place ≢ []) × NumbersFit c.place × ((arm : List ℕ) × (rest ≡ field (text_of c.place) ++ arm) × IsArm c.arm arm)
-
--- the rest gives no choice
-abbrev pub IsNoChoice : List ℕ → Type 0
-IsNoChoice rest = (c : Choice) → IsChoice c rest → ⊥
 
 -- a space, a text that may be a place, and an arm: only with this behind it does a line take memory to be read
 abbrev pub MayBeChoice : List ℕ → Type 0
@@ -70,35 +47,32 @@ MayBeChoice rest =
 
 -- the line may ask for a step: only such a line takes memory to be read
 abbrev pub MayBeStep : List ℕ → Type 0
-MayBeStep line = (rest : List ℕ) × (line ≡ spelling Word.Step ++ rest) × MayBeChoice rest
+MayBeStep line = (rest : List ℕ) × (line ≡ spelling Keyword.Step ++ rest) × MayBeChoice rest
 
--- the word, and `rest` behind it, ask for this
-abbrev pub AsksBy : System → Word → List ℕ → Line → Type 0
-AsksBy system Word.Step rest said = (choice : Choice) × IsChoice choice rest × (said ≡ Line.Asked (Command.Step choice))
-AsksBy system Word.Undo rest said = (ticket : ℕ) × IsNumber ticket rest × (said ≡ Line.Asked (Command.Undo ticket))
-AsksBy system Word.Roll rest said = (ticket : ℕ) × IsNumber ticket rest × (said ≡ Line.Asked (Command.Roll ticket))
-AsksBy system Word.RollValue rest said = (x : ℕ) × IsVariable system x rest × (said ≡ Line.Asked (Command.RollValue x))
-AsksBy system Word.Blame rest said = (x : ℕ) × IsVariable system x rest × (said ≡ Line.Asked (Command.Blame x))
-AsksBy system Word.Ready rest said = (rest ≡ []) × (said ≡ Line.Asked Command.Ready)
-AsksBy system Word.Consequences rest said = (ticket : ℕ) × IsNumber ticket rest × (said ≡ Line.Asked (Command.Consequences ticket))
-AsksBy system Word.Live rest said = (rest ≡ []) × (said ≡ Line.Asked Command.Live)
-AsksBy system Word.Value rest said = (x : ℕ) × IsVariable system x rest × (said ≡ Line.Asked (Command.Value x))
-AsksBy system Word.Branch rest said = (k : ℕ) × IsBranch k rest × (said ≡ Line.Asked (Command.Branch k))
-AsksBy system Word.Break rest said = (line : ℕ) × IsNumber line rest × (said ≡ Line.Asked (Command.Break line))
-AsksBy system Word.Clear rest said = (line : ℕ) × IsNumber line rest × (said ≡ Line.Asked (Command.Clear line))
-AsksBy system Word.Session rest said = (k : ℕ) × IsSession k rest × (said ≡ Line.Session k)
-AsksBy system Word.View rest said = (rest ≡ []) × (said ≡ Line.View)
-
--- the word and the rest ask for nothing
-abbrev pub AsksNothingBy : System → Word → List ℕ → Type 0
-AsksNothingBy system word rest = (said : Line) → AsksBy system word rest said → ⊥
+-- the keyword, and `rest` behind it, ask for this
+abbrev pub AsksBy : System → Keyword → List ℕ → Line → Type 0
+AsksBy system Keyword.Step rest said = (choice : Choice) × IsChoice choice rest × (said ≡ Line.Asked (Command.Step choice))
+AsksBy system Keyword.Undo rest said = (ticket : ℕ) × IsNumber ticket rest × (said ≡ Line.Asked (Command.Undo ticket))
+AsksBy system Keyword.Roll rest said = (ticket : ℕ) × IsNumber ticket rest × (said ≡ Line.Asked (Command.Roll ticket))
+AsksBy system Keyword.RollValue rest said = (x : ℕ) × IsVariable system x rest × (said ≡ Line.Asked (Command.RollValue x))
+AsksBy system Keyword.Blame rest said = (x : ℕ) × IsVariable system x rest × (said ≡ Line.Asked (Command.Blame x))
+AsksBy system Keyword.Ready rest said = (rest ≡ []) × (said ≡ Line.Asked Command.Ready)
+AsksBy system Keyword.Consequences rest said = (ticket : ℕ) × IsNumber ticket rest × (said ≡ Line.Asked (Command.Consequences ticket))
+AsksBy system Keyword.Live rest said = (rest ≡ []) × (said ≡ Line.Asked Command.Live)
+AsksBy system Keyword.Value rest said = (x : ℕ) × IsVariable system x rest × (said ≡ Line.Asked (Command.Value x))
+AsksBy system Keyword.Branch rest said = (k : ℕ) × IsBranch k rest × (said ≡ Line.Asked (Command.Branch k))
+AsksBy system Keyword.Break rest said = (line : ℕ) × IsNumber line rest × (said ≡ Line.Asked (Command.Break line))
+AsksBy system Keyword.Clear rest said = (line : ℕ) × IsNumber line rest × (said ≡ Line.Asked (Command.Clear line))
+AsksBy system Keyword.Session rest said = (k : ℕ) × IsSession k rest × (said ≡ Line.Session k)
+AsksBy system Keyword.View rest said = (rest ≡ []) × (said ≡ Line.View)
+AsksBy system Keyword.Trace rest said = (rest ≡ []) × (said ≡ Line.Trace)
 
 -- the line asks for this
 pub record Asks (system : System) (line : List ℕ) (said : Line) : Type 0 where
-  pub word : Word
+  pub keyword : Keyword
   pub rest : List ℕ
-  pub spelled : line ≡ spelling word ++ rest
-  pub asked : AsksBy system word rest said
+  pub spelled : line ≡ spelling keyword ++ rest
+  pub asked : AsksBy system keyword rest said
 
 -- the line asks for nothing
 abbrev pub AsksNothing : System → List ℕ → Type 0
@@ -114,5 +88,5 @@ Says system line said = Asks system line said ⊎ ((line ≡ []) × (said ≡ Li
 
 -- where a session is named, it is one of the sixteen
 abbrev pub SaysSession : Line → Type 0
-SaysSession (Line.Session k) = k < 16
+SaysSession (Line.Session k) = k < sessions
 SaysSession _ = Unit {0}

@@ -2,8 +2,9 @@
 use Rattle.std.specs.Prelude.{ℕ, List, [], ◌∷◌, ◌++◌, codes, Some, length}
 use Rattle.std.specs.List.{flat_map}
 use Rattle.std.specs.Fmt.{decimal}
+use Rattle.syntax.specs.Texts.{line_end}
 use Rattle.system.specs.declared.system.System.{System}
-use Rattle.calculus.specs.Refusals.{number_of}
+use Rattle.calculus.specs.Refusals.{refusal_number}
 use Rattle.calculus.specs.declared.event.Event.{Event}
 use Rattle.calculus.specs.declared.command.Refusal.{Refusal}
 use Rattle.calculus.specs.declared.command.Refusal.TheVariants.{NeededBy}
@@ -13,7 +14,7 @@ use Rattle.debug_session.specs.EventText.{field, variable_text, event_text}
 
 -- the end of a line
 abbrev pub ending : List ℕ
-ending = 10 ∷ []
+ending = line_end ∷ []
 
 -- a line of the list of ready events
 abbrev pub ready_line : System → Event → List ℕ
@@ -26,7 +27,7 @@ live_line system pair = codes "  " ++ decimal pair.0 ++ field (event_text system
 -- the number of a refusal, and what it names
 abbrev pub refusal_text : Refusal → List ℕ
 refusal_text (NeededBy ticket) = field (decimal 24) ++ field (decimal ticket)
-refusal_text why = field (decimal (number_of why))
+refusal_text why = field (decimal (refusal_number why))
 
 -- the name of the variable whose value is asked for, `?` where none is
 abbrev pub asked_variable : System → Command → List ℕ

@@ -2,14 +2,15 @@
 use Rattle.std.specs.Prelude.{ℕ, ◌≡◌, ◌≢◌, ◌⊎◌, List, [], ◌∷◌, ◌++◌}
 use Rattle.std.specs.List.{All, flat_map}
 use Rattle.syntax.specs.Lists.{Every}
+use Rattle.syntax.specs.Texts.{line_end}
 
 -- a line and its end
 abbrev pub with_end : List ℕ → List ℕ
-with_end line = line ++ 10 ∷ []
+with_end line = line ++ line_end ∷ []
 
 -- a byte that does not end a line
 abbrev pub IsNoEnd : ℕ → Type 0
-IsNoEnd byte = byte ≢ 10
+IsNoEnd byte = byte ≢ line_end
 
 -- a line without its end
 abbrev pub IsLine : List ℕ → Type 0
@@ -23,7 +24,7 @@ pub record AreLines (bytes : List ℕ) (lines : List (List ℕ)) (last : List �
 
 -- an end of a line, or none at the end of all
 abbrev pub IsEnding : Type 0 → List ℕ → Type 0
-IsEnding at_end tail = (tail ≡ 10 ∷ []) ⊎ ((tail ≡ []) × at_end)
+IsEnding at_end tail = (tail ≡ line_end ∷ []) ⊎ ((tail ≡ []) × at_end)
 
 -- the bytes are these lines, each with its end, and then the whole line `last`, which lacks its end only at the end of all
 pub record EndWith (at_end : Type 0) (bytes : List ℕ) (lines : List (List ℕ)) (last : List ℕ) : Type 0 where

@@ -2,20 +2,23 @@
 use Rattle.std.specs.Prelude.{ℕ, suc, ◌≡◌, ◌≢◌, List, [], ◌∷◌, ◌++◌, length, Option, Result, Err, MatchResult, IfSome, ◌⊎◌}
 use Rattle.std.specs.Io.KnownBytes.{Appends, Consumes, IsAtEnd}
 use Rattle.system.specs.declared.system.System.{System}
+use Rattle.calculus.specs.Live.{events}
 use Rattle.source_view.specs.View.{IsView}
+use Rattle.trace_file.specs.TraceText.{trace_text}
 use Rattle.locked_execution.specs.AtDesk.{breaks_of}
 use Rattle.locked_execution.specs.Performs.{Answers}
 use Rattle.locked_execution.specs.declared.command.Reply.{Reply}
 use Rattle.debug_session.specs.declared.line.Line.{Line}
 use Rattle.debug_session.specs.declared.fault.Fault.{Fault}
-use Rattle.debug_session.specs.Accepting.{Gives, IsRefused}
+use Rattle.debug_session.specs.Accepting.{AcceptedAs, IsRefused}
 use Rattle.debug_session.specs.AtLine.{AtLine, first_line}
 use Rattle.debug_session.specs.ReplyText.{answer_text, session_text}
 use Rattle.debug_session.specs.Lines.{Says, AsksNothing, LineMayWantMemory}
 use Rattle.debug_session.specs.Script.{AreLines, EndWith}
 
 -- a command is answered with the text of the reply to the session; a line that names a session makes it the one whose lines
--- follow; `view` is answered with the view that this session has of the source; an empty line with nothing
+-- follow; `view` is answered with the view that this session has of the source, `trace` with the trace of the live events, and
+-- an empty line with nothing
 abbrev pub SaidAnswered : System → AtLine → Line → List ℕ → AtLine → Type 0
 SaidAnswered system a (Line.Asked c) answer a' =
     (reply : Reply) × Answers a.desk a.session c reply a'.desk × (a'.session ≡ a.session) × (a'.source ≡ a.source)
@@ -23,6 +26,7 @@ SaidAnswered system a (Line.Asked c) answer a' =
 SaidAnswered system a (Line.Session session) answer a' =
     (answer ≡ session_text session) × (a' ≡ record { desk = a.desk; session = session; source = a.source })
 SaidAnswered system a Line.View answer a' = IsView a.desk.machine (breaks_of a.desk a.session) a.source answer × (a' ≡ a)
+SaidAnswered system a Line.Trace answer a' = (answer ≡ trace_text (events a.desk.machine.live)) × (a' ≡ a)
 SaidAnswered system a Line.Empty answer a' = (answer ≡ []) × (a' ≡ a)
 
 -- the line is answered so, and leaves a'
@@ -57,39 +61,40 @@ Completed system a taken output =
     (lines : List (List ℕ)) × (last : List ℕ) × AreLines taken lines last × Answered system a (lines ++ last ∷ []) output
 
 -- the session took these bytes and stopped at a fault; `at_end` says that the reader is at its end
-abbrev pub Stopped : System → AtLine → Type 0 → List ℕ → List ℕ → Fault → Type 0
+abbrev pub StoppedByFault : System → AtLine → Type 0 → List ℕ → List ℕ → Fault → Type 0
 -- reading failed: the complete lines are answered
-Stopped system a at_end taken output Fault.ReadFailed =
+StoppedByFault system a at_end taken output Fault.ReadFailed =
     (lines : List (List ℕ)) × (last : List ℕ) × AreLines taken lines last × Answered system a lines output
 -- there was no memory to read the last line, or none to answer it: the lines before it are answered
-Stopped system a at_end taken output Fault.Memory =
+StoppedByFault system a at_end taken output Fault.Memory =
     (lines : List (List ℕ)) × (last : List ℕ) × Answered system a lines output
     × (AreLines taken lines last ⊎ (EndWith at_end taken lines last × LineMayWantMemory system last))
 -- the last line, of this number, says nothing that can be answered: the lines before it are answered
-Stopped system a at_end taken output (Fault.BadCommand number) =
+StoppedByFault system a at_end taken output (Fault.BadCommand number) =
     (lines : List (List ℕ)) × (last : List ℕ) × EndWith at_end taken lines last × Answered system a lines output
     × (number ≡ suc (length lines)) × (last ≢ []) × AsksNothing system last
 -- writing failed in the answer to the last line: nothing behind that line was taken
-Stopped system a at_end taken output Fault.WriteFailed =
+StoppedByFault system a at_end taken output Fault.WriteFailed =
     (lines : List (List ℕ)) × (last : List ℕ) × EndWith at_end taken lines last × BreaksOff system a lines last output
 -- no other fault comes once the session has begun
-Stopped system a at_end taken output (Fault.Lexer fault) = ⊥
-Stopped system a at_end taken output (Fault.Parser fault) = ⊥
-Stopped system a at_end taken output (Fault.Types fault) = ⊥
-Stopped system a at_end taken output (Fault.Elaborate fault) = ⊥
-Stopped system a at_end taken output (Fault.Sharing fault) = ⊥
+StoppedByFault system a at_end taken output (Fault.Lexer fault) = ⊥
+StoppedByFault system a at_end taken output (Fault.Parser fault) = ⊥
+StoppedByFault system a at_end taken output (Fault.Types fault) = ⊥
+StoppedByFault system a at_end taken output (Fault.Elaborate fault) = ⊥
+StoppedByFault system a at_end taken output (Fault.Sharing fault) = ⊥
+StoppedByFault system a at_end taken output (Fault.Trace fault) = ⊥
 
 -- what a session took from its reader and gave to its writer, and how it ended
 abbrev pub Ends : System → AtLine → Option (List ℕ) → Option (List ℕ) → Option (List ℕ) → Option (List ℕ) → Result (Unit {0}) Fault → Type 0
-Ends system a read left wrote held result =
-    (taken : List ℕ) × (given : List ℕ) × Consumes read left taken × Appends wrote held given
+Ends system a read left wrote contents result =
+    (taken : List ℕ) × (given : List ℕ) × Consumes read left taken × Appends wrote contents given
     × MatchResult result
     (λ _. IfSome read (λ _. IsAtEnd left) × Completed system a taken given)
-    (λ fault. Stopped system a (IfSome read (λ _. IsAtEnd left)) taken given fault)
+    (λ fault. StoppedByFault system a (IfSome read (λ _. IsAtEnd left)) taken given fault)
 
 -- what came of source and stimulus: they were refused, or there was no memory to begin with, and nothing was read and
 -- nothing written; or they gave a system, and the session on it ended so
 abbrev pub Debugged : List ℕ → List ℕ → Type 0 → Option (List ℕ) → Option (List ℕ) → Option (List ℕ) → Option (List ℕ) → Result (Unit {0}) Fault → Type 0
-Debugged source stimulus untouched read left wrote held result =
+Debugged source stimulus untouched read left wrote contents result =
     ((fault : Fault) × (result ≡ Err fault) × IsRefused source stimulus fault × untouched)
-    ⊎ ((system : System) × Gives source stimulus system × Ends system (first_line system source) read left wrote held result)
+    ⊎ ((system : System) × AcceptedAs source stimulus system × Ends system (first_line system source) read left wrote contents result)

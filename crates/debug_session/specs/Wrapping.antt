@@ -9,6 +9,8 @@ use Rattle.refusals.specs.declared.elaborate.Fault as elaborate
 use Rattle.refusals.specs.declared.elaborate.Fault.TheVariants as no_system
 use Rattle.refusals.specs.declared.sharing_check.Fault as sharing
 use Rattle.refusals.specs.declared.sharing_check.Fault.TheVariants as not_shared
+use Rattle.trace_file.specs.declared.fault.Fault as trace
+use Rattle.trace_file.specs.declared.fault.Fault.TheVariants as not_loaded
 use Rattle.debug_session.specs.declared.fault.Fault.{Fault}
 
 -- a fault of the lexer
@@ -35,3 +37,8 @@ of_elaborate fault = Fault.Elaborate fault
 abbrev pub of_sharing : sharing.Fault → Fault
 of_sharing not_shared.Memory = Fault.Memory
 of_sharing fault = Fault.Sharing fault
+
+-- a fault of a trace
+abbrev pub of_trace : trace.Fault → Fault
+of_trace not_loaded.Memory = Fault.Memory
+of_trace fault = Fault.Trace fault

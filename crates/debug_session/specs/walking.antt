@@ -1,1 +1,4 @@
+pub mod FieldParts
+pub mod NotAsked
 pub mod OneLine
+pub mod Spelled

@@ -1,6 +1,7 @@
 ghost use Rattle.std.specs.Prelude.{◌≡◌, ◌≢◌, List, ℕ, MatchResult, IfOk, OnErr};
 ghost use Rattle.std.specs.Io.KnownBytes.{Appends};
-ghost use Rattle.debug_session.specs.Counting.{device, failures, after_reading, after_writing};
+ghost use Rattle.devices.specs.Counting.{device, failures};
+ghost use Rattle.debug_session.specs.Counting.{after_reading, after_writing};
 ghost use Rattle.debug_session.specs.Lines.{SaysSession};
 ghost use Rattle.debug_session.specs.declared.line.Line.{Line};
 ghost use Rattle.debug_session.specs.walking.OneLine.{LineStops};
@@ -73,6 +74,7 @@ fn answer_to(alloc: Global, sitting: &mut Sitting<'_>, said: &Line) -> Result<Ve
             write_session(alloc, *session)
         }
         Line::View => sitting.view(alloc),
+        Line::Trace => sitting.trace(alloc),
         Line::Empty => Ok(Vec::new(alloc)),
     }
 }

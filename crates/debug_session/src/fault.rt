@@ -1,6 +1,6 @@
 ghost use Rattle.std.specs.Prelude.{◌≡◌};
 ghost use Rattle.debug_session.specs.FaultNumbers.{fault_number, fault_field};
-ghost use Rattle.debug_session.specs.Wrapping.{of_lexer, of_parser, of_types, of_elaborate, of_sharing};
+ghost use Rattle.debug_session.specs.Wrapping.{of_lexer, of_parser, of_types, of_elaborate, of_sharing, of_trace};
 ghost use Rattle.debug_session.specs.declared.fault.Fault.TheVariants.{Memory};
 
 use std::alloc::{AllocError, AllocFailed};
@@ -26,6 +26,9 @@ pub enum Fault {
     /// The system breaks the rule on sharing.
     #[error("{0}")]
     Sharing(sharing_check::Fault),
+    /// The trace was not loaded.
+    #[error("{0}")]
+    Trace(trace_file::Fault),
     /// The reader of the script failed.
     #[error("the script could not be read")]
     ReadFailed,
@@ -49,13 +52,14 @@ impl Fault {
             Fault::Types(fault) => fault.number(),
             Fault::Elaborate(fault) => fault.number(),
             Fault::Sharing(fault) => fault.number(),
+            Fault::Trace(fault) => fault.number(),
             Fault::ReadFailed => 41,
             Fault::WriteFailed => 42,
             Fault::BadCommand(_) => 61,
         }
     }
 
-    /// What stands behind the number: an offset in the source, or a line of the stimulus or the script.
+    /// What stands behind the number: an offset in the source, or a line of the stimulus, the trace or the script.
     pub fn field(&self) -> Option<u64>
         ensures { result ≡ fault_field self.now }
     {
@@ -65,6 +69,7 @@ impl Fault {
             Fault::Types(fault) => fault.offset(),
             Fault::Elaborate(fault) => fault.line(),
             Fault::Sharing(fault) => fault.offset(),
+            Fault::Trace(fault) => fault.field(),
             Fault::BadCommand(line) => Some(*line),
             Fault::Memory | Fault::ReadFailed | Fault::WriteFailed => None,
         }
@@ -122,6 +127,17 @@ impl From<sharing_check::Fault> for Fault {
         match fault {
             sharing_check::Fault::Memory => Fault::Memory,
             refused => Fault::Sharing(refused),
+        }
+    }
+}
+
+impl From<trace_file::Fault> for Fault {
+    ghost from_gives = { λ fault wrapped. wrapped ≡ of_trace fault };
+
+    fn from(fault: trace_file::Fault) -> Fault {
+        match fault {
+            trace_file::Fault::Memory => Fault::Memory,
+            refused => Fault::Trace(refused),
         }
     }
 }

@@ -1,9 +1,11 @@
-// What stands behind the word of a line.
+// What stands behind the keyword of a line.
 ghost use Rattle.std.specs.Prelude.{◌≡◌, ◌<◌, ◌^◌, MatchOption, IfOk, OnErr};
 ghost use Rattle.std.specs.Option.{SomeIff};
 ghost use Rattle.debug_session.specs.EventText.{field};
-ghost use Rattle.debug_session.specs.Fields.{CutAtSpace, IsFieldEnd, IsNoField};
-ghost use Rattle.debug_session.specs.Lines.{IsNumber, IsNoTicket, IsBranch, IsNoBranch, IsSession, IsNoSession, IsVariable, IsNoVariable, IsArm, IsNoArm, IsChoice, IsNoChoice, MayBeChoice};
+ghost use Rattle.debug_session.specs.Fields.{CutAtSpace};
+ghost use Rattle.debug_session.specs.walking.FieldParts.{IsFieldEnd, IsNoField};
+ghost use Rattle.debug_session.specs.Lines.{IsNumber, IsBranch, IsSession, IsVariable, IsArm, IsChoice, MayBeChoice};
+ghost use Rattle.debug_session.specs.walking.NotAsked.{IsNoTicket, IsNoBranch, IsNoSession, IsNoVariable, IsNoArm, IsNoChoice};
 
 use calculus::Choice;
 use decimal::read_number;

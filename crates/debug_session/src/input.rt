@@ -1,12 +1,14 @@
 ghost use Rattle.std.specs.Prelude.{◌≡◌, ◌≢◌, ◌⊎◌, ◌++◌, ◌∷◌, [], true, false, MatchResult, MatchBool};
 ghost use Rattle.std.specs.IoError.{error_kind};
 ghost use Rattle.std.specs.Io.BufRead.{ends_with_byte};
-ghost use Rattle.debug_session.specs.Counting.{device, failures, after_reading};
+ghost use Rattle.syntax.specs.Texts.{line_end};
+ghost use Rattle.devices.specs.Counting.{device, failures};
+ghost use Rattle.debug_session.specs.Counting.{after_reading};
 ghost use Rattle.debug_session.specs.walking.OneLine.{TakesLine, ReadingStops};
 ghost use Rattle.debug_session.specs.declared.fault.Fault.TheVariants.{Memory, ReadFailed};
 
 use crate::Fault;
-use crate::counted::{Counted, ends_line};
+use devices::{Counted, ends_line};
 use std::io::{BufRead, Error, ErrorKind};
 
 /// Takes the next line into `line`, in place of what was there, without byte 10 at its end, and tells whether it was
@@ -33,8 +35,8 @@ pub(crate) fn read_line<R: BufRead>(
 
 /// Takes byte 10 off the end, and tells whether it was there.
 fn strip_end(line: &mut Vec<u8>) -> bool
-    ensures { MatchBool result ((line.old.items ≡ line.new.items ++ 10 ∷ []) × (ends_with_byte 10 line.old.items ≡ true))
-        ((line.new.items ≡ line.old.items) × (ends_with_byte 10 line.old.items ≡ false)) }
+    ensures { MatchBool result ((line.old.items ≡ line.new.items ++ line_end ∷ []) × (ends_with_byte line_end line.old.items ≡ true))
+        ((line.new.items ≡ line.old.items) × (ends_with_byte line_end line.old.items ≡ false)) }
 {
     if !ends_line(line.as_slice()) {
         return false;

@@ -2,26 +2,27 @@
 #![tactic(auto)]
 
 mod answer;
-mod counted;
 mod event;
 mod fault;
 mod fields;
 mod input;
+mod keyword;
 mod laws;
 mod line;
 mod output;
 mod read;
+mod replay_live;
 mod reply;
 mod sitting;
 mod text;
 mod whole;
-mod word;
 
-pub use counted::Counted;
+pub use devices::Counted;
 pub use fault::Fault;
 pub use laws::line_laws;
 pub use line::Line;
 pub use output::write_out;
 pub use read::read_command;
+pub use replay_live::replay;
 pub use reply::{write_reply, write_session};
 pub use whole::{accept, debug};

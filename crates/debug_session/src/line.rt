@@ -9,6 +9,8 @@ pub enum Line {
     Session(u32),
     /// the view of the source is asked for
     View,
+    /// the trace of the live events is asked for
+    Trace,
     /// nothing; it has no answer
     Empty,
 }

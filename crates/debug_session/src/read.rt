@@ -1,12 +1,13 @@
 ghost use Rattle.std.specs.Prelude.{◌≡◌, ◌≢◌, ◌⊎◌, [], Ok, Err, Some, MatchOption, IfOk, IfErr, OnErr};
-ghost use Rattle.debug_session.specs.Lines.{Asks, AsksBy, AsksNothing, AsksNothingBy, MayBeChoice, MayBeStep, Says, SaysSession};
-ghost use Rattle.debug_session.specs.declared.word.Word.TheVariants as words;
+ghost use Rattle.debug_session.specs.Lines.{Asks, AsksBy, AsksNothing, MayBeChoice, MayBeStep, Says, SaysSession};
+ghost use Rattle.debug_session.specs.walking.NotAsked.{AsksNothingBy};
+ghost use Rattle.debug_session.specs.declared.keyword.Keyword.TheVariants as keywords;
 ghost use Rattle.debug_session.specs.declared.fault.Fault.TheVariants.{Memory, BadCommand};
 
 use crate::fields::{
     cut_at_space, read_branch, read_choice, read_session, read_ticket, read_variable,
 };
-use crate::word::Word;
+use crate::keyword::Keyword;
 use crate::{Fault, Line};
 use locked_execution::Command;
 use sharing_check::Checked;
@@ -50,24 +51,24 @@ fn read_asked(alloc: Global, system: &System, line: &[u8]) -> Result<Option<Line
     ensures memory { OnErr result (MayBeStep line.now) }
 {
     let (text, rest) = cut_at_space(line);
-    let Some(word) = Word::read(text) else {
+    let Some(keyword) = Keyword::read(text) else {
         return Ok(None);
     };
-    read_behind(alloc, system, word, rest)
+    read_behind(alloc, system, keyword, rest)
 }
 
-/// What the word asks for with `rest` behind it.
+/// What the keyword asks for with `rest` behind it.
 fn read_behind(
     alloc: Global,
     system: &System,
-    word: Word,
+    keyword: Keyword,
     rest: &[u8],
 ) -> Result<Option<Line>, AllocError>
-    ensures found { IfOk result (λ found. MatchOption found (AsksNothingBy system.now word rest.now) (λ said. AsksBy system.now word rest.now said)) }
-    ensures memory { OnErr result ((word ≡ words.Step) × MayBeChoice rest.now) }
+    ensures found { IfOk result (λ found. MatchOption found (AsksNothingBy system.now keyword rest.now) (λ said. AsksBy system.now keyword rest.now said)) }
+    ensures memory { OnErr result ((keyword ≡ keywords.Step) × MayBeChoice rest.now) }
 {
-    match word {
-        Word::Step => match read_choice(alloc, rest)? {
+    match keyword {
+        Keyword::Step => match read_choice(alloc, rest)? {
             Some(choice) => Ok(asked(Command::Step(choice))),
             None => Ok(None),
         },
@@ -75,26 +76,27 @@ fn read_behind(
     }
 }
 
-/// What a word other than `step` asks for with `rest` behind it.
-fn read_simple(system: &System, word: Word, rest: &[u8]) -> Option<Line>
-    requires { word ≢ words.Step }
-    ensures { MatchOption result (AsksNothingBy system.now word rest.now) (λ said. AsksBy system.now word rest.now said) }
+/// What a keyword other than `step` asks for with `rest` behind it.
+fn read_simple(system: &System, keyword: Keyword, rest: &[u8]) -> Option<Line>
+    requires { keyword ≢ keywords.Step }
+    ensures { MatchOption result (AsksNothingBy system.now keyword rest.now) (λ said. AsksBy system.now keyword rest.now said) }
 {
-    match word {
-        Word::Step => None,
-        Word::Undo => asked(Command::Undo(read_ticket(rest)?)),
-        Word::Roll => asked(Command::Roll(read_ticket(rest)?)),
-        Word::Consequences => asked(Command::Consequences(read_ticket(rest)?)),
-        Word::RollValue => asked(Command::RollValue(read_variable(system, rest)?)),
-        Word::Blame => asked(Command::Blame(read_variable(system, rest)?)),
-        Word::Value => asked(Command::Value(read_variable(system, rest)?)),
-        Word::Ready => bare(rest, Line::Asked(Command::Ready)),
-        Word::Live => bare(rest, Line::Asked(Command::Live)),
-        Word::Branch => asked(Command::Branch(read_branch(rest)?)),
-        Word::Break => asked(Command::Break(read_ticket(rest)?)),
-        Word::Clear => asked(Command::Clear(read_ticket(rest)?)),
-        Word::Session => Some(Line::Session(read_session(rest)?)),
-        Word::View => bare(rest, Line::View),
+    match keyword {
+        Keyword::Step => None,
+        Keyword::Undo => asked(Command::Undo(read_ticket(rest)?)),
+        Keyword::Roll => asked(Command::Roll(read_ticket(rest)?)),
+        Keyword::Consequences => asked(Command::Consequences(read_ticket(rest)?)),
+        Keyword::RollValue => asked(Command::RollValue(read_variable(system, rest)?)),
+        Keyword::Blame => asked(Command::Blame(read_variable(system, rest)?)),
+        Keyword::Value => asked(Command::Value(read_variable(system, rest)?)),
+        Keyword::Ready => bare(rest, Line::Asked(Command::Ready)),
+        Keyword::Live => bare(rest, Line::Asked(Command::Live)),
+        Keyword::Branch => asked(Command::Branch(read_branch(rest)?)),
+        Keyword::Break => asked(Command::Break(read_ticket(rest)?)),
+        Keyword::Clear => asked(Command::Clear(read_ticket(rest)?)),
+        Keyword::Session => Some(Line::Session(read_session(rest)?)),
+        Keyword::View => bare(rest, Line::View),
+        Keyword::Trace => bare(rest, Line::Trace),
     }
 }
 

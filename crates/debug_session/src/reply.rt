@@ -116,7 +116,11 @@ fn add_consequences(out: &mut Vec<u8>, tickets: &[u64]) -> Result<(), AllocError
     add_bytes(out, b"\n")
 }
 
-fn add_live(out: &mut Vec<u8>, system: &System, pairs: &[(u64, Event)]) -> Result<(), AllocError>
+pub(crate) fn add_live(
+    out: &mut Vec<u8>,
+    system: &System,
+    pairs: &[(u64, Event)],
+) -> Result<(), AllocError>
     ensures { OnOk result (out.new.items ≡ out.old.items ++ (codes "live" ++ field (decimal (length pairs.now)) ++ ending ++ flat_map (live_line system.now) pairs.now)) }
 {
     add_numbered(out, b"live", pairs.len() as u64)?;

@@ -1,5 +1,7 @@
 ghost use Rattle.std.specs.Prelude.{◌≡◌, ◌<◌, IfOk};
+ghost use Rattle.calculus.specs.Live.{events};
 ghost use Rattle.source_view.specs.View.{IsView};
+ghost use Rattle.trace_file.specs.TraceText.{trace_text};
 ghost use Rattle.locked_execution.specs.AtDesk.{breaks_of, new_desk};
 ghost use Rattle.locked_execution.specs.Performs.{Answers};
 
@@ -8,6 +10,7 @@ use sharing_check::Checked;
 use source_view::view;
 use std::alloc::{AllocError, Global};
 use std::marker::Model;
+use trace_file::write_trace;
 
 /// A desk, the session whose lines come, and the source that a view shows.
 #[derive(Drop)]
@@ -75,5 +78,12 @@ impl<'a> Sitting<'a> {
     {
         let breaks = self.desk.breaks(self.session);
         view(alloc, self.desk.machine(), breaks, self.source)
+    }
+
+    /// The trace of the live events.
+    pub(crate) fn trace(&self, alloc: Global) -> Result<Vec<u8>, AllocError>
+        ensures { IfOk result (λ bytes. bytes.items ≡ trace_text (events self.now.desk.machine.live)) }
+    {
+        write_trace(alloc, self.desk.machine())
     }
 }

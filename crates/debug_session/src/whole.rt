@@ -1,6 +1,7 @@
 ghost use Rattle.std.specs.Prelude.{◌≡◌, ℕ, List, IfOk, IfErr};
-ghost use Rattle.debug_session.specs.Accepting.{Describes, IsTyped, Makes, Gives, IsRefused};
-ghost use Rattle.debug_session.specs.Counting.{device, failures, after_reading, after_writing};
+ghost use Rattle.debug_session.specs.Accepting.{Describes, IsTyped, Makes, AcceptedAs, IsRefused};
+ghost use Rattle.devices.specs.Counting.{device, failures};
+ghost use Rattle.debug_session.specs.Counting.{after_reading, after_writing};
 ghost use Rattle.debug_session.specs.Transcript.{Debugged};
 
 use crate::answer::answer_lines;
@@ -55,7 +56,7 @@ fn made(alloc: Global, source: &[u8], stimulus: &[u8]) -> Result<System, Fault>
 /// the source is cut, parsed and typed, then the stimulus is read, then the system is
 /// made, and then the rule on sharing is checked.
 pub fn accept(alloc: Global, source: &[u8], stimulus: &[u8]) -> Result<Checked, Fault>
-    ensures system { IfOk result (λ checked. Gives source.now stimulus.now checked) }
+    ensures system { IfOk result (λ checked. AcceptedAs source.now stimulus.now checked) }
     ensures fault { IfErr result (λ fault. IsRefused source.now stimulus.now fault) }
 {
     match made(alloc, source, stimulus) {

@@ -3,11 +3,11 @@ use Rattle.std.proofs.Common.{◌≡◌, ◌≢◌, ◌⊎◌, ◌↔◌, inl, i
 use Rattle.std.proofs.lemmas.Bool.{cases_eq}
 use Rattle.syntax.specs.Lists.{In}
 use Rattle.calculus.specs.Dependence.{Directly}
-use Rattle.calculus.specs.Live.{Live, Rising, LiveAt, Follows, same, later}
+use Rattle.calculus.specs.Live.{Live, Rising, LiveAt, DependsOn, same, later}
 use Rattle.calculus.specs.declared.event.Event.{Event}
 use Rattle.calculus.proofs.Lists.{in-left, in-right, in-parts}
 use Rattle.calculus.proofs.Tickets.{rising-in}
-use Rattle.calculus.proofs.FollowersLaw.{follows-up}
+use Rattle.calculus.proofs.DependsOnLaw.{depends-up}
 use Rattle.dependence.specs.Followers.{Follower}
 use Rattle.dependence.specs.walking.Tables.{Candidates, Topmost}
 use Rattle.dependence.proofs.Following.{follows-on, follows-in, follows-upto}
@@ -47,14 +47,14 @@ module _ (low : ℕ) (l : Live) (n : ℕ) (f : Event) (r : Rising low l n) where
     | inr (inr a) ↦ absurd a
   ]
 
-  before-new : (t v : ℕ) → v < n → Follows (added l n f) t v → Follows l t v
+  before-new : (t v : ℕ) → v < n → DependsOn (added l n f) t v → DependsOn l t v
   before-new t v less follows = follows-upto (added l n f) l t v n less lesser follows
 
-  after-all : (t v : ℕ) → Follows l t v → Follows (added l n f) t v
+  after-all : (t v : ℕ) → DependsOn l t v → DependsOn (added l n f) t v
   after-all t v follows = follows-in l (added l n f) t v was-live follows
 
   -- what the new event depends on is followed by one on which it depends directly
-  last-link : (v : ℕ) → v ≢ n → Follows (added l n f) v n → (w : ℕ) × (g : Event) × Follows l v w × LiveAt l w g × Directly g f
+  last-link : (v : ℕ) → v ≢ n → DependsOn (added l n f) v n → (w : ℕ) × (g : Event) × DependsOn l v w × LiveAt l w g × Directly g f
   last-link v differs same = absurd (differs refl)
   last-link v differs (later {u = w} g h before iw iu less d) =
       (w, g, before-new v w less before, lesser w g iw less, subst (λ (e : Event). Directly g e) (newest h iu) d)
@@ -90,14 +90,14 @@ module _ (low : ℕ) (l : Live) (n : ℕ) (f : Event) (r : Rising low l n) where
             direct = d.direct;
           };
           next = λ v from to.
-              let up : v ≤ u = follows-up (added l n f) v u to in
+              let up : v ≤ u = depends-up (added l n f) v u to in
               let below : v < n = omega arith in
               k.next v (before-new t v below from) (before-new v u less to);
         }),
   )
 
   module _ (cs : List ℕ) (c : Candidates l f cs) where
-    follows-new : (w : ℕ) (g : Event) → LiveAt l w g → Directly g f → Follows (added l n f) w n
+    follows-new : (w : ℕ) (g : Event) → LiveAt l w g → Directly g f → DependsOn (added l n f) w n
     follows-new w g i d = later g f same (was-live w g i) is-new (rising-in low n l w g r i).1 d
 
     new-follows-topmost : (t : ℕ) → Follower (added l n f) t n → Topmost l cs t
@@ -105,7 +105,7 @@ module _ (low : ℕ) (l : Live) (n : ℕ) (f : Event) (r : Rising low l n) where
         let d = k.dependent in
         let first : LiveAt l t d.event = lesser t d.event d.live d.less in
         let direct : Directly d.event f = subst (λ (e : Event). Directly d.event e) (newest d.dependent d.dependent_live) d.direct in
-        let only : (x : ℕ) → In x cs → Follows l t x → x ≡ t = λ x i follows.
+        let only : (x : ℕ) → In x cs → DependsOn l t x → x ≡ t = λ x i follows.
         let at = c.sound x i in
         let low_x : x < n = (rising-in low n l x at.0 r at.1).1 in
         elim (k.next x (after-all t x follows) (follows-new x at.0 at.1 at.2)) [ inl is ↦ is | inr is ↦ absurd (omega arith) ] in
@@ -131,13 +131,13 @@ module _ (low : ℕ) (l : Live) (n : ℕ) (f : Event) (r : Rising low l n) where
                 let w : ℕ = link.0 in
                 let found = c.complete w link.1 link.3 link.4 in
                 let x : ℕ = found.0 in
-                let up : v ≤ w = follows-up l v w link.2 in
+                let up : v ≤ w = depends-up l v w link.2 in
                 let low_w : w < n = (rising-in low n l w link.1 r link.3).1 in
                 let below : v < n = omega arith in
-                let start : Follows l t v = before-new t v below from in
+                let start : DependsOn l t v = before-new t v below from in
                 let is : x ≡ t = top.1 x found.1 (follows-on l t v x start (follows-on l v w x link.2 found.2)) in
-                let one : t ≤ v = follows-up l t v start in
-                let two : w ≤ x = follows-up l w x found.2 in
+                let one : t ≤ v = depends-up l t v start in
+                let two : w ≤ x = depends-up l w x found.2 in
                 inl (omega arith)
           ];
         }

@@ -1,15 +1,14 @@
 -- Counting the events that depend directly on one.
-use Rattle.std.proofs.Common.{◌≡◌, ◌↔◌, inl, inr, ℕ, suc, ◌+◌, ◌-◌, ◌<◌, ◌≤◌, List, [], ◌∷◌, ◌++◌, Bool, true, false, cond, length, take, drop, get_or, Some, IsTrue, refl, sym, ◌∙◌, ap, subst, arith, length-append, length-drop}
+use Rattle.std.proofs.Common.{◌≡◌, inl, inr, ℕ, suc, ◌+◌, ◌-◌, ◌<◌, ◌≤◌, List, [], ◌∷◌, ◌++◌, length, take, drop, get_or, Some, refl, sym, ◌∙◌, ap, subst, arith, length-append, length-drop}
 use Rattle.std.specs.Prelude.{slice_get}
 use Rattle.std.proofs.lemmas.Option.{slice_get-get_or}
-use Rattle.syntax.specs.Lists.{In}
 use Rattle.calculus.specs.Dependence.{Directly}
-use Rattle.calculus.specs.Live.{Live, Rising, LiveAt, same}
+use Rattle.calculus.specs.Live.{Live, Rising, LiveAt}
 use Rattle.calculus.specs.declared.event.Event.{Event}
 use Rattle.calculus.proofs.Lists.{in-left, in-right, in-parts}
 use Rattle.calculus.proofs.Tickets.{rising-in, rising-one, rising-parts, rising-lower}
 use Rattle.dependence.specs.Followers.{CountsDirect}
-use Rattle.dependence.specs.walking.Tables.{IsRising, CountsAmong, Candidates}
+use Rattle.dependence.specs.walking.Tables.{IsRising, CountsAmong}
 use Rattle.dependence.proofs.ListPlaces.{parts-at, take-next, take-all, in-order-more}
 
 pub among-none : (e : Event) → CountsAmong e [] 0
@@ -127,51 +126,6 @@ module _ (l : Live) (t place : ℕ) (e : Event) (r : IsRising l) (at : slice_get
     },
     counted.2,
   )
-
--- one more live event is looked at
-pub candidate-next : (f : Event) (l : Live) (i : ℕ) (x : ℕ × Event) (b : Bool) (old new : List ℕ) → i < length l → x ≡ get_or l i x → IsTrue b ↔ Directly x.1 f →
-    new ≡ cond b (old ++ x.0 ∷ []) old → ((t : ℕ) → In t old ↔ ((e : Event) × LiveAt (take i l) t e × Directly e f)) →
-    (t : ℕ) → In t new ↔ ((e : Event) × LiveAt (take (i + 1) l) t e × Directly e f)
-candidate-next f l i x b old new less is told now before t = pick b refl now
-  where
-    next : take (i + 1) l ≡ take i l ++ x ∷ []
-    next =
-        let more : i + 1 ≡ suc i = omega arith in
-        ap (λ (k : ℕ). take k l) more ∙ take-next l i x (slice_get-get_or l i x less ∙ ap (λ (y : ℕ × Event). Some y) (sym is))
-
-    pick : (c : Bool) → b ≡ c → new ≡ cond c (old ++ x.0 ∷ []) old → In t new ↔ ((e : Event) × LiveAt (take (i + 1) l) t e × Directly e f)
-    pick true on is_new = subst (λ (k : Live). In t new ↔ ((e : Event) × LiveAt k t e × Directly e f)) (sym next)
-        (subst (λ (k : List ℕ). In t k ↔ ((e : Event) × LiveAt (take i l ++ x ∷ []) t e × Directly e f)) (sym is_new) (
-          (λ j. elim (in-parts t old (x.0 ∷ []) j) [
-            | inl a ↦ let found = (before t).0 a in (found.0, in-left (t, found.0) (take i l) (x ∷ []) found.1, found.2)
-            | inr (inl a) ↦ (x.1, in-right (t, x.1) (take i l) (x ∷ []) (inl (ap (λ (v : ℕ). (v, x.1)) a)), told.0 on)
-            | inr (inr a) ↦ absurd a
-          ]),
-          (λ h. elim (in-parts (t, h.0) (take i l) (x ∷ []) h.1) [
-            | inl a ↦ in-left t old (x.0 ∷ []) ((before t).1 (h.0, a, h.2))
-            | inr (inl a) ↦ in-right t old (x.0 ∷ []) (inl (ap (λ (y : ℕ × Event). y.0) a))
-            | inr (inr a) ↦ absurd a
-          ]),
-        ))
-    pick false off is_new = subst (λ (k : Live). In t new ↔ ((e : Event) × LiveAt k t e × Directly e f)) (sym next)
-        (subst (λ (k : List ℕ). In t k ↔ ((e : Event) × LiveAt (take i l ++ x ∷ []) t e × Directly e f)) (sym is_new) (
-          (λ j. let found = (before t).0 j in (found.0, in-left (t, found.0) (take i l) (x ∷ []) found.1, found.2)),
-          (λ h. elim (in-parts (t, h.0) (take i l) (x ∷ []) h.1) [
-            | inl a ↦ (before t).1 (h.0, a, h.2)
-            | inr (inl a) ↦ let on : b ≡ true = told.1 (subst (λ (g : Event). Directly g f) (ap (λ (y : ℕ × Event). y.1) a) h.2) in cc
-            | inr (inr a) ↦ absurd a
-          ]),
-        ))
-
--- all live events were looked at
-pub candidates-all : (f : Event) (l : Live) (i : ℕ) (found : List ℕ) → length l ≤ i → ((t : ℕ) → In t found ↔ ((e : Event) × LiveAt (take i l) t e × Directly e f)) →
-    Candidates l f found
-candidates-all f l i found past all =
-    let whole = take-all l i past in
-    record {
-      sound = λ t j. let h = (all t).0 j in (h.0, subst (λ (k : Live). LiveAt k t h.0) whole h.1, h.2);
-      complete = λ t e j d. (t, (all t).1 (e, subst (λ (k : Live). LiveAt k t e) (sym whole) j, d), same);
-    }
 
 -- what stands after an entry rises, and what is counted there is what depends directly on it
 pub after-rises : (l : Live) (t place : ℕ) (e : Event) → IsRising l → slice_get l place ≡ Some (t, e) → IsRising (drop (suc place) l)

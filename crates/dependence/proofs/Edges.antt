@@ -7,16 +7,15 @@ use Rattle.std.proofs.lemmas.List.{append-nil}
 use Rattle.std.proofs.lemmas.Option.{slice_get_within, slice_get-get_or}
 use Rattle.syntax.specs.Lists.{In}
 use Rattle.calculus.specs.Dependence.{ended, stays, leaves}
-use Rattle.calculus.specs.Live.{Live, Rising, LiveAt, NoneAt, NoDependent, WithoutTickets}
+use Rattle.calculus.specs.Live.{Live, Rising, LiveAt, NoneAt, NoDependent, WithoutTickets, IsLive}
 use Rattle.calculus.specs.declared.event.Event.{Event}
 use Rattle.calculus.proofs.Lists.{in-parts}
 use Rattle.calculus.proofs.Tickets.{rising-in, rising-lower}
 use Rattle.calculus.proofs.UndoLaws.{without-live}
 use Rattle.dependence.specs.Followers.{Follower, ListsFollowers}
 use Rattle.dependence.specs.declared.links.Links.{Links}
-use Rattle.dependence.specs.walking.Tables.{IsRising, IsLive, StandsAt, Linked, Falling, PartLinked, ListsWith, Candidates, Topmost}
-use Rattle.dependence.specs.walking.Sweeping.{StandWithin}
-use Rattle.dependence.proofs.ListPlaces.{in-at, at-one, place-in, take-all, drop-all, removed-below, removed-above}
+use Rattle.dependence.specs.walking.Tables.{IsRising, StandsAt, Linked, Falling, PartLinked, ListsWith, Candidates, Topmost}
+use Rattle.dependence.proofs.ListPlaces.{in-at, at-one, take-all, drop-all, removed-below, removed-above}
 use Rattle.dependence.proofs.Linking.{one-place}
 use Rattle.dependence.proofs.AddedEvent.{added, others-stay, new-follows}
 use Rattle.dependence.proofs.FollowerLaws.{no-new-follower}
@@ -222,12 +221,9 @@ pub take-whole : {X : Type 0} (xs ys : List X) (n : ℕ) → length xs ≡ lengt
 take-whole {X = X} xs ys n same is =
     ap (λ (zs : List X). take n (xs ++ zs)) (drop-all ys (length xs) (omega arith)) ∙ ap (λ (zs : List X). take n zs) (append-nil xs) ∙ take-all xs n (omega arith)
 
--- candidates stand in the list
-pub candidates-stand : (l : Live) (f : Event) (cs ds : List ℕ) → cs ≡ ds → Candidates l f ds → StandWithin l cs 0 (length l)
-candidates-stand l f cs ds is c t i =
-    let at = c.sound t (subst (λ (k : List ℕ). In t k) is i) in
-    let place = place-in l (t, at.0) at.1 in
-    (place.0, (at.0, place.1), omega arith, slice_get_within l place.0 (t, at.0) place.1)
+-- candidates are live
+pub candidates-live : (l : Live) (f : Event) (cs ds : List ℕ) → cs ≡ ds → Candidates l f ds → (t : ℕ) → In t cs → IsLive l t
+candidates-live l f cs ds is c t i = let at = c.sound t (subst (λ (k : List ℕ). In t k) is i) in (at.0, at.1)
 
 -- all that the take of an event asks and leaves
 pub record TakenAt (l k : Live) (rest : List Links) (t : ℕ) (kept : List ℕ) : Type 0 where

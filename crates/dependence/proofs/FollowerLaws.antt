@@ -2,21 +2,21 @@
 use Rattle.std.proofs.Common.{◌≡◌, ◌≢◌, inl, inr, ℕ, zero, suc, ◌+◌, ◌<◌, ◌≤◌, refl, subst, arith}
 use Rattle.std.proofs.lemmas.Bool.{cases_eq}
 use Rattle.syntax.specs.Lists.{In}
-use Rattle.calculus.specs.Live.{Live, Rising, LiveAt, Follows, same, later, FirstDependent, NoDependent, WithoutTickets}
+use Rattle.calculus.specs.Live.{Live, Rising, LiveAt, DependsOn, same, later, FirstDependent, NoDependent, WithoutTickets}
 use Rattle.calculus.specs.declared.event.Event.{Event}
-use Rattle.calculus.proofs.Decisions.{Or, search-list, follows?}
-use Rattle.calculus.proofs.FollowersLaw.{follows-up}
+use Rattle.calculus.proofs.Decisions.{Or, search-list, depends?}
+use Rattle.calculus.proofs.DependsOnLaw.{depends-up}
 use Rattle.calculus.proofs.UndoLaws.{without-live}
 use Rattle.dependence.specs.Followers.{DirectDependent, Follower, Reached, here, along}
 use Rattle.dependence.specs.Laws.{LeastIsFollower, ReachedThroughFollowers, NoNewFollower}
 use Rattle.dependence.proofs.Following.{follows-on, live-beyond, follows-in, follows-without}
 
 -- a direct dependent depends
-pub direct-follows : (l : Live) (t u : ℕ) → DirectDependent l t u → Follows l t u
+pub direct-follows : (l : Live) (t u : ℕ) → DirectDependent l t u → DependsOn l t u
 direct-follows l t u d = later d.event d.dependent same d.live d.dependent_live d.less d.direct
 
 -- the least dependent depends directly
-least-direct : (l : Live) (t u : ℕ) → FirstDependent l t u → Follows l t u → DirectDependent l t u
+least-direct : (l : Live) (t u : ℕ) → FirstDependent l t u → DependsOn l t u → DirectDependent l t u
 least-direct l t u first same = absurd (first.other refl)
 least-direct l t u first (later {u = w} g h before iw iu less d) =
     elim (cases_eq w t) [
@@ -33,18 +33,18 @@ least-direct l t u first (later {u = w} g h before iw iu less d) =
 
 pub least-is-follower : LeastIsFollower
 least-is-follower l t u first = record {
-  dependent = least-direct l t u first first.follows;
+  dependent = least-direct l t u first first.depends;
   next = λ v from to. elim (cases_eq v t) [
     | inl is ↦ inl is
     | inr differs ↦
         let live = live-beyond l t v from differs in
         let low : u ≤ v = first.least v live.0 live.1 differs from in
-        let high : v ≤ u = follows-up l v u to in
+        let high : v ≤ u = depends-up l v u to in
         inr (omega arith)
   ];
 }
 
-pub reached-follows : (l : Live) (t u : ℕ) → Reached l t u → Follows l t u
+pub reached-follows : (l : Live) (t u : ℕ) → Reached l t u → DependsOn l t u
 reached-follows l t u here = same
 reached-follows l t u (along {u = w} r f) = follows-on l t w u (reached-follows l t w r) (direct-follows l w u f.dependent)
 
@@ -54,7 +54,7 @@ reached-on l t u v first (along {u = w} r f) = along (reached-on l t u w first r
 
 -- strictly between t and u
 abbrev Between : Live → ℕ → ℕ → ℕ × Event → Type 0
-Between l t u x = Follows l t x.0 × Follows l x.0 u × (x.0 ≢ t) × (x.0 ≢ u)
+Between l t u x = DependsOn l t x.0 × DependsOn l x.0 u × (x.0 ≢ t) × (x.0 ≢ u)
 
 between? : (low next : ℕ) (l : Live) (t u : ℕ) (f : Event) → Rising low l next → LiveAt l u f → (x : ℕ × Event) → In x l → Or (Between l t u x)
 between? low next l t u f r iu x ix =
@@ -62,9 +62,9 @@ between? low next l t u f r iu x ix =
       | inl is ↦ inr (λ h. h.2 is)
       | inr first ↦ elim (cases_eq x.0 u) [
         | inl is ↦ inr (λ h. h.3 is)
-        | inr last ↦ elim (follows? low next l t x.0 x.1 r ix) [
+        | inr last ↦ elim (depends? low next l t x.0 x.1 r ix) [
           | inr out ↦ inr (λ h. out h.0)
-          | inl from ↦ elim (follows? low next l x.0 u f r iu) [
+          | inl from ↦ elim (depends? low next l x.0 u f r iu) [
             | inr out ↦ inr (λ h. out h.1)
             | inl to ↦ inl (from, to, first, last)
           ]
@@ -86,22 +86,22 @@ follower-where-none l t u d none = record {
 }
 
 -- over less than n tickets
-reached-within : (n low next : ℕ) (l : Live) (t u : ℕ) → Rising low l next → u ≤ t + n → Follows l t u → Reached l t u
+reached-within : (n low next : ℕ) (l : Live) (t u : ℕ) → Rising low l next → u ≤ t + n → DependsOn l t u → Reached l t u
 reached-within zero low next l t u r near follows =
-    let up : t ≤ u = follows-up l t u follows in
+    let up : t ≤ u = depends-up l t u follows in
     let is : t ≡ u = omega arith in
     subst (λ (v : ℕ). Reached l t v) is here
 reached-within (suc n) low next l t u r near same = here
 reached-within (suc n) low next l t u r near (later {u = w} g h before iw iu less d) =
-    let up : t ≤ w = follows-up l t w before in
+    let up : t ≤ w = depends-up l t w before in
     let close : w ≤ t + n = omega arith in
     let first : Reached l t w = reached-within n low next l t w r close before in
     let direct : DirectDependent l w u = record { event = g; dependent = h; live = iw; dependent_live = iu; less = less; direct = d } in
     elim (search-list (Between l w u) l (between? low next l w u h r iu)) [
       | inl found ↦
           let v : ℕ = found.0.0 in
-          let before_it : w ≤ v = follows-up l w v found.2.0 in
-          let after_it : v ≤ u = follows-up l v u found.2.1 in
+          let before_it : w ≤ v = depends-up l w v found.2.0 in
+          let after_it : v ≤ u = depends-up l v u found.2.1 in
           let above : v ≢ w = found.2.2 in
           let below : v ≢ u = found.2.3 in
           let near_it : v ≤ w + n = omega arith in
@@ -126,7 +126,7 @@ follower-left l k t u v none w f =
       record {
         dependent = record { event = d.event; dependent = d.dependent; live = start.0; dependent_live = end.0; less = d.less; direct = d.direct };
         next = λ x from to.
-            let other : x ≢ t = λ is. end.1 (none v d.dependent end.0 (subst (λ (y : ℕ). Follows l y v) is to)) in
+            let other : x ≢ t = λ is. end.1 (none v d.dependent end.0 (subst (λ (y : ℕ). DependsOn l y v) is to)) in
             f.next x (follows-without l k t u x none inside other from) (follows-without l k t x v none inside end.1 to);
       },
       end.1,
@@ -136,7 +136,7 @@ follower-stays : (l k : Live) (t u v : ℕ) → NoDependent l t → WithoutTicke
 follower-stays l k t u v none w f differs =
     let left = without-live (λ (w : ℕ). w ≡ t) l k w in
     let d = f.dependent in
-    let first : u ≢ t = λ is. differs (none v d.dependent d.dependent_live (subst (λ (y : ℕ). Follows l y v) is (direct-follows l u v d))) in
+    let first : u ≢ t = λ is. differs (none v d.dependent d.dependent_live (subst (λ (y : ℕ). DependsOn l y v) is (direct-follows l u v d))) in
     let outside : (x : ℕ) (e : Event) → LiveAt k x e → LiveAt l x e = λ x e i. (left.0 x e i).0 in
     record {
       dependent = record {

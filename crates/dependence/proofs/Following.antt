@@ -1,23 +1,23 @@
 -- What depends on what: chains of dependence joined, cut and moved between lists.
 use Rattle.std.proofs.Common.{◌≡◌, ◌≢◌, ◌⊎◌, inl, inr, ℕ, ◌<◌, refl, subst, arith}
 use Rattle.std.proofs.lemmas.Bool.{cases_eq}
-use Rattle.calculus.specs.Live.{Live, LiveAt, Follows, same, later, NoDependent}
+use Rattle.calculus.specs.Live.{Live, LiveAt, DependsOn, same, later, NoDependent}
 use Rattle.calculus.specs.declared.event.Event.{Event}
 
-pub follows-on : (l : Live) (t u v : ℕ) → Follows l t u → Follows l u v → Follows l t v
+pub follows-on : (l : Live) (t u v : ℕ) → DependsOn l t u → DependsOn l u v → DependsOn l t v
 follows-on l t u v first same = first
 follows-on l t u v first (later {u = w} g h before iw iv less d) = later g h (follows-on l t u w first before) iw iv less d
 
 -- what follows another is live
-pub follows-live : (l : Live) (t u : ℕ) → Follows l t u → (u ≡ t) ⊎ ((f : Event) × LiveAt l u f)
+pub follows-live : (l : Live) (t u : ℕ) → DependsOn l t u → (u ≡ t) ⊎ ((f : Event) × LiveAt l u f)
 follows-live l t u same = inl refl
 follows-live l t u (later g h before iw iu less d) = inr (h, iu)
 
-pub live-beyond : (l : Live) (t u : ℕ) → Follows l t u → u ≢ t → (f : Event) × LiveAt l u f
+pub live-beyond : (l : Live) (t u : ℕ) → DependsOn l t u → u ≢ t → (f : Event) × LiveAt l u f
 live-beyond l t u follows differs = elim (follows-live l t u follows) [ inl is ↦ absurd (differs is) | inr live ↦ live ]
 
 -- what another follows is live
-pub live-before : (l : Live) (t u : ℕ) → Follows l t u → u ≢ t → (e : Event) × LiveAt l t e
+pub live-before : (l : Live) (t u : ℕ) → DependsOn l t u → u ≢ t → (e : Event) × LiveAt l t e
 live-before l t u same differs = absurd (differs refl)
 live-before l t u (later {u = w} g h before iw iu less d) differs =
     elim (cases_eq w t) [
@@ -26,13 +26,13 @@ live-before l t u (later {u = w} g h before iw iu less d) differs =
     ]
 
 -- a chain stands in every list that has its events
-pub follows-in : (l k : Live) (t u : ℕ) → ((v : ℕ) (e : Event) → LiveAt l v e → LiveAt k v e) → Follows l t u → Follows k t u
+pub follows-in : (l k : Live) (t u : ℕ) → ((v : ℕ) (e : Event) → LiveAt l v e → LiveAt k v e) → DependsOn l t u → DependsOn k t u
 follows-in l k t u inside same = same
 follows-in l k t u inside (later {u = w} g h before iw iu less d) =
     later g h (follows-in l k t w inside before) (inside w g iw) (inside u h iu) less d
 
 -- a chain stands where the events up to its end are
-pub follows-upto : (l k : Live) (t u top : ℕ) → u < top → ((v : ℕ) (e : Event) → LiveAt l v e → v < top → LiveAt k v e) → Follows l t u → Follows k t u
+pub follows-upto : (l k : Live) (t u top : ℕ) → u < top → ((v : ℕ) (e : Event) → LiveAt l v e → v < top → LiveAt k v e) → DependsOn l t u → DependsOn k t u
 follows-upto l k t u top low inside same = same
 follows-upto l k t u top low inside (later {u = w} g h before iw iu less d) =
     let below : w < top = omega arith in
@@ -40,7 +40,7 @@ follows-upto l k t u top low inside (later {u = w} g h before iw iu less d) =
 
 -- a chain to another event stands without an event on which none depends
 pub follows-without : (l k : Live) (t a b : ℕ) → NoDependent l t → ((v : ℕ) (e : Event) → LiveAt l v e → v ≢ t → LiveAt k v e) → b ≢ t →
-    Follows l a b → Follows k a b
+    DependsOn l a b → DependsOn k a b
 follows-without l k t a b none inside differs same = same
 follows-without l k t a b none inside differs (later {u = w} g h before iw ib less d) =
     let other : w ≢ t =

@@ -1,4 +1,5 @@
 pub mod AddedEvent
+pub mod Candidacy
 pub mod Counting
 pub mod Edges
 pub mod FollowerLaws
@@ -6,7 +7,9 @@ pub mod Following
 pub mod Linking
 pub mod ListPlaces
 pub mod Markings
+pub mod RunOrder
 pub mod Standing
 pub mod ShownStates
 pub mod Sweeps
+pub mod Tabling
 pub mod Wholes

@@ -7,7 +7,7 @@ use Rattle.std.proofs.lemmas.List.Sums.{sum_by-cons}
 use Rattle.std.proofs.lemmas.Option.{slice_get_within, slice_get-get_or}
 use Rattle.syntax.specs.Lists.{In}
 use Rattle.calculus.specs.InOrder.{InOrder}
-use Rattle.calculus.specs.Live.{Live, Rising, Follows, same, FollowersList}
+use Rattle.calculus.specs.Live.{Live, Rising, DependsOn, same, ConsequencesList}
 use Rattle.calculus.specs.declared.event.Event.{Event}
 use Rattle.calculus.proofs.Lists.{every-of, in-left, in-right, in-parts}
 use Rattle.calculus.proofs.Options.{none-some}
@@ -101,7 +101,7 @@ marked-first low next l marks t place e r size stands none =
     let only : (u : ℕ) → MarkedAt l (slice_set marks place true) u → u ≡ t = λ u h.
     elim ((set-marked low next l marks t place e r size stands u).0 h) [ inl old ↦ absurd (none old.0 old.2) | inr is ↦ is ] in
     record {
-      sound = λ u h. subst (λ (v : ℕ). Follows l t v) (sym (only u h)) same;
+      sound = λ u h. subst (λ (v : ℕ). DependsOn l t v) (sym (only u h)) same;
       start = (set-marked low next l marks t place e r size stands t).1 (inr refl);
       onward = λ s u i at low_i h f.
           let is : s ≡ t = only s h in
@@ -151,7 +151,7 @@ module _ (low next : ℕ) (l : Live) (t place s : ℕ) (e : Event) (old new : Li
 
 -- once all places are passed, the marks are those of all that depends on t
 pub all-passed : (low next : ℕ) (l : Live) (t place : ℕ) (marks : List Bool) → Rising low l next → length l ≤ place → MarkedBelow l t place marks →
-    FollowersList l t (tickets_marked l marks)
+    ConsequencesList l t (tickets_marked l marks)
 all-passed low next l t place marks r past b =
     record {
       exactly = λ u. (

@@ -5,12 +5,12 @@ use Rattle.std.proofs.lemmas.Bool.{cases_eq, cases_lt}
 use Rattle.std.proofs.lemmas.Option.{slice_get_within, slice_get-get_or}
 use Rattle.syntax.specs.Lists.{In}
 use Rattle.system.specs.Expression.{is_in}
-use Rattle.calculus.specs.Live.{Live, Rising, Follows, same}
+use Rattle.calculus.specs.Live.{Live, Rising, DependsOn, same}
 use Rattle.calculus.specs.declared.event.Event.{Event}
 use Rattle.calculus.proofs.Lists.{in-left, in-right, in-parts}
-use Rattle.calculus.proofs.FollowersLaw.{follows-up}
+use Rattle.calculus.proofs.DependsOnLaw.{depends-up}
 use Rattle.dependence.specs.Followers.{Follower, ListsFollowers, Reached, here, along}
-use Rattle.dependence.specs.walking.Tables.{StandsAt, Topmost, Reaches}
+use Rattle.dependence.specs.walking.Tables.{StandsAt, Falling, Topmost, Reaches}
 use Rattle.dependence.specs.walking.Sweeping.{StandWithin, FlagAt, Swept}
 use Rattle.dependence.proofs.ListPlaces.{at-one, place-in, in-order-more}
 use Rattle.calculus.proofs.ReadTests.{is-in, in-is}
@@ -23,7 +23,7 @@ use Rattle.dependence.proofs.FollowerLaws.{direct-follows, reached-through-follo
 record FirstStep (l : Live) (t u : ℕ) : Type 0 where
   ticket : ℕ
   follower : Follower l t ticket
-  on : Follows l ticket u
+  on : DependsOn l ticket u
 
 first-step : (l : Live) (t u : ℕ) → Reached l t u → u ≢ t → FirstStep l t u
 first-step l t u here differs = absurd (differs refl)
@@ -68,10 +68,10 @@ module _ (from next : ℕ) (l : Live) (cs : List ℕ) (low high place s : ℕ) (
   above v i f on = let up : place < i = lesser-stands from next l place i s v e on.0 r at on.1 f.dependent.less in omega arith
 
   -- what another of cs depends on stands below `high`
-  below-high : (v c i : ℕ) → In c cs → Follows l v c → StandsAt l v i → i < high
+  below-high : (v c i : ℕ) → In c cs → DependsOn l v c → StandsAt l v i → i < high
   below-high v c i ic follows on =
       let end = stand c ic in
-      let up : v ≤ c = follows-up l v c follows in
+      let up : v ≤ c = depends-up l v c follows in
       let last : end.0 < high = end.3 in
       elim (cases_lt i end.0) [
         | inl lower ↦ omega arith
@@ -82,7 +82,7 @@ module _ (from next : ℕ) (l : Live) (cs : List ℕ) (low high place s : ℕ) (
       ]
 
   -- a flag of a follower means that s reaches another of cs
-  pub flagged-below : (v : ℕ) × In v followers × FlagAt l high flags v → (c : ℕ) × In c cs × Follows l s c × (s < c)
+  pub flagged-below : (v : ℕ) × In v followers × FlagAt l high flags v → (c : ℕ) × In c cs × DependsOn l s c × (s < c)
   flagged-below h =
       let v : ℕ = h.0 in
       let f = (lists.exactly v).0 h.1 in
@@ -91,12 +91,12 @@ module _ (from next : ℕ) (l : Live) (cs : List ℕ) (low high place s : ℕ) (
       let high_is : i + flag.1 + 1 ≡ high = flag.3 in
       let less : i < high = omega arith in
       let reach = (swept.flagged v i flag.2 (above v i f flag.2) less).0 flag in
-      let up : v ≤ reach.0 = follows-up l v reach.0 reach.2 in
+      let up : v ≤ reach.0 = depends-up l v reach.0 reach.2 in
       let more : s < v = f.dependent.less in
       (reach.0, reach.1, follows-on l s v reach.0 (direct-follows l s v f.dependent) reach.2, omega arith)
 
   -- s reaches another of cs, so a follower is flagged
-  pub below-flagged : (c : ℕ) → In c cs → Follows l s c → c ≢ s → (v : ℕ) × In v followers × FlagAt l high flags v
+  pub below-flagged : (c : ℕ) → In c cs → DependsOn l s c → c ≢ s → (v : ℕ) × In v followers × FlagAt l high flags v
   below-flagged c ic follows differs =
       let step = first-step l s c ((reached-through-followers from next l s c r).0 follows) differs in
       let v : ℕ = step.ticket in
@@ -309,3 +309,30 @@ no-flag-at from next l high flags t place e r at past = (
       let sum : h.0 + h.1 + 1 ≡ high = h.3 in
       absurd (omega arith)),
 )
+
+-- of one event none depends on another
+one-of-few : (cs : List ℕ) (c t : ℕ) → length cs ≤ 1 → In c cs → In t cs → c ≡ t
+one-of-few [] c t h i j = absurd i
+one-of-few (x ∷ []) c t h i j = elim i [ inl a ↦ elim j [ inl b ↦ a ∙ sym b | inr b ↦ absurd b ] | inr a ↦ absurd a ]
+one-of-few (x ∷ y ∷ cs) c t h i j = absurd (omega arith)
+
+pub few-falling : (cs : List ℕ) → length cs ≤ 1 → Falling cs
+few-falling [] h = tt
+few-falling (x ∷ []) h = (tt, tt)
+few-falling (x ∷ y ∷ cs) h = absurd (omega arith)
+
+pub few-topmost : (l : Live) (cs : List ℕ) → length cs ≤ 1 → (t : ℕ) → In t cs ↔ Topmost l cs t
+few-topmost l cs h t = ((λ i. (i, λ c j on. one-of-few cs c t h j i)), (λ top. top.0))
+
+-- the places from the first of some events to the last, with one more of them
+pub span-next : (from next : ℕ) (l : Live) (ts us : List ℕ) (t place low high : ℕ) → Rising from l next → us ≡ ts ++ t ∷ [] → StandsAt l t place →
+    StandWithin l ts low high → (new_low new_high : ℕ) → new_low ≤ low → new_low ≤ place → high ≤ new_high → place < new_high → StandWithin l us new_low new_high
+span-next from next l ts us t place low high r is at stand new_low new_high a b c d u i = elim (in-parts u ts (t ∷ []) (subst (λ (k : List ℕ). In u k) is i)) [
+  | inl old ↦
+      let was = stand u old in
+      let first : low ≤ was.0 = was.2 in
+      let last : was.0 < high = was.3 in
+      (was.0, was.1, omega arith, omega arith)
+  | inr (inl one) ↦ (place, subst (λ (v : ℕ). StandsAt l v place) (sym one) at, b, d)
+  | inr (inr none) ↦ absurd none
+]

@@ -3,7 +3,7 @@ use Rattle.std.specs.Prelude.{◌≡◌, ◌⊎◌, ◌↔◌, ℕ, ◌<◌, Lis
 use Rattle.syntax.specs.Lists.{In}
 use Rattle.calculus.specs.Dependence.{Directly}
 use Rattle.calculus.specs.InOrder.{InOrder}
-use Rattle.calculus.specs.Live.{Live, LiveAt, Follows}
+use Rattle.calculus.specs.Live.{Live, LiveAt, DependsOn}
 use Rattle.calculus.specs.declared.event.Event.{Event}
 
 -- the live event of ticket u is later than that of ticket t, and depends directly on it
@@ -18,7 +18,7 @@ pub record DirectDependent (l : Live) (t u : ℕ) : Type 0 where
 -- u follows t: it is a direct dependent, and no other live event that depends on t has u among those that depend on it
 pub record Follower (l : Live) (t u : ℕ) : Type 0 where
   pub dependent : DirectDependent l t u
-  pub next : (v : ℕ) → Follows l t v → Follows l v u → (v ≡ t) ⊎ (v ≡ u)
+  pub next : (v : ℕ) → DependsOn l t v → DependsOn l v u → (v ≡ t) ⊎ (v ≡ u)
 
 -- u is t, or follows one that is reached from t
 pub data Reached (l : Live) (t : ℕ) : ℕ → Type 0 where

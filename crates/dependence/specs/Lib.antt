@@ -1,3 +1,4 @@
+pub mod Behind
 pub mod Followers
 pub mod Laws
 pub mod Shown

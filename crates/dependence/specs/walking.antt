@@ -1,4 +1,6 @@
+pub mod Found
 pub mod Marking
 pub mod Sweeping
+pub mod Tabled
 pub mod Tables
 pub mod Whole

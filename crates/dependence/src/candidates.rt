@@ -1,25 +1,42 @@
-// The live events that a new event may follow. All live events are gone through: tables of last events, by place and by
-// shared variable, are to take the place of this pass behind the same contract.
-ghost use Rattle.std.specs.Prelude.{◌≡◌, ◌++◌, ◌∷◌, [], cond, IfOk};
+// The live events that a new event may follow, found by its places and by its variables.
+ghost use Rattle.std.specs.Prelude.{◌≡◌, ◌++◌, ◌∷◌, [], ℕ, cond, IfOk};
+ghost use Rattle.syntax.specs.Lists.{In};
+ghost use Rattle.last_events.specs.LastEvents.{Orderly};
+ghost use Rattle.calculus.specs.Events.{places};
+ghost use Rattle.calculus.specs.Moves.{Place};
+ghost use Rattle.dependence.specs.Behind.{ComesBehind};
+ghost use Rattle.dependence.specs.walking.Found.{FoundByPlace, IsNewcomer};
+ghost use Rattle.dependence.specs.walking.Tabled.{IsTabled};
 ghost use Rattle.dependence.specs.walking.Tables.{Candidates};
 
-use calculus::{Event, depends_directly};
+use crate::accesses::Newcomer;
+use calculus::Event;
+use last_events::PlaceTable;
 use std::alloc::{AllocError, Global};
 
-/// Tickets of live events on which the event depends directly; of each such event that is not among them, a dependent is.
-pub(crate) fn candidates(
-    alloc: Global,
-    live: &[(u64, Event)],
-    event: &Event,
-) -> Result<Vec<u64>, AllocError>
-    ensures { IfOk result (λ found. Candidates live.now event.now found.items) }
+/// Tickets of live events on which the new event depends directly; of each such event that is not among them, a dependent is.
+pub(crate) fn candidates(alloc: Global, new: &Newcomer<'_>) -> Result<Vec<u64>, AllocError>
+    requires new { IsNewcomer new.now }
+    requires tabled { IsTabled new.now.live.now new.now.tables.now }
+    requires behind { ComesBehind new.now.live.now new.now.event.now }
+    ensures { IfOk result (λ found. Candidates new.now.live.now new.now.event.now found.items) }
 {
     let mut found = Vec::new(alloc);
-    for entry in live {
-        let is_one = depends_directly(&entry.1, event);
-        add_if(is_one, entry.0, &mut found)?;
-    }
+    add_by_places(&new.tables.places, new.event, &mut found)?;
+    new.add_by_variables(alloc, &mut found)?;
     Ok(found)
+}
+
+/// Adds the last events before each place of the event.
+fn add_by_places(table: &PlaceTable, event: &Event, found: &mut Vec<u64>) -> Result<(), AllocError>
+    requires { (b : Place) → In b (places event.now) → Orderly table.now b }
+    ensures { IfOk result (λ _. FoundByPlace table.now (places event.now) found.old.items found.new.items) }
+{
+    table.last_before(&event.first, found)?;
+    match &event.second {
+        Some(second) => table.last_before(second, found),
+        None => Ok(()),
+    }
 }
 
 /// Adds the ticket where it is one of those that are looked for.

@@ -1,6 +1,7 @@
 // How many events depend directly on one.
 ghost use Rattle.dependence.specs.Followers.{CountsDirect};
-ghost use Rattle.dependence.specs.walking.Tables.{IsRising, IsLive, CountsAmong};
+ghost use Rattle.calculus.specs.Live.{IsLive};
+ghost use Rattle.dependence.specs.walking.Tables.{IsRising, CountsAmong};
 
 use crate::places::place_of_live;
 use calculus::{Event, depends_directly};

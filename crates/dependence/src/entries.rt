@@ -3,31 +3,40 @@ ghost use Rattle.std.specs.Prelude.{◌≡◌, ◌<◌, ◌++◌, ◌∷◌, [],
 ghost use Rattle.std.specs.List.{remove};
 ghost use Rattle.std.specs.Vec.{vec_capacity};
 ghost use Rattle.syntax.specs.Lists.{In};
-ghost use Rattle.calculus.specs.Live.{Rising, LiveAt, NoDependent};
+ghost use Rattle.calculus.specs.Live.{Rising, LiveAt, NoDependent, IsLive};
 ghost use Rattle.dependence.specs.declared.links.Links.{Links};
-ghost use Rattle.dependence.specs.walking.Tables.{IsRising, IsLive, StandsAt, Falling, Linked, PartLinked, Candidates, Topmost, LinkedBehind};
+ghost use Rattle.dependence.specs.Behind.{ComesBehind};
+ghost use Rattle.dependence.specs.walking.Found.{IsNewcomer};
+ghost use Rattle.dependence.specs.walking.Tabled.{IsTabled};
+ghost use Rattle.dependence.specs.walking.Tables.{IsRising, StandsAt, Falling, Linked, PartLinked, Candidates, Topmost, LinkedBehind};
 
+use crate::accesses::Newcomer;
 use crate::candidates::candidates;
 use crate::links::{Links, link_all, unlink_all};
 use crate::places::place_of_live;
-use crate::topmost::topmost;
+use crate::topmost::{span, topmost};
 use calculus::Event;
 use std::alloc::{AllocError, Global};
 
 /// The tickets of the live events that a new event follows, falling.
 pub(crate) fn leads_of(
     alloc: Global,
-    live: &[(u64, Event)],
     links: &[Links],
-    event: &Event,
+    new: &Newcomer<'_>,
 ) -> Result<Vec<u64>, AllocError>
-    requires rising { IsRising live.now }
-    requires linked { Linked live.now links.now }
+    requires new { IsNewcomer new.now }
+    requires tabled { IsTabled new.now.live.now new.now.tables.now }
+    requires behind { ComesBehind new.now.live.now new.now.event.now }
+    requires linked { Linked new.now.live.now links.now }
     ensures falling { IfOk result (λ leads. Falling leads.items) }
-    ensures topmost { IfOk result (λ leads. (found : List ℕ) × Candidates live.now event.now found × ((t : ℕ) → In t leads.items ↔ Topmost live.now found t)) }
+    ensures topmost { IfOk result (λ leads. (found : List ℕ) × Candidates new.now.live.now new.now.event.now found × ((t : ℕ) → In t leads.items ↔ Topmost new.now.live.now found t)) }
 {
-    let found = candidates(alloc, live, event)?;
-    topmost(alloc, live, links, found.as_slice(), 0, live.len())
+    let found = candidates(alloc, new)?;
+    if found.len() <= 1 {
+        return Ok(found);
+    }
+    let (low, high) = span(new.live, found.as_slice());
+    topmost(alloc, new.live, links, found.as_slice(), low, high)
 }
 
 /// Links a new event to those that it follows. Without memory for it the tables are as before.

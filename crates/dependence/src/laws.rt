@@ -1,5 +1,5 @@
-// The laws of followers, each the contract of a function that does nothing.
-ghost use Rattle.dependence.specs.Laws.{LeastIsFollower, ReachedThroughFollowers, NoNewFollower};
+// The laws of followers and of a new event, each the contract of a function that does nothing.
+ghost use Rattle.dependence.specs.Laws.{LeastIsFollower, ReachedThroughFollowers, NoNewFollower, LastComesBehind};
 
 /// The least of the events that depend on an event is a follower of it.
 pub fn least_is_follower()
@@ -14,4 +14,9 @@ pub fn reached_through_followers()
 /// Taking out an event on which none depends makes no new follower, and takes no other one away.
 pub fn no_new_follower()
     ensures { NoNewFollower }
+{}
+
+/// The last of some events that run in a system that keeps the rule on sharing comes behind the others.
+pub fn last_comes_behind()
+    ensures { LastComesBehind }
 {}

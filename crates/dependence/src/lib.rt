@@ -1,6 +1,7 @@
 //! Live events, and which of them depends on which.
 #![tactic(auto)]
 
+mod accesses;
 mod candidates;
 mod count;
 mod entries;
@@ -9,8 +10,10 @@ mod links;
 mod live;
 mod marks;
 mod places;
+mod puts;
+mod tables;
 mod topmost;
 mod whole;
 
-pub use laws::{least_is_follower, no_new_follower, reached_through_followers};
+pub use laws::{last_comes_behind, least_is_follower, no_new_follower, reached_through_followers};
 pub use live::Live;

@@ -2,9 +2,9 @@
 ghost use Rattle.std.specs.Prelude.{◌≡◌, ◌<◌, ◌++◌, ◌∷◌, [], ℕ, List, length, Some, slice_get, MatchResult};
 ghost use Rattle.syntax.specs.Lists.{In};
 ghost use Rattle.calculus.specs.InOrder.{InOrder};
-ghost use Rattle.calculus.specs.Live.{Rising, NoneAt};
+ghost use Rattle.calculus.specs.Live.{Rising, NoneAt, IsLive};
 ghost use Rattle.dependence.specs.declared.links.Links.{Links};
-ghost use Rattle.dependence.specs.walking.Tables.{IsRising, IsLive, Falling, PartLinked, FollowersChanged, Removed};
+ghost use Rattle.dependence.specs.walking.Tables.{IsRising, Falling, PartLinked, FollowersChanged, Removed};
 
 use crate::places::{place_in, place_of_live};
 use calculus::Event;

@@ -1,13 +1,14 @@
 ghost use Rattle.std.specs.Prelude.{◌≡◌, ◌<◌, ℕ, [], length, Some, None, slice_get, MatchOption, IfErr, OnOk};
 ghost use Rattle.calculus.specs.Dependence.{Without};
-ghost use Rattle.calculus.specs.Live.{LiveAt, NoDependent, FirstDependent, FollowersList, WithoutTickets};
+ghost use Rattle.calculus.specs.Live.{LiveAt, NoDependent, FirstDependent, ConsequencesList, WithoutTickets, IsLive};
+ghost use Rattle.dependence.specs.Behind.{ComesBehind};
 ghost use Rattle.dependence.specs.Followers.{ListsFollowers, CountsDirect};
 ghost use Rattle.dependence.specs.Shown.{with_event, Greatest};
-ghost use Rattle.dependence.specs.walking.Tables.{IsLive};
 
 use crate::count::count_direct;
 use crate::links::Links;
 use crate::marks::{count_marked, last_marked, mark_dependents};
+use crate::tables::Tables;
 use crate::whole::{add_event, followers_of, least_dependent, take_event};
 use calculus::Event;
 use std::alloc::Global;
@@ -20,6 +21,7 @@ pub struct Live {
     pairs: Vec<(u64, Event)>,
     links: Vec<Links>,
     marks: Vec<bool>,
+    tables: Tables,
 }
 
 impl Model for Live {
@@ -27,11 +29,12 @@ impl Model for Live {
 
     ghost Value = { Shown };
 
+    ghost use Rattle.dependence.specs.walking.Tabled.{IsTabled};
     ghost use Rattle.dependence.specs.walking.Whole.{IsWhole};
 
     ghost view = { λ live. record { live = live.pairs.items; marked = tickets_marked live.pairs.items live.marks.items } };
 
-    ghost invariant = { λ live. IsWhole live.pairs.items live.links.items live.marks.items };
+    ghost invariant = { λ live. IsWhole live.pairs.items live.links.items live.marks.items × IsTabled live.pairs.items live.tables };
 }
 
 impl Live {
@@ -44,6 +47,7 @@ impl Live {
             pairs: Vec::new(alloc),
             links: Vec::new(alloc),
             marks: Vec::new(alloc),
+            tables: Tables::new(alloc),
         }
     }
 
@@ -87,7 +91,7 @@ impl Live {
     pub fn mark_consequences(&mut self, ticket: u64) -> u64
         requires { IsLive self.old.live ticket }
         ensures live { self.new.live ≡ self.old.live }
-        ensures marked { FollowersList self.old.live ticket self.new.marked }
+        ensures marked { ConsequencesList self.old.live ticket self.new.marked }
         ensures counted { result ≡ length self.new.marked }
     {
         mark_dependents(
@@ -106,10 +110,12 @@ impl Live {
         last_marked(self.pairs.as_slice(), self.marks.as_slice())
     }
 
-    /// Adds an event under a ticket that is greater than every live one; it has no mark. Without memory for it nothing has
-    /// changed, and the event is handed back.
+    /// Adds an event under a ticket that is greater than every live one; it has no mark. It comes behind the live events, as it
+    /// does where they run with it in a system that keeps the rule on sharing (`last_comes_behind`). Without memory for it
+    /// nothing has changed, and the event is handed back.
     pub fn add(&mut self, ticket: u64, event: Event) -> Result<(), Event>
-        requires { (t : ℕ) (e : Event) → LiveAt self.old.live t e → t < ticket }
+        requires above { (t : ℕ) (e : Event) → LiveAt self.old.live t e → t < ticket }
+        requires behind { ComesBehind self.old.live event }
         ensures added { OnOk result (self.new ≡ with_event self.old ticket event) }
         ensures refused { IfErr result (λ back. (back ≡ event) × (self.new ≡ self.old)) }
     {
@@ -118,6 +124,7 @@ impl Live {
             &mut self.pairs,
             &mut self.links,
             &mut self.marks,
+            &mut self.tables,
             ticket,
             event,
         )
@@ -131,6 +138,12 @@ impl Live {
         ensures live { WithoutTickets (λ t. t ≡ ticket) self.old.live self.new.live }
         ensures marked { Without (λ t. t ≡ ticket) self.old.marked self.new.marked }
     {
-        take_event(&mut self.pairs, &mut self.links, &mut self.marks, ticket)
+        take_event(
+            &mut self.pairs,
+            &mut self.links,
+            &mut self.marks,
+            &mut self.tables,
+            ticket,
+        )
     }
 }

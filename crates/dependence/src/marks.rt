@@ -1,9 +1,9 @@
 // Marks on the events that depend on one.
 ghost use Rattle.std.specs.Prelude.{◌≡◌, ◌<◌, ◌⊎◌, ◌↔◌, ℕ, [], length, true, Some, slice_get, MatchOption};
 ghost use Rattle.syntax.specs.Lists.{In};
-ghost use Rattle.calculus.specs.Live.{FollowersList};
+ghost use Rattle.calculus.specs.Live.{ConsequencesList, IsLive};
 ghost use Rattle.dependence.specs.Shown.{tickets_marked, Greatest};
-ghost use Rattle.dependence.specs.walking.Tables.{IsRising, IsLive, Linked};
+ghost use Rattle.dependence.specs.walking.Tables.{IsRising, Linked};
 ghost use Rattle.dependence.specs.walking.Marking.{MarkedAt};
 
 use crate::links::Links;
@@ -21,7 +21,7 @@ pub(crate) fn mark_dependents(
     requires linked { Linked live.now links.now }
     requires live { IsLive live.now ticket }
     requires size { length marks.old ≡ length live.now }
-    ensures marked { FollowersList live.now ticket (tickets_marked live.now marks.new) }
+    ensures marked { ConsequencesList live.now ticket (tickets_marked live.now marks.new) }
 {
     clear(marks);
     let first = place_of_live(live, ticket);

@@ -2,8 +2,8 @@
 ghost use Rattle.std.specs.Prelude.{◌≡◌, ◌<◌, Some, slice_get, MatchOption};
 ghost use Rattle.syntax.specs.Lists.{In};
 ghost use Rattle.calculus.specs.InOrder.{InOrder};
-ghost use Rattle.calculus.specs.Live.{NoneAt};
-ghost use Rattle.dependence.specs.walking.Tables.{IsRising, IsLive, StandsAt};
+ghost use Rattle.calculus.specs.Live.{NoneAt, IsLive};
+ghost use Rattle.dependence.specs.walking.Tables.{IsRising, StandsAt};
 
 use calculus::Event;
 

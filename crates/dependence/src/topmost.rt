@@ -2,7 +2,8 @@
 ghost use Rattle.std.specs.Prelude.{◌≡◌, ◌<◌, ◌≤◌, ◌+◌, ◌↔◌, ◌||◌, ◌&&◌, not, ℕ, length, IsTrue, IfOk};
 ghost use Rattle.syntax.specs.Lists.{In};
 ghost use Rattle.system.specs.Expression.{is_in};
-ghost use Rattle.dependence.specs.walking.Tables.{IsRising, IsLive, StandsAt, Falling, Linked, Topmost};
+ghost use Rattle.calculus.specs.Live.{IsLive};
+ghost use Rattle.dependence.specs.walking.Tables.{IsRising, StandsAt, Falling, Linked, Topmost};
 ghost use Rattle.dependence.specs.walking.Sweeping.{StandWithin, FlagAt};
 
 use crate::candidates::add_if;
@@ -45,6 +46,25 @@ pub(crate) fn topmost(
         add_if(alone(is_one, below), live[place].0, &mut kept)?;
     }
     Ok(kept)
+}
+
+/// From which place on and below which one these live events stand.
+pub(crate) fn span(live: &[(u64, Event)], tickets: &[u64]) -> (usize, usize)
+    requires rising { IsRising live.now }
+    requires live { (t : ℕ) → In t tickets.now → IsLive live.now t }
+    requires some { 0 < length tickets.now }
+    ensures order { result.0 ≤ result.1 }
+    ensures size { result.1 ≤ length live.now }
+    ensures stand { StandWithin live.now tickets.now result.0 result.1 }
+{
+    let mut low = place_of_live(live, tickets[0]);
+    let mut high = low + 1;
+    for ticket in tickets {
+        let place = place_of_live(live, *ticket);
+        low = low.min(place);
+        high = high.max(place + 1);
+    }
+    (low, high)
 }
 
 /// Whether one of these live events stands below `high` at a place that is flagged. The flags begin at the last place.

@@ -1,15 +1,19 @@
 // The tables as one: what is asked of them, an event more, an event less.
 ghost use Rattle.std.specs.Prelude.{◌≡◌, ◌<◌, ◌++◌, ◌∷◌, [], ℕ, MatchOption, IfErr, OnOk};
 ghost use Rattle.calculus.specs.Dependence.{Without};
-ghost use Rattle.calculus.specs.Live.{LiveAt, NoDependent, FirstDependent, WithoutTickets};
+ghost use Rattle.calculus.specs.Live.{LiveAt, NoDependent, FirstDependent, WithoutTickets, IsLive};
+ghost use Rattle.dependence.specs.Behind.{ComesBehind};
 ghost use Rattle.dependence.specs.Followers.{ListsFollowers};
 ghost use Rattle.dependence.specs.Shown.{tickets_marked};
-ghost use Rattle.dependence.specs.walking.Tables.{IsRising, IsLive, Linked};
+ghost use Rattle.dependence.specs.walking.Tables.{IsRising, Linked};
+ghost use Rattle.dependence.specs.walking.Tabled.{IsTabled};
 ghost use Rattle.dependence.specs.walking.Whole.{IsWhole};
 
+use crate::accesses::Newcomer;
 use crate::entries::{leads_of, link_new, make_room, push_pair, take_out};
 use crate::links::Links;
 use crate::places::place_of_live;
+use crate::tables::Tables;
 use calculus::Event;
 use std::alloc::Global;
 
@@ -40,24 +44,38 @@ pub(crate) fn add_event(
     pairs: &mut Vec<(u64, Event)>,
     links: &mut Vec<Links>,
     marks: &mut Vec<bool>,
+    tables: &mut Tables,
     ticket: u64,
     event: Event,
 ) -> Result<(), Event>
     requires whole { IsWhole pairs.old.items links.old.items marks.old.items }
+    requires tabled { IsTabled pairs.old.items tables.old }
     requires above { (t : ℕ) (e : Event) → LiveAt pairs.old.items t e → t < ticket }
+    requires behind { ComesBehind pairs.old.items event }
     ensures whole { IsWhole pairs.new.items links.new.items marks.new.items }
+    ensures tabled { IsTabled pairs.new.items tables.new }
     ensures added { OnOk result ((pairs.new.items ≡ pairs.old.items ++ (ticket, event) ∷ []) × (tickets_marked pairs.new.items marks.new.items ≡ tickets_marked pairs.old.items marks.old.items)) }
     ensures refused { IfErr result (λ back. (back ≡ event) × (pairs.new.items ≡ pairs.old.items) × (marks.new.items ≡ marks.old.items)) }
 {
-    let found = leads_of(alloc, pairs.as_slice(), links.as_slice(), &event);
+    let new = Newcomer {
+        live: pairs.as_slice(),
+        tables,
+        ticket,
+        event: &event,
+    };
+    let found = leads_of(alloc, links.as_slice(), &new);
     let Ok(leads) = found else {
         return Err(event);
     };
     if make_room(pairs, marks).is_err() {
         return Err(event);
     }
+    if tables.put(ticket, &event).is_err() {
+        return Err(event);
+    }
     let linked = link_new(alloc, pairs.as_slice(), links, leads, ticket);
     if linked.is_err() {
+        tables.remove(ticket, &event);
         return Err(event);
     }
     push_pair(pairs, marks, ticket, event);
@@ -69,18 +87,22 @@ pub(crate) fn take_event(
     pairs: &mut Vec<(u64, Event)>,
     links: &mut Vec<Links>,
     marks: &mut Vec<bool>,
+    tables: &mut Tables,
     ticket: u64,
 ) -> Event
     requires whole { IsWhole pairs.old.items links.old.items marks.old.items }
+    requires tabled { IsTabled pairs.old.items tables.old }
     requires live { IsLive pairs.old.items ticket }
     requires alone { NoDependent pairs.old.items ticket }
     ensures whole { IsWhole pairs.new.items links.new.items marks.new.items }
+    ensures tabled { IsTabled pairs.new.items tables.new }
     ensures event { LiveAt pairs.old.items ticket result }
     ensures live { WithoutTickets (λ t. t ≡ ticket) pairs.old.items pairs.new.items }
     ensures marked { Without (λ t. t ≡ ticket) (tickets_marked pairs.old.items marks.old.items) (tickets_marked pairs.new.items marks.new.items) }
 {
     let place = place_of_live(pairs.as_slice(), ticket);
     let event = take_out(pairs, links, place);
+    tables.remove(ticket, &event);
     marks.remove(place);
     event
 }

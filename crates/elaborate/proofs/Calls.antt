@@ -1,11 +1,11 @@
 -- What is made of a call, gone along call by call.
 use Rattle.std.proofs.Common.{◌≡◌, ℕ, zero, suc, ◌+◌, ◌<◌, ◌≤◌, List, [], ◌∷◌, ◌++◌, length, get_or, take, refl, ap, sym, ◌∙◌, arith, rules, length-append}
-use Rattle.elaborate.specs.Scopes.{entrance_of}
-use Rattle.elaborate.specs.Making.{locals_onto, scope_of, entered}
-use Rattle.elaborate.specs.Body.{Makes, Meaning, ProcedureMeaning, command, next_call, after_call, missing, called, action_meaning, arm_meaning, command_meaning, guarded_meaning, labelled_meaning, meaning_of, procedure_meaning, meanings_onto, meanings}
+use Rattle.elaborate.specs.Instances.{entrance_of}
+use Rattle.elaborate.specs.Making.{locals_onto, instance_of, entered}
+use Rattle.elaborate.specs.Body.{WithMade, Maker, ProcedureMaker, command, next_call, after_call, missing, called, action_maker, arm_maker, command_maker, guarded_maker, labelled_maker, maker_of, procedure_maker, makers_onto, makers}
 use Rattle.elaborate.specs.declared.made.Made.{Made}
-use Rattle.elaborate.specs.declared.scope.Scope.{Scope}
-use Rattle.elaborate.specs.declared.scope.Entrance.{Entrance}
+use Rattle.elaborate.specs.declared.instance.Instance.{Instance}
+use Rattle.elaborate.specs.declared.instance.Entrance.{Entrance}
 use Rattle.system.specs.declared.command.Action as tree
 use Rattle.system.specs.declared.command.Arm as tree_arm
 use Rattle.system.specs.declared.command.Command as tree_command
@@ -34,102 +34,102 @@ past_end [] n d h = refl
 past_end (y ∷ ys) zero d h = absurd (omega (arith, h))
 past_end (y ∷ ys) (suc n) d h = let le : length ys ≤ n = omega (arith, h) in past_end ys n d le
 
--- the meanings found first are kept
-kept : (found : List ProcedureMeaning) (ps : List Procedure) (j : ℕ) → j < length found → get_or (meanings_onto found ps) j missing ≡ get_or found j missing
+-- the makers found first are kept
+kept : (found : List ProcedureMaker) (ps : List Procedure) (j : ℕ) → j < length found → get_or (makers_onto found ps) j missing ≡ get_or found j missing
 kept found [] j h = refl
 kept found (p ∷ ps) j h =
-    let more : j < length (found ++ procedure_meaning found p ∷ []) = omega (arith, h, length-append found (procedure_meaning found p ∷ [])) in
-    kept (found ++ procedure_meaning found p ∷ []) ps j more ∙ at_front found (procedure_meaning found p ∷ []) j missing h
+    let more : j < length (found ++ procedure_maker found p ∷ []) = omega (arith, h, length-append found (procedure_maker found p ∷ [])) in
+    kept (found ++ procedure_maker found p ∷ []) ps j more ∙ at_front found (procedure_maker found p ∷ []) j missing h
 
-at_place : (found : List ProcedureMeaning) (ps : List Procedure) (k n : ℕ) (p : Procedure) → n ≡ length found + k → k < length ps
-    → get_or (meanings_onto found ps) n missing ≡ procedure_meaning (meanings_onto found (take k ps)) (get_or ps k p)
+at_place : (found : List ProcedureMaker) (ps : List Procedure) (k n : ℕ) (p : Procedure) → n ≡ length found + k → k < length ps
+    → get_or (makers_onto found ps) n missing ≡ procedure_maker (makers_onto found (take k ps)) (get_or ps k p)
 at_place found [] k n p e h = absurd (omega (arith, h))
 at_place found (q ∷ ps) zero n p e h =
-    let m : ProcedureMeaning = procedure_meaning found q in
+    let m : ProcedureMaker = procedure_maker found q in
     let here : n ≡ length found = omega (arith, e) in
     let less : n < length (found ++ m ∷ []) = omega (arith, here, length-append found (m ∷ [])) in
     kept (found ++ m ∷ []) ps n less ∙ at_end found n m missing here
 at_place found (q ∷ ps) (suc k) n p e h =
-    let m : ProcedureMeaning = procedure_meaning found q in
+    let m : ProcedureMaker = procedure_maker found q in
     let there : n ≡ length (found ++ m ∷ []) + k = omega (arith, e, length-append found (m ∷ [])) in
     let lt : k < length ps = omega (arith, h) in
     at_place (found ++ m ∷ []) ps k n p there lt
 
-not_there : (found : List ProcedureMeaning) (ps : List Procedure) (n : ℕ) → length found + length ps ≤ n → get_or (meanings_onto found ps) n missing ≡ missing
+not_there : (found : List ProcedureMaker) (ps : List Procedure) (n : ℕ) → length found + length ps ≤ n → get_or (makers_onto found ps) n missing ≡ missing
 not_there found [] n h = past_end found n missing (omega (arith, h))
 not_there found (p ∷ ps) n h =
-    let m : ProcedureMeaning = procedure_meaning found p in
+    let m : ProcedureMaker = procedure_maker found p in
     let le : length (found ++ m ∷ []) + length ps ≤ n = omega (arith, h, length-append found (m ∷ [])) in
     not_there (found ++ m ∷ []) ps n le
 
 -- a call of a procedure that is there
-entered_meaning : (ps : List Procedure) (k : ℕ) (p : Procedure) → k < length ps → p ≡ get_or ps k p
-    → called (meanings ps) k ≡ procedure_meaning (meanings (take k ps)) p
-entered_meaning ps k p lt is =
+entered_maker : (ps : List Procedure) (k : ℕ) (p : Procedure) → k < length ps → p ≡ get_or ps k p
+    → called (makers ps) k ≡ procedure_maker (makers (take k ps)) p
+entered_maker ps k p lt is =
     let here : k ≡ 0 + k = omega arith in
-    at_place [] ps k k p here lt ∙ ap (procedure_meaning (meanings (take k ps))) (sym is)
+    at_place [] ps k k p here lt ∙ ap (procedure_maker (makers (take k ps))) (sym is)
 
 -- a body that is a call alone
-action_meaning_of : List ProcedureMeaning → Action → ℕ → Meaning tree_command.Command
-action_meaning_of ps =
-    fold-Action (ℕ → Meaning tree_command.Command) (Meaning tree_arm.Arm) (Meaning tree_command.Command) (Meaning tree_guarded.Guarded) (Meaning tree_labelled.Labelled)
-    (action_meaning ps) arm_meaning command_meaning guarded_meaning labelled_meaning
+action_maker_of : List ProcedureMaker → Action → ℕ → Maker tree_command.Command
+action_maker_of ps =
+    fold-Action (ℕ → Maker tree_command.Command) (Maker tree_arm.Arm) (Maker tree_command.Command) (Maker tree_guarded.Guarded) (Maker tree_labelled.Labelled)
+    (action_maker ps) arm_maker command_maker guarded_maker labelled_maker
 
-body_meaning : (ps : List ProcedureMeaning) (c : Command) → meaning_of ps c ≡ action_meaning_of ps c.action c.line
-unfolding action_meaning_of
-body_meaning ps c = search (rules, the_lemmas)
+body_maker : (ps : List ProcedureMaker) (c : Command) → maker_of ps c ≡ action_maker_of ps c.action c.line
+unfolding action_maker_of
+body_maker ps c = search (rules, the_lemmas)
 
-call_alone : (ps : List ProcedureMeaning) (p : ℕ) (arguments : List ChannelUse) (line : ℕ) (scope : Scope) (made : Made)
-    → action_meaning_of ps (Call p arguments) line scope made
-    ≡ after_call (next_call made) (called ps p (entrance_of scope arguments (next_call made)) made)
-unfolding action_meaning_of
-call_alone ps p arguments line scope made = search (rules, the_lemmas)
+call_alone : (ps : List ProcedureMaker) (p : ℕ) (arguments : List ChannelUse) (line : ℕ) (instance : Instance) (made : Made)
+    → action_maker_of ps (Call p arguments) line instance made
+    ≡ after_call (next_call made) (called ps p (entrance_of instance arguments (next_call made)) made)
+unfolding action_maker_of
+call_alone ps p arguments line instance made = search (rules, the_lemmas)
 
-call_meaning : (ps : List ProcedureMeaning) (c : Command) (p : ℕ) (arguments : List ChannelUse) (scope : Scope) (made : Made)
+call_maker : (ps : List ProcedureMaker) (c : Command) (p : ℕ) (arguments : List ChannelUse) (instance : Instance) (made : Made)
     → c.action ≡ Call p arguments
-    → meaning_of ps c scope made ≡ after_call (next_call made) (called ps p (entrance_of scope arguments (next_call made)) made)
-call_meaning ps c p arguments scope made is =
-    ap (λ (m : Meaning tree_command.Command). m scope made) (body_meaning ps c)
-    ∙ (ap (λ a. action_meaning_of ps a c.line scope made) is ∙ call_alone ps p arguments c.line scope made)
+    → maker_of ps c instance made ≡ after_call (next_call made) (called ps p (entrance_of instance arguments (next_call made)) made)
+call_maker ps c p arguments instance made is =
+    ap (λ (m : Maker tree_command.Command). m instance made) (body_maker ps c)
+    ∙ (ap (λ a. action_maker_of ps a c.line instance made) is ∙ call_alone ps p arguments c.line instance made)
 
 -- a procedure whose body is a call alone makes what that call makes
 pub goes_along : (ps : List Procedure) (k : ℕ) (p : Procedure) (next : ℕ) (arguments : List ChannelUse) (entrance : Entrance) (made : Made)
-    (scope : Scope) (made' : Made) (entrance' : Entrance)
+    (instance : Instance) (made' : Made) (entrance' : Entrance)
     → k < length ps → p ≡ get_or ps k p → p.body.action ≡ Call next arguments
-    → scope ≡ scope_of entrance (locals_onto [] entrance.prefix made p.locals)
+    → instance ≡ instance_of entrance (locals_onto [] entrance.prefix made p.locals)
     → made' ≡ entered (locals_onto [] entrance.prefix made p.locals)
-    → entrance' ≡ entrance_of scope arguments 1
-    → after_call 0 (called (meanings (take k ps)) next entrance' made') ≡ after_call 0 (called (meanings ps) k entrance made)
-goes_along ps k p next arguments entrance made scope made' entrance' lt is body s m e =
+    → entrance' ≡ entrance_of instance arguments 1
+    → after_call 0 (called (makers (take k ps)) next entrance' made') ≡ after_call 0 (called (makers ps) k entrance made)
+goes_along ps k p next arguments entrance made instance made' entrance' lt is body s m e =
     let locals = locals_onto [] entrance.prefix made p.locals in
-    let before = meanings (take k ps) in
+    let before = makers (take k ps) in
     (ap (λ (x : Entrance). after_call 0 (called before next x made')) e
-    ∙ (ap (λ (x : Scope). after_call 0 (called before next (entrance_of x arguments 1) made')) s
-    ∙ ap (λ (x : Made). after_call 0 (called before next (entrance_of (scope_of entrance locals) arguments 1) x)) m))
+    ∙ (ap (λ (x : Instance). after_call 0 (called before next (entrance_of x arguments 1) made')) s
+    ∙ ap (λ (x : Made). after_call 0 (called before next (entrance_of (instance_of entrance locals) arguments 1) x)) m))
     ∙ sym
-    (ap (λ (f : ProcedureMeaning). after_call 0 (f entrance made)) (entered_meaning ps k p lt is)
-    ∙ ap (after_call 0) (call_meaning before p.body next arguments (scope_of entrance locals) (entered locals) body))
+    (ap (λ (f : ProcedureMaker). after_call 0 (f entrance made)) (entered_maker ps k p lt is)
+    ∙ ap (after_call 0) (call_maker before p.body next arguments (instance_of entrance locals) (entered locals) body))
 
 -- any other body
-pub enters : (ps : List Procedure) (k : ℕ) (p : Procedure) (entrance : Entrance) (made : Made) (scope : Scope) (made' new : Made) (result : tree_command.Command)
+pub enters : (ps : List Procedure) (k : ℕ) (p : Procedure) (entrance : Entrance) (made : Made) (instance : Instance) (made' new : Made) (result : tree_command.Command)
     → k < length ps → p ≡ get_or ps k p
-    → scope ≡ scope_of entrance (locals_onto [] entrance.prefix made p.locals)
+    → instance ≡ instance_of entrance (locals_onto [] entrance.prefix made p.locals)
     → made' ≡ entered (locals_onto [] entrance.prefix made p.locals)
-    → result ≡ (meaning_of (meanings (take k ps)) p.body scope made').0
-    → new ≡ (meaning_of (meanings (take k ps)) p.body scope made').1
-    → let r : Makes tree_command.Command = (result, record new { calls = 0 }) in r ≡ after_call 0 (called (meanings ps) k entrance made)
-enters ps k p entrance made scope made' new result lt is s m t n =
+    → result ≡ (maker_of (makers (take k ps)) p.body instance made').0
+    → new ≡ (maker_of (makers (take k ps)) p.body instance made').1
+    → let r : WithMade tree_command.Command = (result, record new { calls = 0 }) in r ≡ after_call 0 (called (makers ps) k entrance made)
+enters ps k p entrance made instance made' new result lt is s m t n =
     let locals = locals_onto [] entrance.prefix made p.locals in
-    let before = meanings (take k ps) in
-    (ap (λ (x : tree_command.Command). let r : Makes tree_command.Command = (x, record new { calls = 0 }) in r) t
-    ∙ (ap (λ (x : Made). let r : Makes tree_command.Command = ((meaning_of before p.body scope made').0, record x { calls = 0 }) in r) n
-    ∙ (ap (λ (x : Scope). after_call 0 (meaning_of before p.body x made')) s
-    ∙ ap (λ (x : Made). after_call 0 (meaning_of before p.body (scope_of entrance locals) x)) m)))
-    ∙ sym (ap (λ (f : ProcedureMeaning). after_call 0 (f entrance made)) (entered_meaning ps k p lt is))
+    let before = makers (take k ps) in
+    (ap (λ (x : tree_command.Command). let r : WithMade tree_command.Command = (x, record new { calls = 0 }) in r) t
+    ∙ (ap (λ (x : Made). let r : WithMade tree_command.Command = ((maker_of before p.body instance made').0, record x { calls = 0 }) in r) n
+    ∙ (ap (λ (x : Instance). after_call 0 (maker_of before p.body x made')) s
+    ∙ ap (λ (x : Made). after_call 0 (maker_of before p.body (instance_of entrance locals) x)) m)))
+    ∙ sym (ap (λ (f : ProcedureMaker). after_call 0 (f entrance made)) (entered_maker ps k p lt is))
 
 -- a procedure that is not there
 pub ends : (ps : List Procedure) (k : ℕ) (entrance : Entrance) (made : Made) → length ps ≤ k
-    → let r : Makes tree_command.Command = (command 0 tree.Continue, record made { calls = 0 }) in r ≡ after_call 0 (called (meanings ps) k entrance made)
+    → let r : WithMade tree_command.Command = (command 0 tree.Continue, record made { calls = 0 }) in r ≡ after_call 0 (called (makers ps) k entrance made)
 ends ps k entrance made h =
     let le : 0 + length ps ≤ k = omega (arith, h) in
-    sym (ap (λ (f : ProcedureMeaning). after_call 0 (f entrance made)) (not_there [] ps k le))
+    sym (ap (λ (f : ProcedureMaker). after_call 0 (f entrance made)) (not_there [] ps k le))

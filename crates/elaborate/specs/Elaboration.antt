@@ -1,6 +1,6 @@
 -- The one system that a description and a stimulus give, and when they are refused.
 use Rattle.std.specs.Prelude.{◌≡◌, ◌-◌, List, [], Some, None, length, Option, slice_get}
-use Rattle.elaborate.specs.Body.{Makes, after_call, called, meanings}
+use Rattle.elaborate.specs.Body.{WithMade, after_call, called, makers}
 use Rattle.elaborate.specs.Environment.{branches_from}
 use Rattle.elaborate.specs.Fit.{first_misfit, values_given}
 use Rattle.elaborate.specs.Making.{nothing_made, ports_onto, Numbered}
@@ -28,9 +28,9 @@ abbrev pub root_channels : List Procedure → Numbered
 root_channels ps = ports_onto [] nothing_made (root_ports ps)
 
 -- what the last procedure makes over the channels of its ports; its names are as they are written
-abbrev pub root_makes : List Procedure → Makes tree_command.Command
+abbrev pub root_makes : List Procedure → WithMade tree_command.Command
 root_makes ps =
-    after_call 0 (called (meanings ps) (length ps - 1) (record { ports = (root_channels ps).numbers; prefix = [] }) (root_channels ps).made)
+    after_call 0 (called (makers ps) (length ps - 1) (record { ports = (root_channels ps).numbers; prefix = [] }) (root_channels ps).made)
 
 -- the system: what the root makes, and the environment's branch on each of its ports
 abbrev pub system_of : List Procedure → List Entry → System

@@ -13,8 +13,8 @@ use Rattle.typed.specs.declared.tree.PortKind.{PortKind}
 use Rattle.typed.specs.declared.tree.PortKind.TheVariants as kind
 
 -- a number of 32 bits: the place in a list, and the largest for all places behind, which no accepted system has
-abbrev pub number_of : ℕ → ℕ
-number_of place = min place 4294967295
+abbrev pub capped_number : ℕ → ℕ
+capped_number place = min place 4294967295
 
 -- numbers as values of a width, which holds them where the stimulus fits
 abbrev pub at_width : ℕ → List ℕ → List Word
@@ -51,4 +51,4 @@ branch_on channel kind.Sync entry = branch.Syncs channel (syncs_of entry)
 abbrev pub branches_from : List Entry → ℕ → List Port → List Branch
 branches_from entries place [] = []
 branches_from entries place (port ∷ ports) =
-    branch_on (number_of place) port.kind (entry_named entries port.name) ∷ branches_from entries (place + 1) ports
+    branch_on (capped_number place) port.kind (entry_named entries port.name) ∷ branches_from entries (place + 1) ports

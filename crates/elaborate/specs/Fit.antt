@@ -25,27 +25,27 @@ all_fit [] width = true
 all_fit (value ∷ values) width = if nat_lt value (2 ^ width) then all_fit values width else false
 
 -- an input port takes values, and a sync port a number of handshakes
-abbrev pub takes : PortKind → Given → Bool
-takes (kind.Input width) (Values values) = all_fit values width
-takes (kind.Input width) (Syncs count) = false
-takes (kind.Output width) given = false
-takes kind.Sync (Values values) = false
-takes kind.Sync (Syncs count) = true
+abbrev pub kind_takes : PortKind → Given → Bool
+kind_takes (kind.Input width) (Values values) = all_fit values width
+kind_takes (kind.Input width) (Syncs count) = false
+kind_takes (kind.Output width) given = false
+kind_takes kind.Sync (Values values) = false
+kind_takes kind.Sync (Syncs count) = true
 
 -- whether a port of this kind, if there is one, takes what is given
-abbrev pub taken : Option PortKind → Given → Bool
-taken None given = false
-taken (Some kind) given = takes kind given
+abbrev pub port_takes : Option PortKind → Given → Bool
+port_takes None given = false
+port_takes (Some kind) given = kind_takes kind given
 
 -- the entry names a port that takes what it gives, and no entry before is for that port
-abbrev pub fits : List Port → List Entry → Entry → Bool
-fits ports before entry = taken (kind_named ports entry.name) entry.given && not (is_some (entry_named before entry.name))
+abbrev pub entry_fits : List Port → List Entry → Entry → Bool
+entry_fits ports before entry = port_takes (kind_named ports entry.name) entry.given && not (is_some (entry_named before entry.name))
 
 -- the line of the first entry that does not fit, behind the entries before
 abbrev pub first_misfit : List Port → List Entry → List Entry → Option ℕ
 first_misfit ports before [] = None
 first_misfit ports before (entry ∷ rest) =
-    if fits ports before entry then first_misfit ports (before ++ entry ∷ []) rest else Some entry.line
+    if entry_fits ports before entry then first_misfit ports (before ++ entry ∷ []) rest else Some entry.line
 
 -- how many values are given
 abbrev pub count_given : Given → ℕ

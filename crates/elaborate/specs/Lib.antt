@@ -1,7 +1,7 @@
 pub mod Fit
 pub mod Size
 pub mod Environment
-pub mod Scopes
+pub mod Instances
 pub mod Making
 pub mod Body
 pub mod Elaboration

@@ -4,14 +4,14 @@ use Rattle.typed.specs.declared.tree.Local.{Local}
 use Rattle.typed.specs.declared.tree.LocalKind.{LocalKind}
 use Rattle.typed.specs.declared.tree.LocalKind.TheVariants as local
 use Rattle.typed.specs.declared.tree.Port.{Port}
-use Rattle.elaborate.specs.Environment.{number_of}
+use Rattle.elaborate.specs.Environment.{capped_number}
 use Rattle.elaborate.specs.declared.made.Made.{Made}
 use Rattle.system.specs.declared.system.ChannelKind.{ChannelKind}
 use Rattle.system.specs.declared.system.ChannelKind.TheVariants as kind
 use Rattle.typed.specs.declared.tree.PortKind.{PortKind}
 use Rattle.typed.specs.declared.tree.PortKind.TheVariants as port
-use Rattle.elaborate.specs.declared.scope.Scope.{Scope}
-use Rattle.elaborate.specs.declared.scope.Entrance.{Entrance}
+use Rattle.elaborate.specs.declared.instance.Instance.{Instance}
+use Rattle.elaborate.specs.declared.instance.Entrance.{Entrance}
 
 -- values of the port's width, or nothing
 abbrev pub kind_of_port : PortKind → ChannelKind
@@ -36,9 +36,9 @@ with_variable made name width =
 
 -- the number that a local gets
 abbrev pub number_for : Made → LocalKind → ℕ
-number_for made (local.Variable width) = number_of (length made.variables)
-number_for made (local.Channel width) = number_of (length made.channels)
-number_for made local.Sync = number_of (length made.channels)
+number_for made (local.Variable width) = capped_number (length made.variables)
+number_for made (local.Channel width) = capped_number (length made.channels)
+number_for made local.Sync = capped_number (length made.channels)
 
 -- what is made with a local of this name
 abbrev pub with_local : Made → List ℕ → ℕ → LocalKind → Made
@@ -56,15 +56,15 @@ locals_onto numbers prefix made (l ∷ ls) =
 abbrev pub ports_onto : List ℕ → Made → List Port → Numbered
 ports_onto numbers made [] = record { numbers = numbers; made = made }
 ports_onto numbers made (p ∷ ps) =
-    ports_onto (numbers ++ number_of (length made.channels) ∷ []) (with_channel made p.name (kind_of_port p.kind) p.declared) ps
+    ports_onto (numbers ++ capped_number (length made.channels) ∷ []) (with_channel made p.name (kind_of_port p.kind) p.declared) ps
 
 -- before anything is made
 abbrev pub nothing_made : Made
 nothing_made = record { variables = []; channels = []; calls = 0 }
 
 -- what its names stand for
-abbrev pub scope_of : Entrance → Numbered → Scope
-scope_of entrance locals = record { ports = entrance.ports; locals = locals.numbers; prefix = entrance.prefix }
+abbrev pub instance_of : Entrance → Numbered → Instance
+instance_of entrance locals = record { ports = entrance.ports; locals = locals.numbers; prefix = entrance.prefix }
 
 -- what is made
 abbrev pub entered : Numbered → Made

@@ -2,14 +2,14 @@
 ghost use Rattle.std.specs.Prelude.{◌≡◌, [], map, IfOk, OnOk};
 ghost use Rattle.std.specs.Option.{option_map};
 ghost use Rattle.elaborate.specs.Body as body;
-ghost use Rattle.elaborate.specs.walking.BodyParts.{meaning_of_guarded, meaning_of_labelled, meaning_of_arm};
+ghost use Rattle.elaborate.specs.walking.BodyParts.{maker_of_guarded, maker_of_labelled, maker_of_arm};
 
 use crate::forms::{
     arbitrate_command, continue_command, halt_command, if_command, loop_command, parallel_command,
     select_command, sequence_command,
 };
+use crate::instance::{Entrance, Instance};
 use crate::made::Made;
-use crate::scope::{Entrance, Scope};
 use std::alloc::{AllocError, Global};
 use syntax::Items;
 use system::{Action, Arm, Command, Guarded, Labelled};
@@ -20,72 +20,72 @@ use typed::Procedure;
 fn command_of(
     alloc: Global,
     command: &typed::Command,
-    scope: &Scope,
+    instance: &Instance,
     earlier: &[Procedure],
     made: &mut Made,
 ) -> Result<Command, AllocError>
-    ensures tree { IfOk result (λ tree. tree ≡ (body.meaning_of (body.meanings earlier.now) command.now scope.now made.old).0) }
-    ensures made { OnOk result (made.new ≡ (body.meaning_of (body.meanings earlier.now) command.now scope.now made.old).1) }
+    ensures tree { IfOk result (λ tree. tree ≡ (body.maker_of (body.makers earlier.now) command.now instance.now made.old).0) }
+    ensures made { OnOk result (made.new ≡ (body.maker_of (body.makers earlier.now) command.now instance.now made.old).1) }
 {
     let line = command.line;
     match command.action.get() {
         typed::Action::Call(procedure, arguments) => {
             let call = made.calls.saturating_add(1);
-            let entrance = scope.entrance(alloc, arguments.as_slice(), call)?;
+            let entrance = instance.entrance(alloc, arguments.as_slice(), call)?;
             let body = called_body(alloc, *procedure as usize, entrance, earlier, made)?;
             made.calls = call;
             Ok(body)
         }
         typed::Action::Loop(body) => {
-            let body = command_of(alloc, body, scope, earlier, made)?;
+            let body = command_of(alloc, body, instance, earlier, made)?;
             loop_command(alloc, line, body)
         }
         typed::Action::While(guard, body) => {
-            let body = command_of(alloc, body, scope, earlier, made)?;
-            scope.while_command(alloc, line, guard, body)
+            let body = command_of(alloc, body, instance, earlier, made)?;
+            instance.while_command(alloc, line, guard, body)
         }
         typed::Action::If(arms, last) => {
-            let arms = guarded_of(alloc, arms.as_slice(), scope, earlier, made)?;
-            let last = last_of(alloc, last, scope, earlier, made)?;
+            let arms = guarded_of(alloc, arms.as_slice(), instance, earlier, made)?;
+            let last = last_of(alloc, last, instance, earlier, made)?;
             if_command(alloc, line, arms, last)
         }
         typed::Action::Case(subject, arms, last) => {
-            let arms = labelled_of(alloc, arms.as_slice(), scope, earlier, made)?;
-            let last = last_of(alloc, last, scope, earlier, made)?;
-            scope.case_command(alloc, line, subject, arms, last)
+            let arms = labelled_of(alloc, arms.as_slice(), instance, earlier, made)?;
+            let last = last_of(alloc, last, instance, earlier, made)?;
+            instance.case_command(alloc, line, subject, arms, last)
         }
         typed::Action::Input(channel, body) => {
-            let body = command_of(alloc, body, scope, earlier, made)?;
-            scope.input_command(alloc, line, *channel, body)
+            let body = command_of(alloc, body, instance, earlier, made)?;
+            instance.input_command(alloc, line, *channel, body)
         }
         typed::Action::Select(arms) => {
-            let arms = arms_of(alloc, arms.as_slice(), scope, earlier, made)?;
+            let arms = arms_of(alloc, arms.as_slice(), instance, earlier, made)?;
             select_command(alloc, line, arms)
         }
         typed::Action::Arbitrate(arms) => {
-            let arms = arms_of(alloc, arms.as_slice(), scope, earlier, made)?;
+            let arms = arms_of(alloc, arms.as_slice(), instance, earlier, made)?;
             arbitrate_command(alloc, line, arms)
         }
         typed::Action::Sequence(children) => {
-            let children = commands_of(alloc, children.as_slice(), scope, earlier, made)?;
+            let children = commands_of(alloc, children.as_slice(), instance, earlier, made)?;
             sequence_command(alloc, line, children)
         }
         typed::Action::Parallel(children) => {
-            let children = commands_of(alloc, children.as_slice(), scope, earlier, made)?;
+            let children = commands_of(alloc, children.as_slice(), instance, earlier, made)?;
             parallel_command(alloc, line, children)
         }
         typed::Action::Continue => continue_command(alloc, line),
         typed::Action::Halt => halt_command(alloc, line),
         typed::Action::Assign(variable, width, value) => {
-            scope.assign_command(alloc, line, *variable, *width, value)
+            instance.assign_command(alloc, line, *variable, *width, value)
         }
         typed::Action::Send(channel, width, value) => {
-            scope.send_command(alloc, line, *channel, *width, value)
+            instance.send_command(alloc, line, *channel, *width, value)
         }
         typed::Action::Receive(channel, variable) => {
-            scope.receive_command(alloc, line, *channel, *variable)
+            instance.receive_command(alloc, line, *channel, *variable)
         }
-        typed::Action::Sync(channel) => scope.sync_command(alloc, line, *channel),
+        typed::Action::Sync(channel) => instance.sync_command(alloc, line, *channel),
     }
 }
 
@@ -94,16 +94,16 @@ fn command_of(
 fn commands_of(
     alloc: Global,
     commands: &[typed::Command],
-    scope: &Scope,
+    instance: &Instance,
     earlier: &[Procedure],
     made: &mut Made,
 ) -> Result<Items<Command>, AllocError>
-    ensures tree { IfOk result (λ tree. tree ≡ (body.all_onto [] (map (body.meaning_of (body.meanings earlier.now)) commands.now) scope.now made.old).0) }
-    ensures made { OnOk result (made.new ≡ (body.all_onto [] (map (body.meaning_of (body.meanings earlier.now)) commands.now) scope.now made.old).1) }
+    ensures tree { IfOk result (λ tree. tree ≡ (body.all_onto [] (map (body.maker_of (body.makers earlier.now)) commands.now) instance.now made.old).0) }
+    ensures made { OnOk result (made.new ≡ (body.all_onto [] (map (body.maker_of (body.makers earlier.now)) commands.now) instance.now made.old).1) }
 {
     let mut children = Items::with_capacity(alloc, commands.len())?;
     for command in commands {
-        children.push(command_of(alloc, command, scope, earlier, made)?)?;
+        children.push(command_of(alloc, command, instance, earlier, made)?)?;
     }
     Ok(children)
 }
@@ -113,17 +113,17 @@ fn commands_of(
 fn guarded_of(
     alloc: Global,
     arms: &[typed::Guarded],
-    scope: &Scope,
+    instance: &Instance,
     earlier: &[Procedure],
     made: &mut Made,
 ) -> Result<Items<Guarded>, AllocError>
-    ensures tree { IfOk result (λ tree. tree ≡ (body.all_onto [] (map (meaning_of_guarded (body.meanings earlier.now)) arms.now) scope.now made.old).0) }
-    ensures made { OnOk result (made.new ≡ (body.all_onto [] (map (meaning_of_guarded (body.meanings earlier.now)) arms.now) scope.now made.old).1) }
+    ensures tree { IfOk result (λ tree. tree ≡ (body.all_onto [] (map (maker_of_guarded (body.makers earlier.now)) arms.now) instance.now made.old).0) }
+    ensures made { OnOk result (made.new ≡ (body.all_onto [] (map (maker_of_guarded (body.makers earlier.now)) arms.now) instance.now made.old).1) }
 {
     let mut children = Items::with_capacity(alloc, arms.len())?;
     for arm in arms {
-        let guard = scope.expression(alloc, &arm.guard)?;
-        let body = command_of(alloc, &arm.body, scope, earlier, made)?;
+        let guard = instance.expression(alloc, &arm.guard)?;
+        let body = command_of(alloc, &arm.body, instance, earlier, made)?;
         children.push(Guarded { guard, body })?;
     }
     Ok(children)
@@ -134,17 +134,17 @@ fn guarded_of(
 fn labelled_of(
     alloc: Global,
     arms: &[typed::Labelled],
-    scope: &Scope,
+    instance: &Instance,
     earlier: &[Procedure],
     made: &mut Made,
 ) -> Result<Items<Labelled>, AllocError>
-    ensures tree { IfOk result (λ tree. tree ≡ (body.all_onto [] (map (meaning_of_labelled (body.meanings earlier.now)) arms.now) scope.now made.old).0) }
-    ensures made { OnOk result (made.new ≡ (body.all_onto [] (map (meaning_of_labelled (body.meanings earlier.now)) arms.now) scope.now made.old).1) }
+    ensures tree { IfOk result (λ tree. tree ≡ (body.all_onto [] (map (maker_of_labelled (body.makers earlier.now)) arms.now) instance.now made.old).0) }
+    ensures made { OnOk result (made.new ≡ (body.all_onto [] (map (maker_of_labelled (body.makers earlier.now)) arms.now) instance.now made.old).1) }
 {
     let mut children = Items::with_capacity(alloc, arms.len())?;
     for arm in arms {
         let labels = Items::from_vec(Vec::from_slice(alloc, arm.labels.as_slice())?);
-        let body = command_of(alloc, &arm.body, scope, earlier, made)?;
+        let body = command_of(alloc, &arm.body, instance, earlier, made)?;
         children.push(Labelled { labels, body })?;
     }
     Ok(children)
@@ -155,17 +155,17 @@ fn labelled_of(
 fn arms_of(
     alloc: Global,
     arms: &[typed::Arm],
-    scope: &Scope,
+    instance: &Instance,
     earlier: &[Procedure],
     made: &mut Made,
 ) -> Result<Items<Arm>, AllocError>
-    ensures tree { IfOk result (λ tree. tree ≡ (body.all_onto [] (map (meaning_of_arm (body.meanings earlier.now)) arms.now) scope.now made.old).0) }
-    ensures made { OnOk result (made.new ≡ (body.all_onto [] (map (meaning_of_arm (body.meanings earlier.now)) arms.now) scope.now made.old).1) }
+    ensures tree { IfOk result (λ tree. tree ≡ (body.all_onto [] (map (maker_of_arm (body.makers earlier.now)) arms.now) instance.now made.old).0) }
+    ensures made { OnOk result (made.new ≡ (body.all_onto [] (map (maker_of_arm (body.makers earlier.now)) arms.now) instance.now made.old).1) }
 {
     let mut children = Items::with_capacity(alloc, arms.len())?;
     for arm in arms {
-        let channel = scope.channel_use(arm.channel);
-        let body = command_of(alloc, &arm.body, scope, earlier, made)?;
+        let channel = instance.channel_use(arm.channel);
+        let body = command_of(alloc, &arm.body, instance, earlier, made)?;
         children.push(Arm { channel, body })?;
     }
     Ok(children)
@@ -176,15 +176,15 @@ fn arms_of(
 fn last_of(
     alloc: Global,
     last: &Option<typed::Command>,
-    scope: &Scope,
+    instance: &Instance,
     earlier: &[Procedure],
     made: &mut Made,
 ) -> Result<Option<Command>, AllocError>
-    ensures tree { IfOk result (λ tree. tree ≡ (body.last_of (option_map (body.meaning_of (body.meanings earlier.now)) last.now) scope.now made.old).0) }
-    ensures made { OnOk result (made.new ≡ (body.last_of (option_map (body.meaning_of (body.meanings earlier.now)) last.now) scope.now made.old).1) }
+    ensures tree { IfOk result (λ tree. tree ≡ (body.last_of (option_map (body.maker_of (body.makers earlier.now)) last.now) instance.now made.old).0) }
+    ensures made { OnOk result (made.new ≡ (body.last_of (option_map (body.maker_of (body.makers earlier.now)) last.now) instance.now made.old).1) }
 {
     match last {
-        Some(body) => Ok(Some(command_of(alloc, body, scope, earlier, made)?)),
+        Some(body) => Ok(Some(command_of(alloc, body, instance, earlier, made)?)),
         None => Ok(None),
     }
 }
@@ -199,22 +199,22 @@ pub fn called_body(
     earlier: &[Procedure],
     made: &mut Made,
 ) -> Result<Command, AllocError>
-    ensures tree { IfOk result (λ tree. tree ≡ (body.after_call 0 (body.called (body.meanings earlier.now) procedure entrance made.old)).0) }
-    ensures made { OnOk result (made.new ≡ (body.after_call 0 (body.called (body.meanings earlier.now) procedure entrance made.old)).1) }
+    ensures tree { IfOk result (λ tree. tree ≡ (body.after_call 0 (body.called (body.makers earlier.now) procedure entrance made.old)).0) }
+    ensures made { OnOk result (made.new ≡ (body.after_call 0 (body.called (body.makers earlier.now) procedure entrance made.old)).1) }
 {
     let mut earlier = earlier;
     let mut called = procedure;
     let mut entrance = entrance;
     while let Some(procedure) = earlier.get(called) {
         earlier = &earlier[..called];
-        let scope = made.scope(alloc, entrance, procedure.locals.as_slice())?;
+        let instance = made.instance(alloc, entrance, procedure.locals.as_slice())?;
         match procedure.body.action.get() {
             typed::Action::Call(next, arguments) => {
                 called = *next as usize;
-                entrance = scope.into_entrance(alloc, arguments.as_slice())?;
+                entrance = instance.into_entrance(alloc, arguments.as_slice())?;
             }
             _ => {
-                let body = command_of(alloc, &procedure.body, &scope, earlier, made)?;
+                let body = command_of(alloc, &procedure.body, &instance, earlier, made)?;
                 made.calls = 0;
                 return Ok(body);
             }

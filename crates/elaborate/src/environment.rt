@@ -5,7 +5,7 @@ ghost use Rattle.elaborate.specs.Environment as environment;
 ghost use Rattle.elaborate.specs.Fit as fit;
 
 use crate::lookups::NamedEntries;
-use crate::made::number_of;
+use crate::made::capped_number;
 use std::alloc::{AllocError, Global};
 use stimulus::{Entry, Given};
 use syntax::Items;
@@ -35,9 +35,9 @@ fn branch_of(
     port: &Port,
     entries: &NamedEntries<'_>,
 ) -> Result<Branch, AllocError>
-    ensures { IfOk result (λ made. made ≡ environment.branch_on (environment.number_of place) port.now.kind (fit.entry_named entries.now port.now.name)) }
+    ensures { IfOk result (λ made. made ≡ environment.branch_on (environment.capped_number place) port.now.kind (fit.entry_named entries.now port.now.name)) }
 {
-    let channel = number_of(place);
+    let channel = capped_number(place);
     let entry = entries.find(port.name.text());
     match port.kind {
         PortKind::Input(width) => {

@@ -1,7 +1,7 @@
 // Commands made of their parts. Each is a function of its own, so that the recursion that calls them takes little stack.
 ghost use Rattle.std.specs.Prelude.{◌≡◌, IfOk};
 
-use crate::scope::Scope;
+use crate::instance::Instance;
 use std::alloc::{AllocError, Global};
 use syntax::Items;
 use system::{Action, Arm, Command, Guarded, Labelled};
@@ -77,8 +77,8 @@ pub fn parallel_command(
     Command::new(alloc, line, Action::Parallel(children))
 }
 
-impl Scope {
-    ghost use Rattle.elaborate.specs.Scopes as scopes;
+impl Instance {
+    ghost use Rattle.elaborate.specs.Instances as instances;
 
     #[inline(never)]
     pub fn while_command(
@@ -88,7 +88,7 @@ impl Scope {
         guard: &typed::Expression,
         body: Command,
     ) -> Result<Command, AllocError>
-        ensures { IfOk result (λ made. made ≡ record { line = line; action = Action.While (scopes.expression_in self.now guard.now) body }) }
+        ensures { IfOk result (λ made. made ≡ record { line = line; action = Action.While (instances.expression_in self.now guard.now) body }) }
     {
         let guard = self.expression(alloc, guard)?;
         Command::new(alloc, line, Action::While(guard, body))
@@ -103,7 +103,7 @@ impl Scope {
         arms: Items<Labelled>,
         last: Option<Command>,
     ) -> Result<Command, AllocError>
-        ensures { IfOk result (λ made. made ≡ record { line = line; action = Action.Case (scopes.expression_in self.now subject.now) arms last }) }
+        ensures { IfOk result (λ made. made ≡ record { line = line; action = Action.Case (instances.expression_in self.now subject.now) arms last }) }
     {
         let subject = self.expression(alloc, subject)?;
         Command::new(alloc, line, Action::Case(subject, arms, last))
@@ -117,7 +117,7 @@ impl Scope {
         channel: ChannelUse,
         body: Command,
     ) -> Result<Command, AllocError>
-        ensures { IfOk result (λ made. made ≡ record { line = line; action = Action.Input (scopes.channel_use self.now channel) body }) }
+        ensures { IfOk result (λ made. made ≡ record { line = line; action = Action.Input (instances.channel_use self.now channel) body }) }
     {
         Command::new(alloc, line, Action::Input(self.channel_use(channel), body))
     }
@@ -131,7 +131,7 @@ impl Scope {
         width: Width,
         value: &typed::Expression,
     ) -> Result<Command, AllocError>
-        ensures { IfOk result (λ made. made ≡ record { line = line; action = Action.Assign (scopes.variable_use self.now variable) width (scopes.expression_in self.now value.now) }) }
+        ensures { IfOk result (λ made. made ≡ record { line = line; action = Action.Assign (instances.variable_use self.now variable) width (instances.expression_in self.now value.now) }) }
     {
         let value = self.expression(alloc, value)?;
         Command::new(
@@ -150,7 +150,7 @@ impl Scope {
         width: Width,
         value: &typed::Expression,
     ) -> Result<Command, AllocError>
-        ensures { IfOk result (λ made. made ≡ record { line = line; action = Action.Send (scopes.channel_use self.now channel) width (scopes.expression_in self.now value.now) }) }
+        ensures { IfOk result (λ made. made ≡ record { line = line; action = Action.Send (instances.channel_use self.now channel) width (instances.expression_in self.now value.now) }) }
     {
         let value = self.expression(alloc, value)?;
         Command::new(
@@ -168,7 +168,7 @@ impl Scope {
         channel: ChannelUse,
         variable: VariableUse,
     ) -> Result<Command, AllocError>
-        ensures { IfOk result (λ made. made ≡ record { line = line; action = Action.Receive (scopes.channel_use self.now channel) (scopes.variable_use self.now variable) }) }
+        ensures { IfOk result (λ made. made ≡ record { line = line; action = Action.Receive (instances.channel_use self.now channel) (instances.variable_use self.now variable) }) }
     {
         Command::new(
             alloc,
@@ -184,7 +184,7 @@ impl Scope {
         line: u64,
         channel: ChannelUse,
     ) -> Result<Command, AllocError>
-        ensures { IfOk result (λ made. made ≡ record { line = line; action = Action.Sync (scopes.channel_use self.now channel) }) }
+        ensures { IfOk result (λ made. made ≡ record { line = line; action = Action.Sync (instances.channel_use self.now channel) }) }
     {
         Command::new(alloc, line, Action::Sync(self.channel_use(channel)))
     }

@@ -8,12 +8,12 @@ mod body;
 mod count;
 mod environment;
 mod forms;
+mod instance;
 mod lookups;
 mod made;
 mod names;
 mod pass;
 mod ports;
-mod scope;
 
 pub use pass::elaborate;
 pub use refusals::elaborate::Fault;

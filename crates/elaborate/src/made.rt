@@ -1,9 +1,9 @@
 // The variables and channels of a system as they are made.
 ghost use Rattle.std.specs.Prelude.{◌≡◌, [], length, IfOk, OnOk};
-ghost use Rattle.elaborate.specs.Environment.{number_of};
+ghost use Rattle.elaborate.specs.Environment.{capped_number};
 ghost use Rattle.elaborate.specs.Making.{kind_of_port};
 
-use crate::scope::{Entrance, Scope};
+use crate::instance::{Entrance, Instance};
 use std::alloc::{AllocError, Global};
 use syntax::Items;
 use system::{Channel, ChannelKind, Prefix, QualifiedName, Variable};
@@ -19,8 +19,8 @@ pub struct Made {
 }
 
 /// The number that a place gives, or the largest one of 32 bits.
-pub fn number_of(place: usize) -> u32
-    ensures { result ≡ number_of place }
+pub fn capped_number(place: usize) -> u32
+    ensures { result ≡ capped_number place }
 {
     u32::try_from(place).unwrap_or(u32::MAX)
 }
@@ -37,7 +37,7 @@ fn kind_of_port(kind: PortKind) -> ChannelKind
 
 impl Made {
     ghost use Rattle.elaborate.specs.Making as making;
-    ghost use Rattle.elaborate.specs.Making.{scope_of, entered};
+    ghost use Rattle.elaborate.specs.Making.{instance_of, entered};
 
     /// Nothing.
     pub fn nothing(alloc: Global) -> Made
@@ -57,10 +57,10 @@ impl Made {
         kind: ChannelKind,
         declared: u64,
     ) -> Result<u32, AllocError>
-        ensures number { IfOk result (λ number. number ≡ number_of (length self.old.channels)) }
+        ensures number { IfOk result (λ number. number ≡ capped_number (length self.old.channels)) }
         ensures made { OnOk result (self.new ≡ making.with_channel self.old name kind declared) }
     {
-        let number = number_of(self.channels.len());
+        let number = capped_number(self.channels.len());
         self.channels.push(Channel {
             name,
             kind,
@@ -76,7 +76,7 @@ impl Made {
     {
         match local.kind {
             LocalKind::Variable(width) => {
-                let number = number_of(self.variables.len());
+                let number = capped_number(self.variables.len());
                 self.variables.push(Variable {
                     name,
                     width,
@@ -111,19 +111,19 @@ impl Made {
 
     /// Makes the locals of a procedure that is entered so.
     #[inline(never)]
-    pub fn scope(
+    pub fn instance(
         &mut self,
         alloc: Global,
         entrance: Entrance,
         locals: &[Local],
-    ) -> Result<Scope, AllocError>
-        ensures scope { IfOk result (λ scope. scope ≡ scope_of entrance (making.locals_onto [] entrance.prefix self.old locals.now)) }
+    ) -> Result<Instance, AllocError>
+        ensures instance { IfOk result (λ instance. instance ≡ instance_of entrance (making.locals_onto [] entrance.prefix self.old locals.now)) }
         ensures made { OnOk result (self.new ≡ entered (making.locals_onto [] entrance.prefix self.old locals.now)) }
     {
         let Entrance { ports, prefix } = entrance;
         let locals = self.locals(alloc, locals, &prefix)?;
         self.calls = 0;
-        Ok(Scope {
+        Ok(Instance {
             ports,
             locals,
             prefix,

@@ -12,7 +12,7 @@ pub fn misfit(ports: &NamedPorts<'_>, entries: &NamedEntries<'_>) -> Option<u64>
     ensures { result ≡ fit.first_misfit ports.now [] entries.now }
 {
     for (place, entry) in entries.as_slice().iter().enumerate() {
-        if !fits(ports, entries, place, entry) {
+        if !entry_fits(ports, entries, place, entry) {
             return Some(entry.line);
         }
     }
@@ -20,25 +20,30 @@ pub fn misfit(ports: &NamedPorts<'_>, entries: &NamedEntries<'_>) -> Option<u64>
 }
 
 /// Whether the entry names a port, of its kind, that holds its values, and no entry before its place is for that port.
-fn fits(ports: &NamedPorts<'_>, entries: &NamedEntries<'_>, place: usize, entry: &Entry) -> bool
-    ensures { result ≡ fit.fits ports.now (take place entries.now) entry.now }
+fn entry_fits(
+    ports: &NamedPorts<'_>,
+    entries: &NamedEntries<'_>,
+    place: usize,
+    entry: &Entry,
+) -> bool
+    ensures { result ≡ fit.entry_fits ports.now (take place entries.now) entry.now }
 {
-    is_taken(ports, entry) && !entries.is_named_before(place, entry.name.text())
+    port_takes(ports, entry) && !entries.is_named_before(place, entry.name.text())
 }
 
 /// Whether the entry names a port, of its kind, that holds its values.
-fn is_taken(ports: &NamedPorts<'_>, entry: &Entry) -> bool
-    ensures { result ≡ fit.taken (fit.kind_named ports.now entry.now.name) entry.now.given }
+fn port_takes(ports: &NamedPorts<'_>, entry: &Entry) -> bool
+    ensures { result ≡ fit.port_takes (fit.kind_named ports.now entry.now.name) entry.now.given }
 {
     match ports.kind(entry.name.text()) {
-        Some(kind) => takes(kind, &entry.given),
+        Some(kind) => kind_takes(kind, &entry.given),
         None => false,
     }
 }
 
 /// Whether a port of the kind can be given this.
-fn takes(kind: PortKind, given: &Given) -> bool
-    ensures { result ≡ fit.takes kind given.now }
+fn kind_takes(kind: PortKind, given: &Given) -> bool
+    ensures { result ≡ fit.kind_takes kind given.now }
 {
     match kind {
         PortKind::Input(width) => match given {

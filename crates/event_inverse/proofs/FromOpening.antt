@@ -3,16 +3,15 @@ use Rattle.std.proofs.Common.{◌≡◌, List, [], ◌∷◌, ◌++◌, Some, re
 use Rattle.system.specs.Translation.{opening_store}
 use Rattle.system.specs.declared.system.System.{System}
 use Rattle.calculus.specs.Dependence.{Directly}
-use Rattle.calculus.specs.Steps.{State, Step, Run, opening}
+use Rattle.calculus.specs.Steps.{State, Run, opening}
 use Rattle.calculus.specs.declared.event.Event.{Event}
 use Rattle.calculus.proofs.FromOpening.{runs_without, respecting_orders}
 use Rattle.calculus.proofs.Lists.{every-of}
 use Rattle.calculus.proofs.Orders.{run-join}
 use Rattle.process_tree.proofs.Asking.{some-elim}
 use Rattle.process_tree.proofs.Translated.{systems-open-alike}
-use Rattle.event_inverse.specs.Grown.{TreeAndStore, Taken, Records, state_of_tree, opening_tree, applied, grown, StandFor}
+use Rattle.event_inverse.specs.Grown.{TreeAndStore, Records, state_of_tree, opening_tree, grown, StandFor}
 use Rattle.event_inverse.specs.Laws.{TreesOpenAlike, RunsHaveTrees, OneMore, UndoneByRecords, OrdersHaveOneTree}
-use Rattle.event_inverse.proofs.Neighbours.{applies}
 use Rattle.event_inverse.proofs.Undoing.{undone-in, grown-onwards, grows, respecting-grows}
 
 pub trees-open-alike : TreesOpenAlike

@@ -29,7 +29,7 @@ first-grown : (T : TreeAndStore) (e : Event) (h : List Event) (x : TreeAndStore 
 first-grown T e h x y d g = and_then-at (and_others e h) (applied T e) x d ∙ ap (option_map (λ y. (y.0, (e, x.1) ∷ y.1))) g
 
 -- a list that has grown, by its first event
-grown-elim : (T : TreeAndStore) (e : Event) (h : List Event) (y : Grew) (P : Grew → Type 0) → grown T (e ∷ h) ≡ Some y
+pub grown-elim : (T : TreeAndStore) (e : Event) (h : List Event) (y : Grew) (P : Grew → Type 0) → grown T (e ∷ h) ≡ Some y
     → ((x : TreeAndStore × Taken) (w : Grew) → applied T e ≡ Some x → grown x.0 h ≡ Some w → P (w.0, (e, x.1) ∷ w.1)) → P y
 grown-elim T e h y P d f =
     then-elim (and_others e h) (applied T e) y (P y) d

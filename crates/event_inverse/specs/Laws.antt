@@ -5,6 +5,7 @@ use Rattle.system.specs.declared.system.System.{System}
 use Rattle.calculus.specs.Dependence.{Directly, Respecting}
 use Rattle.calculus.specs.Steps.{State, Step, Allowed, Run, opening}
 use Rattle.calculus.specs.declared.event.Event.{Event}
+use Rattle.process_tree.specs.Tidy.{Tidy}
 use Rattle.event_inverse.specs.Grown.{TreeAndStore, Taken, state_of_tree, opening_tree, applied, Records, StandFor}
 use Rattle.event_inverse.specs.walking.Reverted.{reverted}
 
@@ -31,6 +32,10 @@ abbrev pub RunsHaveTrees : Type 0
 RunsHaveTrees =
     (system : System) (h : List Event) (U : State) → Run (opening system) h U →
     (T : TreeAndStore) × (records : Records) × StandFor system h T records × (state_of_tree T ≡ U)
+
+-- what stands for a run is at work in one child of each sequence, so that a walk finds all that it offers
+abbrev pub RunsAreTidy : Type 0
+RunsAreTidy = (system : System) (h : List Event) (T : TreeAndStore) (records : Records) → StandFor system h T records → Tidy T.proc
 
 -- one more event that is allowed puts its record behind the others
 abbrev pub OneMore : Type 0

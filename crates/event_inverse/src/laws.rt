@@ -1,5 +1,5 @@
 // The laws of a tree with records, each the contract of a function that does nothing.
-ghost use Rattle.event_inverse.specs.Laws.{TreesOpenAlike, StepsAreApplied, RecordsRevert, NeighboursKeepRecords, RunsHaveTrees, OneMore, UndoneByRecords, OrdersHaveOneTree};
+ghost use Rattle.event_inverse.specs.Laws.{TreesOpenAlike, StepsAreApplied, RecordsRevert, NeighboursKeepRecords, RunsHaveTrees, RunsAreTidy, OneMore, UndoneByRecords, OrdersHaveOneTree};
 
 /// The tree of a system opens in its opening state; a step of the state is made by the tree, which then stands for the state after it.
 pub fn steps_are_applied()
@@ -19,9 +19,11 @@ pub fn neighbours_keep_records()
 {}
 
 /// A list that runs has a tree and records that stand for it, and the tree stands for the state to which it runs;
-/// one more event puts its record behind the others.
+/// one more event puts its record behind the others. In each sequence of such a tree none behind the first child that is
+/// not finished has made a move.
 pub fn runs_have_trees()
     ensures run { RunsHaveTrees }
+    ensures tidy { RunsAreTidy }
     ensures more { OneMore }
 {}
 

@@ -1,14 +1,14 @@
 -- The table of uses: pairs of a number and a ticket, in order.
-use Rattle.std.proofs.Common.{◌≡◌, ◌⊎◌, ◌↔◌, inl, inr, ℕ, ◌<◌, ◌≤◌, Bool, true, false, cond, not, ◌&&◌, ◌||◌, List, [], ◌∷◌, ◌++◌, IsTrue, filter, refl, sym, ap, subst, ◌∙◌, true≢false, arith, Ordering, Less, Equal, Greater}
+use Rattle.std.proofs.Common.{◌≡◌, ◌⊎◌, ◌↔◌, inl, inr, ℕ, ◌<◌, ◌≤◌, Bool, true, false, cond, not, ◌&&◌, ◌||◌, List, [], ◌∷◌, ◌++◌, IsTrue, IfSome, slice_get, filter, refl, sym, ap, subst, ◌∙◌, true≢false, arith, Ordering, Less, Equal, Greater}
 use Rattle.std.specs.Ordering.{nat_cmp, ordering_then, is_eq, is_lt, is_le, is_gt, MatchOrdering}
 use Rattle.std.specs.List.{list_any}
 use Rattle.std.specs.BTreeSet.{contains, IsKeyRangeOf, UpdatesBy, keys_between}
-use Rattle.std.specs.BTreeMap.Range.{range_contains, IsInRange}
+use Rattle.std.specs.BTreeMap.Range.{range_contains, IsInRange, IsLeBy}
 use Rattle.std.specs.declared.ops.Bound.TheVariants.{Included, Excluded}
 use Rattle.std.proofs.lemmas.Cmp.{nat_cmp_total, tied_itself, ranked}
 use Rattle.syntax.specs.Lists.{In}
 use Rattle.last_events.specs.declared.uses.UseTable.{UseTable}
-use Rattle.last_events.specs.LastEvents.{Uses, LastUse}
+use Rattle.last_events.specs.LastEvents.{Uses, LastUse, FirstUse}
 
 abbrev pub pair_cmp : ℕ × ℕ → ℕ × ℕ → Ordering
 pair_cmp p q = ordering_then (nat_cmp p.0 q.0) (nat_cmp p.1 q.1)
@@ -153,6 +153,28 @@ last-use table n b r s k h is =
 
 pub no-use : (table : UseTable) (n b : ℕ) (r : List (ℕ × ℕ)) → IsKeyRangeOf pair_cmp (Included (n, 0)) (Excluded (n, b)) table.set r → r ≡ [] → (t : ℕ) → Uses table n t → t < b → ⊥
 no-use table n b r h is t uses less = true≢false (sym uses ∙ h.5 is (n, t) (between-key n 0 b t (omega arith) less))
+
+first-of : (xs ys : List (ℕ × ℕ)) (k : ℕ × ℕ) (P : ℕ × ℕ → Type 0) → xs ≡ k ∷ ys → IfSome (slice_get xs 0) P → P k
+first-of xs ys k P is h = subst (λ (ks : List (ℕ × ℕ)). IfSome (slice_get ks 0) P) is h
+
+pub first-use : (table : UseTable) (n a b : ℕ) (r s : List (ℕ × ℕ)) (k : ℕ × ℕ) → IsKeyRangeOf pair_cmp (Included (n, a)) (Excluded (n, b)) table.set r → r ≡ k ∷ s → FirstUse table n a b k.1
+first-use table n a b r s k h is =
+    let inside = first-of r s k (λ q. IsInRange pair_cmp (Included (n, a)) (Excluded (n, b)) q × IsTrue (contains pair_cmp table.set q)) is h.1 in
+    let here = key-between n a b k inside.0 in
+    record {
+      uses = subst (λ (x : ℕ). Uses table x k.1) here.0 inside.1;
+      starts = here.1;
+      less = here.2;
+      first = λ u uses low less.
+          let low_key : is_gt (pair_cmp k (n, u)) ≡ false = first-of r s k (λ q. IsLeBy pair_cmp q (n, u)) is (h.2 (n, u) (between-key n a b u low less) uses) in
+          elim (from-pair k.0 k.1 (n, u) (nat_cmp k.0 n) (nat_cmp k.1 u) refl refl low_key) [
+            | inl more ↦ let same : k.0 ≡ n = here.0 in absurd (omega arith)
+            | inr both ↦ both.1
+          ];
+    }
+
+pub none-between : (table : UseTable) (n a b : ℕ) (r : List (ℕ × ℕ)) → IsKeyRangeOf pair_cmp (Included (n, a)) (Excluded (n, b)) table.set r → r ≡ [] → (t : ℕ) → Uses table n t → a ≤ t → t < b → ⊥
+none-between table n a b r h is t uses low less = true≢false (sym uses ∙ h.5 is (n, t) (between-key n a b t low less))
 
 -- ---- all of a range
 -- one of the keys has the ticket t

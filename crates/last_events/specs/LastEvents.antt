@@ -59,3 +59,10 @@ pub record LastUse (table : UseTable) (x below t : ℕ) : Type 0 where
   pub uses : Uses table x t
   pub less : t < below
   pub last : (u : ℕ) → Uses table x u → u < below → u ≤ t
+
+-- t is the least ticket, from `from` on and less than `below`, of an event that uses the number x
+pub record FirstUse (table : UseTable) (x from below t : ℕ) : Type 0 where
+  pub uses : Uses table x t
+  pub starts : from ≤ t
+  pub less : t < below
+  pub first : (u : ℕ) → Uses table x u → from ≤ u → u < below → t ≤ u

@@ -1,7 +1,7 @@
 // The events that use a number, in order of tickets.
 ghost use Rattle.std.specs.Prelude.{◌≡◌, ◌<◌, ◌≤◌, ◌⊎◌, ◌↔◌, ℕ, MatchOption, IfOk, OnOk, OnErr};
 ghost use Rattle.syntax.specs.Lists.{In};
-ghost use Rattle.last_events.specs.LastEvents.{Uses, LastUse};
+ghost use Rattle.last_events.specs.LastEvents.{Uses, LastUse, FirstUse};
 
 use std::alloc::{AllocError, Global};
 use std::collections::BTreeSet;
@@ -45,6 +45,18 @@ impl UseTable {
     {
         let mut uses = self.set.range((number, 0)..(number, below));
         match uses.next_back() {
+            Some(key) => Some(key.1),
+            None => None,
+        }
+    }
+
+    /// The least ticket, from `from` on and less than `below`, of an event that uses the number.
+    pub fn first(&self, number: u32, from: u64, below: u64) -> Option<u64>
+        requires { from ≤ below }
+        ensures { MatchOption result ((t : ℕ) → Uses self.now number t → from ≤ t → t < below → ⊥) (FirstUse self.now number from below) }
+    {
+        let mut later = self.set.range((number, from)..(number, below));
+        match later.next() {
             Some(key) => Some(key.1),
             None => None,
         }

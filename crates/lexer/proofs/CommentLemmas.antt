@@ -1,9 +1,9 @@
 -- What is read of a nested comment up to a position decides about what stands behind it.
-use Rattle.std.proofs.Common.{◌≡◌, ◌≢◌, ℕ, zero, suc, ◌+◌, ◌-◌, ◌≤◌, ◌<◌, Bool, true, false, ◌&&◌, cond, List, [], ◌∷◌, ◌++◌, length, take, drop, inl, inr, refl, sym, ◌∙◌, ap, arith}
+use Rattle.std.proofs.Common.{◌≡◌, ◌≢◌, ℕ, zero, suc, ◌+◌, ◌-◌, ◌≤◌, ◌<◌, true, false, [], ◌∷◌, ◌++◌, length, take, drop, inl, inr, refl, ◌∙◌, arith}
 use Rattle.std.proofs.lemmas.Bool.{false≢true, both_ways, and_left, and_right, and_parts, cases_Bool, cases_lt}
 use Rattle.std.proofs.lemmas.List.{drop-drop, drop_all, length-drop}
 use Rattle.syntax.specs.Texts.{Text}
-use Rattle.lexer.specs.Comment.{is_opening, is_closing, closes, is_nested_comment, IsOpenComment}
+use Rattle.lexer.specs.Comment.{is_opening, is_closing, closes, is_nested_comment}
 use Rattle.lexer.proofs.MarkLemmas.{mark_fits, short_of_mark}
 
 -- With `before` open comments no front of fewer than `k` bytes closes them, and after these `k` bytes

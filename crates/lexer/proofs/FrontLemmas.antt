@@ -1,15 +1,13 @@
 -- Runs and comments as the longest spelling at the front.
-use Rattle.std.proofs.Common.{◌≡◌, ◌≢◌, ℕ, zero, suc, ◌+◌, ◌-◌, ◌≤◌, ◌<◌, Bool, true, false, not, ◌&&◌, List, [], ◌∷◌, ◌++◌, length, take, drop, inl, inr, refl, sym, ◌∙◌, ap, subst, append_assoc, length-append, ◌⊎◌, arith, rules}
+use Rattle.std.proofs.Common.{◌≡◌, ◌≢◌, ℕ, suc, ◌+◌, ◌≤◌, Bool, true, false, [], ◌∷◌, ◌++◌, length, take, drop, inl, inr, refl, sym, ◌∙◌, ap, subst, ◌⊎◌, arith}
 use Rattle.std.specs.Prelude.{IsTrue}
 use Rattle.std.specs.List.{list_all, prefix_len}
 use Rattle.std.proofs.lemmas.Bool.{false≢true, both_ways, and_from, and_parts, cases_Bool, eqb-true}
-use Rattle.std.proofs.lemmas.List.{append-nil, take_at, take_all, drop_all, take-append-drop, length-take-le, nil_from_length}
+use Rattle.std.proofs.lemmas.List.{append-nil, take_at, take_all, drop_all}
 use Rattle.std.proofs.lemmas.List.Folds.{list_all-append}
 use Rattle.std.proofs.lemmas.List.Sums.{prefix_len-le-length}
 use Rattle.syntax.specs.Texts.{Text}
-use Rattle.lexer.specs.Bytes.{is_blank}
 use Rattle.lexer.specs.Comment.{is_opening, is_nested_comment, IsOpenComment}
-use Rattle.lexer.specs.Cut.{IsLongest, Piece}
 use Rattle.lexer.specs.Spelling.{begins, may_hold, IsRun, Spells}
 use Rattle.lexer.specs.walking.Fronts.{class_at, IsFront}
 use Rattle.lexer.specs.declared.class.Class.{Class}

@@ -1,14 +1,13 @@
 -- The class of a spelling shows at its front.
-use Rattle.std.proofs.Common.{◌≡◌, ◌≢◌, ℕ, zero, suc, ◌+◌, ◌-◌, ◌≤◌, ◌<◌, Bool, true, false, not, ◌&&◌, cond, List, [], ◌∷◌, ◌++◌, length, take, drop, inl, inr, refl, sym, ◌∙◌, ap, arith, rules}
+use Rattle.std.proofs.Common.{◌≡◌, ◌≢◌, ℕ, true, false, [], ◌∷◌, ◌++◌, inl, inr, refl, sym, arith}
 use Rattle.std.specs.Prelude.{slice_index}
-use Rattle.std.specs.List.{list_all, prefix_len, starts_with}
 use Rattle.std.specs.Char.{is_ascii_alphabetic, is_ascii_digit}
 use Rattle.std.proofs.lemmas.Bool.{false≢true, and_parts, cases_Bool}
 use Rattle.std.proofs.lemmas.Bool.Decides.{nat_tests}
 use Rattle.syntax.specs.Texts.{Text}
 use Rattle.lexer.specs.Bytes.{is_blank, is_name_byte}
-use Rattle.lexer.specs.Comment.{is_opening, is_nested_comment, IsOpenComment}
-use Rattle.lexer.specs.Spelling.{begins, may_hold, is_dashes, IsRun, Spells}
+use Rattle.lexer.specs.Comment.{is_opening}
+use Rattle.lexer.specs.Spelling.{begins, IsRun, Spells}
 use Rattle.lexer.specs.walking.Fronts.{class_at}
 use Rattle.lexer.specs.declared.class.Class.{Class}
 use Rattle.lexer.specs.declared.class.Class.TheVariants.{Blank, LineComment, NestedComment, OpenComment, Word, Number, Symbol}

@@ -1,7 +1,6 @@
 -- What is read of a source, and how it goes on.
-use Rattle.std.proofs.Common.{◌≡◌, ℕ, ◌+◌, ◌≤◌, ◌<◌, List, [], ◌∷◌, ◌++◌, length, take, drop, true, inl, inr, ◌-◌, refl, sym, ◌∙◌, ap, append_assoc, length-append, arith}
+use Rattle.std.proofs.Common.{◌≡◌, ℕ, ◌+◌, List, [], ◌∷◌, ◌++◌, length, take, drop, true, inl, inr, ◌-◌, refl, sym, ◌∙◌, ap, append_assoc, length-append, arith}
 use Rattle.std.specs.Option.{option_to_list}
-use Rattle.std.specs.Prelude.{Option}
 use Rattle.std.proofs.lemmas.List.{append-nil, take-append-drop, take-take}
 use Rattle.std.proofs.Math.Seq.{take-add}
 use Rattle.std.proofs.lemmas.Bool.{cases_lt}
@@ -14,7 +13,7 @@ use Rattle.syntax.specs.Texts.{Text}
 use Rattle.lexer.specs.Cut.{IsCut, Piece, joined}
 use Rattle.lexer.specs.Refusal.{IsDueAt, IsRefused}
 use Rattle.lexer.specs.walking.Fronts.{IsFront, IsPieceFault}
-use Rattle.lexer.specs.Tokens.{AreReadable, AreTokens, IsReadable, IsReadTo, behind, first_position, token_at, token_of, tokens_from}
+use Rattle.lexer.specs.Tokens.{AreTokens, IsReadable, IsReadTo, behind, first_position, token_at, token_of, tokens_from}
 use Rattle.lexer.specs.declared.class.Class.{Class}
 use Rattle.refusals.specs.declared.lexer.Fault.{Fault}
 use Rattle.lexer.specs.declared.position.Position.{Position}

@@ -1,12 +1,11 @@
 -- A symbol has one byte or two, and its front shows that it is one.
-use Rattle.std.proofs.Common.{◌≡◌, ◌≢◌, ℕ, zero, suc, ◌+◌, ◌-◌, ◌≤◌, ◌<◌, Bool, true, false, ◌&&◌, List, [], ◌∷◌, ◌++◌, length, map, take, drop, inl, inr, refl, sym, ◌∙◌, ap, subst, append_assoc, length-append, arith, rules}
-use Rattle.std.specs.Prelude.{nat_eq, nat_le, is_some, IsSome, Option}
+use Rattle.std.proofs.Common.{◌≡◌, ℕ, ◌+◌, ◌≤◌, Bool, true, false, ◌&&◌, List, [], ◌∷◌, ◌++◌, length, take, inl, inr, refl, sym, ◌∙◌, ap, subst, append_assoc, length-append, arith}
+use Rattle.std.specs.Prelude.{nat_eq, nat_le, is_some, IsSome}
 use Rattle.std.specs.List.{list_all}
 use Rattle.std.specs.Cmp.Lexicographic.{pointwise, same_text}
 use Rattle.std.proofs.lemmas.Bool.{false≢true, both_ways, and_from, and_parts, cases_Bool, cases_eq, cases_lt, leb-true, le-leb}
 use Rattle.std.proofs.lemmas.List.{take_at, take-append-drop, length-take-le, nil_from_length}
 use Rattle.syntax.specs.Texts.{Text}
-use Rattle.lexer.specs.Cut.{IsLongest, Piece}
 use Rattle.lexer.specs.Spelling.{Spells, NothingSpelled}
 use Rattle.lexer.specs.walking.Fronts.{class_at, NoSymbolBeyond, IsFront}
 use Rattle.lexer.specs.Table.{lookup, symbol, symbols}

@@ -1,13 +1,13 @@
 -- A source is cut in one way, and so it has one list of tokens or one fault.
-use Rattle.std.proofs.Common.{◌≡◌, ◌≢◌, ℕ, zero, suc, ◌+◌, ◌≤◌, ◌<◌, ◌^◌, Bool, true, false, cond, List, [], ◌∷◌, ◌++◌, length, take, drop, inl, inr, refl, sym, ◌∙◌, ap, append_assoc, ◌⊎◌, arith}
+use Rattle.std.proofs.Common.{◌≡◌, ◌≢◌, ℕ, zero, suc, ◌≤◌, ◌<◌, ◌^◌, true, false, List, [], ◌∷◌, ◌++◌, length, drop, inl, inr, refl, sym, ◌∙◌, ap, append_assoc, arith}
 use Rattle.std.specs.Prelude.{if◌then◌else◌}
-use Rattle.std.proofs.lemmas.Bool.{false≢true, both_ways, and_parts, cases_lt, cond-false, cond-true, false_from_ne_true}
+use Rattle.std.proofs.lemmas.Bool.{false≢true, and_parts, cases_lt, cond-false, cond-true, false_from_ne_true}
 use Rattle.std.proofs.lemmas.List.{append-nil, take_all, drop_all}
 use Rattle.syntax.specs.Texts.{Text}
 use Rattle.lexer.specs.Comment.{closes, is_opening, is_nested_comment, IsOpenComment}
 use Rattle.lexer.specs.Cut.{IsCut, IsLongest, Piece, joined}
 use Rattle.lexer.specs.Refusal.{BeginsTooLarge, IsDueAt, IsRefused}
-use Rattle.lexer.specs.Spelling.{Spells, NothingSpelled}
+use Rattle.lexer.specs.Spelling.{Spells}
 use Rattle.lexer.specs.walking.Fronts.{class_at, IsFront}
 use Rattle.lexer.specs.Tokens.{AreReadable, AreTokens, IsReadable, IsReadTo, first_position, tokens_from, value_of}
 use Rattle.lexer.specs.declared.class.Class.{Class}

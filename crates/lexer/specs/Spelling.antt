@@ -1,8 +1,8 @@
 -- What is spelled: which texts are pieces of each class.
-use Rattle.std.specs.Prelude.{◌≡◌, ℕ, Bool, false, not, ◌&&◌, ◌==◌, nat_eq, [], ◌∷◌, ◌++◌, slice_index, IsTrue, IsSome}
+use Rattle.std.specs.Prelude.{◌≡◌, ℕ, Bool, false, not, ◌&&◌, nat_eq, [], ◌∷◌, ◌++◌, slice_index, IsTrue, IsSome}
 use Rattle.std.specs.List.{list_all, starts_with}
 use Rattle.std.specs.Char.{is_ascii_alphabetic, is_ascii_digit}
-use Rattle.syntax.specs.Texts.{Text}
+use Rattle.syntax.specs.Texts.{Text, is_end}
 use Rattle.lexer.specs.Bytes.{is_blank, is_name_byte}
 use Rattle.lexer.specs.Comment.{is_nested_comment, IsOpenComment}
 use Rattle.lexer.specs.Table.{symbol}
@@ -26,7 +26,7 @@ begins Symbol text = false
 -- whether a run of the class may hold the byte
 abbrev pub may_hold : Class → ℕ → Bool
 may_hold Blank b = is_blank b
-may_hold LineComment b = not (b == 10)
+may_hold LineComment b = not (is_end b)
 may_hold Word b = is_name_byte b
 may_hold Number b = is_ascii_digit b
 may_hold NestedComment b = false

@@ -11,8 +11,8 @@ lookup [] text = None
 lookup (entry ∷ entries) text = if pointwise nat_eq entry.0 text then Some entry.1 else lookup entries text
 
 -- the reserved words
-abbrev pub words : List (Text × Kind)
-words =
+abbrev pub reserved_words : List (Text × Kind)
+reserved_words =
     (codes "and", kind.AndWord) ∷
     (codes "arbitrate", kind.ArbitrateWord) ∷
     (codes "as", kind.AsWord) ∷
@@ -68,8 +68,8 @@ symbols =
     (codes ">=", kind.GreaterOrEqualSign) ∷ []
 
 -- the reserved word that a text is
-unfoldable pub word : Text → Option Kind
-word = lookup words
+unfoldable pub reserved_word : Text → Option Kind
+reserved_word = lookup reserved_words
 
 -- the symbol that a text is
 unfoldable pub symbol : Text → Option Kind

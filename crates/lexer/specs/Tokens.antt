@@ -1,10 +1,10 @@
 -- The tokens of a source.
-use Rattle.std.specs.Prelude.{◌≡◌, ℕ, ◌+◌, ◌-◌, ◌*◌, ◌^◌, ◌<◌, ◌==◌, List, [], ◌∷◌, ◌++◌, length, Option, Some, None, unwrap_or}
+use Rattle.std.specs.Prelude.{◌≡◌, ℕ, ◌+◌, ◌-◌, ◌*◌, ◌^◌, ◌<◌, List, [], ◌∷◌, ◌++◌, length, Option, Some, None, unwrap_or}
 use Rattle.std.specs.Option.{option_map, option_to_list}
 use Rattle.std.specs.List.{count_by}
-use Rattle.syntax.specs.Texts.{Text}
+use Rattle.syntax.specs.Texts.{Text, is_end}
 use Rattle.lexer.specs.Cut.{Piece, joined, IsCut}
-use Rattle.lexer.specs.Table.{symbol, word}
+use Rattle.lexer.specs.Table.{symbol, reserved_word}
 use Rattle.lexer.specs.declared.class.Class.{Class}
 use Rattle.lexer.specs.declared.class.Class.TheVariants as class
 use Rattle.lexer.specs.declared.position.Position.{Position}
@@ -23,7 +23,7 @@ value_of digits = value_from 0 digits
 
 -- the kind of a piece, where it makes a token
 abbrev pub kind_of : Class → Text → Option Kind
-kind_of class.Word text = Some (unwrap_or (word text) Name)
+kind_of class.Word text = Some (unwrap_or (reserved_word text) Name)
 kind_of class.Number text = Some Number
 kind_of class.Symbol text = symbol text
 kind_of class.Blank text = None
@@ -32,18 +32,18 @@ kind_of class.NestedComment text = None
 kind_of class.OpenComment text = None
 
 -- the number that a token of the class has
-abbrev pub number_of : Class → Text → ℕ
-number_of class.Number text = value_of text
-number_of class.Word text = 0
-number_of class.Symbol text = 0
-number_of class.Blank text = 0
-number_of class.LineComment text = 0
-number_of class.NestedComment text = 0
-number_of class.OpenComment text = 0
+abbrev pub token_number : Class → Text → ℕ
+token_number class.Number text = value_of text
+token_number class.Word text = 0
+token_number class.Symbol text = 0
+token_number class.Blank text = 0
+token_number class.LineComment text = 0
+token_number class.NestedComment text = 0
+token_number class.OpenComment text = 0
 
 -- the position behind a text that begins at the position
 abbrev pub behind : Position → Text → Position
-behind position text = record { offset = position.offset + length text; line = position.line + count_by (λ b. b == 10) text }
+behind position text = record { offset = position.offset + length text; line = position.line + count_by is_end text }
 
 -- a token with this text at the position
 abbrev pub token_at : Position → Kind → Text → ℕ → Token
@@ -56,7 +56,7 @@ token_at position kind text number = record {
 
 -- the token of a piece at the position, or none for blanks and comments
 abbrev pub token_of : Position → Class → Text → Option Token
-token_of position class text = option_map (λ kind. token_at position kind text (number_of class text)) (kind_of class text)
+token_of position class text = option_map (λ kind. token_at position kind text (token_number class text)) (kind_of class text)
 
 -- whether a piece is no fault in itself: no open comment, and no number of 2^64 or more
 abbrev pub IsReadable : Class → Text → Type 0

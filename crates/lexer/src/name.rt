@@ -4,13 +4,13 @@ ghost use Rattle.lexer.specs.Bytes as bytes;
 ghost use Rattle.lexer.specs.Names as names;
 
 use crate::class::is_name_byte;
-use crate::table::word;
+use crate::table::reserved_word;
 
 /// Whether the whole of `text` is a name: a letter, then letters, digits and `_`, and no reserved word.
 pub fn is_name(text: &[u8]) -> bool
     ensures { result ≡ names.is_name text.now }
 {
-    is_word(text) && word(text).is_none()
+    is_word(text) && reserved_word(text).is_none()
 }
 
 /// Whether the whole of `text` is a name or a reserved word.

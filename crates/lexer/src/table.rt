@@ -4,7 +4,7 @@ ghost use Rattle.lexer.specs.Table as spec;
 use crate::Kind;
 
 /// The reserved words.
-pub const WORDS: [(&[u8], Kind); 29] = [
+pub const RESERVED_WORDS: [(&[u8], Kind); 29] = [
     (b"and", Kind::AndWord),
     (b"arbitrate", Kind::ArbitrateWord),
     (b"as", Kind::AsWord),
@@ -82,8 +82,8 @@ pub fn symbol(text: &[u8]) -> Option<Kind>
 }
 
 /// The reserved word that `text` is.
-pub fn word(text: &[u8]) -> Option<Kind>
-    ensures { result ≡ spec.word text.now }
+pub fn reserved_word(text: &[u8]) -> Option<Kind>
+    ensures { result ≡ spec.reserved_word text.now }
 {
-    lookup(&WORDS, text)
+    lookup(&RESERVED_WORDS, text)
 }

@@ -8,7 +8,7 @@ use crate::Fault;
 use crate::class::Class;
 use crate::number::value;
 use crate::position::Position;
-use crate::table::{symbol, word};
+use crate::table::{reserved_word, symbol};
 use std::alloc::{AllocError, Global};
 use syntax::{Name, Span};
 
@@ -165,7 +165,7 @@ pub(crate) fn token_of(
     let (kind, number) = match class {
         Class::Blank | Class::LineComment | Class::NestedComment => return Ok(None),
         Class::OpenComment => return Err(Fault::OpenComment(position.offset)),
-        Class::Word => (word(text).unwrap_or(Kind::Name), 0),
+        Class::Word => (reserved_word(text).unwrap_or(Kind::Name), 0),
         Class::Number => {
             let number = value(text).ok_or(Fault::NumberTooLarge(position.offset))?;
             (Kind::Number, number)

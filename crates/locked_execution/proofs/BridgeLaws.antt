@@ -10,14 +10,14 @@ use Rattle.machine.specs.AtMachine.{AtMachine, object}
 use Rattle.machine.specs.Branching.{StepsBranch}
 use Rattle.machine.specs.declared.branching.BranchReply.{BranchReply}
 use Rattle.locked_execution.specs.AtDesk.{AtDesk, execution, breaks_of}
-use Rattle.locked_execution.specs.Performs.{shown, shown_branch, OnExecution, SetsBreak, ClearsBreak}
+use Rattle.locked_execution.specs.Performs.{session_reply, branch_reply, OnExecution, SetsBreak, ClearsBreak}
 use Rattle.locked_execution.specs.Bridge.{on_execution, onto, commands_of, replies_of, IsOnExecution, AreOnExecution}
 use Rattle.locked_execution.specs.declared.command.Command.{Command}
 use Rattle.locked_execution.specs.declared.command.Reply.{Reply}
 
 -- the execution answers c with what the session is told
 IsAnswered : AtDesk → AtDesk → Reply → calculus_command.Command → Type 0
-IsAnswered d d' reply c = (answer : calculus_reply.Reply) × (shown answer ≡ reply) × Answers (execution d) c answer (execution d')
+IsAnswered d d' reply c = (answer : calculus_reply.Reply) × (session_reply answer ≡ reply) × Answers (execution d) c answer (execution d')
 
 -- what the command of the session, if it is one of the execution, is there
 Carries : AtDesk → AtDesk → Command → Reply → Type 0
@@ -30,7 +30,7 @@ one d d' c reply (inl h) = (h.0, sym h.1, inl h.2)
 one d d' c reply (inr h) = (calculus_reply.Reply.Refused Memory, sym h.1, inr (h.0, refl, ap execution h.2))
 
 branch : (d d' : AtDesk) (session k : ℕ) (answer : BranchReply) → StepsBranch d.machine k (breaks_of d session) answer d'.machine →
-    Carries d d' (Command.Branch k) (shown_branch answer)
+    Carries d d' (Command.Branch k) (branch_reply answer)
 unfolding Carries IsAnswered
 branch d d' session k (BranchReply.Stepped t e) h = (calculus_reply.Reply.Stepped t e, refl, inl h.4.1)
 branch d d' session k (BranchReply.Stopped line) h = h.4.1
@@ -70,7 +70,7 @@ is-on-execution d d' session (Command.Clear line) reply (inr h) = absurd h.0
 -- these commands of the execution, of which the sessions are told these replies, lead from what is held to d'
 Leads : AtMachine → AtDesk → List calculus_command.Command → List Reply → Type 0
 Leads h d' commands replies =
-    (answers : List calculus_reply.Reply) × (map shown answers ≡ replies) × calculus.Answered (object h) commands answers (execution d')
+    (answers : List calculus_reply.Reply) × (map session_reply answers ≡ replies) × calculus.Answered (object h) commands answers (execution d')
 
 -- one more in front
 in-front : (d m d' : AtDesk) (o : Option calculus_command.Command) (reply : Reply) (commands : List calculus_command.Command) (replies : List Reply) →
@@ -79,8 +79,8 @@ in-front : (d m d' : AtDesk) (o : Option calculus_command.Command) (reply : Repl
 unfolding Leads IsAnswered
 in-front d m d' None reply commands replies held rest = subst (λ (h : AtMachine). Leads h d' commands replies) held rest
 in-front d m d' (Some c) reply commands replies now rest =
-    let first : shown now.0 ≡ reply = now.1 in
-    let others : map shown rest.0 ≡ replies = rest.1 in
+    let first : session_reply now.0 ≡ reply = now.1 in
+    let others : map session_reply rest.0 ≡ replies = rest.1 in
     (now.0 ∷ rest.0, (λ i. first i ∷ others i), (now.0, rest.0, execution m, refl, now.2, rest.2))
 
 pub are-on-execution : AreOnExecution

@@ -10,7 +10,7 @@ use Rattle.machine.specs.AtMachine.{object}
 use Rattle.machine.specs.Branching.{StepsBranch}
 use Rattle.machine.specs.declared.branching.BranchReply.{BranchReply}
 use Rattle.locked_execution.specs.AtDesk.{AtDesk, execution, breaks_of, with_breaks}
-use Rattle.locked_execution.specs.Performs.{Answers, OnExecution, OnBranch, SetsBreak, ClearsBreak, shown, shown_branch}
+use Rattle.locked_execution.specs.Performs.{Answers, OnExecution, OnBranch, SetsBreak, ClearsBreak, session_reply, branch_reply}
 use Rattle.locked_execution.specs.Frames.{OnlyBreaksAndClears, OthersKeepTheirs, OthersKeepTheirsOverLists, BreakLeavesExecution, ClearLeavesExecution, RefusalLeavesAll, BreakSets, ClearClears}
 use Rattle.locked_execution.specs.declared.command.Command.{Command}
 use Rattle.locked_execution.specs.declared.command.Reply.{Reply}
@@ -98,7 +98,7 @@ refused : (d d' : AtDesk) (c : calculus_command.Command) (why : Refusal) →
     OnExecution d c (Reply.Refused why) d' ⊎ (MayWantMemory (execution d) c × (Reply.Refused why ≡ Reply.Refused Memory) × (d' ≡ d)) → d' ≡ d
 refused d d' c why (inl h) = by_answer h.0 h.1 h.2
   where
-    by_answer : (answer : calculus_reply.Reply) → Reply.Refused why ≡ shown answer → Does (execution d) c answer (execution d') → d' ≡ d
+    by_answer : (answer : calculus_reply.Reply) → Reply.Refused why ≡ session_reply answer → Does (execution d) c answer (execution d') → d' ≡ d
     by_answer (calculus_reply.Reply.Refused because) is does = all-same d d' h.3 (refused-leaves (execution d) (execution d') c because does) h.4
     by_answer _ is does = cc
 refused d d' c why (inr h) = h.2
@@ -107,7 +107,7 @@ refused d d' c why (inr h) = h.2
 branch-refused : (d d' : AtDesk) (session k : ℕ) (why : Refusal) → OnBranch d session k (Reply.Refused why) d' → d' ≡ d
 branch-refused d d' session k why h = by_answer h.0 h.1 h.2
   where
-    by_answer : (answer : BranchReply) → Reply.Refused why ≡ shown_branch answer → StepsBranch d.machine k (breaks_of d session) answer d'.machine → d' ≡ d
+    by_answer : (answer : BranchReply) → Reply.Refused why ≡ branch_reply answer → StepsBranch d.machine k (breaks_of d session) answer d'.machine → d' ≡ d
     by_answer (BranchReply.Refused because) is steps = all-same d d' h.3 (ap object steps.4.1) h.4
     by_answer _ is steps = cc
 

@@ -9,7 +9,7 @@ use Rattle.calculus.specs.declared.command.Refusal.TheVariants.{BreaksFull, NoSu
 use Rattle.calculus.proofs.OneReplies.{one-reply}
 use Rattle.machine.specs.Breakpoints.{most_breaks}
 use Rattle.locked_execution.specs.AtDesk.{AtDesk, execution, breaks_of}
-use Rattle.locked_execution.specs.Performs.{OnExecution, OnBranch, RefusesBreak, SetsBreak, ClearsBreak, shown, shown_branch}
+use Rattle.locked_execution.specs.Performs.{OnExecution, OnBranch, RefusesBreak, SetsBreak, ClearsBreak, session_reply, branch_reply}
 use Rattle.locked_execution.specs.Replies.{OneReply}
 use Rattle.locked_execution.specs.declared.command.Command.{Command}
 use Rattle.locked_execution.specs.declared.command.Reply.{Reply}
@@ -24,13 +24,13 @@ on-execution : (d p q : AtDesk) (c : calculus_command.Command) (reply other : Re
     OnExecution d c reply p → OnExecution d c other q → Same reply other p q
 on-execution d p q c reply other s h g =
     let one = one-reply (execution d) (execution p) (execution q) c h.0 g.0 s h.2 g.2 in
-    (h.1 ∙ ap shown one.0 ∙ sym g.1, all-same q p (h.3 ∙ sym g.3) one.1 (h.4 ∙ sym g.4))
+    (h.1 ∙ ap session_reply one.0 ∙ sym g.1, all-same q p (h.3 ∙ sym g.3) one.1 (h.4 ∙ sym g.4))
 
 on-branch : (d p q : AtDesk) (session k : ℕ) (reply other : Reply) → Sound (execution d) →
     OnBranch d session k reply p → OnBranch d session k other q → Same reply other p q
 on-branch d p q session k reply other s h g =
     let one = one-branch d.machine p.machine q.machine k (breaks_of d session) h.0 g.0 s h.2 g.2 in
-    (h.1 ∙ ap shown_branch one.0 ∙ sym g.1, all-same q p (h.3 ∙ sym g.3) one.1 (h.4 ∙ sym g.4))
+    (h.1 ∙ ap branch_reply one.0 ∙ sym g.1, all-same q p (h.3 ∙ sym g.3) one.1 (h.4 ∙ sym g.4))
 
 -- a breakpoint is refused for one reason
 break-refusals : (d : AtDesk) (session line : ℕ) (why other : Refusal) → RefusesBreak d session line why → RefusesBreak d session line other → why ≡ other

@@ -13,7 +13,7 @@ use Rattle.calculus.proofs.Effects.{Effect, unchanged, added, taken, does-effect
 use Rattle.calculus.proofs.SomeReplies.{some-reply}
 use Rattle.machine.specs.Breakpoints.{most_breaks, with_line, without_line}
 use Rattle.locked_execution.specs.AtDesk.{AtDesk, execution, breaks_of, with_breaks}
-use Rattle.locked_execution.specs.Performs.{Performs, OnExecution, shown, shown_branch}
+use Rattle.locked_execution.specs.Performs.{Performs, OnExecution, session_reply, branch_reply}
 use Rattle.locked_execution.specs.Replies.{SomeReply}
 use Rattle.locked_execution.specs.declared.command.Command.{Command}
 use Rattle.locked_execution.specs.declared.command.Reply.{Reply}
@@ -36,12 +36,12 @@ on-execution d c s =
     let after : AtDesk = record { machine = record { checked = d.machine.checked; live = some.1.live; next = some.1.next }; breaks = d.breaks } in
     let begun : some.1.opening ≡ opening d.machine.checked = same-opening (execution d) some.1 (does-effect (execution d) c some.0 some.1 s some.2) in
     let one : some.1 ≡ execution after = (λ i. record { opening = begun i; live = some.1.live; next = some.1.next }) in
-    (shown some.0, after, (some.0, refl, subst (λ (o : Object). Does (execution d) c some.0 o) one some.2, refl, refl))
+    (session_reply some.0, after, (some.0, refl, subst (λ (o : Object). Does (execution d) c some.0 o) one some.2, refl, refl))
 
 on-branch : (d : AtDesk) (session k : ℕ) → Sound (execution d) → Replied d session (Command.Branch k)
 on-branch d session k s =
     let some = some-branch d.machine k (breaks_of d session) s in
-    (shown_branch some.0, record { machine = some.1; breaks = d.breaks }, (some.0, refl, some.3, some.2, refl))
+    (branch_reply some.0, record { machine = some.1; breaks = d.breaks }, (some.0, refl, some.3, some.2, refl))
 
 -- the desk with a breakpoint of the session on the line
 abbrev set-there : AtDesk → ℕ → ℕ → AtDesk

@@ -52,10 +52,10 @@ abbrev pub IsOnExecution : Type 0
 IsOnExecution = (d d' : AtDesk) (session : ℕ) (command : Command) (reply : Reply) → performs.Answers d session command reply d' →
     MatchOption (on_execution command reply)
     (d'.machine ≡ d.machine)
-    (λ c. (answer : calculus_reply.Reply) × (performs.shown answer ≡ reply) × Answers (execution d) c answer (execution d'))
+    (λ c. (answer : calculus_reply.Reply) × (performs.session_reply answer ≡ reply) × Answers (execution d) c answer (execution d'))
 
 -- and so it is with lists
 abbrev pub AreOnExecution : Type 0
 AreOnExecution = (d d' : AtDesk) (commands : List (ℕ × Command)) (replies : List Reply) → Answered d commands replies d' →
-    (answers : List calculus_reply.Reply) × (map performs.shown answers ≡ replies_of commands replies)
+    (answers : List calculus_reply.Reply) × (map performs.session_reply answers ≡ replies_of commands replies)
     × calculus.Answered (execution d) (commands_of commands replies) answers (execution d')

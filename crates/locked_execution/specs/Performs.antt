@@ -15,34 +15,34 @@ use Rattle.locked_execution.specs.declared.command.Command.{Command}
 use Rattle.locked_execution.specs.declared.command.Reply.{Reply}
 
 -- what a session is told where the execution answers so
-abbrev pub shown : calculus_reply.Reply → Reply
-shown (calculus_reply.Reply.Stepped t e) = Reply.Stepped t e
-shown (calculus_reply.Reply.Undone t e) = Reply.Undone t e
-shown (calculus_reply.Reply.Rolled n) = Reply.Rolled n
-shown (calculus_reply.Reply.Blamed t) = Reply.Blamed t
-shown (calculus_reply.Reply.Ready es) = Reply.Ready es
-shown (calculus_reply.Reply.Consequences ts) = Reply.Consequences ts
-shown (calculus_reply.Reply.Live l) = Reply.Live l
-shown (calculus_reply.Reply.Value v) = Reply.Value v
-shown (calculus_reply.Reply.Refused why) = Reply.Refused why
+abbrev pub session_reply : calculus_reply.Reply → Reply
+session_reply (calculus_reply.Reply.Stepped t e) = Reply.Stepped t e
+session_reply (calculus_reply.Reply.Undone t e) = Reply.Undone t e
+session_reply (calculus_reply.Reply.Rolled n) = Reply.Rolled n
+session_reply (calculus_reply.Reply.Blamed t) = Reply.Blamed t
+session_reply (calculus_reply.Reply.Ready es) = Reply.Ready es
+session_reply (calculus_reply.Reply.Consequences ts) = Reply.Consequences ts
+session_reply (calculus_reply.Reply.Live l) = Reply.Live l
+session_reply (calculus_reply.Reply.Value v) = Reply.Value v
+session_reply (calculus_reply.Reply.Refused why) = Reply.Refused why
 
 -- what a session is told of a step in a branch
-abbrev pub shown_branch : BranchReply → Reply
-shown_branch (BranchReply.Stepped t e) = Reply.Stepped t e
-shown_branch (BranchReply.Stopped line) = Reply.Stopped line
-shown_branch BranchReply.Idle = Reply.Idle
-shown_branch (BranchReply.Refused why) = Reply.Refused why
+abbrev pub branch_reply : BranchReply → Reply
+branch_reply (BranchReply.Stepped t e) = Reply.Stepped t e
+branch_reply (BranchReply.Stopped line) = Reply.Stopped line
+branch_reply BranchReply.Idle = Reply.Idle
+branch_reply (BranchReply.Refused why) = Reply.Refused why
 
 -- a command of the execution: no breakpoint changes
 abbrev pub OnExecution : AtDesk → calculus_command.Command → Reply → AtDesk → Type 0
 OnExecution d c reply d' =
-    (answer : calculus_reply.Reply) × (reply ≡ shown answer) × calculus.Does (execution d) c answer (execution d')
+    (answer : calculus_reply.Reply) × (reply ≡ session_reply answer) × calculus.Does (execution d) c answer (execution d')
     × (d'.machine.checked ≡ d.machine.checked) × (d'.breaks ≡ d.breaks)
 
 -- a step in the branch, past the breakpoints of the session: no breakpoint changes
 abbrev pub OnBranch : AtDesk → ℕ → ℕ → Reply → AtDesk → Type 0
 OnBranch d session k reply d' =
-    (answer : BranchReply) × (reply ≡ shown_branch answer) × StepsBranch d.machine k (breaks_of d session) answer d'.machine
+    (answer : BranchReply) × (reply ≡ branch_reply answer) × StepsBranch d.machine k (breaks_of d session) answer d'.machine
     × (d'.machine.checked ≡ d.machine.checked) × (d'.breaks ≡ d.breaks)
 
 -- why a session gets no breakpoint on a line: no command begins there; or it has none there yet, and as many as may be

@@ -17,15 +17,15 @@ impl Desk {
         ensures system { self.new.machine.checked ≡ self.old.machine.checked }
     {
         match command {
-            Command::Step(choice) => shown(self.machine.step(choice)),
-            Command::Undo(ticket) => shown(self.machine.undo(*ticket)),
-            Command::Roll(ticket) => shown(self.machine.roll(*ticket)),
-            Command::RollValue(variable) => shown(self.machine.roll_value(*variable)),
-            Command::Blame(variable) => shown(self.machine.blame(*variable)),
-            Command::Ready => shown(self.machine.tell_ready()),
-            Command::Consequences(ticket) => shown(self.machine.consequences(*ticket)),
-            Command::Live => shown(self.machine.live()),
-            Command::Value(variable) => shown(self.machine.value(*variable)),
+            Command::Step(choice) => session_reply(self.machine.step(choice)),
+            Command::Undo(ticket) => session_reply(self.machine.undo(*ticket)),
+            Command::Roll(ticket) => session_reply(self.machine.roll(*ticket)),
+            Command::RollValue(variable) => session_reply(self.machine.roll_value(*variable)),
+            Command::Blame(variable) => session_reply(self.machine.blame(*variable)),
+            Command::Ready => session_reply(self.machine.tell_ready()),
+            Command::Consequences(ticket) => session_reply(self.machine.consequences(*ticket)),
+            Command::Live => session_reply(self.machine.live()),
+            Command::Value(variable) => session_reply(self.machine.value(*variable)),
             Command::Branch(branch) => self.step_branch(session, *branch),
             Command::Break(line) => self.set_break(session, *line),
             Command::Clear(line) => self.clear_break(session, *line),
@@ -73,15 +73,15 @@ impl Desk {
 /// Steps the branch up to the breakpoints of this session.
 fn step_past(machine: &mut Machine, sessions: &[Breaks; 16], session: u32, branch: u32) -> Reply
     requires { session < 16 }
-    ensures answers { (answer : BranchReply) × (result ≡ performs.shown_branch answer) × AnswersBranch machine.old branch (slice_index_or sessions.now session []) answer machine.new }
+    ensures answers { (answer : BranchReply) × (result ≡ performs.branch_reply answer) × AnswersBranch machine.old branch (slice_index_or sessions.now session []) answer machine.new }
     ensures system { machine.new.checked ≡ machine.old.checked }
 {
-    shown_branch(machine.branch_step(branch, &sessions[session as usize]))
+    branch_reply(machine.branch_step(branch, &sessions[session as usize]))
 }
 
 /// What a session is told where the execution answers so.
-fn shown(reply: calculus::Reply) -> Reply
-    ensures { result ≡ performs.shown reply }
+fn session_reply(reply: calculus::Reply) -> Reply
+    ensures { result ≡ performs.session_reply reply }
 {
     match reply {
         calculus::Reply::Stepped(ticket, event) => Reply::Stepped(ticket, event),
@@ -97,8 +97,8 @@ fn shown(reply: calculus::Reply) -> Reply
 }
 
 /// What a session is told of a step in a branch.
-fn shown_branch(reply: BranchReply) -> Reply
-    ensures { result ≡ performs.shown_branch reply }
+fn branch_reply(reply: BranchReply) -> Reply
+    ensures { result ≡ performs.branch_reply reply }
 {
     match reply {
         BranchReply::Stepped(ticket, event) => Reply::Stepped(ticket, event),

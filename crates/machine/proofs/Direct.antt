@@ -1,7 +1,7 @@
 -- The first live event that depends directly on another is the first that depends on it.
 use Rattle.std.proofs.Common.{◌≡◌, ◌⊎◌, inl, inr, ℕ, suc, ◌<◌, ◌≤◌, [], ◌∷◌, ◌++◌, refl, sym, ap, subst, arith}
 use Rattle.calculus.specs.Dependence.{Directly, ended, stays, leaves}
-use Rattle.calculus.specs.Live.{Live, Rising, LiveAt, Follows, same, later, WithoutTickets, FirstDependent, NoDependent}
+use Rattle.calculus.specs.Live.{Live, Rising, LiveAt, DependsOn, same, later, WithoutTickets, FirstDependent, NoDependent}
 use Rattle.calculus.specs.declared.event.Event.{Event}
 use Rattle.calculus.proofs.Lists.{every-in, in-right, in-parts}
 use Rattle.calculus.proofs.Tickets.{rising-in, rising-one, rising-parts}
@@ -17,7 +17,7 @@ record Linked (l : Live) (t : ℕ) (e : Event) (v : ℕ) : Type 0 where
   depends : Directly e event
 
 -- what follows e is e itself, or an event that depends directly on e stands at it or before
-linked : (low next : ℕ) (l : Live) (t v : ℕ) (e : Event) → Rising low l next → LiveAt l t e → Follows l t v → (v ≡ t) ⊎ Linked l t e v
+linked : (low next : ℕ) (l : Live) (t v : ℕ) (e : Event) → Rising low l next → LiveAt l t e → DependsOn l t v → (v ≡ t) ⊎ Linked l t e v
 linked low next l t v e r i same = inl refl
 linked low next l t v e r i (later {u = u} g f before iu iv less d) =
     elim (linked low next l t u e r i before) [
@@ -86,7 +86,7 @@ first-depends low next before after t u e r first =
       event = first.event;
       live = there;
       other = λ is. omega arith;
-      follows = later e first.event same here there less first.depends;
+      depends = later e first.event same here there less first.depends;
       least = λ v f i differs follows. elim (linked low next l t v e r here follows) [
         | inl is ↦ absurd (differs is)
         | inr k ↦

@@ -5,7 +5,7 @@ use Rattle.syntax.specs.Lists.{In}
 use Rattle.system.specs.Expression.{is_in}
 use Rattle.calculus.specs.Dependence.{Directly}
 use Rattle.calculus.specs.InOrder.{InOrder}
-use Rattle.calculus.specs.Live.{Live, Rising, LiveAt, Follows, same, later, FollowersList, LastWriter, NoWriter}
+use Rattle.calculus.specs.Live.{Live, Rising, LiveAt, DependsOn, same, later, ConsequencesList, LastWriter, NoWriter}
 use Rattle.calculus.specs.declared.event.Event.{Event}
 use Rattle.calculus.proofs.Lists.{in-left, in-right, in-parts, every-in, every-of}
 use Rattle.calculus.proofs.Tickets.{rising-in, rising-one, rising-parts}
@@ -70,9 +70,9 @@ record Behind (l : Live) (t u : ℕ) (f : Event) : Type 0 where
   inside : In entry l
   less : entry.0 < u
   direct : Directly entry.1 f
-  follows : Follows l t entry.0
+  follows : DependsOn l t entry.0
 
-behind : (low next : ℕ) (l : Live) (t u : ℕ) (f : Event) → Rising low l next → LiveAt l u f → (u ≡ t → ⊥) → Follows l t u → Behind l t u f
+behind : (low next : ℕ) (l : Live) (t u : ℕ) (f : Event) → Rising low l next → LiveAt l u f → (u ≡ t → ⊥) → DependsOn l t u → Behind l t u f
 behind low next l t u f r i differs same = absurd (differs refl)
 behind low next l t u f r i differs (later {u = v} g h before iv iu less d) = record {
   entry = (v, g);
@@ -105,10 +105,10 @@ module _ (l : Live) (t next i : ℕ) (x : ℕ × Event) (ts : List ℕ) (r : Ris
       ]
 
   -- the entry follows, where it is the one or depends on one that does
-  entry-follows : (x.0 ≡ t) ⊎ DependsOnSome x.1 l ts → Follows l t x.0
+  entry-follows : (x.0 ≡ t) ⊎ DependsOnSome x.1 l ts → DependsOn l t x.0
   entry-follows h =
       elim h [
-        | inl one ↦ subst (λ (v : ℕ). Follows l t v) (sym one) same
+        | inl one ↦ subst (λ (v : ℕ). DependsOn l t v) (sym one) same
         | inr some ↦
             let found = (g.exactly some.0.0).0 some.2.0 in
             later some.0.1 x.1 found.2 some.1 (in-item l i x less is) (seen-before some.0.0 found.0 found.1) some.2.1
@@ -124,7 +124,7 @@ module _ (l : Live) (t next i : ℕ) (x : ℕ × Event) (ts : List ℕ) (r : Ris
             | inr (inl a) ↦ (
               x.1,
               in-right (u, x.1) (take i l) (x ∷ []) (inl (ap (λ (v : ℕ). (v, x.1)) a)),
-              subst (λ (v : ℕ). Follows l t v) (sym a) (entry-follows h),
+              subst (λ (v : ℕ). DependsOn l t v) (sym a) (entry-follows h),
             )
             | inr (inr a) ↦ absurd a
           ]),
@@ -147,7 +147,7 @@ module _ (l : Live) (t next i : ℕ) (x : ℕ × Event) (ts : List ℕ) (r : Ris
             | inl a ↦ (g.exactly u).1 (k.0, a, k.2)
             | inr (inl a) ↦
                 let one : u ≡ x.0 = ap (λ (y : ℕ × Event). y.0) a in
-                let b = behind 1 next l t x.0 x.1 r (in-item l i x less is) (λ e. none (inl e)) (subst (λ (v : ℕ). Follows l t v) one k.2) in
+                let b = behind 1 next l t x.0 x.1 r (in-item l i x less is) (λ e. none (inl e)) (subst (λ (v : ℕ). DependsOn l t v) one k.2) in
                 let seen = lesser-seen b.entry.0 b.entry.1 b.inside b.less in
                 absurd (none (inr (b.entry, b.inside, ((g.exactly b.entry.0).1 (b.entry.1, seen, b.follows), b.direct))))
             | inr (inr a) ↦ absurd a
@@ -160,7 +160,7 @@ pub gathered-none : (l : Live) (t : ℕ) → Gathered l [] t []
 gathered-none l t = record { exactly = λ u. ((λ j. absurd j), (λ h. h.1)); ascending = tt }
 
 -- all of them, once all is passed
-pub gathered-all : (l : Live) (t i : ℕ) (ts : List ℕ) → length l ≤ i → Gathered l (take i l) t ts → FollowersList l t ts
+pub gathered-all : (l : Live) (t i : ℕ) (ts : List ℕ) → length l ≤ i → Gathered l (take i l) t ts → ConsequencesList l t ts
 gathered-all l t i ts past g =
     let all : Gathered l l t ts = subst (λ (k : Live). Gathered l k t ts) (take-all l i past) g in
     record { exactly = all.exactly; ascending = all.ascending }

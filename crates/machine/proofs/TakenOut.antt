@@ -4,7 +4,7 @@ use Rattle.std.specs.Prelude.{IfOk}
 use Rattle.syntax.specs.Lists.{In}
 use Rattle.system.specs.Expression.{is_in}
 use Rattle.calculus.specs.Dependence.{ended, stays, leaves}
-use Rattle.calculus.specs.Live.{Live, LiveAt, Follows, WithoutTickets, FollowersList, LastWriter}
+use Rattle.calculus.specs.Live.{Live, LiveAt, DependsOn, WithoutTickets, ConsequencesList, LastWriter}
 use Rattle.calculus.specs.Object.{Object, with_live}
 use Rattle.calculus.specs.Does.{Does, TakesOut, RefusesTicket}
 use Rattle.calculus.specs.declared.event.Event.{Event}
@@ -30,12 +30,12 @@ without-others D ts (x ∷ l) of to = pick (is_in x.0 ts) refl (without-others D
     pick true is rest here there = leaves (here (is-in x.0 ts is)) rest
     pick false is rest here there = stays (λ d. let on : is_in x.0 ts ≡ true = in-is x.0 ts (there d) in cc) rest
 
-pub takes-out : (o o' : Object) (t n before after old new : ℕ) (ts : List ℕ) (k : Live) → FollowersList o.live t ts → k ≡ others ts o.live →
+pub takes-out : (o o' : Object) (t n before after old new : ℕ) (ts : List ℕ) (k : Live) → ConsequencesList o.live t ts → k ≡ others ts o.live →
     before ≡ old → after ≡ new → old ≡ length o.live → new ≡ length k → new ≤ old → n ≡ before - after → o' ≡ with_live o k → TakesOut o t n o'
 takes-out o o' t n before after old new ts k all kept eb ea eo en less number is = (
   k,
-  subst (λ (m : Live). WithoutTickets (Follows o.live t) o.live m) (sym kept)
-      (without-others (Follows o.live t) ts o.live (λ u f j i. ((all.exactly u).0 i).2) (λ u f j d. (all.exactly u).1 (f, j, d))),
+  subst (λ (m : Live). WithoutTickets (DependsOn o.live t) o.live m) (sym kept)
+      (without-others (DependsOn o.live t) ts o.live (λ u f j i. ((all.exactly u).0 i).2) (λ u f j d. (all.exactly u).1 (f, j, d))),
   omega arith,
   is,
 )

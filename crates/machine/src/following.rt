@@ -1,7 +1,7 @@
 // Who depends on an event, and who wrote a variable last.
 ghost use Rattle.std.specs.Prelude.{◌≡◌, ◌⊎◌, ◌↔◌, ℕ, [], ◌∷◌, ◌++◌, cond, Some, IsTrue, IfOk, MatchOption};
 ghost use Rattle.system.specs.Expression.{is_in};
-ghost use Rattle.calculus.specs.Live.{Rising, FollowersList, NoWriter};
+ghost use Rattle.calculus.specs.Live.{Rising, ConsequencesList, NoWriter};
 ghost use Rattle.machine.specs.walking.Following.{Leads, DependsOnSome, WritesLast};
 
 use calculus::{Event, depends_directly, writes};
@@ -13,7 +13,7 @@ pub(crate) fn followers(
     live: &[(u64, Event)],
     ticket: u64,
 ) -> Result<Vec<u64>, AllocError>
-    ensures { (next : ℕ) → Rising 1 live.now next → IfOk result (λ tickets. FollowersList live.now ticket tickets.items) }
+    ensures { (next : ℕ) → Rising 1 live.now next → IfOk result (λ tickets. ConsequencesList live.now ticket tickets.items) }
 {
     let mut found = Vec::new(alloc);
     for entry in live {

@@ -1,12 +1,12 @@
 // The laws of the commands on one execution, each a contract of a function that does nothing.
-ghost use Rattle.calculus.specs.ObjectLaws.{StaysSoundOverLists};
+ghost use Rattle.calculus.specs.ObjectLaws.{StaysSoundOverLists, TicketsGrow};
 ghost use Rattle.machine.specs.Branching.{SteppedIsStep, OthersLeave};
-ghost use Rattle.machine.specs.Headline.{HeadlineOfSound, TicketsOnlyGrow};
+ghost use Rattle.machine.specs.Headline.{HeadlineOfSound};
 
 /// What a designer may rely on holds of every sound execution, and any commands that are answered leave it sound.
 pub fn answered_laws()
     ensures stays { StaysSoundOverLists }
-    ensures grows { TicketsOnlyGrow }
+    ensures grows { TicketsGrow }
     ensures headline { HeadlineOfSound }
 {}
 

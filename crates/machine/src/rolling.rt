@@ -2,7 +2,7 @@
 ghost use Rattle.sharing_check.specs.declared.checked.Checked.{Checked};
 ghost use Rattle.std.specs.Prelude.{◌≡◌, ◌≤◌, ℕ, not, filter, vec_len, IfOk, OnErr};
 ghost use Rattle.system.specs.Expression.{is_in};
-ghost use Rattle.calculus.specs.Live.{LiveAt, LastWriter, FollowersList};
+ghost use Rattle.calculus.specs.Live.{LiveAt, LastWriter, ConsequencesList};
 ghost use Rattle.calculus.specs.Sound.{Sound};
 ghost use Rattle.calculus.specs.Does.{Does, TakesOut};
 ghost use Rattle.machine.specs.walking.Histories.{execution, KeepsState};
@@ -41,7 +41,7 @@ impl History {
 
     /// Takes the events of these tickets out, and tells how many they are. Then no state is kept.
     fn take_out(&mut self, tickets: &[u64]) -> u64
-        ensures taken { (system : Checked) (t : ℕ) → FollowersList self.old.live.items t tickets.now → TakesOut (execution system self.old) t result (execution system self.new) }
+        ensures taken { (system : Checked) (t : ℕ) → ConsequencesList self.old.live.items t tickets.now → TakesOut (execution system self.old) t result (execution system self.new) }
         ensures kept { (system : Checked) → KeepsState system self.new }
     {
         let before = self.live.len();

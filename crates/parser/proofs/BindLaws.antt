@@ -17,31 +17,31 @@ module _ {A B : Type 0} (g : Rule A) (f : A → Rule B) where
   pub completed_first : (levels : ℕ) (front : List Token) → Completed g levels front → ((a : A) → HasSentence (f a)) → Completed (bind_rule g f) levels front
   unfolding bind_rule
   completed_first levels front begun possible =
-      let ending : Completed (f begun.value) begun.left [] = (possible begun.value).sentence begun.left in
+      let ending : Completed (f begun.value) begun.unclosed [] = (possible begun.value).sentence begun.unclosed in
       record {
         tail = begun.tail ++ ending.tail;
         value = ending.value;
-        left = ending.left;
+        unclosed = ending.unclosed;
         spelled = λ rest. (
           begun.value,
-          input begun.left (ending.tail ++ rest),
-          subst (λ t. g (input levels (front ++ t)) begun.value (input begun.left (ending.tail ++ rest))) (sym (append_assoc begun.tail ending.tail rest)) (begun.spelled (ending.tail ++ rest)),
+          input begun.unclosed (ending.tail ++ rest),
+          subst (λ t. g (input levels (front ++ t)) begun.value (input begun.unclosed (ending.tail ++ rest))) (sym (append_assoc begun.tail ending.tail rest)) (begun.spelled (ending.tail ++ rest)),
           ending.spelled rest,
         );
       }
 
   pub completed_second :
-      (levels left : ℕ) (a : A) (first second : List Token) → ((rest : List Token) → g (input levels (first ++ rest)) a (input left rest)) →
-      Completed (f a) left second → Completed (bind_rule g f) levels (first ++ second)
+      (levels unclosed : ℕ) (a : A) (first second : List Token) → ((rest : List Token) → g (input levels (first ++ rest)) a (input unclosed rest)) →
+      Completed (f a) unclosed second → Completed (bind_rule g f) levels (first ++ second)
   unfolding bind_rule
-  completed_second levels left a first second spelled ending = record {
+  completed_second levels unclosed a first second spelled ending = record {
     tail = ending.tail;
     value = ending.value;
-    left = ending.left;
+    unclosed = ending.unclosed;
     spelled = λ rest. (
       a,
-      input left (second ++ (ending.tail ++ rest)),
-      subst (λ t. g (input levels t) a (input left (second ++ (ending.tail ++ rest)))) (sym (append_assoc first second (ending.tail ++ rest))) (spelled (second ++ (ending.tail ++ rest))),
+      input unclosed (second ++ (ending.tail ++ rest)),
+      subst (λ t. g (input levels t) a (input unclosed (second ++ (ending.tail ++ rest)))) (sym (append_assoc first second (ending.tail ++ rest))) (spelled (second ++ (ending.tail ++ rest))),
       ending.spelled rest,
     );
   }

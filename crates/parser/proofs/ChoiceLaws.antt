@@ -16,8 +16,8 @@ completed_alike : {A : Type 0} (g h : Rule A) (levels : ℕ) (front : List Token
 completed_alike g h levels front wider c = record {
   tail = c.tail;
   value = c.value;
-  left = c.left;
-  spelled = λ rest. wider (input levels (front ++ (c.tail ++ rest))) c.value (input c.left rest) (c.spelled rest);
+  unclosed = c.unclosed;
+  spelled = λ rest. wider (input levels (front ++ (c.tail ++ rest))) c.value (input c.unclosed rest) (c.spelled rest);
 }
 
 -- one reader in place of another that reads alike before tokens of the kind that stands there
@@ -130,7 +130,7 @@ module _ {A : Type 0} (kinds : List Kind) {p p' q q' : Reader A} {g g' h h' : Ru
 
 completed_inside : {A : Type 0} (g : Rule A) (levels : ℕ) (front : List Token) → Completed g levels front → Completed (inside_rule g) levels front
 unfolding inside_rule
-completed_inside g levels front c = record { tail = c.tail; value = c.value; left = levels; spelled = λ rest. (c.left, c.spelled rest, refl) }
+completed_inside g levels front c = record { tail = c.tail; value = c.value; unclosed = levels; spelled = λ rest. (c.unclosed, c.spelled rest, refl) }
 
 module _ {A : Type 0} (r r' : Reader A) (g g' : Rule A) (i : Input) where
   inside_halted : (halt : Halt) (rest : List Token) → Halted r g i halt rest → Halted (inside r) (inside_rule g) i halt rest
@@ -168,9 +168,9 @@ inside_alike i (read a j) o' same = ap (λ o. and_then o (λ a j. read a (input 
 inside_alike i (unexpected rest) o' same = ap (λ o. and_then o (λ a j. read a (input (suc i.levels) j.tokens))) same
 inside_alike i (too_deep rest) o' same = tt
 
-inside_reads : {A : Type 0} (r : Reader A) (i : Input) (a : A) (left : ℕ) (j : Input) → r i ≡ read a (input left j.tokens) → i.levels ≡ j.levels → inside r i ≡ read a j
+inside_reads : {A : Type 0} (r : Reader A) (i : Input) (a : A) (unclosed : ℕ) (j : Input) → r i ≡ read a (input unclosed j.tokens) → i.levels ≡ j.levels → inside r i ≡ read a j
 unfolding inside
-inside_reads r i a left j e same = ap (λ o. and_then o (λ a j. read a (input i.levels j.tokens))) e ∙ ap (λ n. read a (input n j.tokens)) same
+inside_reads r i a unclosed j e same = ap (λ o. and_then o (λ a j. read a (input i.levels j.tokens))) e ∙ ap (λ n. read a (input n j.tokens)) same
 
 pub inside_full :
     {A : Type 0} {r r' : Reader A} {g g' : Rule A} {start follow : List Kind} {empty : Bool} → Full r r' g g' start empty follow →

@@ -14,8 +14,8 @@ up i = input (suc i.levels) i.tokens
 pub record Completed {A : Type 0} (g : Rule A) (levels : ℕ) (front : List Token) : Type 0 where
   pub tail : List Token
   pub value : A
-  pub left : ℕ
-  pub spelled : (rest : List Token) → g (input levels (front ++ (tail ++ rest))) value (input left rest)
+  pub unclosed : ℕ
+  pub spelled : (rest : List Token) → g (input levels (front ++ (tail ++ rest))) value (input unclosed rest)
 
 -- the rule spells something, however few levels may be opened
 pub record HasSentence {A : Type 0} (g : Rule A) : Type 0 where

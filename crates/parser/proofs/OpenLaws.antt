@@ -49,7 +49,7 @@ module _ (kinds : List Kind) (ends : is_one_of kinds EndOfSource ≡ false) wher
     token = token;
     more = rest;
     is_rest = refl;
-    completed = record { tail = []; value = token; left = levels; spelled = λ rest. (is, refl) };
+    completed = record { tail = []; value = token; unclosed = levels; spelled = λ rest. (is, refl) };
   }
 
   open_taken :

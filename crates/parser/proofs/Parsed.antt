@@ -33,7 +33,7 @@ too_deep_first tokens rest e = let found = stops_for_levels g.description r.desc
 -- ---- the other way round
 
 pub every_description : (tokens : List Token) (given : Description) → Parses tokens given → (j : Input) × (outcome tokens ≡ read given j)
-every_description tokens given s = (input s.left s.rest, sentence_read g.description r.description description_full no_end most_levels tokens given s)
+every_description tokens given s = (input s.unclosed s.rest, sentence_read g.description r.description description_full no_end most_levels tokens given s)
 
 pub every_unexpected : (tokens : List Token) (offset : ℕ) → FirstUnexpected tokens offset → (rest : List Token) × (outcome tokens ≡ unexpected rest) × (offset ≡ offset_at tokens rest)
 every_unexpected tokens offset first = (first.1, good_stop_read g.description r.description description_full no_end most_levels tokens first.0 first.1 first.2, first.3)

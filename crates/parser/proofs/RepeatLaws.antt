@@ -99,7 +99,7 @@ no_turn g a i b j s = (0, s)
 
 pub repeat_sentence : {A : Type 0} (g : A → Rule A) (a : A) → HasSentence (repeat_rule g a)
 unfolding repeat_rule pure_rule
-repeat_sentence g a = record { sentence = λ levels. record { tail = []; value = a; left = levels; spelled = λ rest. (0, (refl, refl)) } }
+repeat_sentence g a = record { sentence = λ levels. record { tail = []; value = a; unclosed = levels; spelled = λ rest. (0, (refl, refl)) } }
 
 module _ {A : Type 0} (kinds : List Kind) {turn turn' : A → Reader A} {g g' : A → Rule A} {start follow : List Kind}
     (laws : (a : A) → Laws (turn a) (turn' a) (g a) (g' a) start false follow) (ends : is_one_of kinds EndOfSource ≡ false) (inner : all_in start kinds ≡ true) (apart : none_in start follow ≡ true) where

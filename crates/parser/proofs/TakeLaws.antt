@@ -11,7 +11,7 @@ use Rattle.parser.proofs.Laws.{up, HasSentence, Taken, at_unexpected, Halted, Tr
 
 pub pure_sentence : {A : Type 0} (a : A) → HasSentence (pure_rule a)
 unfolding pure_rule
-pure_sentence a = record { sentence = λ levels. record { tail = []; value = a; left = levels; spelled = λ rest. (refl, refl) } }
+pure_sentence a = record { sentence = λ levels. record { tail = []; value = a; unclosed = levels; spelled = λ rest. (refl, refl) } }
 
 pure_taken : {A : Type 0} (a : A) (i : Input) → Taken (pure a) (pure_rule a) i a i
 unfolding pure pure_rule
@@ -88,7 +88,7 @@ take_laws kinds ends = record {
 
 pub take_sentence : (kind : Kind) (kinds : List Kind) → is_one_of (kind ∷ kinds) kind ≡ true → HasSentence (take_rule (kind ∷ kinds))
 unfolding take_rule
-take_sentence kind kinds is = record { sentence = λ levels. record { tail = a_token kind ∷ []; value = a_token kind; left = levels; spelled = λ rest. (is, refl) } }
+take_sentence kind kinds is = record { sentence = λ levels. record { tail = a_token kind ∷ []; value = a_token kind; unclosed = levels; spelled = λ rest. (is, refl) } }
 
 pub take_full :
     (kind : Kind) (kinds : List Kind) → is_one_of (kind ∷ kinds) EndOfSource ≡ false → is_one_of (kind ∷ kinds) kind ≡ true →

@@ -158,15 +158,15 @@ module _ {A : Type 0} (rule : ℕ → Rule A) (reader : ℕ → Reader A) {start
       record {
         rest = j.tokens;
         at_end = parts.1;
-        left = j.levels;
+        unclosed = j.levels;
         spelled = subst (λ t. rule n (input n t) a (input j.levels j.tokens)) (sym t.is_front) (t.spelled j.tokens);
       }
 
   -- a sentence is read
-  pub sentence_read : (n : ℕ) (tokens : List Token) (a : A) (s : Spells rule n tokens a) → reading n tokens ≡ read a (input s.left s.rest)
+  pub sentence_read : (n : ℕ) (tokens : List Token) (a : A) (s : Spells rule n tokens a) → reading n tokens ≡ read a (input s.unclosed s.rest)
   sentence_read n tokens a s =
-      goes_so n tokens (read a (input s.left s.rest)) ((laws n).laws.complete.complete (input n tokens) a (input s.left s.rest) s.spelled (ap (is_one_of follow) s.at_end ∙ ends))
-      ∙ end_read a (input s.left s.rest) s.at_end
+      goes_so n tokens (read a (input s.unclosed s.rest)) ((laws n).laws.complete.complete (input n tokens) a (input s.unclosed s.rest) s.spelled (ap (is_one_of follow) s.at_end ∙ ends))
+      ∙ end_read a (input s.unclosed s.rest) s.at_end
 
   one_more : (n : ℕ) (tokens : List Token) → Alike (reading n tokens) (reading (suc n) tokens)
   unfolding whole
@@ -189,15 +189,15 @@ module _ {A : Type 0} (rule : ℕ → Rule A) (reader : ℕ → Reader A) {start
   never_both n m tokens rest a e s = elim (cases_lt n m) [
     | inl less ↦
         (let there : reading m tokens ≡ unexpected rest = subst (λ k. reading k tokens ≡ unexpected rest) (beyond_to n m (omega arith)) (unexpected_beyond (m - n) n tokens rest e) in
-        let no : read a (input s.left s.rest) ≡ unexpected rest = sym (sentence_read m tokens a s) ∙ there in cc)
+        let no : read a (input s.unclosed s.rest) ≡ unexpected rest = sym (sentence_read m tokens a s) ∙ there in cc)
     | inr other ↦
-        (let found = read_beyond (n - m) m tokens a (input s.left s.rest) (sentence_read m tokens a s) in
+        (let found = read_beyond (n - m) m tokens a (input s.unclosed s.rest) (sentence_read m tokens a s) in
         let there : reading n tokens ≡ read a found.0 = subst (λ k. reading k tokens ≡ read a found.0) (beyond_to m n (omega arith)) found.1 in
         let no : read a found.0 ≡ unexpected rest = sym there ∙ e in cc)
   ]
 
   completed_on : (n : ℕ) (front : List Token) → Completed (rule n) n front → GoesOn rule n front
-  completed_on n front c = record { tail = c.tail ++ []; whole = c.value; spells = record { rest = []; at_end = refl; left = c.left; spelled = c.spelled [] } }
+  completed_on n front c = record { tail = c.tail ++ []; whole = c.value; spells = record { rest = []; at_end = refl; unclosed = c.unclosed; spelled = c.spelled [] } }
 
   unexpected_from : (n : ℕ) (tokens rest front : List Token) → tokens ≡ front ++ rest → GoesOn rule n front → ((other : List Token) → next other ≡ next rest → reading n (front ++ other) ≡ unexpected other) → StopsForGood rule n tokens front rest
   unexpected_from n tokens rest front e on local = record {
@@ -221,7 +221,7 @@ module _ {A : Type 0} (rule : ℕ → Rule A) (reader : ℕ → Reader A) {start
         (let t : Taken (reader n) (rule n) (input n tokens) short.0 short.1 = traced n tokens (read short.0 short.1) short.2 in (
           t.front,
           unexpected_from n tokens rest t.front (t.is_front ∙ ap (λ r. t.front ++ r) short.3)
-              (record { tail = []; whole = short.0; spells = record { rest = []; at_end = refl; left = (short.1).levels; spelled = t.spelled [] } })
+              (record { tail = []; whole = short.0; spells = record { rest = []; at_end = refl; unclosed = (short.1).levels; spelled = t.spelled [] } })
               (λ other same. goes_so n (t.front ++ other) (read short.0 (input (short.1).levels other)) (t.local other (same ∙ ap next (sym short.3)))
               ∙ end_other short.0 (input (short.1).levels other) (ap (λ k. same_kind k EndOfSource) (same ∙ ap next (sym short.3)) ∙ short.4)),
         ))
@@ -240,7 +240,7 @@ module _ {A : Type 0} (rule : ℕ → Rule A) (reader : ℕ → Reader A) {start
             goes_on = completed_on n t.front (begun_or (rule n) n t.front t.begun (laws n).here);
             no_further = λ g.
                 let found = with_other rule n t.front rest g in
-                let no : read found.2 (input (found.3).left (found.3).rest) ≡ too_deep found.0 =
+                let no : read found.2 (input (found.3).unclosed (found.3).rest) ≡ too_deep found.0 =
                 sym (sentence_read n (t.front ++ found.0) found.2 found.3) ∙ goes_so n (t.front ++ found.0) (too_deep found.0) (t.local found.0 found.1) in
                 cc;
           };

@@ -49,7 +49,7 @@ repeat turn a = λ i b j. (n : ℕ) × turns turn n a i b j
 
 -- the rule, behind which the levels that it opened are closed again
 unfoldable pub inside : {A : Type 0} → Rule A → Rule A
-inside rule = λ i a j. (left : ℕ) × rule i a (input left j.tokens) × (i.levels ≡ j.levels)
+inside rule = λ i a j. (unclosed : ℕ) × rule i a (input unclosed j.tokens) × (i.levels ≡ j.levels)
 
 -- spells nothing: what stands deeper than the last level
 unfoldable pub nothing : {A : Type 0} → Rule A

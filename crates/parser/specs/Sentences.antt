@@ -11,8 +11,8 @@ pub record Spells {A : Type 0} (rule : ℕ → Rule A) (levels : ℕ) (tokens : 
   pub rest : List Token
   pub at_end : next rest ≡ EndOfSource
   -- the levels that are not closed again
-  pub left : ℕ
-  pub spelled : rule levels (input levels tokens) a (input left rest)
+  pub unclosed : ℕ
+  pub spelled : rule levels (input levels tokens) a (input unclosed rest)
 
 -- something begins with these tokens
 pub record GoesOn {A : Type 0} (rule : ℕ → Rule A) (levels : ℕ) (front : List Token) : Type 0 where

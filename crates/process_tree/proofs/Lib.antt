@@ -9,5 +9,6 @@ pub mod Rows
 pub mod Simulation
 pub mod Steps
 pub mod Swap
+pub mod Tidy
 pub mod Translated
 pub mod Views

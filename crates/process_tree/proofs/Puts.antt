@@ -1,41 +1,12 @@
 -- Received values go to the parts of each form; what has made no move still has all to do.
 use Rattle.std.proofs.Common.{◌≡◌, ℕ, zero, suc, ◌+◌, sym, List, [], ◌∷◌, Option, Some, None, refl, ap, ap₂, ◌∙◌}
 use Rattle.value.specs.Word.{Word}
-use Rattle.system.specs.Expression.{Expression, Decision, put_value, put_decision}
+use Rattle.system.specs.Expression.{Expression, Decision}
 use Rattle.system.specs.Residual.{Residual, done, halted, test, choose, drain, Arms, no_arms, arm, within, along, arm_at, put_residual, put_arms}
 use Rattle.process_tree.specs.Code.{Once, assigning, receiving, Sender, sending, syncing, Code, continues, halts, moves_once, may_be_held, repeats, decides, awaits, in_turn, side_by_side, drains, Codes, no_code, code, code_at}
 use Rattle.process_tree.specs.Proc.{started, all_started}
+use Rattle.process_tree.specs.walking.Received.{puts_decision, puts_arms, puts_once, puts_sender, puts_guard}
 use Rattle.process_tree.specs.Left.{Received, puts, residual_once, residual_sender, again, residual, residual_arms, residual_sequence, residual_parallel, left, left_sequence, left_parallel}
-
--- the values put in an expression
-abbrev pub puts_value : Received → Expression → Expression
-puts_value [] e = e
-puts_value (x ∷ env) e = put_value x.0 x.1 (puts_value env e)
-
--- in a decision
-abbrev pub puts_decision : Received → Decision → Decision
-puts_decision [] d = d
-puts_decision (x ∷ env) d = put_decision x.0 x.1 (puts_decision env d)
-
--- in arms
-abbrev pub puts_arms : Received → Arms → Arms
-puts_arms [] rs = rs
-puts_arms (x ∷ env) rs = put_arms x.0 x.1 (puts_arms env rs)
-
--- in what makes one move
-abbrev pub puts_once : Received → Once → Once
-puts_once env (assigning x w e) = assigning x w (puts_value env e)
-puts_once env (receiving c x) = receiving c x
-
--- in a send
-abbrev pub puts_sender : Received → Sender → Sender
-puts_sender env (sending c w e) = sending c w (puts_value env e)
-puts_sender env (syncing c) = syncing c
-
--- in the guard of a loop
-abbrev pub puts_guard : Received → Option Expression → Option Expression
-puts_guard env None = None
-puts_guard env (Some e) = Some (puts_value env e)
 
 -- nothing is left as it is
 pub puts-done : (env : Received) → puts env done ≡ done

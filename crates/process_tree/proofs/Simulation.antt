@@ -6,7 +6,7 @@ use Rattle.system.specs.Expression.{Expression, Decision}
 use Rattle.system.specs.Residual.{Residual, done, closing, drain, within, along, arm_at, put_residual, opened}
 use Rattle.calculus.specs.walking.Passed.{is_done}
 use Rattle.calculus.specs.Moves.{Place, Move, Local}
-use Rattle.calculus.specs.Asking.{asks}
+use Rattle.calculus.specs.Asking.{answers_to}
 use Rattle.calculus.specs.walking.After.{Answer, around, after_loop, after_while, after_test, after_open, after_assign, after_choose, after_closing, after_drain, after_held, after_receive, after_send, after_sync, after}
 use Rattle.calculus.specs.declared.ask.Ask.{Ask}
 use Rattle.calculus.specs.declared.ask.Ask.TheVariants as ask
@@ -20,7 +20,8 @@ use Rattle.calculus.specs.ByPlace.{if_here, if_act, if_child, if_branch}
 use Rattle.process_tree.specs.Places.{wrap}
 use Rattle.process_tree.specs.Advanced.{Moved, once_after, sender_after, holding_after, again_after, test_after, open_on, open_after, close_after, drain_after, advanced, advanced_sequence, advanced_parallel}
 use Rattle.process_tree.specs.Left.{Received, with_value, puts, residual_once, residual_sender, channel_of, again, residual, residual_arms, left, left_sequence, left_parallel}
-use Rattle.process_tree.proofs.Puts.{puts_value, puts_decision, puts_arms, puts_once, puts_sender, puts_guard, puts-once, puts-sender, puts-again, puts-test, puts-choose, puts-arm_at, residual-code_at, left-started}
+use Rattle.process_tree.specs.walking.Received.{puts_value, puts_decision, puts_arms, puts_once, puts_sender, puts_guard}
+use Rattle.process_tree.proofs.Puts.{puts-once, puts-sender, puts-again, puts-test, puts-choose, puts-arm_at, residual-code_at, left-started}
 use Rattle.process_tree.proofs.Formed.{left-formed, left_parallel-formed, finished-left, is_done-done}
 
 -- the residual of an answer
@@ -332,14 +333,14 @@ moved (Some y) f q e = (y, refl, some-injective (f y.0) q e)
 
 -- a local move of what is left is one of the tree
 pub does : (p : Proc) (env : Received) (a : Place) (m : Move) (q : Residual) → Local (left env p) a m q
-    → (x : Moved) × (advanced p a (asks m) ≡ Some x) × (left env x.0 ≡ q)
+    → (x : Moved) × (advanced p a (answers_to m) ≡ Some x) × (left env x.0 ≡ q)
 does p env a m q l =
-    moved (advanced p a (asks m)) (left env) q
-    (sym (simulates p env a (asks m)) ∙ ap residual_after (found (left env p) a m q (left-formed p env) l))
+    moved (advanced p a (answers_to m)) (left env) q
+    (sym (simulates p env a (answers_to m)) ∙ ap residual_after (found (left env p) a m q (left-formed p env) l))
 
 -- a move of the tree is a local move of what is left
 pub did : (p : Proc) (env : Received) (a : Place) (k : Ask) (x : Moved) → advanced p a k ≡ Some x
-    → (m : Move) × Local (left env p) a m (left env x.0) × (asks m ≡ k)
+    → (m : Move) × Local (left env p) a m (left env x.0) × (answers_to m ≡ k)
 did p env a k x e =
     let d = answered (after k (left env p) a) (left env x.0) (simulates p env a k ∙ ap (left_after (left env)) e) in
     let o = only k (left env p) a d.0 (left env x.0) d.1 in

@@ -1,5 +1,5 @@
 -- What a move at a place says of the place, as the code takes it apart, and of the children that the code holds.
-use Rattle.std.proofs.Common.{◌≡◌, ℕ, zero, suc, ◌+◌, ◌*◌, ◌/◌, ◌%◌, ◌<◌, ◌≤◌, ◌==◌, List, [], ◌∷◌, ◌++◌, map, length, Bool, true, false, cond, Option, Some, None, IsSome, is_some, option_map, slice_get, slice_index_or, slice_set, refl, sym, ap, ◌∙◌, subst, eqb-true, arith}
+use Rattle.std.proofs.Common.{◌≡◌, ℕ, zero, suc, ◌+◌, ◌*◌, ◌/◌, ◌%◌, ◌<◌, ◌≤◌, ◌==◌, List, [], ◌∷◌, ◌++◌, map, length, Bool, true, false, cond, Option, Some, None, IsSome, is_some, slice_get, slice_index_or, slice_set, refl, sym, ap, ◌∙◌, subst, eqb-true, arith}
 use Rattle.value.specs.Word.{Word}
 use Rattle.address.specs.declared.Entry.TheVariants.{Ordered, Branch}
 use Rattle.system.specs.Expression.{Expression, Decision}

@@ -5,6 +5,7 @@ pub mod Laws
 pub mod Left
 pub mod Places
 pub mod Proc
+pub mod Tidy
 pub mod Translation
 pub mod View
 pub mod walking

@@ -21,12 +21,9 @@ use Rattle.process_tree.specs.declared.code.Code.TheOpen.{Await-F, Code-F, Decid
 use Rattle.process_tree.specs.declared.code.Code.TheFolds.{fold-Await, fold-Code, fold-Decide, fold-Repeat, fold-Row}
 use Rattle.process_tree.specs.declared.proc.Phase.{Phase}
 use Rattle.process_tree.specs.declared.proc.Phase.TheVariants as phase
-use Rattle.process_tree.specs.declared.proc.Gate.{Gate}
 use Rattle.process_tree.specs.declared.proc.Proc.{Proc}
 use Rattle.process_tree.specs.declared.proc.Gate.TheOpen.{Gate-F, Proc-F, Tested-F, Turns-F}
-use Rattle.process_tree.specs.declared.proc.Gate.TheFolds.{fold-Gate, fold-Proc, fold-Tested, fold-Turns}
-use Rattle.process_tree.specs.declared.proc.Tested.{Tested}
-use Rattle.process_tree.specs.declared.proc.Turns.{Turns}
+use Rattle.process_tree.specs.declared.proc.Gate.TheFolds.{fold-Proc}
 use Rattle.process_tree.specs.declared.tree.Tree.{Tree}
 
 -- what makes one move
@@ -40,8 +37,8 @@ sender_view (sender.Send c w e) = model.sending c w (expression_of e)
 sender_view (sender.Sync c) = model.syncing c
 
 -- arms that wait: their channels, and the arms
-abbrev pub Waiting : Type 0
-Waiting = List ℕ × model.Codes
+abbrev pub Awaiting : Type 0
+Awaiting = List ℕ × model.Codes
 
 -- a test: what it decides by, and its arms
 abbrev pub Testing : Type 0
@@ -52,11 +49,11 @@ abbrev pub Looping : Type 0
 Looping = Option Expression × model.Code
 
 -- one layer of arms that wait
-abbrev pub await_layer : Await-F model.Code Waiting Testing Looping model.Codes → Waiting
+abbrev pub await_layer : Await-F model.Code Awaiting Testing Looping model.Codes → Awaiting
 await_layer a = (a.channels, row_of a.arms)
 
 -- one layer of a command, one line a form
-abbrev pub code_layer : Code-F model.Code Waiting Testing Looping model.Codes → model.Code
+abbrev pub code_layer : Code-F model.Code Awaiting Testing Looping model.Codes → model.Code
 code_layer Code-F.Continue = model.continues
 code_layer Code-F.Halt = model.halts
 code_layer (Code-F.Once o) = model.moves_once (once_view o)
@@ -69,36 +66,36 @@ code_layer (Code-F.SideBySide r) = model.side_by_side r
 code_layer (Code-F.Drain c) = model.drains c
 
 -- one layer of a test
-abbrev pub decide_layer : Decide-F model.Code Waiting Testing Looping model.Codes → Testing
+abbrev pub decide_layer : Decide-F model.Code Awaiting Testing Looping model.Codes → Testing
 decide_layer d = (decision_of d.decision, row_of d.arms)
 
 -- one layer of a loop
-abbrev pub repeat_layer : Repeat-F model.Code Waiting Testing Looping model.Codes → Looping
+abbrev pub repeat_layer : Repeat-F model.Code Awaiting Testing Looping model.Codes → Looping
 repeat_layer r = (option_map expression_of r.guard, r.body)
 
 -- one layer of commands in a row
-abbrev pub row_layer : Row-F model.Code Waiting Testing Looping model.Codes → model.Codes
+abbrev pub row_layer : Row-F model.Code Awaiting Testing Looping model.Codes → model.Codes
 row_layer r = row_of r.codes
 
 -- the command that a handle stands for
 abbrev pub code_view : Code → model.Code
-code_view = fold-Code model.Code Waiting Testing Looping model.Codes code_layer await_layer decide_layer repeat_layer row_layer
+code_view = fold-Code model.Code Awaiting Testing Looping model.Codes code_layer await_layer decide_layer repeat_layer row_layer
 
 -- the channels and arms that wait
-abbrev pub await_view : Await → Waiting
-await_view = fold-Await model.Code Waiting Testing Looping model.Codes code_layer await_layer decide_layer repeat_layer row_layer
+abbrev pub await_view : Await → Awaiting
+await_view = fold-Await model.Code Awaiting Testing Looping model.Codes code_layer await_layer decide_layer repeat_layer row_layer
 
 -- the decision and arms of a test
 abbrev pub decide_view : Decide → Testing
-decide_view = fold-Decide model.Code Waiting Testing Looping model.Codes code_layer await_layer decide_layer repeat_layer row_layer
+decide_view = fold-Decide model.Code Awaiting Testing Looping model.Codes code_layer await_layer decide_layer repeat_layer row_layer
 
 -- the guard and body of a loop
 abbrev pub repeat_view : Repeat → Looping
-repeat_view = fold-Repeat model.Code Waiting Testing Looping model.Codes code_layer await_layer decide_layer repeat_layer row_layer
+repeat_view = fold-Repeat model.Code Awaiting Testing Looping model.Codes code_layer await_layer decide_layer repeat_layer row_layer
 
 -- the commands in a row
 abbrev pub row_view : Row → model.Codes
-row_view = fold-Row model.Code Waiting Testing Looping model.Codes code_layer await_layer decide_layer repeat_layer row_layer
+row_view = fold-Row model.Code Awaiting Testing Looping model.Codes code_layer await_layer decide_layer repeat_layer row_layer
 
 -- how far a send or sync is
 abbrev pub phase_view : Phase → model_proc.Phase
@@ -168,18 +165,6 @@ proc_layer (Proc-F.Drained c n) = model_proc.drained c n
 -- the process that a tree in memory stands for
 abbrev pub proc_view : Proc → model_proc.Proc
 proc_view = fold-Proc OfArms model_proc.Proc OfTest OfLoop gate_layer proc_layer tested_layer turns_layer
-
--- how far a loop in memory is
-abbrev pub turns_view : Turns → OfLoop
-turns_view = fold-Turns OfArms model_proc.Proc OfTest OfLoop gate_layer proc_layer tested_layer turns_layer
-
--- how far a test in memory is
-abbrev pub tested_view : Tested → OfTest
-tested_view = fold-Tested OfArms model_proc.Proc OfTest OfLoop gate_layer proc_layer tested_layer turns_layer
-
--- how far arms in memory are
-abbrev pub gate_view : Gate → OfArms
-gate_view = fold-Gate OfArms model_proc.Proc OfTest OfLoop gate_layer proc_layer tested_layer turns_layer
 
 -- the body that a move took out, if any
 abbrev pub out_view : Option (Box Proc) → Option model_proc.Proc

@@ -4,7 +4,8 @@ ghost use Rattle.process_tree.specs.Proc.{started, sender, took, drained, sequen
 ghost use Rattle.process_tree.specs.Code.{Sender, code_at};
 ghost use Rattle.process_tree.specs.Advanced.{advanced, again_after, test_after, open_after};
 ghost use Rattle.process_tree.specs.Translation.{row_of};
-ghost use Rattle.process_tree.specs.View.{code_view, repeat_view, decide_view, await_view, row_view, phase_view, proc_view, turns_view, turn_of, tested_view, gate_view, opened_of, out_view, procs_of, begun_of};
+ghost use Rattle.process_tree.specs.View.{code_view, repeat_view, decide_view, await_view, row_view, phase_view, proc_view, turn_of, opened_of, out_view, procs_of, begun_of};
+ghost use Rattle.process_tree.specs.walking.Parts.{turns_view, tested_view, gate_view};
 ghost use Rattle.process_tree.specs.Children.{proc_at};
 ghost use Rattle.process_tree.specs.walking.Steps.{takes_none};
 ghost use Rattle.calculus.specs.Moves.{Place};

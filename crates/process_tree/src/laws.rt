@@ -1,5 +1,6 @@
 // The laws of the tree, each the contract of a function that does nothing.
 ghost use Rattle.process_tree.specs.Laws.{LeftIsFormed, StartedHasAllLeft, FinishedIsDone, OffersAreMade, MadeAreOffered, MovesGoBack, MovesSwap, CommandsAgree, SystemsOpenAlike};
+ghost use Rattle.process_tree.specs.Tidy.{StartedIsTidy, MovesKeepTidy};
 ghost use Rattle.process_tree.specs.Children.{MovesInOneChild, MovesInOneBranch, BackInOneChild, BackInOneBranch};
 
 /// What is left of any process is well formed: what comes later is numbered higher.
@@ -48,4 +49,11 @@ pub fn one_child_moves()
     ensures parallel { MovesInOneBranch }
     ensures back_in_sequence { BackInOneChild }
     ensures back_in_parallel { BackInOneBranch }
+{}
+
+/// Behind the first child of a sequence that is not finished none has made a move: so it is with what has made no move,
+/// and a move keeps it.
+pub fn moves_keep_tidy()
+    ensures started { StartedIsTidy }
+    ensures moves { MovesKeepTidy }
 {}

@@ -2,7 +2,8 @@
 ghost use Rattle.std.specs.Prelude.{◌≡◌, ℕ, Option, Some, map, cond, IsSome};
 ghost use Rattle.process_tree.specs.Code.{Sender, Code};
 ghost use Rattle.process_tree.specs.Proc.{sender, drained, fresh, untested, took, unopened, sequence, parallel};
-ghost use Rattle.process_tree.specs.View.{repeat_view, decide_view, await_view, row_view, phase_view, proc_view, turns_view, turn_of, tested_view, gate_view, opened_of, out_view, procs_of, begun_of};
+ghost use Rattle.process_tree.specs.View.{repeat_view, decide_view, await_view, row_view, phase_view, proc_view, turn_of, opened_of, out_view, procs_of, begun_of};
+ghost use Rattle.process_tree.specs.walking.Parts.{turns_view, tested_view, gate_view};
 ghost use Rattle.process_tree.specs.walking.Retreated.{retreated, before_turn};
 ghost use Rattle.process_tree.specs.Proc as model;
 ghost use Rattle.system.specs.Expression.{Expression};

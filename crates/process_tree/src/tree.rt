@@ -3,7 +3,7 @@ ghost use Rattle.process_tree.specs.Advanced.{advanced};
 ghost use Rattle.process_tree.specs.Proc.{started};
 ghost use Rattle.process_tree.specs.Translation as translation;
 ghost use Rattle.process_tree.specs.walking.Retreated.{retreated};
-ghost use Rattle.process_tree.specs.View.{out_view, tree_view};
+ghost use Rattle.process_tree.specs.View.{out_view, proc_view, tree_view};
 
 use crate::advance::advance;
 use crate::environment::system_code;
@@ -29,6 +29,13 @@ impl Tree {
         Ok(Tree {
             proc: start(alloc, &code)?,
         })
+    }
+
+    /// The process of the whole system.
+    pub fn root(&self) -> &Proc
+        ensures { proc_view result.now ≡ tree_view self.now }
+    {
+        &self.proc
     }
 
     /// Makes the move that is asked for at the place. Where a loop turns again, the body of the turn before it is taken

@@ -20,11 +20,11 @@ use Rattle.calculus.proofs.AtOnce.{OffersAll, Offers, offered, apart_now}
 use Rattle.calculus.proofs.Together.{together}
 use Rattle.calculus.proofs.SameCommand.{SameCommand, same_command}
 use Rattle.calculus.proofs.Options.{none-some, some-injective, cond-some, cond-at}
-use Rattle.rendezvous.specs.Sides.{side_of, Decided, Offered}
+use Rattle.offered_sides.specs.Sides.{side_of, Decided, Offered}
 use Rattle.rendezvous.specs.walking.Meeting.{solo, met}
-use Rattle.rendezvous.specs.declared.side.Ready.{Ready}
-use Rattle.rendezvous.specs.declared.side.Side.{Side}
-use Rattle.rendezvous.specs.declared.side.Side.TheVariants.{Assigns, Tests, Turns, Sends, Receives, Syncs, Opens, Releases, Closes}
+use Rattle.offered_sides.specs.declared.side.Ready.{Ready}
+use Rattle.offered_sides.specs.declared.side.Side.{Side}
+use Rattle.offered_sides.specs.declared.side.Side.TheVariants.{Assigns, Tests, Turns, Sends, Receives, Syncs, Opens, Releases, Closes}
 
 -- the event is made by sides that the state offers: by one alone, or by one that acts and its partner
 pub data BySides (S : State) (e : Event) : Type 0 where

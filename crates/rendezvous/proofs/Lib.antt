@@ -1,6 +1,7 @@
 pub mod Entries
 pub mod FirstChosen
 pub mod FromSides
+pub mod FromTree
 pub mod Listed
 pub mod Partners
 pub mod Placed

@@ -12,9 +12,9 @@ use Rattle.calculus.specs.walking.AllowedEvents.{those}
 use Rattle.calculus.specs.declared.event.Event.{Event}
 use Rattle.calculus.proofs.Lists.{in-left, in-right, in-parts}
 use Rattle.rendezvous.specs.ReadyBelow.{Under}
-use Rattle.rendezvous.specs.Sides.{Offered, OffersExactly}
+use Rattle.offered_sides.specs.Sides.{Offered, OffersExactly}
 use Rattle.rendezvous.specs.walking.Meeting.{solo, met, met_with, acted, is_under, acted_below}
-use Rattle.rendezvous.specs.declared.side.Ready.{Ready}
+use Rattle.offered_sides.specs.declared.side.Ready.{Ready}
 use Rattle.rendezvous.proofs.FromSides.{BySides, alone, meets, by_sides, sides_allowed, solo-acts, met-acts}
 
 -- the test of places

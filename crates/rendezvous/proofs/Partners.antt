@@ -3,8 +3,8 @@ use Rattle.std.proofs.Common.{◌≡◌, ℕ, List, Option, None, refl}
 use Rattle.value.specs.Word.{Word}
 use Rattle.calculus.specs.Moves.{Place}
 use Rattle.rendezvous.specs.walking.Meeting.{received, opened, closed, synced}
-use Rattle.rendezvous.specs.declared.side.Side.{Side}
-use Rattle.rendezvous.specs.declared.side.Side.TheVariants.{Sends, Syncs, Releases}
+use Rattle.offered_sides.specs.declared.side.Side.{Side}
+use Rattle.offered_sides.specs.declared.side.Side.TheVariants.{Sends, Syncs, Releases}
 
 pub not_received : (b : Place) (c : ℕ) (x : Option ℕ) (a : Place) (y : Side) → ((d : ℕ) (v : Word) (read : List ℕ) → y ≡ Sends d v read → ⊥) →
     received b c x a y ≡ None

@@ -1,3 +1,2 @@
 pub mod ReadyBelow
-pub mod Sides
 pub mod walking

@@ -4,9 +4,9 @@ ghost use Rattle.calculus.specs.walking.AllowedEvents.{those};
 ghost use Rattle.rendezvous.specs.walking.Meeting as model;
 
 use crate::meeting::{met, solo};
-use crate::side::Ready;
 use address::Entry;
 use calculus::Event;
+use offered_sides::Ready;
 use std::alloc::{AllocError, Global};
 use syntax::Items;
 

@@ -2,10 +2,10 @@
 #![tactic(auto)]
 
 mod acting;
+mod from_tree;
 mod meeting;
 mod order;
 mod ready;
-mod side;
 
+pub use from_tree::{event_at, ready_below, ready_events};
 pub use ready::{chosen_among, ready_among};
-pub use side::{Ready, Side};

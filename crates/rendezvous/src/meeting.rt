@@ -1,11 +1,11 @@
 // The events that sides make.
 ghost use Rattle.std.specs.Prelude.{◌≡◌, ℕ, [], Some, None, IfOk};
 ghost use Rattle.rendezvous.specs.walking.Meeting as model;
-ghost use Rattle.rendezvous.specs.declared.side.Side.TheVariants as side;
+ghost use Rattle.offered_sides.specs.declared.side.Side.TheVariants as side;
 
-use crate::side::Side;
 use address::{Address, compare};
 use calculus::{Event, Kind};
+use offered_sides::Side;
 use std::alloc::{AllocError, Global};
 use system::Variables;
 use value::Value;

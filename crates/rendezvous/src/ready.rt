@@ -5,15 +5,15 @@ ghost use Rattle.calculus.specs.Ready.{Sooner, ChoiceAllowed, Chosen};
 ghost use Rattle.calculus.specs.Steps.{State};
 ghost use Rattle.calculus.specs.Tests.{same_event};
 ghost use Rattle.rendezvous.specs.ReadyBelow.{ReadyBelow};
-ghost use Rattle.rendezvous.specs.Sides.{OffersExactly};
+ghost use Rattle.offered_sides.specs.Sides.{OffersExactly};
 ghost use Rattle.rendezvous.specs.walking.Choosing.{HasNone, FirstWith};
 ghost use Rattle.rendezvous.specs.walking.Sorting.{inserted};
 
 use crate::acting::acted_below;
 use crate::order::{has_choice, latest_first, sooner_count};
-use crate::side::Ready;
 use address::Entry;
 use calculus::{Choice, Event};
+use offered_sides::Ready;
 use std::alloc::{AllocError, Global};
 use syntax::Items;
 

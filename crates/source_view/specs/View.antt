@@ -24,30 +24,30 @@ is_line (Some line) n = line == n
 
 -- whether e acts on line n
 abbrev pub acts_on : AtMachine → ℕ → Event → Bool
-acts_on h n e = is_line (line_of h e) n
+acts_on machine n e = is_line (line_of machine e) n
 
 -- whether e and f open different arms of the `select` at one place
 abbrev pub are_in_conflict : AtMachine → Event → Event → Bool
-are_in_conflict h e f =
+are_in_conflict machine e f =
     same_place (acting e) (acting f)
-    && (not ((choice_of e).arm == (choice_of f).arm) && is_open_after (events h.live) h.checked (acting e))
+    && (not ((choice_of e).arm == (choice_of f).arm) && is_open_after (events machine.live) machine.checked (acting e))
 
 -- whether one of the events acts on line n
 abbrev pub is_ready_on : AtMachine → List Event → ℕ → Bool
-is_ready_on h es n = list_any (acts_on h n) es
+is_ready_on machine es n = list_any (acts_on machine n) es
 
 -- whether one of the events acts on line n and is in conflict with another
 abbrev pub is_conflict_on : AtMachine → List Event → ℕ → Bool
-is_conflict_on h es n = list_any (λ e. acts_on h n e && list_any (are_in_conflict h e) es) es
+is_conflict_on machine es n = list_any (λ e. acts_on machine n e && list_any (are_in_conflict machine e) es) es
 
 -- the marks of line n, where these events are ready
 abbrev pub marks_on : AtMachine → List Event → List ℕ → ℕ → Marks
-marks_on h es breaks n =
-    record { is_ready = is_ready_on h es n; has_break = is_in n breaks; in_conflict = is_conflict_on h es n }
+marks_on machine es breaks n =
+    record { is_ready = is_ready_on machine es n; has_break = is_in n breaks; in_conflict = is_conflict_on machine es n }
 
 -- digits in 5 places, or in as many as they need
-abbrev pub right : List ℕ → List ℕ
-right digits = replicate (5 - length digits) 32 ++ digits
+abbrev pub right_aligned : List ℕ → List ℕ
+right_aligned digits = replicate (5 - length digits) 32 ++ digits
 
 -- the mark where it is to be seen, else a space
 abbrev pub mark : Bool → List ℕ → List ℕ
@@ -56,7 +56,7 @@ mark is_seen text = if is_seen then text else codes " "
 -- the line of this number, with its marks
 abbrev pub line_text : ℕ → Marks → List ℕ → List ℕ
 line_text number marks line =
-    right (decimal number) ++ codes " "
+    right_aligned (decimal number) ++ codes " "
     ++ mark marks.is_ready (codes ">") ++ mark marks.has_break (codes "*") ++ mark marks.in_conflict (codes "!")
     ++ codes " " ++ line ++ codes "\n"
 
@@ -67,9 +67,9 @@ lines_text marks number (line ∷ rest) = line_text number (marks number) line +
 
 -- the view, where these events are ready
 abbrev pub view_text : AtMachine → List Event → List ℕ → List ℕ → List ℕ
-view_text h es breaks source = lines_text (marks_on h es breaks) 1 (lines source)
+view_text machine es breaks source = lines_text (marks_on machine es breaks) 1 (lines source)
 
 -- the bytes are the view, where just those events are ready that are allowed after the live ones
 abbrev pub IsView : AtMachine → List ℕ → List ℕ → List ℕ → Type 0
-IsView h breaks source bytes =
-    (T : State) × (es : List Event) × Reaches (object h) T × ReadyList T es × (bytes ≡ view_text h es breaks source)
+IsView machine breaks source bytes =
+    (T : State) × (es : List Event) × Reaches (object machine) T × ReadyList T es × (bytes ≡ view_text machine es breaks source)

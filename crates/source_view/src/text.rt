@@ -2,7 +2,7 @@
 ghost use Rattle.std.specs.Prelude.{◌≡◌, ◌≤◌, ◌++◌, length, replicate, IfOk, OnOk};
 ghost use Rattle.std.specs.Fmt.{decimal};
 ghost use Rattle.syntax.specs.Texts.{lines};
-ghost use Rattle.source_view.specs.View.{lines_text, line_text, right, mark};
+ghost use Rattle.source_view.specs.View.{lines_text, line_text, right_aligned, mark};
 ghost use Rattle.source_view.specs.walking.Marking.{marks_at};
 
 use crate::lines::first_line;
@@ -55,7 +55,7 @@ fn mark(is_seen: bool, text: &[u8]) -> &[u8]
 
 /// Adds a number in decimal, right in 5 places.
 fn add_number(out: &mut Vec<u8>, number: u64) -> Result<(), AllocError>
-    ensures { OnOk result (out.new.items ≡ out.old.items ++ right (decimal number)) }
+    ensures { OnOk result (out.new.items ≡ out.old.items ++ right_aligned (decimal number)) }
 {
     let mut buffer = Buffer::new();
     let digits = buffer.format(number).as_bytes();

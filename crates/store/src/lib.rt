@@ -41,6 +41,13 @@ impl Store {
         self.values[variable as usize]
     }
 
+    /// All values, by number.
+    pub fn as_slice(&self) -> &[Value]
+        ensures { result.now ≡ self.now }
+    {
+        self.values.as_slice()
+    }
+
     /// Writes the value, cut or widened to the width of the variable, and gives back the one that stood there.
     pub fn put(&mut self, variable: u32, value: Value) -> Value
         requires { variable < length self.old }

@@ -1,6 +1,6 @@
--- The answer to what is found: of all faults the least.
+-- The answer to what is one_fault: of all faults the least.
 use Rattle.std.proofs.Common.{◌≡◌, List, [], ◌∷◌, ◌++◌, map, Ok, Err, inl, inr, refl, ap, sym, subst, ◌∙◌}
-use Rattle.types.specs.Findings.{Verdict, Findings, becomes, if_right, both, and, with_next, with_all, all, and_all, demands, found, every, IsRefused}
+use Rattle.types.specs.Findings.{Verdict, Findings, becomes, if_right, both, and, with_next, with_all, all, and_all, demands, one_fault, every, IsRefused}
 use Rattle.types.specs.Refusal.{lesser}
 use Rattle.types.specs.walking.Least.{least}
 use Rattle.refusals.specs.declared.types.Fault.{Fault}
@@ -20,9 +20,9 @@ least-append : (f : Fault) (fs : List Fault) (g : Fault) (gs : List Fault) → l
 least-append f [] g gs = refl
 least-append f (x ∷ fs) g gs = ap (lesser f) (least-append x fs g gs) ∙ sym (lesser-lesser f (least_of x fs) (least_of g gs))
 
-pub answer-found : {A : Type 0} (r : Verdict A) → answer (found r) ≡ r
-answer-found (Ok a) = refl
-answer-found (Err f) = refl
+pub answer-one_fault : {A : Type 0} (r : Verdict A) → answer (one_fault r) ≡ r
+answer-one_fault (Ok a) = refl
+answer-one_fault (Err f) = refl
 
 pub answer-becomes : {A B : Type 0} (f : A → B) (x : Findings every A) → answer (becomes f x) ≡ becomes f (answer x)
 answer-becomes f (Ok a) = refl
@@ -56,8 +56,8 @@ pub if_right_is : {A B : Type 0} (x : Findings every A) (a : Verdict A) (k : A �
 if_right_is x a k l e same = answer-if_right x k l same ∙ ap (λ z. if_right z l) e
 
 pub asked_is : {A B C : Type 0} (x : Findings every A) (y : Findings every B) (a : Verdict A) (b : Verdict B) (k : A × B → Verdict C) → answer x ≡ a → answer y ≡ b
-    → answer (if_right (both every x y) (λ p. found (k p))) ≡ if_right (both least a b) k
-asked_is x y a b k e f = if_right_is (both every x y) (both least a b) (λ p. found (k p)) k (both_is x y a b e f) (λ p. answer-found (k p))
+    → answer (if_right (both every x y) (λ p. one_fault (k p))) ≡ if_right (both least a b) k
+asked_is x y a b k e f = if_right_is (both every x y) (both least a b) (λ p. one_fault (k p)) k (both_is x y a b e f) (λ p. answer-one_fault (k p))
 
 pub and_is : (x y : Findings every (Unit {0})) (a b : Verdict (Unit {0})) → answer x ≡ a → answer y ≡ b → answer (and every x y) ≡ and least a b
 and_is x y a b e f = joined_is (λ _. tt) x y a b e f
@@ -77,16 +77,16 @@ all_is xs ys e = answer-with_all (Ok []) xs ∙ ap (with_all least (Ok [])) e
 answer-and_all : (l : Findings every (Unit {0})) (verdicts : List (Verdict (Unit {0}))) → answer (and_all every l verdicts) ≡ and_all least (answer l) verdicts
 answer-and_all l [] = refl
 answer-and_all l (next ∷ rest) =
-    answer-and_all (and every l (found next)) rest
-    ∙ ap (λ z. and_all least z rest) (and_is l (found next) (answer l) next refl (answer-found next))
+    answer-and_all (and every l (one_fault next)) rest
+    ∙ ap (λ z. and_all least z rest) (and_is l (one_fault next) (answer l) next refl (answer-one_fault next))
 
 pub demands_are : (verdicts : List (Verdict (Unit {0}))) → answer (demands every verdicts) ≡ demands least verdicts
 demands_are verdicts = answer-and_all (Ok tt) verdicts
 
--- verdicts, each found alone
-pub found-each : {X A : Type 0} (f : X → Verdict A) (xs : List X) → map answer (map (λ x. found (f x)) xs) ≡ map f xs
-found-each f [] = refl
-found-each f (x ∷ xs) = ap (λ z. z ∷ map answer (map (λ y. found (f y)) xs)) (answer-found (f x)) ∙ ap (λ zs. f x ∷ zs) (found-each f xs)
+-- verdicts, each one_fault alone
+pub one_fault-each : {X A : Type 0} (f : X → Verdict A) (xs : List X) → map answer (map (λ x. one_fault (f x)) xs) ≡ map f xs
+one_fault-each f [] = refl
+one_fault-each f (x ∷ xs) = ap (λ z. z ∷ map answer (map (λ y. one_fault (f y)) xs)) (answer-one_fault (f x)) ∙ ap (λ zs. f x ∷ zs) (one_fault-each f xs)
 
 -- an element with its proof
 abbrev pub With : {X : Type 0} → (X → Type 0) → Type 0

@@ -4,7 +4,7 @@ use Rattle.types.specs.Arms.{GuardedArm, LabelledArm, typed_guarded, one_bit, ty
 use Rattle.types.specs.Calls.{called, judged_argument}
 use Rattle.types.specs.Commands.{Scope, Judged, start_of, made, value, action_layer, arm_layer, case_arm_layer, command_layer, guarded_layer, each, judged_command, assignment, sending, receiving, guarded_loop, enclosing, target, sender, receiver, opened_by, channel_alone}
 use Rattle.types.specs.Expressions.{JudgedValue, judged_expression, shape_layer, expression_layer, binary, complement, cast, type_width}
-use Rattle.types.specs.Findings.{Verdict, Keeping, Findings, both, demands, found, every}
+use Rattle.types.specs.Findings.{Verdict, Keeping, Findings, both, demands, one_fault, every}
 use Rattle.types.specs.Names.{VisibleNames, find}
 use Rattle.types.specs.Uses.{arm_use, procedure_use}
 use Rattle.types.specs.walking.CommandParts.{judged_action, judged_guarded, judged_labelled, judged_arm}
@@ -29,7 +29,7 @@ use Rattle.syntax.specs.declared.expression.Shape.{Shape}
 use Rattle.syntax.specs.declared.expression.Shape.TheFolds.{map-Shape, fold-Shape, fold-roll-Shape, fold-roll-Expression, ind-Expression}
 use Rattle.syntax.specs.declared.expression.Shape.TheOpen.{Shape-F}
 use Rattle.syntax.specs.declared.expression.Shape.TheViews.{roll-Expression, roll-Shape}
-use Rattle.types.proofs.Least.{answer, answer-found, both_is, becomes_is, joined_is, if_right_is, asked_is, all_is, demands_are, found-each, each_is, With}
+use Rattle.types.proofs.Least.{answer, answer-one_fault, both_is, becomes_is, joined_is, if_right_is, asked_is, all_is, demands_are, one_fault-each, each_is, With}
 
 -- ---- expressions
 
@@ -50,12 +50,12 @@ shape_agrees : (y : Shape-F (With ShapeAgrees) (With ExpressionAgrees)) (start :
     → answer (open_shape every y start names opened) ≡ open_shape least y start names opened
 unfolding binary
 shape_agrees (Shape-F.Number n) start names opened = refl
-shape_agrees (Shape-F.Name name) start names opened = answer-found _
+shape_agrees (Shape-F.Name name) start names opened = answer-one_fault _
 shape_agrees (Shape-F.Binary op a b) start names opened =
     asked_is (judged_expression every a.0 names opened) (judged_expression every b.0 names opened) _ _ _ (a.1 names opened) (b.1 names opened)
 shape_agrees (Shape-F.Not a) start names opened = becomes_is complement (judged_expression every a.0 names opened) _ (a.1 names opened)
 shape_agrees (Shape-F.Cast a type) start names opened =
-    joined_is (λ p. cast p.0 p.1) (judged_expression every a.0 names opened) (found (type_width names opened type)) _ _ (a.1 names opened) (answer-found _)
+    joined_is (λ p. cast p.0 p.1) (judged_expression every a.0 names opened) (one_fault (type_width names opened type)) _ _ (a.1 names opened) (answer-one_fault _)
 
 pub expression_agrees : (x : Expression) → ExpressionAgrees x
 expression_agrees =
@@ -72,7 +72,7 @@ expression_agrees =
 -- ---- what arms owe as a whole
 
 labels_are : (names : VisibleNames) (opened : List Binding) (labels : List Label) → answer (judged_labels every names opened labels) ≡ judged_labels least names opened labels
-labels_are names opened labels = all_is _ _ (found-each (judged_label names opened) labels)
+labels_are names opened labels = all_is _ _ (one_fault-each (judged_label names opened) labels)
 
 conditional_is : (arms : Findings every (List GuardedArm)) (last : Findings every (Option typed_command.Command))
     (a : Verdict (List GuardedArm)) (l : Verdict (Option typed_command.Command))
@@ -151,7 +151,7 @@ action_agrees : (y : Agreeing) (scope : Scope) (opened : List Binding) → answe
 unfolding assignment sending receiving guarded_loop enclosing called
 action_agrees Action-F.Continue scope opened = refl
 action_agrees Action-F.Halt scope opened = refl
-action_agrees (Action-F.Sync ch) scope opened = answer-found _
+action_agrees (Action-F.Sync ch) scope opened = answer-one_fault _
 action_agrees (Action-F.Loop body) scope opened = becomes_is _ (judged_command every body.0 scope opened) _ (body.1 scope opened)
 action_agrees (Action-F.While guard body) scope opened =
     asked_is (value every guard scope opened) (judged_command every body.0 scope opened) _ _ _ (expression_agrees guard scope.names opened) (body.1 scope opened)
@@ -166,17 +166,17 @@ action_agrees (Action-F.Case subject arms (Some last)) scope opened =
 action_agrees (Action-F.Select arms) scope opened = becomes_is _ _ _ (distinct_is _ _ (arms_are scope opened arms))
 action_agrees (Action-F.Arbitrate first second) scope opened = becomes_is _ _ _ (distinct_is _ _ (arms_are scope opened (first ∷ second ∷ [])))
 action_agrees (Action-F.Assign x e) scope opened =
-    asked_is (found (target x scope opened)) (value every e scope opened) _ _ _ (answer-found _) (expression_agrees e scope.names opened)
+    asked_is (one_fault (target x scope opened)) (value every e scope opened) _ _ _ (answer-one_fault _) (expression_agrees e scope.names opened)
 action_agrees (Action-F.Send ch e) scope opened =
-    asked_is (found (sender ch scope opened)) (value every e scope opened) _ _ _ (answer-found _) (expression_agrees e scope.names opened)
+    asked_is (one_fault (sender ch scope opened)) (value every e scope opened) _ _ _ (answer-one_fault _) (expression_agrees e scope.names opened)
 action_agrees (Action-F.Receive ch x) scope opened =
-    asked_is (found (receiver ch scope opened)) (found (target x scope opened)) _ _ _ (answer-found _) (answer-found _)
+    asked_is (one_fault (receiver ch scope opened)) (one_fault (target x scope opened)) _ _ _ (answer-one_fault _) (answer-one_fault _)
 action_agrees (Action-F.Input ch body) scope opened =
     let inner = opened_by opened (channel_alone (receiver ch scope opened)) in
-    joined_is _ (found (receiver ch scope opened)) (judged_command every body.0 scope inner) _ _ (answer-found _) (body.1 scope inner)
+    joined_is _ (one_fault (receiver ch scope opened)) (judged_command every body.0 scope inner) _ _ (answer-one_fault _) (body.1 scope inner)
 action_agrees (Action-F.Call p arguments) scope opened =
-    asked_is (found (procedure_use (find scope.names opened p.name) p.span.start)) _ _ _ _ (answer-found _)
-    (all_is _ _ (found-each (judged_argument scope.names opened) arguments))
+    asked_is (one_fault (procedure_use (find scope.names opened p.name) p.span.start)) _ _ _ _ (answer-one_fault _)
+    (all_is _ _ (one_fault-each (judged_argument scope.names opened) arguments))
 action_agrees (Action-F.Sequence children) scope opened = becomes_is _ _ _ (commands_are scope opened children)
 action_agrees (Action-F.Parallel children) scope opened = becomes_is _ _ _ (commands_are scope opened children)
 
@@ -187,7 +187,7 @@ arm_agrees : (a : Arm-F (With ActionAgrees) (With ArmAgrees) (With LabelledAgree
 unfolding arm_of
 arm_agrees a scope opened =
     let channel = arm_use (find scope.names opened a.channel.name) a.channel.span.start in
-    joined_is opened_arm (found channel) (judged_command every a.body.0 scope (opened_by opened channel)) channel _ (answer-found channel)
+    joined_is opened_arm (one_fault channel) (judged_command every a.body.0 scope (opened_by opened channel)) channel _ (answer-one_fault channel)
     (a.body.1 scope (opened_by opened channel))
 
 guarded_agrees : (guard : Expression) (body : With CommandAgrees) (scope : Scope) (opened : List Binding)

@@ -1,9 +1,9 @@
 -- What is answered of a description is the least of all its faults.
 use Rattle.std.proofs.Common.{◌≡◌, ℕ, suc, List, [], ◌∷◌, length, map, Ok, Err, IfOk, IfErr, ◌⊎◌, inr, refl, ap, sym, ◌∙◌}
 use Rattle.types.specs.Commands.{Scope, judged_command}
-use Rattle.types.specs.Declarations.{SoFar, with_name, with_elements, with_definition, with_demand, with_types, enumeration_width, width_or_one, demanded, Declared, with_one, with_ports, with_locals, all_ports, all_locals, one_port, one_local, port_kind, local_kind, port_type, local_type, port_types, local_types, behind, ports_of, locals_of, inside, after_procedure, types_of, declarations_right, judged_procedure, with_procedures, judged_description, found_description}
+use Rattle.types.specs.Declarations.{SoFar, with_name, with_elements, with_definition, with_demand, with_types, enumeration_width, width_or_one, demanded, Declared, with_one, with_ports, with_locals, all_ports, all_locals, one_port, one_local, port_kind, local_kind, port_type, local_type, port_types, local_types, behind, ports_of, locals_of, scope_inside, after_procedure, types_of, declarations_right, judged_procedure, with_procedures, judged_description, found_description}
 use Rattle.types.specs.Expressions.{declared_width}
-use Rattle.types.specs.Findings.{Verdict, Findings, becomes, both, and, with_next, found, every, IsRefused}
+use Rattle.types.specs.Findings.{Verdict, Findings, becomes, both, and, with_next, one_fault, every, IsRefused}
 use Rattle.types.specs.Names.{VisibleNames, declared, is_fresh, port_meaning, local_meaning}
 use Rattle.types.specs.walking.Least.{least}
 use Rattle.refusals.specs.declared.types.Fault.TheVariants.{Memory}
@@ -22,12 +22,12 @@ use Rattle.syntax.specs.declared.declaration.TypeDeclaration.{TypeDeclaration}
 use Rattle.syntax.specs.declared.declaration.TypeDefinition.{TypeDefinition}
 use Rattle.syntax.specs.declared.declaration.TypeDefinition.TheVariants.{Bits, Enumeration}
 use Rattle.syntax.specs.declared.name.Identifier.{Identifier}
-use Rattle.types.proofs.Least.{answer, answer-found, joined_is, and_is, demands_are, with_next_is, right_from, refused_from}
+use Rattle.types.proofs.Least.{answer, answer-one_fault, joined_is, and_is, demands_are, with_next_is, right_from, refused_from}
 use Rattle.types.proofs.LeastCommands.{command_agrees}
 
 -- one more demand
-more_is : (x : Findings every (Unit {0})) (demand : Verdict (Unit {0})) → answer (and every x (found demand)) ≡ and least (answer x) demand
-more_is x demand = and_is x (found demand) (answer x) demand refl (answer-found demand)
+more_is : (x : Findings every (Unit {0})) (demand : Verdict (Unit {0})) → answer (and every x (one_fault demand)) ≡ and least (answer x) demand
+more_is x demand = and_is x (one_fault demand) (answer x) demand refl (answer-one_fault demand)
 
 -- ---- types
 
@@ -108,8 +108,8 @@ locals_of_is names p =
     all_locals_are (behind every (ports_of every names p).names) p.locals
     ∙ ap (λ (z : Declared least Port). all_locals least (behind least z.names) p.locals) (ports_of_is names p)
 
-inside_is : (scope : Scope) (p : tree_procedure.Procedure) → inside every scope p ≡ inside least scope p
-inside_is scope p = ap (λ (z : Declared least Local). record { names = z.names; procedures = scope.procedures }) (locals_of_is scope.names p)
+scope_inside_is : (scope : Scope) (p : tree_procedure.Procedure) → scope_inside every scope p ≡ scope_inside least scope p
+scope_inside_is scope p = ap (λ (z : Declared least Local). record { names = z.names; procedures = scope.procedures }) (locals_of_is scope.names p)
 
 after_is : (scope : Scope) (p : tree_procedure.Procedure) → after_procedure every scope p ≡ after_procedure least scope p
 after_is scope p = rw (← ports_of_is scope.names p) refl
@@ -117,12 +117,12 @@ after_is scope p = rw (← ports_of_is scope.names p) refl
 declarations_are : (scope : Scope) (p : tree_procedure.Procedure) → answer (declarations_right every scope p) ≡ declarations_right least scope p
 unfolding declarations_right
 declarations_are scope p =
-    and_is _ _ _ _ (answer-found _)
+    and_is _ _ _ _ (answer-one_fault _)
     (and_is _ _ _ _
     (and_is _ _ _ _ (ap (λ (z : Declared least Port). z.right) (ports_of_is scope.names p)) (ap (λ (z : Declared least Local). z.right) (locals_of_is scope.names p)))
     (and_is _ _ _ _
-    (demands_are (map (λ d. port_type (inside every scope p).names d.kind) p.ports) ∙ ap (λ (z : Scope). port_types least z.names p.ports) (inside_is scope p))
-    (demands_are (map (λ d. local_type (inside every scope p).names d.kind) p.locals) ∙ ap (λ (z : Scope). local_types least z.names p.locals) (inside_is scope p))))
+    (demands_are (map (λ d. port_type (scope_inside every scope p).names d.kind) p.ports) ∙ ap (λ (z : Scope). port_types least z.names p.ports) (scope_inside_is scope p))
+    (demands_are (map (λ d. local_type (scope_inside every scope p).names d.kind) p.locals) ∙ ap (λ (z : Scope). local_types least z.names p.locals) (scope_inside_is scope p))))
 
 -- the procedure with these ports and these locals
 abbrev procedure_with : Scope → tree_procedure.Procedure → List Port → VisibleNames → List Local → Verdict Procedure
@@ -133,8 +133,8 @@ procedure_with scope p ports names locals =
 procedure_is : (scope : Scope) (p : tree_procedure.Procedure) → answer (judged_procedure every scope p) ≡ judged_procedure least scope p
 unfolding judged_procedure
 procedure_is scope p =
-    joined_is _ (declarations_right every scope p) (judged_command every p.body (inside every scope p) []) _ _ (declarations_are scope p)
-    (command_agrees p.body (inside every scope p) [])
+    joined_is _ (declarations_right every scope p) (judged_command every p.body (scope_inside every scope p) []) _ _ (declarations_are scope p)
+    (command_agrees p.body (scope_inside every scope p) [])
     ∙ ap (λ (z : Declared least Port). procedure_with scope p z.made (locals_of every scope.names p).names (locals_of every scope.names p).made)
     (ports_of_is scope.names p)
     ∙ ap (λ (z : Declared least Local). procedure_with scope p (ports_of least scope.names p).made z.names z.made) (locals_of_is scope.names p)
@@ -158,7 +158,7 @@ description_agrees d =
     (procedures_are (record { names = (types_of every d).names; procedures = [] }) (Ok []) d.procedures
     ∙ ap (λ (s : SoFar least). with_procedures least (record { names = s.names; procedures = [] }) (Ok []) d.procedures) (types_of_is d))
 
--- a description is typed where nothing is found
+-- a description is typed where nothing is one_fault
 pub typed_from : (d : Description) (made : Verdict (List Procedure)) → made ≡ judged_description least d → IfOk made (λ typed. found_description d ≡ Ok typed)
 typed_from d (Ok typed) e = right_from (found_description d) typed (description_agrees d ∙ sym e)
 typed_from d (Err fault) e = tt

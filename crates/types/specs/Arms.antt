@@ -2,13 +2,13 @@
 use Rattle.std.specs.Prelude.{ℕ, List, [], ◌∷◌, ◌++◌, map, flat_map, Option, ◌&&◌, not, nat_le, nat_eq, if◌then◌else◌, Ok, Err}
 use Rattle.std.specs.List.{list_any}
 use Rattle.value.specs.Word.{Word}
-use Rattle.types.specs.Expressions.{least_word}
+use Rattle.types.specs.Expressions.{least_word, if_one_bit}
 use Rattle.types.specs.Findings.{Verdict, Keeping, Findings, becomes, if_right, both, all, demands}
 use Rattle.types.specs.Names.{VisibleNames, find, is_among}
 use Rattle.types.specs.Uses.{label_use}
 use Rattle.types.specs.declared.arms.LabelUse.{LabelUse}
 use Rattle.types.specs.declared.expression.Valued.{Valued}
-use Rattle.refusals.specs.declared.types.Fault.TheVariants.{GuardNotOneBit, BadArm}
+use Rattle.refusals.specs.declared.types.Fault.TheVariants.{BadArm}
 use Rattle.typed.specs.declared.tree.Action.{Action}
 use Rattle.typed.specs.declared.tree.Action.TheVariants as action
 use Rattle.typed.specs.declared.tree.Arm.{Arm, roll-Arm, out-Arm}
@@ -36,7 +36,7 @@ typed_guarded a = roll-Guarded (record { guard = a.guard.expression; body = a.bo
 
 -- a guard is one bit wide
 abbrev pub one_bit : GuardedArm → Verdict (Unit {0})
-one_bit a = if nat_eq a.guard.width 1 then Ok tt else Err (GuardNotOneBit a.start)
+one_bit a = if_one_bit a.guard.width a.start tt
 
 module _ (k : Keeping) where
   unfoldable pub guarded : Findings k Valued → ℕ → Findings k Command → Findings k GuardedArm

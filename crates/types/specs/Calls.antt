@@ -50,10 +50,10 @@ all_fit names [] (argument ∷ arguments) = false
 all_fit names (kind ∷ kinds) [] = false
 all_fit names (kind ∷ kinds) (argument ∷ arguments) = fits_port kind (look_up names argument.name) && all_fit names kinds arguments
 
--- the call fits the procedure, if there is one, and no channel stands twice
-abbrev pub fits : VisibleNames → Option (List PortKind) → List Identifier → List ChannelUse → Bool
-fits names None arguments channels = false
-fits names (Some kinds) arguments channels = all_fit names kinds arguments && list_all is_ok (new_channels [] channels)
+-- the call call_fits the procedure, if there is one, and no channel stands twice
+abbrev pub call_fits : VisibleNames → Option (List PortKind) → List Identifier → List ChannelUse → Bool
+call_fits names None arguments channels = false
+call_fits names (Some kinds) arguments channels = all_fit names kinds arguments && list_all is_ok (new_channels [] channels)
 
 -- an argument of a call
 abbrev pub judged_argument : VisibleNames → List Binding → Identifier → Verdict ChannelUse
@@ -69,4 +69,4 @@ module _ (k : Keeping) where
       if_right
       (both k (k.alone (procedure_use (find names opened procedure.name) procedure.span.start)) (judged_arguments names opened arguments))
       (λ p.
-      k.alone (if fits names (slice_get procedures p.0) arguments p.1 then Ok (action.Call p.0 p.1) else Err (PortMismatch procedure.span.start)))
+      k.alone (if call_fits names (slice_get procedures p.0) arguments p.1 then Ok (action.Call p.0 p.1) else Err (PortMismatch procedure.span.start)))

@@ -2,12 +2,12 @@
 use Rattle.std.specs.Prelude.{ℕ, List, [], ◌∷◌, ◌++◌, map, Option, Some, None, nat_le, nat_eq, if◌then◌else◌, Ok, Err}
 use Rattle.types.specs.Arms.{GuardedArm, LabelledArm, guarded, conditional, judged_labels, labelled, cased, arm_of, distinct}
 use Rattle.types.specs.Calls.{called}
-use Rattle.types.specs.Expressions.{judged_expression}
+use Rattle.types.specs.Expressions.{if_one_bit, judged_expression}
 use Rattle.types.specs.Findings.{Verdict, Keeping, Findings, becomes, if_right, both, all}
 use Rattle.types.specs.Names.{VisibleNames, find}
 use Rattle.types.specs.Uses.{target_use, sending_use, receiving_use, sync_use, arm_use}
 use Rattle.types.specs.declared.expression.Valued.{Valued}
-use Rattle.refusals.specs.declared.types.Fault.TheVariants.{TooWide, GuardNotOneBit}
+use Rattle.refusals.specs.declared.types.Fault.TheVariants.{TooWide}
 use Rattle.typed.specs.declared.tree.Action.{Action}
 use Rattle.typed.specs.declared.tree.Action.TheVariants as typed
 use Rattle.typed.specs.declared.tree.Arm.{Arm}
@@ -82,7 +82,7 @@ module _ (k : Keeping) where
   -- the guard of a loop is one bit wide
   unfoldable pub guarded_loop : Findings k Valued → ℕ → Findings k Command → Findings k Action
   guarded_loop guard start body = if_right (both k guard body) (λ p.
-      k.alone (if nat_eq p.0.width 1 then Ok (typed.While p.0.expression p.1) else Err (GuardNotOneBit start)))
+      k.alone (if_one_bit p.0.width start (typed.While p.0.expression p.1)))
 
   unfoldable pub enclosing : Verdict (ChannelUse × ℕ) → Findings k Command → Findings k Action
   enclosing channel body = becomes (λ p. typed.Input p.0.0 p.1) (both k (k.alone channel) body)

@@ -165,8 +165,8 @@ module _ (k : Keeping) where
   locals_of names p = all_locals (behind (ports_of names p).names) p.locals
 
   -- the scope of the body: all ports and locals, but not the procedure itself
-  abbrev pub inside : Scope → tree_procedure.Procedure → Scope
-  inside scope p = record { names = (locals_of scope.names p).names; procedures = scope.procedures }
+  abbrev pub scope_inside : Scope → tree_procedure.Procedure → Scope
+  scope_inside scope p = record { names = (locals_of scope.names p).names; procedures = scope.procedures }
 
   -- what the types of the ports and locals owe, where all of these are visible
   abbrev pub types_right : VisibleNames → tree_procedure.Procedure → Findings k (Unit {0})
@@ -176,14 +176,14 @@ module _ (k : Keeping) where
   unfoldable pub declarations_right : Scope → tree_procedure.Procedure → Findings k (Unit {0})
   declarations_right scope p =
       and k (k.alone (is_fresh scope.names p.name.name p.name.span.start))
-      (and k (and k (ports_of scope.names p).right (locals_of scope.names p).right) (types_right (inside scope p).names p))
+      (and k (and k (ports_of scope.names p).right (locals_of scope.names p).right) (types_right (scope_inside scope p).names p))
 
   -- a procedure with this scope before it
   unfoldable pub judged_procedure : Scope → tree_procedure.Procedure → Findings k Procedure
   judged_procedure scope p =
       becomes
       (λ q. record { name = p.name.name; ports = (ports_of scope.names p).made; locals = (locals_of scope.names p).made; body = q.1 })
-      (both k (declarations_right scope p) (judged_command k p.body (inside scope p) []))
+      (both k (declarations_right scope p) (judged_command k p.body (scope_inside scope p) []))
 
   -- the scope behind the end of a procedure: the procedure, and nothing that it declares
   abbrev pub after_procedure : Scope → tree_procedure.Procedure → Scope

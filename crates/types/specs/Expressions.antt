@@ -1,11 +1,11 @@
 -- Expressions: what they become, and how wide they are.
-use Rattle.std.specs.Prelude.{ℕ, ◌+◌, List, ◌&&◌, nat_le, max, if◌then◌else◌, Ok, Err}
+use Rattle.std.specs.Prelude.{ℕ, ◌+◌, List, ◌&&◌, nat_le, nat_eq, max, if◌then◌else◌, Ok, Err}
 use Rattle.value.specs.Word.{Word, most_bits, least_width_of}
 use Rattle.types.specs.Names.{VisibleNames, find}
 use Rattle.types.specs.Uses.{type_use, value_use}
 use Rattle.types.specs.Findings.{Verdict, Keeping, Findings, becomes, if_right, both}
 use Rattle.types.specs.declared.expression.Valued.{Valued}
-use Rattle.refusals.specs.declared.types.Fault.TheVariants.{TooWide}
+use Rattle.refusals.specs.declared.types.Fault.TheVariants.{TooWide, GuardNotOneBit}
 use Rattle.typed.specs.declared.tree.Expression.TheVariants as typed
 use Rattle.typed.specs.declared.tree.Binding.{Binding}
 use Rattle.types.specs.declared.uses.Named.{Named}
@@ -42,6 +42,10 @@ operator_width Less left right = 1
 operator_width Greater left right = 1
 operator_width LessOrEqual left right = 1
 operator_width GreaterOrEqual left right = 1
+
+-- this, where the width of a guard at `start` is one bit
+abbrev pub if_one_bit : {A : Type 0} → ℕ → ℕ → A → Verdict A
+if_one_bit width start a = if nat_eq width 1 then Ok a else Err (GuardNotOneBit start)
 
 -- a sum may not be wider than a number
 abbrev pub width_within : ℕ → ℕ → Operator → Verdict ℕ

@@ -76,15 +76,16 @@ pub record Faults : Type 0 where
 abbrev pub listed : Faults → List Fault
 listed fs = fs.first ∷ fs.others
 
-abbrev pub found : {A : Type 0} → Verdict A → Result A Faults
-found (Ok a) = Ok a
-found (Err fault) = Err (record { first = fault; others = [] })
+-- a verdict, of which the fault, if it has one, is the only one
+abbrev pub one_fault : {A : Type 0} → Verdict A → Result A Faults
+one_fault (Ok a) = Ok a
+one_fault (Err fault) = Err (record { first = fault; others = [] })
 
 -- all faults are kept
 abbrev pub every : Keeping
 every = record {
   Faults = Faults;
-  alone = found;
+  alone = one_fault;
   together = λ fs gs. record { first = fs.first; others = fs.others ++ gs.first ∷ gs.others };
 }
 

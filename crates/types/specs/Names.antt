@@ -48,17 +48,17 @@ abbrev pub is_among : List Binding → Binding → Bool
 is_among bindings channel = list_any (same_binding channel) bindings
 
 -- what a name is that means this, and is this channel, where these channels are open
-abbrev pub seen_as : List Binding → Meaning → Option Channel → Found
-seen_as opened m None = Means m
-seen_as opened m (Some channel) = if is_among opened channel.binding then Opened channel else Means m
+abbrev pub found_as : List Binding → Meaning → Option Channel → Found
+found_as opened m None = Means m
+found_as opened m (Some channel) = if is_among opened channel.binding then Opened channel else Means m
 
-abbrev pub seen : List Binding → Option Meaning → Found
-seen opened None = Nothing
-seen opened (Some m) = seen_as opened m (channel_of m)
+abbrev pub found_for : List Binding → Option Meaning → Found
+found_for opened None = Nothing
+found_for opened (Some m) = found_as opened m (channel_of m)
 
 -- what the name is where these names are visible and these channels are open
 unfoldable pub find : VisibleNames → List Binding → List ℕ → Found
-find names opened name = seen opened (look_up names name)
+find names opened name = found_for opened (look_up names name)
 
 -- the names after one more is declared with this meaning: what is visible already stays as it is
 abbrev pub declared : VisibleNames → List ℕ → Meaning → VisibleNames

@@ -31,7 +31,7 @@ pub(crate) fn called(
     let channels = settled_arguments(alloc, &scope.names, opened, arguments)?;
     match both(found, channels) {
         Ok((procedure, channels)) => {
-            if !fits(alloc, scope, procedure, arguments, channels.as_slice())? {
+            if !call_fits(alloc, scope, procedure, arguments, channels.as_slice())? {
                 return Ok(Err(Fault::PortMismatch(offset)));
             }
             Ok(Ok(Action::Call(procedure, channels)))
@@ -58,14 +58,14 @@ fn settled_arguments(
 }
 
 /// Whether there is one argument for each port of the procedure, fit for it, and no channel stands twice.
-fn fits(
+fn call_fits(
     alloc: Global,
     scope: &Scope,
     procedure: u32,
     arguments: &[Identifier],
     channels: &[ChannelUse],
 ) -> Result<bool, AllocError>
-    ensures { IfOk result (λ answer. answer ≡ calls.fits (entries scope.now.names) (slice_get scope.now.signatures procedure) arguments.now channels.now) }
+    ensures { IfOk result (λ answer. answer ≡ calls.call_fits (entries scope.now.names) (slice_get scope.now.signatures procedure) arguments.now channels.now) }
 {
     match scope.signatures.get(procedure as usize) {
         Some(ports) => {

@@ -152,7 +152,7 @@ impl Scope {
 
 /// What a name of this meaning is where these channels are open.
 fn found_as(opened: &[Binding], meaning: &Meaning) -> Found
-    ensures { result ≡ names.seen_as opened.now meaning.now (names.channel_of meaning.now) }
+    ensures { result ≡ names.found_as opened.now meaning.now (names.channel_of meaning.now) }
 {
     match channel_of(meaning) {
         Some(channel) => {

@@ -6,7 +6,7 @@ from collections.abc import Callable
 
 from .faults import Refused
 from .machine import Live
-from .places import read_address
+from .places import read_address, text_of
 from .sessions import SESSIONS, Desk
 from .syntax import Variable
 from .tokens import plain_number
@@ -54,6 +54,11 @@ def undo(desk: Desk, field: bytes) -> list[str]:
 def live(desk: Desk) -> list[str]:
     entries = desk.machine.live
     return [f"live {len(entries)}", *(f"  {shown(entry)}" for entry in entries)]
+
+
+def trace(desk: Desk) -> list[str]:
+    events = [entry.event for entry in desk.machine.live]
+    return ["balsadbg trace 1", *(f"step {text_of(event.acting)} {event.arm}" for event in events)]
 
 
 def value(desk: Desk, name: bytes) -> list[str]:
@@ -122,6 +127,7 @@ LINES: dict[tuple[bytes, int], Callable[..., list[str]]] = {
     (b"break", 2): break_at,
     (b"clear", 2): clear,
     (b"view", 1): view,
+    (b"trace", 1): trace,
 }
 
 

@@ -1,7 +1,7 @@
 -- Marks beside the live events, at the same places.
--- No reader has to believe it: the proof of `mark_dependents` ties it to `FollowersList` of `calculus`.
+-- No reader has to believe it: the proof of `mark_dependents` ties it to `ConsequencesList` of `calculus`.
 use Rattle.std.specs.Prelude.{◌≡◌, ℕ, ◌<◌, List, Bool, true, Some, slice_get}
-use Rattle.calculus.specs.Live.{Live, Follows}
+use Rattle.calculus.specs.Live.{Live, DependsOn}
 use Rattle.dependence.specs.Followers.{Follower}
 use Rattle.dependence.specs.walking.Tables.{StandsAt}
 
@@ -11,6 +11,6 @@ MarkedAt l marks t = (i : ℕ) × StandsAt l t i × (slice_get marks i ≡ Some 
 
 -- t and only what depends on it is marked, and the followers of all that is marked below the place
 pub record MarkedBelow (l : Live) (t place : ℕ) (marks : List Bool) : Type 0 where
-  pub sound : (u : ℕ) → MarkedAt l marks u → Follows l t u
+  pub sound : (u : ℕ) → MarkedAt l marks u → DependsOn l t u
   pub start : MarkedAt l marks t
   pub onward : (s u i : ℕ) → StandsAt l s i → i < place → MarkedAt l marks s → Follower l s u → MarkedAt l marks u

@@ -1,10 +1,10 @@
 -- The tables of followers beside the live events, at the same places.
--- No reader has to believe it: contracts see a `Live` as `Shown`, which has no tables; `IsLive` says there that a ticket is live.
+-- No reader has to believe it: contracts see a `Live` as `Shown`, which has no tables.
 use Rattle.std.specs.Prelude.{◌≡◌, ◌⊎◌, ◌↔◌, ℕ, ◌<◌, List, [], ◌∷◌, ◌++◌, length, Some, slice_get, slice_set}
 use Rattle.syntax.specs.Lists.{In}
 use Rattle.calculus.specs.InOrder.{InOrder}
 use Rattle.calculus.specs.Dependence.{Directly}
-use Rattle.calculus.specs.Live.{Live, Rising, LiveAt, Follows}
+use Rattle.calculus.specs.Live.{Live, Rising, LiveAt, DependsOn}
 use Rattle.calculus.specs.declared.event.Event.{Event}
 use Rattle.dependence.specs.Followers.{Follower, ListsFollowers}
 use Rattle.dependence.specs.declared.links.Links.{Links}
@@ -16,10 +16,6 @@ IsRising l = (next : ℕ) × Rising 0 l next
 -- the event of ticket t stands at the place i
 abbrev pub StandsAt : Live → ℕ → ℕ → Type 0
 StandsAt l t i = (e : Event) × (slice_get l i ≡ Some (t, e))
-
--- the ticket t is that of a live event
-abbrev pub IsLive : Live → ℕ → Type 0
-IsLive l t = (e : Event) × LiveAt l t e
 
 -- the numbers fall
 abbrev pub Falling : List ℕ → Type 0
@@ -64,15 +60,15 @@ pub record Removed (t : ℕ) (before after : List ℕ) : Type 0 where
 -- among the live tickets of cs are all that a new event f follows, and of each other on which it depends directly a dependent
 pub record Candidates (l : Live) (f : Event) (cs : List ℕ) : Type 0 where
   pub sound : (t : ℕ) → In t cs → (e : Event) × LiveAt l t e × Directly e f
-  pub complete : (t : ℕ) (e : Event) → LiveAt l t e → Directly e f → (c : ℕ) × In c cs × Follows l t c
+  pub complete : (t : ℕ) (e : Event) → LiveAt l t e → Directly e f → (c : ℕ) × In c cs × DependsOn l t c
 
 -- t is one of cs, and no other of them depends on it
 abbrev pub Topmost : Live → List ℕ → ℕ → Type 0
-Topmost l cs t = In t cs × ((c : ℕ) → In c cs → Follows l t c → c ≡ t)
+Topmost l cs t = In t cs × ((c : ℕ) → In c cs → DependsOn l t c → c ≡ t)
 
 -- one of cs depends on t
 abbrev pub Reaches : Live → List ℕ → ℕ → Type 0
-Reaches l cs t = (c : ℕ) × In c cs × Follows l t c
+Reaches l cs t = (c : ℕ) × In c cs × DependsOn l t c
 
 -- exactly the tickets of the events of l that depend directly on e, ascending
 pub record DirectAmong (e : Event) (l : Live) (tickets : List ℕ) : Type 0 where

@@ -1,15 +1,15 @@
-use Rattle.std.proofs.Common.{◌≡◌, ◌≢◌, ◌+◌, ◌≤◌, ◌++◌, ◌∷◌, [], Some, None, Ok, Err, inl, inr, length, take, drop, refl, sym, ◌∙◌, ap, ◌⊎◌, ◌==◌, arith, rules}
+use Rattle.std.proofs.Common.{◌≡◌, ◌≢◌, ◌+◌, ◌≤◌, [], Err, inl, inr, length, take, refl, ap, ◌⊎◌, arith, rules}
 use Rattle.std.specs.List.{count_by}
 use Rattle.std.proofs.lemmas.Bool.Decides.{nat_tests}
 use Rattle.std.proofs.lemmas.List.{nil_from_length}
 use Rattle.std.proofs.lemmas.List.Sums.{count_by-le-length}
+use Rattle.syntax.specs.Texts.{is_end}
 use Rattle.lexer.specs.Refusal.{IsRefused}
 use Rattle.lexer.specs.Spelling.{NothingSpelled}
 use Rattle.lexer.specs.walking.Fronts.{IsFront, IsPieceFault}
-use Rattle.lexer.specs.Tokens.{AreTokens, token_at}
+use Rattle.lexer.specs.Tokens.{AreTokens}
 use Rattle.refusals.specs.declared.lexer.Fault.TheVariants.{Memory, BadCharacter}
 use Rattle.lexer.specs.declared.position.Position.{Position}
-use Rattle.lexer.specs.declared.token.Kind.TheVariants.{EndOfSource}
 use Rattle.lexer.proofs.ReadingLemmas.{Reaches, reaches_next, reaches_end, reaches_fault, piece_fault_due}
 use Rattle.lexer.proofs.UniqueLemmas.{some_front, tokens_unique, refused_unique, never_both}
 use Rattle.lexer.proofs.lex.Goals as goal
@@ -36,8 +36,8 @@ loop-rest-preserved c =
     let readable = rw c.split_at.ensures.front at c.in_ok-push_token.ensures.readable in
     let reached = reaches_next c.args.source.now c.loop-rest.tokens.items c.loop-rest.position rest class n c.loop-rest.invariant.reached found readable in
     let offset : c.behind-position.result.offset ≡ c.loop-rest.position.offset + length text = ap (λ (position : Position). position.offset) c.behind-position.ensures in
-    let line : c.behind-position.result.line ≡ c.loop-rest.position.line + count_by (λ b. b == 10) text = ap (λ (position : Position). position.line) c.behind-position.ensures in
-    let few = count_by-le-length (λ b. b == 10) text in
+    let line : c.behind-position.result.line ≡ c.loop-rest.position.line + count_by is_end text = ap (λ (position : Position). position.line) c.behind-position.ensures in
+    let few = count_by-le-length is_end text in
     let cut = c.split_at.ensures.back_len in
     let front_len = c.split_at.ensures.front_len in
     let before = c.loop-rest.invariant.offset in

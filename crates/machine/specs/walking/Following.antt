@@ -1,10 +1,10 @@
 -- Who follows, as it is gathered from the first live event to the last.
--- No reader has to believe it: the proofs of `followers` and `last_writer` tie it to `FollowersList` and `LastWriter` of `calculus`.
+-- No reader has to believe it: the proofs of `followers` and `last_writer` tie it to `ConsequencesList` and `LastWriter` of `calculus`.
 use Rattle.std.specs.Prelude.{◌≡◌, ◌↔◌, ℕ, ◌<◌, List, ◌∷◌, ◌++◌, Some}
 use Rattle.syntax.specs.Lists.{In}
 use Rattle.calculus.specs.Dependence.{Directly}
 use Rattle.calculus.specs.InOrder.{InOrder}
-use Rattle.calculus.specs.Live.{Live, LiveAt, Follows, NoWriter}
+use Rattle.calculus.specs.Live.{Live, LiveAt, DependsOn, NoWriter}
 use Rattle.calculus.specs.declared.event.Event.{Event}
 
 -- the entry has one of these tickets, and f depends directly on its event
@@ -17,7 +17,7 @@ DependsOnSome f l tickets = (x : ℕ × Event) × In x l × Leads f tickets x
 
 -- exactly the tickets in `seen` of the events that follow t in l, ascending
 pub record Gathered (l seen : Live) (t : ℕ) (tickets : List ℕ) : Type 0 where
-  pub exactly : (u : ℕ) → In u tickets ↔ ((f : Event) × LiveAt seen u f × Follows l t u)
+  pub exactly : (u : ℕ) → In u tickets ↔ ((f : Event) × LiveAt seen u f × DependsOn l t u)
   pub ascending : InOrder ◌<◌ tickets
 
 -- t is the ticket of the last entry whose event writes the variable x

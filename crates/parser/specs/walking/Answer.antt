@@ -1,5 +1,5 @@
 -- What `parse` answers, by how the description is read.
--- No reader has to believe it: `proofs/Parsed.antt` ties it to `Parses` and `IsRefused` of `Accepted.antt`, of which the clauses of `parse` speak.
+-- No reader has to believe it: `proofs/Answered.antt` ties it to `Parses` and `IsRefused` of `Accepted.antt`, of which the clauses of `parse` speak.
 use Rattle.std.specs.Prelude.{◌≡◌, ℕ, List, Result, Ok, Err}
 use Rattle.lexer.specs.declared.token.Token.{Token}
 use Rattle.refusals.specs.declared.parser.Fault.{Fault}

@@ -8,9 +8,9 @@ use Rattle.calculus.specs.Moves.{Place}
 use Rattle.calculus.specs.walking.AllowedEvents.{those}
 use Rattle.calculus.specs.declared.event.Event.{Event}
 use Rattle.calculus.specs.declared.event.Kind.TheVariants.{Assign, Test, Turn, Meet, Open, Close, Sync}
-use Rattle.rendezvous.specs.declared.side.Ready.{Ready}
-use Rattle.rendezvous.specs.declared.side.Side.{Side}
-use Rattle.rendezvous.specs.declared.side.Side.TheVariants.{Assigns, Tests, Turns, Sends, Receives, Syncs, Opens, Releases, Closes}
+use Rattle.offered_sides.specs.declared.side.Ready.{Ready}
+use Rattle.offered_sides.specs.declared.side.Side.{Side}
+use Rattle.offered_sides.specs.declared.side.Side.TheVariants.{Assigns, Tests, Turns, Sends, Receives, Syncs, Opens, Releases, Closes}
 
 -- the event that a side makes alone
 abbrev pub solo : Place → Side → Option Event

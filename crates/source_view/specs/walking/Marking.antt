@@ -30,13 +30,13 @@ break_mark breaks n = record { is_ready = false; has_break = is_in n breaks; in_
 
 -- whether e is in conflict with the first of these
 abbrev pub conflicts_with_next : AtMachine → Event → List Event → Bool
-conflicts_with_next h e [] = false
-conflicts_with_next h e (f ∷ es) = are_in_conflict h e f
+conflicts_with_next machine e [] = false
+conflicts_with_next machine e (f ∷ es) = are_in_conflict machine e f
 
 -- whether one of the events acts on line n and is in conflict with the one behind it
 abbrev pub neighbours_on : AtMachine → List Event → ℕ → Bool
-neighbours_on h [] n = false
-neighbours_on h (e ∷ es) n = (acts_on h n e && conflicts_with_next h e es) || neighbours_on h es n
+neighbours_on machine [] n = false
+neighbours_on machine (e ∷ es) n = (acts_on machine n e && conflicts_with_next machine e es) || neighbours_on machine es n
 
 -- the marks of a line with that of an event, which may act on it, and may be in conflict
 abbrev pub with_event : Bool → Bool → Marks → Marks
@@ -49,9 +49,9 @@ with_event acts conflicts marks =
 
 -- the marks of line n with those of the events
 abbrev pub with_events : AtMachine → List Event → ℕ → Marks → Marks
-with_events h es n marks =
+with_events machine es n marks =
     record {
-      is_ready = marks.is_ready || is_ready_on h es n;
+      is_ready = marks.is_ready || is_ready_on machine es n;
       has_break = marks.has_break;
-      in_conflict = marks.in_conflict || neighbours_on h es n;
+      in_conflict = marks.in_conflict || neighbours_on machine es n;
     }

@@ -3,12 +3,11 @@
 use Rattle.std.specs.Prelude.{ℕ, List, [], ◌∷◌, map, Option, nat_eq, if◌then◌else◌, Ok, Err}
 use Rattle.types.specs.Arms.{new_labels, with_seen, judged_labels}
 use Rattle.types.specs.Commands.{Scope, start_of, judged_command}
-use Rattle.types.specs.Expressions.{judged_expression}
+use Rattle.types.specs.Expressions.{if_one_bit, judged_expression}
 use Rattle.types.specs.Findings.{Verdict, becomes, if_right, both, and, demands}
 use Rattle.types.specs.walking.Least.{least}
 use Rattle.types.specs.declared.arms.LabelUse.{LabelUse}
 use Rattle.types.specs.declared.expression.Valued.{Valued}
-use Rattle.refusals.specs.declared.types.Fault.TheVariants.{GuardNotOneBit}
 use Rattle.typed.specs.declared.tree.Action.{Action}
 use Rattle.typed.specs.declared.tree.Action.TheVariants as action
 use Rattle.typed.specs.declared.tree.Command.{Command}
@@ -34,7 +33,7 @@ guarded_arm scope opened a = becomes guarded_by (both least (guard_of scope open
 
 -- what a guard owes; one that has a fault owes nothing more
 abbrev pub guard_owes : Verdict Valued → ℕ → Verdict (Unit {0})
-guard_owes (Ok guard) start = if nat_eq guard.width 1 then Ok tt else Err (GuardNotOneBit start)
+guard_owes (Ok guard) start = if_one_bit guard.width start tt
 guard_owes (Err fault) start = Ok tt
 
 abbrev pub guard_owed : Scope → List Binding → arm_of_if.Guarded → Verdict (Unit {0})

@@ -1,6 +1,6 @@
 -- Dependence by tickets, and consequences.
-use Rattle.calculus.proofs.ObjectLaws.{follows-is-causes, consequences-exactly}
+use Rattle.calculus.proofs.ObjectLaws.{depends-on-is-causes, consequences-exactly}
 use Rattle.calculus.proofs.object_laws.dependence_laws.Goals as goal
 
 pub returns : goal.returns
-returns c = record { same = follows-is-causes; listed = consequences-exactly }
+returns c = record { same = depends-on-is-causes; listed = consequences-exactly }

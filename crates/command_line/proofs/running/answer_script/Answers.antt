@@ -1,5 +1,5 @@
 use Rattle.std.proofs.Common.{◌≡◌, refl, inl, inr}
-use Rattle.debug_session.specs.Counting.{failures}
+use Rattle.devices.specs.Counting.{failures}
 use Rattle.command_line.specs.Serving.{DevicesBlamed}
 use Rattle.command_line.proofs.ServingLemmas.{debug-not-had, debug-session}
 use Rattle.command_line.proofs.running.answer_script.Goals as goal

@@ -1,5 +1,5 @@
 use Rattle.std.proofs.Common.{◌≡◌, refl}
-use Rattle.debug_session.specs.Counting.{failures}
+use Rattle.devices.specs.Counting.{failures}
 use Rattle.command_line.specs.Serving.{WriterBlamed}
 use Rattle.command_line.proofs.ServingLemmas.{check-not-had, check-had}
 use Rattle.command_line.proofs.running.check.Goals as goal

@@ -1,5 +1,5 @@
 use Rattle.std.proofs.Common.{refl, []}
-use Rattle.debug_session.proofs.KnownLemmas.{Appends-none}
+use Rattle.devices.proofs.KnownLemmas.{Appends-none}
 use Rattle.command_line.proofs.running.finish.Goals as goal
 
 pub returns-in-Ok-clause-told : goal.returns-in-Ok-clause-told

@@ -1,5 +1,5 @@
 use Rattle.std.proofs.Common.{◌≡◌}
-use Rattle.debug_session.specs.Counting.{failures}
+use Rattle.devices.specs.Counting.{failures}
 use Rattle.command_line.specs.Serving.{WriterBlamed}
 use Rattle.command_line.proofs.RunningLemmas.{help-told}
 use Rattle.command_line.proofs.running.tell_help.Goals as goal

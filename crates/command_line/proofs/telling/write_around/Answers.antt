@@ -1,7 +1,7 @@
 use Rattle.std.proofs.Common.{ap, ◌∙◌, ◌++◌, Err, refl}
 use Rattle.std.specs.Fmt.{decimal}
 use Rattle.std.proofs.lemmas.Result.{err_from_is_err_and}
-use Rattle.debug_session.specs.Counting.{failures}
+use Rattle.devices.specs.Counting.{failures}
 use Rattle.debug_session.proofs.CountLemmas.{writes-on}
 use Rattle.command_line.proofs.TellingLemmas.{told-then, told-stops}
 use Rattle.command_line.proofs.telling.write_around.Goals as goal

@@ -1,6 +1,7 @@
-use Rattle.std.proofs.Common.{ap, ◌∙◌, ◌++◌, ◌∷◌, [], codes, Err, Some, sym}
+use Rattle.std.proofs.Common.{ap, ◌∙◌, ◌++◌, codes, Err, Some, sym}
 use Rattle.std.specs.Fmt.{decimal}
 use Rattle.std.proofs.lemmas.Result.{err_from_is_err_and}
+use Rattle.debug_session.specs.ReplyText.{ending}
 use Rattle.command_line.specs.FaultLine.{refused_text}
 use Rattle.command_line.proofs.TellingLemmas.{told-then, told-stops, told-same, ended-four}
 use Rattle.command_line.proofs.telling.write_refused.Goals as goal
@@ -10,11 +11,11 @@ returns-in_err-write_around-clause-bytes g c =
     let p = err_from_is_err_and c.from_residual.result c.from_residual.ensures.1 in
     rw c.in-Some.is (
     told-same (g.W.Write.contents c.args.out.now.device) (g.W.Write.contents c.write_around-2.new.out.device)
-    ((codes "balsadbg: refused " ++ (decimal c.args.number ++ codes " ")) ++ (decimal c.in-Some.field ++ 10 ∷ []))
-    (refused_text c.args.number (Some c.in-Some.field) ++ 10 ∷ []) c.from_residual.result
-    (ended-four (codes "balsadbg: refused ") (decimal c.args.number) (codes " ") (decimal c.in-Some.field) (10 ∷ []))
+    ((codes "balsadbg: refused " ++ (decimal c.args.number ++ codes " ")) ++ (decimal c.in-Some.field ++ ending))
+    (refused_text c.args.number (Some c.in-Some.field) ++ ending) c.from_residual.result
+    (ended-four (codes "balsadbg: refused ") (decimal c.args.number) (codes " ") (decimal c.in-Some.field) ending)
     (told-stops (g.W.Write.contents c.args.out.now.device) (g.W.Write.contents c.write_around-2.new.out.device)
-    (codes "balsadbg: refused " ++ (decimal c.args.number ++ codes " ")) (decimal c.in-Some.field ++ 10 ∷ [])
+    (codes "balsadbg: refused " ++ (decimal c.args.number ++ codes " ")) (decimal c.in-Some.field ++ ending)
     c.in_err-write_around.field-0.0 c.from_residual.result c.in_err-write_around.ensures.bytes (p.1 ∙ ap Err p.2))
     )
 
@@ -22,10 +23,10 @@ pub returns-clause-bytes : goal.returns-clause-bytes
 returns-clause-bytes g c =
     rw c.in-Some.is (
     told-same (g.W.Write.contents c.args.out.now.device) (g.W.Write.contents c.write_number.new.out.device)
-    ((codes "balsadbg: refused " ++ (decimal c.args.number ++ codes " ")) ++ (decimal c.in-Some.field ++ 10 ∷ []))
-    (refused_text c.args.number (Some c.in-Some.field) ++ 10 ∷ []) c.write_number.result
-    (ended-four (codes "balsadbg: refused ") (decimal c.args.number) (codes " ") (decimal c.in-Some.field) (10 ∷ []))
+    ((codes "balsadbg: refused " ++ (decimal c.args.number ++ codes " ")) ++ (decimal c.in-Some.field ++ ending))
+    (refused_text c.args.number (Some c.in-Some.field) ++ ending) c.write_number.result
+    (ended-four (codes "balsadbg: refused ") (decimal c.args.number) (codes " ") (decimal c.in-Some.field) ending)
     (told-then (g.W.Write.contents c.args.out.now.device) (g.W.Write.contents c.write_around-2.new.out.device) (g.W.Write.contents c.write_number.new.out.device)
-    (codes "balsadbg: refused " ++ (decimal c.args.number ++ codes " ")) (decimal c.in-Some.field ++ 10 ∷ [])
+    (codes "balsadbg: refused " ++ (decimal c.args.number ++ codes " ")) (decimal c.in-Some.field ++ ending)
     c.write_number.result c.in_ok-write_around.ensures.bytes c.write_number.ensures.bytes)
     )

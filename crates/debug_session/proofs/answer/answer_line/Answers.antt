@@ -1,5 +1,5 @@
 use Rattle.std.proofs.Common.{ap, ◌∙◌, Err, refl, sym}
-use Rattle.debug_session.specs.Counting.{failures}
+use Rattle.devices.specs.Counting.{failures}
 use Rattle.debug_session.specs.declared.fault.Fault.{Fault}
 use Rattle.debug_session.proofs.CountLemmas.{unsaid-writes, writes-on}
 use Rattle.std.proofs.lemmas.Result.{err_from_is_err_and}

@@ -1,5 +1,5 @@
 use Rattle.std.proofs.Common.{ap, ◌∙◌, Err, refl, sym}
-use Rattle.debug_session.specs.Counting.{failures}
+use Rattle.devices.specs.Counting.{failures}
 use Rattle.std.proofs.lemmas.Result.{err_from_is_err_and}
 use Rattle.debug_session.proofs.CountLemmas.{unread-writes, stops-reads, reads-on, writes-on}
 use Rattle.debug_session.proofs.SessionLemmas.{progress-start, unread-by-line, stopped-by-line, done-by-line, more-by-line, session-endless}

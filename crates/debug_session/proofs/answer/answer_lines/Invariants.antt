@@ -1,5 +1,5 @@
 use Rattle.std.proofs.Common.{◌≡◌}
-use Rattle.debug_session.specs.Counting.{failures}
+use Rattle.devices.specs.Counting.{failures}
 use Rattle.debug_session.proofs.SessionLemmas.{Progress}
 use Rattle.debug_session.proofs.answer.answer_lines.Given as goal
 

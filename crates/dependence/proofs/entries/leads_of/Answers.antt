@@ -1,25 +1,50 @@
-use Rattle.std.proofs.Common.{◌↔◌, ℕ, List, subst, arith}
+use Rattle.std.proofs.Common.{◌≡◌, ◌∙◌, ◌↔◌, ◌≤◌, ℕ, List, length, sym, ap, subst, arith}
 use Rattle.std.proofs.lemmas.Result.{IfOk-weaker}
 use Rattle.syntax.specs.Lists.{In}
+use Rattle.dependence.specs.walking.Sweeping.{StandWithin}
 use Rattle.dependence.specs.walking.Tables.{Topmost}
-use Rattle.dependence.proofs.Edges.{candidates-stand}
+use Rattle.dependence.proofs.Edges.{candidates-live}
+use Rattle.dependence.proofs.Sweeps.{few-falling, few-topmost}
 use Rattle.dependence.proofs.entries.leads_of.Goals as goal
 
+pub returns-then-len-le1 : goal.returns-then-len-le1
+returns-then-len-le1 c =
+    let few : length c.in_ok-found.found.items ≤ 1 = omega (arith, c.in_ok-found.found.ok) in
+    record {
+      falling = few-falling c.in_ok-found.found.items few;
+      topmost = (c.in_ok-found.found.items, c.in_ok-found.ensures, few-topmost c.args.new.now.live.now c.in_ok-found.found.items few);
+    }
+
+pub span-low-requires : goal.span-low-requires
+span-low-requires c =
+    let new = c.args.new.now in
+    let same : length c.as_slice.result.now ≡ length c.in_ok-found.found.items = ap length c.as_slice.ensures.value in
+    record {
+      rising = (new.ticket, c.requires.new.rising);
+      live = candidates-live new.live.now new.event.now c.as_slice.result.now c.in_ok-found.found.items c.as_slice.ensures.value c.in_ok-found.ensures;
+      some = omega (arith, c.in_ok-found.found.ok);
+    }
+
 pub topmost-requires : goal.topmost-requires
-topmost-requires c = record {
-  rising = c.requires.rising;
-  linked = c.requires.linked;
-  order = omega arith;
-  size = omega arith;
-  stand = candidates-stand c.args.live.now c.args.event.now c.as_slice.result.now c.in_ok-found.found.items c.as_slice.ensures.value c.in_ok-found.ensures;
-}
+topmost-requires c =
+    let new = c.args.new.now in
+    record {
+      rising = (new.ticket, c.requires.new.rising);
+      linked = c.requires.linked;
+      order = c.span-low.ensures.order;
+      size = c.span-low.ensures.size;
+      stand = subst (λ (k : List ℕ). StandWithin new.live.now k c.span-low.result.0 c.span-low.result.1) (c.as_slice.ensures.value ∙ sym c.as_slice-2.ensures.value)
+          c.span-low.ensures.stand;
+    }
 
 pub returns : goal.returns
-returns c = record {
-  falling = c.topmost.ensures.falling;
-  topmost = IfOk-weaker c.topmost.result _ _ (λ kept tops. (
-    c.in_ok-found.found.items,
-    c.in_ok-found.ensures,
-    λ t. subst (λ (k : List ℕ). In t kept.items ↔ Topmost c.args.live.now k t) c.as_slice.ensures.value (tops t),
-  )) c.topmost.ensures.topmost;
-}
+returns c =
+    let new = c.args.new.now in
+    record {
+      falling = c.topmost.ensures.falling;
+      topmost = IfOk-weaker c.topmost.result _ _ (λ kept tops. (
+        c.in_ok-found.found.items,
+        c.in_ok-found.ensures,
+        λ t. subst (λ (k : List ℕ). In t kept.items ↔ Topmost new.live.now k t) c.as_slice-2.ensures.value (tops t),
+      )) c.topmost.ensures.topmost;
+    }

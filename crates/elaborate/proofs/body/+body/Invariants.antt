@@ -1,8 +1,8 @@
 use Rattle.std.proofs.Common.{◌≡◌, ◌+◌, ◌≤◌, [], length, drop, map}
 use Rattle.elaborate.proofs.Weights.{total, weight, weight_of_guarded, weight_of_labelled, weight_of_arm, weights, last_weight}
 use Rattle.std.specs.Option.{option_map}
-use Rattle.elaborate.specs.Body.{meaning_of, meanings, all_onto, called, after_call}
-use Rattle.elaborate.specs.walking.BodyParts.{meaning_of_guarded, meaning_of_labelled, meaning_of_arm}
+use Rattle.elaborate.specs.Body.{maker_of, makers, all_onto, called, after_call}
+use Rattle.elaborate.specs.walking.BodyParts.{maker_of_guarded, maker_of_labelled, maker_of_arm}
 use Rattle.elaborate.proofs.body.+body.Given as goal
 
 abbrev pub decreases-command_of : goal.decreases-command_of
@@ -29,30 +29,30 @@ decreases-called_body l = weights l.earlier.now + 1
 -- what is made from here on is what is made of all
 abbrev pub invariant-commands_of-loop-command : goal.invariant-commands_of-loop-command
 invariant-commands_of-loop-command l =
-    all_onto l.children (map (meaning_of (meanings l.earlier)) (drop l.command-index l.commands)) l.scope l.made
-    ≡ all_onto [] (map (meaning_of (meanings l.earlier)) l.commands) l.scope l.initial.made
+    all_onto l.children (map (maker_of (makers l.earlier)) (drop l.command-index l.commands)) l.instance l.made
+    ≡ all_onto [] (map (maker_of (makers l.earlier)) l.commands) l.instance l.initial.made
 
 abbrev pub invariant-guarded_of-loop-arm : goal.invariant-guarded_of-loop-arm
 invariant-guarded_of-loop-arm l =
-    all_onto l.children (map (meaning_of_guarded (meanings l.earlier)) (drop l.arm-index l.arms)) l.scope l.made
-    ≡ all_onto [] (map (meaning_of_guarded (meanings l.earlier)) l.arms) l.scope l.initial.made
+    all_onto l.children (map (maker_of_guarded (makers l.earlier)) (drop l.arm-index l.arms)) l.instance l.made
+    ≡ all_onto [] (map (maker_of_guarded (makers l.earlier)) l.arms) l.instance l.initial.made
 
 abbrev pub invariant-labelled_of-loop-arm : goal.invariant-labelled_of-loop-arm
 invariant-labelled_of-loop-arm l =
-    all_onto l.children (map (meaning_of_labelled (meanings l.earlier)) (drop l.arm-index l.arms)) l.scope l.made
-    ≡ all_onto [] (map (meaning_of_labelled (meanings l.earlier)) l.arms) l.scope l.initial.made
+    all_onto l.children (map (maker_of_labelled (makers l.earlier)) (drop l.arm-index l.arms)) l.instance l.made
+    ≡ all_onto [] (map (maker_of_labelled (makers l.earlier)) l.arms) l.instance l.initial.made
 
 abbrev pub invariant-arms_of-loop-arm : goal.invariant-arms_of-loop-arm
 invariant-arms_of-loop-arm l =
-    all_onto l.children (map (meaning_of_arm (meanings l.earlier)) (drop l.arm-index l.arms)) l.scope l.made
-    ≡ all_onto [] (map (meaning_of_arm (meanings l.earlier)) l.arms) l.scope l.initial.made
+    all_onto l.children (map (maker_of_arm (makers l.earlier)) (drop l.arm-index l.arms)) l.instance l.made
+    ≡ all_onto [] (map (maker_of_arm (makers l.earlier)) l.arms) l.instance l.initial.made
 
 -- the procedure that is gone along to makes what the first one makes
 abbrev pub invariant-called_body-loop-procedure : goal.invariant-called_body-loop-procedure
 invariant-called_body-loop-procedure l = record {
   less : weights l.earlier ≤ weights l.fn.earlier;
-  same : after_call 0 (called (meanings l.earlier) l.called l.entrance l.made)
-      ≡ after_call 0 (called (meanings l.fn.earlier) l.fn.procedure l.fn.entrance l.fn.made);
+  same : after_call 0 (called (makers l.earlier) l.called l.entrance l.made)
+      ≡ after_call 0 (called (makers l.fn.earlier) l.fn.procedure l.fn.entrance l.fn.made);
 }
 
 abbrev pub decreases-called_body-loop-procedure : goal.decreases-called_body-loop-procedure

@@ -1,6 +1,4 @@
-use Rattle.std.proofs.Common.{◌≡◌, ◌&&◌, ◌+◌, length, take, true, false, sym, ◌∙◌, arith}
-use Rattle.std.specs.Prelude.{is_some, nat_le}
-use Rattle.lexer.specs.Table.{symbol}
+use Rattle.std.proofs.Common.{sym, ◌∙◌}
 use Rattle.lexer.proofs.SymbolLemmas.{symbol_there, none_beyond_two, none_beyond_less}
 use Rattle.lexer.proofs.piece.symbol_length.Goals as goal
 

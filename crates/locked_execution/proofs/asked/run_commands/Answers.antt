@@ -1,6 +1,6 @@
 use Rattle.std.proofs.Common.{◌∙◌, arith, take}
-use Rattle.machine.proofs.HeadlineLaws.{headline, grows}
-use Rattle.calculus.proofs.ObjectLaws.{stays-over-lists}
+use Rattle.machine.proofs.HeadlineLaws.{headline}
+use Rattle.calculus.proofs.ObjectLaws.{stays-over-lists, tickets-grow}
 use Rattle.locked_execution.specs.AtDesk.{execution}
 use Rattle.locked_execution.specs.Bridge.{commands_of}
 use Rattle.locked_execution.proofs.AskedLists.{answered-more}
@@ -33,5 +33,5 @@ pub returns-clause-tickets : goal.returns-clause-tickets
 returns-clause-tickets c =
     let done = take c.loop-session.session-index c.args.commands.now in
     let there = are-on-execution c.args.desk.now c.loop-session.desk done c.loop-session.replies.items c.loop-session.invariant.answered in
-    grows (execution c.args.desk.now) (execution c.loop-session.desk) (commands_of done c.loop-session.replies.items)
+    tickets-grow (execution c.args.desk.now) (execution c.loop-session.desk) (commands_of done c.loop-session.replies.items)
     there.0 c.is_sound.ensures.execution.sound there.2

@@ -1,6 +1,6 @@
-use Rattle.calculus.proofs.ObjectLaws.{stays-over-lists}
-use Rattle.machine.proofs.HeadlineLaws.{headline, grows}
+use Rattle.calculus.proofs.ObjectLaws.{stays-over-lists, tickets-grow}
+use Rattle.machine.proofs.HeadlineLaws.{headline}
 use Rattle.machine.proofs.laws.answered_laws.Goals as goal
 
 pub returns : goal.returns
-returns c = record { stays = stays-over-lists; grows = grows; headline = headline }
+returns c = record { stays = stays-over-lists; grows = tickets-grow; headline = headline }

@@ -1,5 +1,5 @@
 -- A move of the tree, by the child in which it is made.
-use Rattle.std.proofs.Common.{◌≡◌, ◌<◌, Some, None, IsSome, length, map, refl, ◌∙◌, sym, ap, subst, arith}
+use Rattle.std.proofs.Common.{◌≡◌, ◌<◌, Some, IsSome, length, map, refl, ◌∙◌, sym, ap, subst, arith}
 use Rattle.std.specs.Global.{Box}
 use Rattle.std.proofs.lemmas.Result.{IfOk-weaker, on_err_weaker}
 use Rattle.process_tree.specs.Proc.{started, sequence, parallel, took, entered}

@@ -1,7 +1,7 @@
 -- What is sorted so far, and what is left, are the events.
 use Rattle.std.proofs.Common.{length}
 use Rattle.calculus.specs.Steps.{State}
-use Rattle.rendezvous.specs.Sides.{OffersExactly}
+use Rattle.offered_sides.specs.Sides.{OffersExactly}
 use Rattle.rendezvous.proofs.Sooner.{Sorting}
 use Rattle.rendezvous.proofs.ready.ready_among.Given as goal
 

@@ -1,14 +1,17 @@
 use Rattle.std.proofs.Common.{ℕ, ◌<◌, sym, subst}
 use Rattle.calculus.specs.Live.{LiveAt}
 use Rattle.calculus.specs.declared.event.Event.{Event}
+use Rattle.dependence.specs.Behind.{ComesBehind}
 use Rattle.dependence.specs.Shown.{Shown}
 use Rattle.dependence.proofs.ShownStates.{shown-added, shown-same, ok-so, err-so}
 use Rattle.dependence.proofs.live.Live.add.Goals as goal
 
 pub add_event-requires : goal.add_event-requires
 add_event-requires c = record {
-  whole = c.self.invariant;
-  above = subst (λ (s : Shown). (t : ℕ) (e : Event) → LiveAt s.live t e → t < c.args.ticket) (sym c.self.view_is) c.requires;
+  whole = c.self.invariant.0;
+  tabled = c.self.invariant.1;
+  above = subst (λ (s : Shown). (t : ℕ) (e : Event) → LiveAt s.live t e → t < c.args.ticket) (sym c.self.view_is) c.requires.above;
+  behind = subst (λ (s : Shown). ComesBehind s.live c.args.event) (sym c.self.view_is) c.requires.behind;
 }
 
 pub returns : goal.returns

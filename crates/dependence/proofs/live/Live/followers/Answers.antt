@@ -1,16 +1,16 @@
 use Rattle.std.proofs.Common.{List, sym, subst}
-use Rattle.calculus.specs.Live.{Live}
+use Rattle.calculus.specs.Live.{Live, IsLive}
 use Rattle.dependence.specs.Followers.{ListsFollowers}
 use Rattle.dependence.specs.Shown.{Shown}
 use Rattle.dependence.specs.declared.links.Links.{Links}
-use Rattle.dependence.specs.walking.Tables.{IsRising, IsLive, Linked}
+use Rattle.dependence.specs.walking.Tables.{IsRising, Linked}
 use Rattle.dependence.proofs.live.Live.followers.Goals as goal
 
 pub followers_of-requires : goal.followers_of-requires
 followers_of-requires c = record {
-  rising = subst (λ (k : Live). IsRising k) (sym c.as_slice.ensures.value) c.self.invariant.rising;
+  rising = subst (λ (k : Live). IsRising k) (sym c.as_slice.ensures.value) c.self.invariant.0.rising;
   linked = subst (λ (k : Live). Linked k c.as_slice-2.result.now) (sym c.as_slice.ensures.value)
-      (subst (λ (k : List Links). Linked c.self.inside.pairs.items k) (sym c.as_slice-2.ensures.value) c.self.invariant.linked);
+      (subst (λ (k : List Links). Linked c.self.inside.pairs.items k) (sym c.as_slice-2.ensures.value) c.self.invariant.0.linked);
   live = subst (λ (k : Live). IsLive k c.args.ticket) (sym c.as_slice.ensures.value)
       (subst (λ (s : Shown). IsLive s.live c.args.ticket) (sym c.self.view_is) c.requires);
 }

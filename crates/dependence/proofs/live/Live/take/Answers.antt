@@ -1,13 +1,13 @@
 use Rattle.std.proofs.Common.{◌≡◌, ℕ, sym, subst}
 use Rattle.calculus.specs.Dependence.{Without}
-use Rattle.calculus.specs.Live.{LiveAt, NoDependent, WithoutTickets}
+use Rattle.calculus.specs.Live.{LiveAt, NoDependent, WithoutTickets, IsLive}
 use Rattle.dependence.specs.Shown.{Shown, tickets_marked}
-use Rattle.dependence.specs.walking.Tables.{IsLive}
 use Rattle.dependence.proofs.live.Live.take.Goals as goal
 
 pub take_event-requires : goal.take_event-requires
 take_event-requires c = record {
-  whole = c.self.invariant;
+  whole = c.self.invariant.0;
+  tabled = c.self.invariant.1;
   live = subst (λ (s : Shown). IsLive s.live c.args.ticket) (sym c.self.view_is) c.requires.live;
   alone = subst (λ (s : Shown). NoDependent s.live c.args.ticket) (sym c.self.view_is) c.requires.alone;
 }

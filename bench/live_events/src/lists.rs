@@ -1,0 +1,163 @@
+// The lists of events that are timed, each as it runs from its opening.
+
+use address::{Address, Entry};
+use calculus::{Event, Kind};
+use std::alloc::{AllocError, Global};
+use system::Variables;
+
+/// A list of events, of any length.
+#[derive(Clone, Copy)]
+pub enum Row {
+    /// eight loops of four commands side by side, a step each in turn
+    Loops,
+    /// 64 such loops, each for 250 steps at a time
+    ManyLoops,
+    /// a loop over 4,000 commands
+    Sequence,
+    /// a parallel of 4,000 branches, begun again and again by a turn
+    Parallel,
+    /// a loop over two parallels of 200 branches, one after the other
+    TwoParallels,
+    /// a branch that meets another one at each hundredth step of it
+    Meeting,
+}
+
+/// All of them.
+pub const ROWS: [Row; 6] = [
+    Row::Loops,
+    Row::ManyLoops,
+    Row::Sequence,
+    Row::Parallel,
+    Row::TwoParallels,
+    Row::Meeting,
+];
+
+impl Row {
+    /// What it is, in short.
+    pub fn name(self) -> &'static str {
+        match self {
+            Row::Loops => "8 loops of 4 in turn",
+            Row::ManyLoops => "64 loops of 4",
+            Row::Sequence => "loop over 4,000 commands",
+            Row::Parallel => "parallel of 4,000 again and again",
+            Row::TwoParallels => "two parallels of 200 in a loop",
+            Row::Meeting => "a meeting each 100 steps",
+        }
+    }
+
+    /// The event at this index.
+    pub fn event(self, alloc: Global, index: u32) -> Result<Event, AllocError> {
+        match self {
+            Row::Loops => step_of_four(alloc, index % 8, index / 8),
+            Row::ManyLoops => {
+                let block = index / 250;
+                let step = (block / 64).wrapping_mul(250).wrapping_add(index % 250);
+                step_of_four(alloc, block % 64, step)
+            }
+            Row::Sequence => step_of_many(alloc, index / 4_001, index % 4_001),
+            Row::Parallel => step_of_all(alloc, index / 4_001, index % 4_001),
+            Row::TwoParallels => step_of_two(alloc, index / 401, index % 401),
+            Row::Meeting => step_or_meeting(alloc, index),
+        }
+    }
+}
+
+/// The place of these entries below the body.
+fn place(alloc: Global, entries: &[Entry]) -> Result<Address, AllocError> {
+    let mut all = Vec::new(alloc);
+    all.push(Entry::Branch(0))?;
+    for entry in entries {
+        all.push(*entry)?;
+    }
+    Ok(Address::from_vec(all))
+}
+
+/// An event at one place, which writes and reads the variable, if there is one.
+fn alone(alloc: Global, entries: &[Entry], variable: Option<u32>) -> Result<Event, AllocError> {
+    let first = place(alloc, entries)?;
+    let mut read = Variables::none(alloc);
+    if let Some(number) = variable {
+        read.insert(number)?;
+    }
+    Ok(Event {
+        kind: Kind::Assign,
+        first,
+        second: None,
+        arm: None,
+        channel: None,
+        value: None,
+        written: variable,
+        read,
+    })
+}
+
+/// A step of branch `number`, a loop over four assignments to its variable, each of which reads it.
+fn step_of_four(alloc: Global, number: u32, step: u32) -> Result<Event, AllocError> {
+    let turn = (step / 5).wrapping_mul(2);
+    if step % 5 == 0 {
+        let entries = [Entry::Branch(number), Entry::Ordered(turn)];
+        return alone(alloc, &entries, None);
+    }
+    let entries = [
+        Entry::Branch(number),
+        Entry::Ordered(turn.wrapping_add(1)),
+        Entry::Ordered(step % 5),
+    ];
+    alone(alloc, &entries, Some(number))
+}
+
+/// A step of a loop over 4,000 commands.
+fn step_of_many(alloc: Global, turn: u32, step: u32) -> Result<Event, AllocError> {
+    let turn = turn.wrapping_mul(2);
+    if step == 0 {
+        return alone(alloc, &[Entry::Ordered(turn)], None);
+    }
+    let entries = [Entry::Ordered(turn.wrapping_add(1)), Entry::Ordered(step)];
+    alone(alloc, &entries, Some(step % 16))
+}
+
+/// A step of a loop over a parallel of 4,000 branches.
+fn step_of_all(alloc: Global, turn: u32, step: u32) -> Result<Event, AllocError> {
+    let turn = turn.wrapping_mul(2);
+    if step == 0 {
+        return alone(alloc, &[Entry::Ordered(turn)], None);
+    }
+    let entries = [Entry::Ordered(turn.wrapping_add(1)), Entry::Branch(step)];
+    alone(alloc, &entries, Some(step))
+}
+
+/// A step of a loop over two parallels of 200 branches.
+fn step_of_two(alloc: Global, turn: u32, step: u32) -> Result<Event, AllocError> {
+    let turn = turn.wrapping_mul(2);
+    if step == 0 {
+        return alone(alloc, &[Entry::Ordered(turn)], None);
+    }
+    let entries = [
+        Entry::Ordered(turn.wrapping_add(1)),
+        Entry::Ordered(step / 201),
+        Entry::Branch(step % 201),
+    ];
+    alone(alloc, &entries, Some(step))
+}
+
+/// A step of branch 0, at each hundredth with branch 1.
+fn step_or_meeting(alloc: Global, index: u32) -> Result<Event, AllocError> {
+    let first = place(alloc, &[Entry::Branch(0), Entry::Ordered(index)])?;
+    let meets = index % 100 == 99;
+    let second = if meets {
+        let entries = [Entry::Branch(1), Entry::Ordered(index / 100)];
+        Some(place(alloc, &entries)?)
+    } else {
+        None
+    };
+    Ok(Event {
+        kind: Kind::Meet,
+        first,
+        second,
+        arm: None,
+        channel: if meets { Some(0) } else { None },
+        value: None,
+        written: None,
+        read: Variables::none(alloc),
+    })
+}

@@ -1,0 +1,164 @@
+// How long the calls of a `Live` take.
+ghost use Rattle.calculus.specs.Live.{IsLive};
+
+use crate::behind::comes_behind;
+use crate::lists::Row;
+use calculus::Event;
+use dependence::Live;
+use std::io;
+use std::io::ErrorKind;
+use std::time::Instant;
+
+/// Of this many events one is asked about.
+const ASK_EACH: u64 = 97;
+
+/// The times of calls, in nanoseconds.
+#[derive(Clone, Copy)]
+struct Times {
+    calls: u128,
+    sum: u128,
+    worst: u128,
+}
+
+impl Times {
+    fn none() -> Times {
+        Times {
+            calls: 0,
+            sum: 0,
+            worst: 0,
+        }
+    }
+
+    fn note(&mut self, time: u128) {
+        self.calls = self.calls.saturating_add(1);
+        self.sum = self.sum.saturating_add(time);
+        self.worst = self.worst.max(time);
+    }
+
+    fn mean(self) -> u128 {
+        self.sum.checked_div(self.calls).unwrap_or(0)
+    }
+}
+
+/// The times of all calls on one list.
+#[derive(Clone, Copy)]
+struct AllTimes {
+    add: Times,
+    first_dependent: Times,
+    count: Times,
+    mark: Times,
+    take: Times,
+}
+
+/// Adds the events of the row, asks about some, takes them all from the last on, and prints how long that took.
+pub fn time_row(rt: &HostRuntime, row: Row, size: u32) -> io::Result<()> {
+    let mut live = Live::new(rt.alloc());
+    let mut times = AllTimes {
+        add: Times::none(),
+        first_dependent: Times::none(),
+        count: Times::none(),
+        mark: Times::none(),
+        take: Times::none(),
+    };
+    for index in 0..size {
+        let event = row.event(rt.alloc(), index)?;
+        time_add(rt, &mut live, u64::from(index), event, &mut times.add)?;
+    }
+    for index in 0..size {
+        ask_at(rt, &mut live, u64::from(index), &mut times)?;
+    }
+    for index in (0..size).rev() {
+        time_take(rt, &mut live, u64::from(index), &mut times.take)?;
+    }
+    tell(rt, row, size, times)
+}
+
+/// Adds the event behind so many others.
+fn time_add(
+    rt: &HostRuntime,
+    live: &mut Live,
+    count: u64,
+    event: Event,
+    times: &mut Times,
+) -> io::Result<()> {
+    let ticket = count.wrapping_add(1);
+    if !comes_behind(live, count, ticket, &event) {
+        return Err(io::Error::other("an event does not come behind the others"));
+    }
+    let start = Instant::now(rt)?;
+    let is_refused = live.add(ticket, event).is_err();
+    times.note(start.elapsed(rt)?.as_nanos());
+    if is_refused {
+        return Err(io::Error::from(ErrorKind::OutOfMemory));
+    }
+    Ok(())
+}
+
+/// Asks about the event at the place, where it is one to be asked about.
+fn ask_at(rt: &HostRuntime, live: &mut Live, place: u64, times: &mut AllTimes) -> io::Result<()> {
+    if place % ASK_EACH != 0 {
+        return Ok(());
+    }
+    match live.pair_at(place) {
+        Some(pair) => {
+            let ticket = pair.0;
+            ask(rt, live, ticket, times)
+        }
+        None => Ok(()),
+    }
+}
+
+/// Asks about the live event of the ticket.
+fn ask(rt: &HostRuntime, live: &mut Live, ticket: u64, times: &mut AllTimes) -> io::Result<()>
+    requires { IsLive live.old.live ticket }
+{
+    let start = Instant::now(rt)?;
+    let _ = live.first_dependent(ticket);
+    times.first_dependent.note(start.elapsed(rt)?.as_nanos());
+    let start = Instant::now(rt)?;
+    let _ = live.count(ticket);
+    times.count.note(start.elapsed(rt)?.as_nanos());
+    let start = Instant::now(rt)?;
+    let _ = live.mark_consequences(ticket);
+    times.mark.note(start.elapsed(rt)?.as_nanos());
+    Ok(())
+}
+
+/// Takes the event at the place, where no other depends on it.
+fn time_take(rt: &HostRuntime, live: &mut Live, place: u64, times: &mut Times) -> io::Result<()> {
+    match live.pair_at(place) {
+        Some(pair) => {
+            let ticket = pair.0;
+            take(rt, live, ticket, times)
+        }
+        None => Ok(()),
+    }
+}
+
+/// Takes the live event of the ticket, where no other depends on it.
+fn take(rt: &HostRuntime, live: &mut Live, ticket: u64, times: &mut Times) -> io::Result<()>
+    requires { IsLive live.old.live ticket }
+{
+    match live.first_dependent(ticket) {
+        Some(_) => return Ok(()),
+        None => {}
+    }
+    let start = Instant::now(rt)?;
+    live.take(ticket);
+    times.note(start.elapsed(rt)?.as_nanos());
+    Ok(())
+}
+
+/// Prints the times.
+fn tell(rt: &HostRuntime, row: Row, size: u32, times: AllTimes) -> io::Result<()> {
+    let name = row.name();
+    let add = times.add.mean();
+    let worst = times.add.worst;
+    let take = times.take.mean();
+    let first = times.first_dependent.mean();
+    let count = times.count.mean();
+    let mark = times.mark.mean();
+    println!(rt;
+        "{name}, {size}: add {add} (worst {worst}), take {take}, first_dependent {first}, count {count}, mark {mark}"
+    )
+}

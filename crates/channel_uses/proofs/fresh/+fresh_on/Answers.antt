@@ -1,0 +1,87 @@
+use Rattle.std.proofs.Common.{◌≡◌, ◌+◌, ◌<◌, ◌≤◌, ◌∙◌, suc, false, true, length, map, refl, sym, ap, subst, rules, arith}
+use Rattle.std.proofs.lemmas.Result.{on_ok_weaker}
+use Rattle.std.specs.Result.{OnOk}
+use Rattle.address.specs.declared.Entry.TheVariants.{Ordered, Branch}
+use Rattle.process_tree.specs.Proc.{started, all_started}
+use Rattle.process_tree.specs.Translation.{row_of}
+use Rattle.process_tree.specs.View.{code_view}
+use Rattle.process_tree.specs.declared.code.Row.{Row}
+use Rattle.offered_sides.specs.walking.Listed.{Listing}
+use Rattle.offered_sides.specs.walking.Walk.{added}
+use Rattle.offered_sides.proofs.OneByOne.{step-over, fresh-at, fresh-past}
+use Rattle.offered_sides.proofs.Passing.{fresh-in-turn}
+use Rattle.channel_uses.specs.OnChannel.{on}
+use Rattle.channel_uses.specs.walking.Located.{LocatedCode, finds}
+use Rattle.channel_uses.proofs.Finding.{found-below, child-found, code-at, branch-added, from-done, all-found}
+use Rattle.channel_uses.proofs.LeafLaws.{none-added}
+use Rattle.channel_uses.proofs.Locations.{row-in-turn, row-side-by-side}
+use Rattle.channel_uses.proofs.Parts.{is-drain, is-in-turn}
+use Rattle.channel_uses.proofs.Stems.{all-stem}
+use Rattle.channel_uses.proofs.fresh.+fresh_on.Goals as goal
+
+pub fresh_branch_on-returns : goal.fresh_branch_on-returns
+fresh_branch_on-returns t c = λ at.
+    c.leave.ensures ∙ found-below (Branch c.args.number) c.args.channel c.args.values.now (started (code_view c.args.code.now)) c.args.around.now c.enter_branch.new.self c.fresh_on.new.around
+    c.in_ok-enter_branch.ensures (c.in_ok-fresh_on.ensures at)
+
+pub fresh_child_on-returns : goal.fresh_child_on-returns
+fresh_child_on-returns t c = λ at.
+    c.leave.ensures ∙ found-below (Ordered c.args.number) c.args.channel c.args.values.now (started (code_view c.args.code.now)) c.args.around.now c.enter_child.new.self c.fresh_on.new.around
+    c.in_ok-enter_child.ensures (c.in_ok-fresh_on.ensures at)
+
+pub fresh_in_turn_on-returns-then-not-starts_over : goal.fresh_in_turn_on-returns-then-not-starts_over
+fresh_in_turn_on-returns-then-not-starts_over t c = λ row.
+    let cs = row_of (map code_view c.args.codes.now) in
+    let within : c.children.number < length c.args.codes.now = c.children-test.true in
+    let located = subst (LocatedCode c.args.table.now c.part_at-part.result) (code-at c.args.codes.now c.children.number c.index-codes-number.result within c.index-codes-number.is)
+    (c.part_at-part.ensures c.args.table.now cs row) in
+    on_ok_weaker c.fresh_child_on.result (λ h.
+    child-found c.args.channel c.args.values.now c.args.around.now c.children.around c.fresh_child_on.new.around (all_started cs) c.children.number c.args.from (started (code_view c.index-codes-number.result))
+    c.children.invariant.0 c.children.invariant.1 (fresh-at c.args.codes.now c.children.number c.index-codes-number.result within c.index-codes-number.is)
+    (sym (c.starts_over.ensures c.args.values.now c.args.around.now.received) ∙ c.if-not-starts_over.true) h) (c.fresh_child_on.ensures located)
+
+pub fresh_in_turn_on-children-preserved : goal.fresh_in_turn_on-children-preserved
+fresh_in_turn_on-children-preserved t c =
+    let cs = row_of (map code_view c.args.codes.now) in
+    let next : c.children.number + 1 ≡ suc c.children.number = omega arith in (
+      c.children.invariant.0,
+      step-over c.args.values.now c.args.around.now.received (all_started cs) c.children.number (c.children.number + 1) (started (code_view c.index-codes-number.result))
+          (fresh-at c.args.codes.now c.children.number c.index-codes-number.result c.children-test.true c.index-codes-number.is) next
+          (sym (c.starts_over.ensures c.args.values.now c.args.around.now.received) ∙ c.if-not-starts_over.false)
+          ∙ c.children.invariant.1,
+    )
+
+pub fresh_in_turn_on-returns : goal.fresh_in_turn_on-returns
+fresh_in_turn_on-returns t c = λ row.
+    none-added _ c.args.around.now c.children.around
+    (ap (λ (l : Listing). on c.args.channel l.sides)
+    (sym c.children.invariant.1 ∙ fresh-past c.args.values.now c.args.around.now.received c.args.codes.now c.children.number 0 (omega arith))) c.children.invariant.0
+
+pub fresh_on-returns-in-InTurn : goal.fresh_on-returns-in-InTurn
+fresh_on-returns-in-InTurn t c = λ at.
+    let codes = c.as_slice-codes.ensures ∙ ap (λ (r : Row). r.codes) c.get-in-InTurn.ensures in
+    on_ok_weaker c.fresh_in_turn_on.result (λ h. h ∙ ap (λ (l : Listing). added (on c.args.channel l.sides) c.args.around.now)
+    (fresh-in-turn c.args.values.now c.args.around.now.received c.args.code.now c.in-InTurn.row c.as_slice-codes.result.now c.in-InTurn.is codes))
+    (c.fresh_in_turn_on.ensures (row-in-turn c.args.table.now c.args.part (code_view c.args.code.now) (row_of (map code_view c.as_slice-codes.result.now))
+    (is-in-turn c.args.code.now c.in-InTurn.row c.get-in-InTurn.result.now c.as_slice-codes.result.now c.in-InTurn.is c.get-in-InTurn.ensures c.as_slice-codes.ensures) at))
+
+pub fresh_on-returns-in-Drain : goal.fresh_on-returns-in-Drain
+fresh_on-returns-in-Drain t c = λ at.
+    subst (λ k. OnOk c.drain_on.result (c.drain_on.new.around ≡ finds c.args.channel c.args.values.now (started k) c.args.around.now)) (sym (is-drain c.args.code.now c.in-Drain.port c.in-Drain.is))
+    (c.drain_on.ensures c.args.values.now)
+
+pub fresh_side_by_side_on-branches-preserved : goal.fresh_side_by_side_on-branches-preserved
+fresh_side_by_side_on-branches-preserved t c = λ row.
+    let cs = row_of (map code_view c.args.codes.now) in
+    let within : c.in-Some.next < length c.args.codes.now = c.in-Some.ensures.within.1 in
+    let located = subst (LocatedCode c.args.table.now c.part_at-part.result) (code-at c.args.codes.now c.in-Some.next c.index-codes-next.result within c.index-codes-next.is)
+    (c.part_at-part.ensures c.args.table.now cs row) in
+    branch-added c.args.channel c.args.values.now c.args.around.now c.branches.around c.fresh_branch_on.new.around (all_started cs) cs c.branches.number c.in-Some.next (c.in-Some.next + 1)
+    (started (code_view c.index-codes-next.result)) (all-stem cs) (c.in-Some.ensures.unused cs row) c.in-Some.ensures.within.0
+    (fresh-at c.args.codes.now c.in-Some.next c.index-codes-next.result within c.index-codes-next.is) refl (c.branches.invariant row) (c.in_ok-fresh_branch_on.ensures located)
+
+pub fresh_side_by_side_on-returns : goal.fresh_side_by_side_on-returns
+fresh_side_by_side_on-returns t c = λ row.
+    all-found c.args.channel c.args.values.now c.args.around.now c.branches.around (all_started (row_of (map code_view c.args.codes.now))) c.branches.number
+    (from-done c.args.channel c.args.values.now c.args.around.now.received c.args.codes.now c.branches.number (c.in_default.ensures.unused (row_of (map code_view c.args.codes.now)) row))
+    (c.branches.invariant row).1

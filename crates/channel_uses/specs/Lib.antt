@@ -1,0 +1,5 @@
+pub mod OnChannel
+pub mod StemsFrom
+pub mod Table
+pub mod Uses
+pub mod walking

@@ -1,0 +1,190 @@
+// What commands that have made no move offer on a channel.
+ghost use Rattle.std.specs.Prelude.{◌≡◌, map, IfOk, OnOk};
+ghost use Rattle.address.specs.declared.Entry.TheVariants.{Ordered as IsOrdered, Branch as IsBranch};
+ghost use Rattle.process_tree.specs.Proc.{started, all_started};
+ghost use Rattle.process_tree.specs.Translation.{row_of};
+ghost use Rattle.process_tree.specs.View.{code_view};
+ghost use Rattle.system.specs.Expression as model;
+ghost use Rattle.process_tree.specs.Left.{Received};
+ghost use Rattle.offered_sides.specs.walking.Listed.{listed, listed_sequence, listed_parallel};
+ghost use Rattle.offered_sides.specs.walking.Walk.{added};
+ghost use Rattle.channel_uses.specs.OnChannel.{on};
+ghost use Rattle.channel_uses.specs.walking.Located.{LocatedCode, LocatedRow, finds, finds_at, AllOver};
+
+use crate::leaves::{arms_on, drain_on, once_on, waiting_on};
+use crate::located::{next_user, part_at};
+use crate::part::Part;
+use last_events::UseTable;
+use offered_sides::Around;
+use process_tree::Code;
+use std::alloc::{AllocError, Global};
+use value::Value;
+
+/// Lists what the command offers on the channel before its first move. Of a parallel only the branches are looked at that use
+/// the channel.
+#[cycle(fresh_on)]
+pub(crate) fn fresh_on(
+    alloc: Global,
+    code: &Code,
+    part: Option<&Part>,
+    table: &UseTable,
+    channel: u32,
+    values: &[Value],
+    around: &mut Around,
+) -> Result<(), AllocError>
+    ensures { LocatedCode table.now part.entry (code_view code.now) →
+        OnOk result (around.new ≡ finds channel values.now (started (code_view code.now)) around.old) }
+{
+    match code {
+        Code::Continue | Code::Halt | Code::Repeat(_) | Code::Decide(_) => Ok(()),
+        Code::Once(once) => once_on(alloc, once.get(), channel, values, around),
+        Code::Sender(sender) => waiting_on(alloc, sender.get(), channel, values, around),
+        Code::Await(waiting) => arms_on(alloc, waiting.get().channels.as_slice(), channel, around),
+        Code::InTurn(row) => {
+            let codes = row.get().codes.as_slice();
+            fresh_in_turn_on(alloc, codes, 0, part, table, channel, values, around)
+        }
+        Code::SideBySide(row) => {
+            let codes = row.get().codes.as_slice();
+            fresh_side_by_side_on(alloc, codes, part, table, channel, values, around)
+        }
+        Code::Drain(port) => drain_on(alloc, *port, 0, channel, around),
+    }
+}
+
+/// Lists what the commands offer on the channel side by side: those that use it, and no other is looked at.
+#[cycle(fresh_on)]
+fn fresh_side_by_side_on(
+    alloc: Global,
+    codes: &[Code],
+    part: Option<&Part>,
+    table: &UseTable,
+    channel: u32,
+    values: &[Value],
+    around: &mut Around,
+) -> Result<(), AllocError>
+    ensures { LocatedRow table.now part.entry (row_of (map code_view codes.now)) →
+        OnOk result (around.new ≡ added (on channel (listed_parallel values.now around.old.received 0 (all_started (row_of (map code_view codes.now)))).sides) around.old) }
+{
+    let mut number = 0;
+    'branches: while let Some(next) = next_user(table, channel, part, number, codes.len()) {
+        let part = part_at(part, next);
+        fresh_branch_on(
+            alloc,
+            &codes[next],
+            part,
+            next as u64,
+            table,
+            channel,
+            values,
+            around,
+        )?;
+        number = next + 1;
+    }
+    Ok(())
+}
+
+/// Lists what the command in this branch of a parallel offers on the channel.
+#[cycle(fresh_on)]
+fn fresh_branch_on(
+    alloc: Global,
+    code: &Code,
+    part: Option<&Part>,
+    number: u64,
+    table: &UseTable,
+    channel: u32,
+    values: &[Value],
+    around: &mut Around,
+) -> Result<(), AllocError>
+    ensures { LocatedCode table.now part.entry (code_view code.now) →
+        OnOk result (around.new ≡ finds_at (IsBranch number) channel values.now (started (code_view code.now)) around.old) }
+{
+    around.enter_branch(number)?;
+    fresh_on(alloc, code, part, table, channel, values, around)?;
+    around.leave();
+    Ok(())
+}
+
+/// Lists what the commands offer on the channel one after another, from the one of this number on: the first that has anything
+/// to do.
+#[cycle(fresh_on)]
+pub(crate) fn fresh_in_turn_on(
+    alloc: Global,
+    codes: &[Code],
+    from: usize,
+    part: Option<&Part>,
+    table: &UseTable,
+    channel: u32,
+    values: &[Value],
+    around: &mut Around,
+) -> Result<(), AllocError>
+    ensures { LocatedRow table.now part.entry (row_of (map code_view codes.now)) →
+        OnOk result (around.new ≡ added (on channel (listed_sequence values.now around.old.received from 0 (all_started (row_of (map code_view codes.now)))).sides) around.old) }
+{
+    let mut number = from;
+    'children: while number < codes.len() {
+        let child = &codes[number];
+        if !starts_over(child) {
+            let part = part_at(part, number);
+            return fresh_child_on(
+                alloc,
+                child,
+                part,
+                number as u64,
+                table,
+                channel,
+                values,
+                around,
+            );
+        }
+        number += 1;
+    }
+    Ok(())
+}
+
+/// Lists what the command of this number in a sequence offers on the channel.
+#[cycle(fresh_on)]
+fn fresh_child_on(
+    alloc: Global,
+    code: &Code,
+    part: Option<&Part>,
+    number: u64,
+    table: &UseTable,
+    channel: u32,
+    values: &[Value],
+    around: &mut Around,
+) -> Result<(), AllocError>
+    ensures { LocatedCode table.now part.entry (code_view code.now) →
+        OnOk result (around.new ≡ finds_at (IsOrdered number) channel values.now (started (code_view code.now)) around.old) }
+{
+    around.enter_child(number)?;
+    fresh_on(alloc, code, part, table, channel, values, around)?;
+    around.leave();
+    Ok(())
+}
+
+/// Whether the command has nothing to do.
+#[cycle(starts_over)]
+fn starts_over(code: &Code) -> bool
+    ensures { (s : model.Store) (env : Received) → result ≡ (listed s env (started (code_view code.now))).over }
+{
+    match code {
+        Code::Continue => true,
+        Code::InTurn(row) => all_start_over(row.get().codes.as_slice()),
+        Code::SideBySide(row) => all_start_over(row.get().codes.as_slice()),
+        _ => false,
+    }
+}
+
+/// Whether none of the commands has anything to do.
+#[cycle(starts_over)]
+fn all_start_over(codes: &[Code]) -> bool
+    ensures { AllOver result (all_started (row_of (map code_view codes.now))) }
+{
+    for code in codes {
+        if !starts_over(code) {
+            return false;
+        }
+    }
+    true
+}

@@ -1,0 +1,105 @@
+// What leaves offer on a channel.
+ghost use Rattle.std.specs.Prelude.{◌≡◌, [], ◌∷◌, OnOk};
+ghost use Rattle.address.specs.declared.Entry.TheVariants.{Ordered};
+ghost use Rattle.system.specs.Expression as model;
+ghost use Rattle.system.specs.Residual.{drain};
+ghost use Rattle.process_tree.specs.Left.{residual_once, residual_sender};
+ghost use Rattle.process_tree.specs.View.{once_view, sender_view};
+ghost use Rattle.process_tree.specs.walking.Received.{puts_once, puts_sender};
+ghost use Rattle.offered_sides.specs.walking.Listed.{offers, opens_from};
+ghost use Rattle.offered_sides.specs.walking.Walk.{added};
+ghost use Rattle.channel_uses.specs.OnChannel.{on};
+
+use crate::part::channel_of;
+use offered_sides::{Around, Side, list_drain, list_once, list_sender};
+use process_tree::{Once, Sender};
+use std::alloc::{AllocError, Global};
+use value::Value;
+
+/// Lists what makes one move, before it has made it.
+pub(crate) fn once_on(
+    alloc: Global,
+    once: &Once,
+    channel: u32,
+    values: &[Value],
+    around: &mut Around,
+) -> Result<(), AllocError>
+    ensures { OnOk result (around.new ≡ added (on channel (offers values.now (residual_once (puts_once around.old.received (once_view once.now))))) around.old) }
+{
+    match once {
+        Once::Receive(on, _) => {
+            if *on == channel {
+                return list_once(alloc, once, values, around);
+            }
+            Ok(())
+        }
+        Once::Assign(_, _, _) => Ok(()),
+    }
+}
+
+/// Lists a send or sync that waits.
+pub(crate) fn waiting_on(
+    alloc: Global,
+    sender: &Sender,
+    channel: u32,
+    values: &[Value],
+    around: &mut Around,
+) -> Result<(), AllocError>
+    ensures { OnOk result (around.new ≡ added (on channel (offers values.now (residual_sender (puts_sender around.old.received (sender_view sender.now))))) around.old) }
+{
+    if channel_of(sender) == channel {
+        return list_sender(alloc, sender, values, around);
+    }
+    Ok(())
+}
+
+/// Lists the receives on an output port, after so many.
+pub(crate) fn drain_on(
+    alloc: Global,
+    port: u32,
+    count: u64,
+    channel: u32,
+    around: &mut Around,
+) -> Result<(), AllocError>
+    ensures { (s : model.Store) → OnOk result (around.new ≡ added (on channel (offers s (drain port count))) around.old) }
+{
+    if port == channel {
+        return list_drain(alloc, port, count, around);
+    }
+    Ok(())
+}
+
+/// Lists arms that wait on these channels.
+pub(crate) fn arms_on(
+    alloc: Global,
+    channels: &[u32],
+    channel: u32,
+    around: &mut Around,
+) -> Result<(), AllocError>
+    ensures { OnOk result (around.new ≡ added (on channel (opens_from 0 channels.now)) around.old) }
+{
+    for (arm, waits) in channels.iter().enumerate() {
+        arm_on(alloc, arm, *waits, channel, around)?;
+    }
+    Ok(())
+}
+
+/// Lists the arm of this number that waits on its channel. A number of 2^32 and more has no arm: it takes more memory to have so
+/// many than there is, and the answer is the same.
+fn arm_on(
+    alloc: Global,
+    arm: usize,
+    waits: u32,
+    channel: u32,
+    around: &mut Around,
+) -> Result<(), AllocError>
+    ensures { OnOk result (around.new ≡ added (on channel (opens_from arm (waits ∷ []))) around.old) }
+{
+    if waits != channel {
+        return Ok(());
+    }
+    match u32::try_from(arm) {
+        Ok(small) => around.add_act(alloc, 0, Side::Opens(waits, small)),
+        Err(_) => Err(AllocError),
+    }
+}

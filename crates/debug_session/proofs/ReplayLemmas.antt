@@ -1,0 +1,56 @@
+-- The answer to a trace.
+use Rattle.std.proofs.Common.{◌≡◌, ◌≢◌, ℕ, List, Result, Ok, Err, MatchResult, refl, sym, ap, ◌∙◌, subst, inl, inr}
+use Rattle.system.specs.declared.system.System.{System}
+use Rattle.calculus.specs.Does.{Answers}
+use Rattle.calculus.specs.Live.{Live}
+use Rattle.calculus.specs.declared.command.Command.{Command}
+use Rattle.calculus.specs.declared.command.Reply.{Reply}
+use Rattle.calculus.specs.declared.command.Refusal.{Refusal}
+use Rattle.locked_execution.specs.declared.command.Command as command
+use Rattle.locked_execution.specs.declared.command.Reply as reply
+use Rattle.machine.specs.AtMachine.{AtMachine, object}
+use Rattle.trace_file.specs.Loading as trace
+use Rattle.trace_file.specs.declared.fault.Fault as loading
+use Rattle.trace_file.specs.declared.fault.Fault.TheVariants as not_loaded
+use Rattle.debug_session.specs.ReplyText.{answer_text}
+use Rattle.debug_session.specs.Replaying.{Replays, RefusesTrace}
+use Rattle.debug_session.specs.Wrapping.{of_trace}
+use Rattle.debug_session.specs.declared.fault.Fault.{Fault}
+
+-- a list is no refusal
+live-refused : (l : Live) → Reply.Live l ≡ Reply.Refused Refusal.Memory → ⊥
+live-refused l is = cc
+
+-- what is told of the live events is their list
+live-told : (m : AtMachine) (l : Live) → Answers (object m) Command.Live (Reply.Live l) (object m) → l ≡ m.live
+live-told m l (inl d) = d.0
+live-told m l (inr (_, is, _)) = absurd (live-refused l is)
+
+-- the list that is told is that of the live events
+told-live : (m : AtMachine) (r : Reply) (l : Live) → r ≡ Reply.Live l → Answers (object m) Command.Live r (object m) → l ≡ m.live
+told-live m r l is h = live-told m l (subst (λ (x : Reply). Answers (object m) Command.Live x (object m)) is h)
+
+-- what is told on a loaded machine
+pub replays : {A : Type 0} (bytes : A → List ℕ) (system : System) (text : List ℕ) (m : AtMachine) (r : Reply) (s : System) (result : Result A Fault)
+    → trace.IsLoaded system text m → Answers (object m) Command.Live r (object m) → s ≡ m.checked
+    → MatchResult result (λ answer. (l : Live) × (r ≡ Reply.Live l) × (bytes answer ≡ answer_text s command.Command.Live (reply.Reply.Live l))) (λ fault. fault ≡ Fault.Memory)
+    → MatchResult result (λ answer. Replays system text (bytes answer)) (λ fault. RefusesTrace system text fault)
+replays bytes system text m r s (Ok answer) (h, stands, is) told same (l, live, text_is) =
+    let there : l ≡ trace.ticketed 1 h = told-live m r l live told ∙ ap (λ (n : AtMachine). n.live) is in
+    let here : s ≡ system = same ∙ ap (λ (n : AtMachine). n.checked) is in (
+      h,
+      stands,
+      text_is
+          ∙ (ap (λ (k : Live). answer_text s command.Command.Live (reply.Reply.Live k)) there
+          ∙ ap (λ (t : System). answer_text t command.Command.Live (reply.Reply.Live (trace.ticketed 1 h))) here),
+    )
+replays bytes system text m r s (Err fault) loaded told same memory = subst (RefusesTrace system text) (sym memory) tt
+
+-- why a trace is refused
+pub refuses : (system : System) (text : List ℕ) (fault : loading.Fault) → trace.IsRefused system text fault → RefusesTrace system text (of_trace fault)
+refuses system text not_loaded.Memory h = tt
+refuses system text not_loaded.BadHeader h = (λ e. cc, h)
+refuses system text (not_loaded.BadLine n) h = (λ e. cc, h)
+refuses system text (not_loaded.NotAStep n) h = (λ e. cc, h)
+refuses system text not_loaded.ReadFailed h = absurd h
+refuses system text not_loaded.WriteFailed h = absurd h

@@ -1,0 +1,7 @@
+use Rattle.debug_session.proofs.ReplayLemmas.{replays}
+use Rattle.debug_session.proofs.replay_live.replay.Goals as goal
+
+pub returns : goal.returns
+returns c =
+    replays (λ v. v.items) c.args.checked c.args.trace.now c.in_ok-machine.machine c.live-reply.result c.checked.result.now c.live_answer.result
+    c.in_ok-machine.ensures c.live-reply.ensures c.checked.ensures c.live_answer.ensures

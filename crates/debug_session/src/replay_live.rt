@@ -1,0 +1,41 @@
+ghost use Rattle.std.specs.Prelude.{◌≡◌, MatchResult};
+ghost use Rattle.calculus.specs.Live.{Live};
+ghost use Rattle.calculus.specs.declared.command.Reply.{Reply};
+ghost use Rattle.locked_execution.specs.declared.command.Command as asked;
+ghost use Rattle.locked_execution.specs.declared.command.Reply as told;
+ghost use Rattle.debug_session.specs.ReplyText.{answer_text};
+ghost use Rattle.debug_session.specs.Replaying.{Replays, RefusesTrace};
+ghost use Rattle.debug_session.specs.declared.fault.Fault.TheVariants.{Memory};
+
+use crate::Fault;
+use crate::reply::add_live;
+use calculus::Reply;
+use sharing_check::Checked;
+use std::alloc::Global;
+use trace_file::load_text;
+
+/// The answer of the line `live` on a machine that has taken the steps of the trace with this text.
+pub fn replay(alloc: Global, checked: Checked, trace: &[u8]) -> Result<Vec<u8>, Fault>
+    ensures { MatchResult result (λ answer. Replays checked trace.now answer.items) (λ fault. RefusesTrace checked trace.now fault) }
+{
+    let machine = load_text(alloc, checked, trace)?;
+    let reply = machine.live();
+    live_answer(alloc, machine.checked(), &reply)
+}
+
+/// The answer of the line `live` where this is the reply to it.
+fn live_answer(alloc: Global, checked: &Checked, reply: &Reply) -> Result<Vec<u8>, Fault>
+    ensures { MatchResult result
+        (λ answer. (l : Live) × (reply.now ≡ Reply.Live l) × (answer.items ≡ answer_text checked.now asked.Command.Live (told.Reply.Live l)))
+        (λ fault. fault ≡ Memory) }
+{
+    match reply {
+        Reply::Live(pairs) => {
+            let mut out = Vec::new(alloc);
+            add_live(&mut out, checked.system(), pairs.as_slice())?;
+            Ok(out)
+        }
+        // There was no memory for the list.
+        _ => Err(Fault::Memory),
+    }
+}

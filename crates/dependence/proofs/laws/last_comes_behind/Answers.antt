@@ -1,0 +1,5 @@
+use Rattle.dependence.proofs.RunOrder.{last-comes-behind}
+use Rattle.dependence.proofs.laws.last_comes_behind.Goals as goal
+
+pub returns : goal.returns
+returns c = last-comes-behind

@@ -1,0 +1,52 @@
+-- What is found of the live events that a new one may follow, by its places and by its variables.
+-- No reader has to believe it: the proof of `candidates` ties it to `Candidates`.
+use Rattle.std.specs.Prelude.{◌≡◌, ◌⊎◌, ℕ, ◌≤◌, List, Some}
+use Rattle.address.specs.Places.{Before}
+use Rattle.syntax.specs.Lists.{In}
+use Rattle.last_events.specs.LastEvents.{IsAt}
+use Rattle.last_events.specs.declared.places.PlaceTable.{PlaceTable}
+use Rattle.calculus.specs.Dependence.{SomeBefore, Directly}
+use Rattle.calculus.specs.Live.{Live, Rising, LiveAt, LastWriter}
+use Rattle.calculus.specs.Moves.{Place}
+use Rattle.calculus.specs.declared.event.Event.{Event}
+use Rattle.dependence.specs.declared.accesses.Newcomer.{Newcomer}
+use Rattle.dependence.specs.walking.Tabled.{TablesOf}
+
+-- to the tickets `old` some were added, of events before one of these places; and each other event before one of them is
+-- before the place of one of these tickets
+pub record FoundByPlace (table : PlaceTable) (bs : List Place) (old new : List ℕ) : Type 0 where
+  pub kept : (t : ℕ) → In t old → In t new
+  pub sound : (t : ℕ) → In t new → In t old ⊎ ((a b : Place) × IsAt table a t × In b bs × Before a b)
+  pub complete : (a b : Place) (t : ℕ) → IsAt table a t → In b bs → Before a b →
+      (c : Place) × (u : ℕ) × IsAt table c u × In u new × ((a ≡ c) ⊎ Before a c)
+
+-- to the tickets `old` some were added, of events on which f depends directly; and those of which P holds are among them,
+-- but for those with an address before one of f
+pub record AccessesFound (l : Live) (f : Event) (P : ℕ → Type 0) (old new : List ℕ) : Type 0 where
+  pub kept : (t : ℕ) → In t old → In t new
+  pub sound : (t : ℕ) → In t new → In t old ⊎ ((e : Event) × LiveAt l t e × Directly e f)
+  pub complete : (t : ℕ) (e : Event) → LiveAt l t e → P t → SomeBefore e f ⊎ In t new
+
+-- the event of ticket t reads the variable x, and no event writes x after it
+pub record ReaderSince (l : Live) (x t : ℕ) : Type 0 where
+  pub event : Event
+  pub live : LiveAt l t event
+  pub reads : In x event.read
+  pub last : (w : ℕ) → LastWriter l x w → w ≤ t
+
+-- the event of ticket t is the last to write a variable that f reads
+abbrev pub WritesOneRead : Live → List ℕ → ℕ → Type 0
+WritesOneRead l read t = (x : ℕ) × In x read × LastWriter l x t
+
+-- the event of ticket t is the last to write the variable that f writes, or reads it since
+abbrev pub UsesWritten : Live → Event → ℕ → Type 0
+UsesWritten l f t = (x : ℕ) × (f.written ≡ Some x) × (LastWriter l x t ⊎ ReaderSince l x t)
+
+-- the new event's ticket is greater than the live ones, and the tables hold the live events
+pub record IsNewcomer (new : Newcomer) : Type 0 where
+  pub rising : Rising 0 new.live.now new.ticket
+  pub tables : TablesOf new.live.now new.tables.now
+
+-- the event of ticket t is live, and f depends directly on it
+abbrev pub IsDirect : Live → Event → ℕ → Type 0
+IsDirect l f t = (e : Event) × LiveAt l t e × Directly e f

@@ -1,0 +1,156 @@
+// What a new event finds by the variables that it writes and reads. What has a place before one of its own is left out: it is
+// found by its place, and else each read would sweep back to an old write.
+ghost use Rattle.std.specs.Prelude.{◌≡◌, ◌≤◌, ◌⊎◌, ◌↔◌, ℕ, Some, IsTrue, IfOk};
+ghost use Rattle.syntax.specs.Lists.{In};
+ghost use Rattle.calculus.specs.Dependence.{SomeBefore};
+ghost use Rattle.calculus.specs.Events.{places};
+ghost use Rattle.calculus.specs.Moves.{Place};
+ghost use Rattle.address.specs.Places.{Before};
+ghost use Rattle.calculus.specs.Live.{IsLive, LastWriter};
+ghost use Rattle.dependence.specs.walking.Found.{AccessesFound, IsDirect, ReaderSince, WritesOneRead, UsesWritten, IsNewcomer};
+
+use crate::candidates::add_if;
+use crate::places::place_of_live;
+use crate::tables::Tables;
+use address::{Address, before};
+use calculus::Event;
+use std::alloc::{AllocError, Global};
+
+/// A new event, of a ticket greater than the live ones, and the live events with their tables.
+#[derive(Clone, Copy)]
+pub(crate) struct Newcomer<'a> {
+    pub(crate) live: &'a [(u64, Event)],
+    pub(crate) tables: &'a Tables,
+    pub(crate) ticket: u64,
+    pub(crate) event: &'a Event,
+}
+
+impl Newcomer<'_> {
+    /// Adds what is found by the variables that the event reads and writes.
+    pub(crate) fn add_by_variables(
+        &self,
+        alloc: Global,
+        found: &mut Vec<u64>,
+    ) -> Result<(), AllocError>
+        requires { IsNewcomer self.now }
+        ensures { IfOk result (λ _. AccessesFound self.now.live.now self.now.event.now (λ t. WritesOneRead self.now.live.now self.now.event.now.read t ⊎ UsesWritten self.now.live.now self.now.event.now t) found.old.items found.new.items) }
+    {
+        self.add_by_reads(found)?;
+        self.add_by_write(alloc, found)
+    }
+
+    /// Adds the last writers of the variables that the event reads.
+    fn add_by_reads(&self, found: &mut Vec<u64>) -> Result<(), AllocError>
+        requires { IsNewcomer self.now }
+        ensures { IfOk result (λ _. AccessesFound self.now.live.now self.now.event.now (WritesOneRead self.now.live.now self.now.event.now.read) found.old.items found.new.items) }
+    {
+        for variable in self.event.read.as_slice() {
+            self.add_writer(*variable, found)?;
+        }
+        Ok(())
+    }
+
+    /// Adds the last writer of the variable that the event writes, and those that read it since.
+    fn add_by_write(&self, alloc: Global, found: &mut Vec<u64>) -> Result<(), AllocError>
+        requires { IsNewcomer self.now }
+        ensures { IfOk result (λ _. AccessesFound self.now.live.now self.now.event.now (UsesWritten self.now.live.now self.now.event.now) found.old.items found.new.items) }
+    {
+        match self.event.written {
+            Some(variable) => {
+                self.add_writer(variable, found)?;
+                self.add_readers(alloc, variable, found)
+            }
+            None => Ok(()),
+        }
+    }
+
+    /// Adds the last writer of the variable.
+    fn add_writer(&self, variable: u32, found: &mut Vec<u64>) -> Result<(), AllocError>
+        requires new { IsNewcomer self.now }
+        requires uses { In variable self.now.event.now.read ⊎ (self.now.event.now.written ≡ Some variable) }
+        ensures { IfOk result (λ _. AccessesFound self.now.live.now self.now.event.now (LastWriter self.now.live.now variable) found.old.items found.new.items) }
+    {
+        match self.tables.writers.last(variable, self.ticket) {
+            Some(writer) => self.add_access(writer, found),
+            None => Ok(()),
+        }
+    }
+
+    /// Adds those that read the variable since it was written last.
+    fn add_readers(
+        &self,
+        alloc: Global,
+        variable: u32,
+        found: &mut Vec<u64>,
+    ) -> Result<(), AllocError>
+        requires new { IsNewcomer self.now }
+        requires writes { self.now.event.now.written ≡ Some variable }
+        ensures { IfOk result (λ _. AccessesFound self.now.live.now self.now.event.now (ReaderSince self.now.live.now variable) found.old.items found.new.items) }
+    {
+        let from = self.last_write(variable);
+        let mut readers = Vec::new(alloc);
+        self.tables
+            .readers
+            .between(variable, from, self.ticket, &mut readers)?;
+        self.add_accesses(readers.as_slice(), found)
+    }
+
+    /// The ticket of the last writer of the variable, 0 where there is none.
+    fn last_write(&self, variable: u32) -> u64
+        requires { IsNewcomer self.now }
+        ensures below { result ≤ self.now.ticket }
+        ensures last { (t : ℕ) → (result ≤ t) ↔ ((w : ℕ) → LastWriter self.now.live.now variable w → w ≤ t) }
+    {
+        match self.tables.writers.last(variable, self.ticket) {
+            Some(writer) => writer,
+            None => 0,
+        }
+    }
+
+    /// Adds these live events, but for those that have a place before one of the new event.
+    fn add_accesses(&self, tickets: &[u64], found: &mut Vec<u64>) -> Result<(), AllocError>
+        requires new { IsNewcomer self.now }
+        requires direct { (t : ℕ) → In t tickets.now → IsDirect self.now.live.now self.now.event.now t }
+        ensures { IfOk result (λ _. AccessesFound self.now.live.now self.now.event.now (λ t. In t tickets.now) found.old.items found.new.items) }
+    {
+        for ticket in tickets {
+            self.add_access(*ticket, found)?;
+        }
+        Ok(())
+    }
+
+    /// Adds the live event, unless it has a place before one of the new event.
+    fn add_access(&self, ticket: u64, found: &mut Vec<u64>) -> Result<(), AllocError>
+        requires new { IsNewcomer self.now }
+        requires direct { IsDirect self.now.live.now self.now.event.now ticket }
+        ensures { IfOk result (λ _. AccessesFound self.now.live.now self.now.event.now (λ t. t ≡ ticket) found.old.items found.new.items) }
+    {
+        let place = place_of_live(self.live, ticket);
+        let by_place = some_before(&self.live[place].1, self.event);
+        add_if(!by_place, ticket, found)
+    }
+}
+
+/// Whether a place of the first event is before a place of the second.
+fn some_before(earlier: &Event, later: &Event) -> bool
+    ensures { IsTrue result ↔ SomeBefore earlier.now later.now }
+{
+    let first = before_some(&earlier.first, later);
+    let second = match &earlier.second {
+        Some(place) => before_some(place, later),
+        None => false,
+    };
+    first || second
+}
+
+/// Whether the place is before a place of the event.
+fn before_some(place: &Address, later: &Event) -> bool
+    ensures { IsTrue result ↔ ((b : Place) × In b (places later.now) × Before place.now b) }
+{
+    let first = before(place, &later.first);
+    let second = match &later.second {
+        Some(other) => before(place, other),
+        None => false,
+    };
+    first || second
+}

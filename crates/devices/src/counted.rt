@@ -1,0 +1,151 @@
+//! Devices that count how often they failed.
+
+ghost use Rattle.std.specs.Prelude.{◌≡◌, ◌≢◌, ◌⊎◌, ◌++◌, ◌<◌, ◌-◌, ◌^◌, IfOk, IfErr, OnOk, IfSome, MatchResult, [], false};
+ghost use Rattle.std.specs.IoError.{error_kind};
+ghost use Rattle.std.specs.Io.{WritesAtMost, StopsAt, appended_bytes};
+ghost use Rattle.std.specs.Io.KnownBytes.{Consumes, Keeps, IsAtEnd, WriteAppends};
+ghost use Rattle.std.specs.Io.BufRead.{take_through, ends_with_byte, DropsThrough};
+ghost use Rattle.devices.specs.Counting.{device, failures, patience, one_more, CountsIf, after_filling};
+
+use crate::ReadFault;
+use std::io;
+use std::io::{BufRead, Error, ErrorKind, Read, Write};
+
+/// A reader or a writer, and how often it failed.
+///
+/// Nothing else changes the count, so that who says that it failed can be held to it. An interrupted read or write is no
+/// failure, but for the writes behind 2^64 - 1 such; a flush is made once. A read that finds no memory is none either.
+#[derive(Drop)]
+pub struct Counted<D> {
+    device: D,
+    /// modulo 2^64
+    failures: u64,
+    /// how many more interruptions are borne
+    patience: u64,
+}
+
+impl<D> Counted<D> {
+    pub fn new(inner: D) -> Counted<D>
+        ensures whole { device result ≡ inner }
+        ensures none { failures result ≡ 0 }
+        ensures patience { patience result ≡ 2 ^ 64 - 1 }
+    {
+        Counted {
+            device: inner,
+            failures: 0,
+            patience: u64::MAX,
+        }
+    }
+
+    /// Counts a failure.
+    fn count(&mut self)
+        ensures device { device self.new ≡ device self.old }
+        ensures failures { failures self.new ≡ one_more (failures self.old) }
+        ensures patience { patience self.new ≡ patience self.old }
+    {
+        self.failures = self.failures.wrapping_add(1);
+    }
+
+    /// Counts a failed write, where it was not interrupted or interruptions are borne no more, and gives the error on.
+    fn seen(&mut self, error: Error) -> Error
+        ensures device { device self.new ≡ device self.old }
+        ensures counted { ((error_kind result ≡ ErrorKind.Interrupted) × (error_kind error ≡ ErrorKind.Interrupted)
+            × (failures self.new ≡ failures self.old) × (patience self.new < patience self.old))
+            ⊎ ((error_kind result ≢ ErrorKind.Interrupted) × (failures self.new ≡ one_more (failures self.old))
+            × ((error_kind error ≢ ErrorKind.Interrupted) ⊎ (patience self.old ≡ 0))) }
+    {
+        if error.kind() != ErrorKind::Interrupted {
+            self.count();
+            return error;
+        }
+        if self.patience == 0 {
+            self.count();
+            return ErrorKind::TimedOut.into();
+        }
+        self.patience -= 1;
+        error
+    }
+}
+
+impl<R: Read> Counted<R> {
+    /// Reads all that is left behind what is in `bytes`, and counts whether that failed.
+    pub(crate) fn fill(&mut self, bytes: &mut Vec<u8>) -> Result<(), ReadFault>
+        ensures bytes { OnOk result (Consumes (R.remaining (device self.old)) (R.remaining (device self.new)) (appended_bytes bytes.old.items bytes.new.items)) }
+        ensures end { OnOk result (IsAtEnd (R.remaining (device self.new))) }
+        ensures failures { failures self.new ≡ after_filling result (failures self.old) }
+    {
+        match self.device.read_to_end(bytes) {
+            Ok(_) => Ok(()),
+            Err(error) if error.kind() == ErrorKind::OutOfMemory => Err(ReadFault::Memory),
+            Err(_) => {
+                self.count();
+                Err(ReadFault::Failed)
+            }
+        }
+    }
+}
+
+impl<R: BufRead> Counted<R> {
+    /// Reads behind the next byte 10, or to the end, and counts whether that failed. A line that is there whole counts
+    /// even where the reader then failed.
+    pub fn read_through(&mut self, line: &mut Vec<u8>) -> io::Result<usize>
+        ensures stops { StopsAt (appended_bytes line.old.items line.new.items) 10 }
+        ensures bytes { OnOk result (IfSome (R.remaining (device self.old)) (λ xs. line.new.items ≡ line.old.items ++ take_through 10 xs)) }
+        ensures rest { OnOk result (DropsThrough (R.remaining (device self.old)) (R.remaining (device self.new)) 10) }
+        ensures retried { IfErr result (λ error. error_kind error ≢ ErrorKind.Interrupted) }
+        ensures none_lost { Consumes (R.remaining (device self.old)) (R.remaining (device self.new)) (appended_bytes line.old.items line.new.items) }
+        ensures counted { MatchResult result (λ _. failures self.new ≡ failures self.old)
+            (λ error. CountsIf ((error_kind error ≢ ErrorKind.OutOfMemory) × (ends_with_byte 10 line.new.items ≡ false))
+            (failures self.old) (failures self.new)) }
+    {
+        let read = self.device.read_until(b'\n', line);
+        if let Err(error) = &read {
+            if error.kind() != ErrorKind::OutOfMemory && !ends_line(line.as_slice()) {
+                self.count();
+            }
+        }
+        read
+    }
+}
+
+impl<W: Write> Write for Counted<W> {
+    ghost contents = { λ counted. W.contents (device counted) };
+
+    fn write(&mut self, buf: &[u8]) -> io::Result<usize>
+        ensures bound { WritesAtMost result buf.now }
+        ensures bytes { WriteAppends (W.contents (device self.old)) (W.contents (device self.new)) result buf.now }
+        ensures counted { MatchResult result
+            (λ count. CountsIf ((count ≡ 0) × (buf.now ≢ [])) (failures self.old) (failures self.new))
+            (λ error. CountsIf (error_kind error ≢ ErrorKind.Interrupted) (failures self.old) (failures self.new)) }
+        ensures borne { MatchResult result (λ _. patience self.new ≡ patience self.old)
+            (λ error. error_kind error ≡ ErrorKind.Interrupted → patience self.new < patience self.old) }
+    {
+        match self.device.write(buf) {
+            Ok(count) => {
+                if count == 0 && !buf.is_empty() {
+                    self.count();
+                }
+                Ok(count)
+            }
+            Err(error) => Err(self.seen(error)),
+        }
+    }
+
+    fn flush(&mut self) -> io::Result<()>
+        ensures bytes { Keeps (W.contents (device self.old)) (W.contents (device self.new)) }
+        ensures counted { MatchResult result (λ _. failures self.new ≡ failures self.old) (λ _. failures self.new ≡ one_more (failures self.old)) }
+    {
+        let flushed = self.device.flush();
+        if flushed.is_err() {
+            self.count();
+        }
+        flushed
+    }
+}
+
+/// Whether the last byte is 10, which ends a line.
+pub fn ends_line(line: &[u8]) -> bool
+    ensures { result ≡ ends_with_byte 10 line.now }
+{
+    !line.is_empty() && line[line.len() - 1] == b'\n'
+}

@@ -1,0 +1,12 @@
+//! Readers and writers that count how often they failed, so that who says that they did can be held to it.
+#![tactic(auto)]
+
+mod counted;
+mod failing;
+mod input;
+mod output;
+
+pub use counted::{Counted, ends_line};
+pub use failing::{ReadFault, WriteFailed};
+pub use input::read_all;
+pub use output::write_out;

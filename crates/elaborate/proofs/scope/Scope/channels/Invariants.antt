@@ -1,6 +1,0 @@
-use Rattle.std.proofs.Common.{◌≡◌, ◌++◌, drop}
-use Rattle.elaborate.specs.Scopes.{channels_of}
-use Rattle.elaborate.proofs.scope.Scope.channels.Given as goal
-
-abbrev pub invariant-loop-argument : goal.invariant-loop-argument
-invariant-loop-argument l = l.channels ++ channels_of l.self (drop l.argument-index l.arguments) ≡ channels_of l.self l.arguments

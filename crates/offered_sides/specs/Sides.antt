@@ -1,0 +1,48 @@
+-- What a place of a state offers, with its values: one side of an event.
+use Rattle.std.specs.Prelude.{◌≡◌, ◌↔◌, List}
+use Rattle.std.specs.declared.cmp.Ordering.TheVariants.{Greater}
+use Rattle.address.specs.Order.{order_of}
+use Rattle.system.specs.Expression.{Store, variables, decision_variables, decide, ascending}
+use Rattle.syntax.specs.Lists.{In}
+use Rattle.system.specs.Residual.{Residual}
+use Rattle.calculus.specs.Moves.{Move, Local, assigns, tests, turns, sends, receives, syncs, opens, releases, closes}
+use Rattle.calculus.specs.Events.{sent}
+use Rattle.calculus.specs.Steps.{State}
+use Rattle.calculus.specs.WellFormed.{WellFormed}
+use Rattle.offered_sides.specs.declared.side.Ready.{Ready}
+use Rattle.offered_sides.specs.declared.side.Side.{Side}
+use Rattle.offered_sides.specs.declared.side.Side.TheVariants.{Assigns, Tests, Turns, Sends, Receives, Syncs, Opens, Releases, Closes}
+
+-- a move with its values over the store; whether it is held, and what is received, is the other side's matter
+abbrev pub side_of : Store → Move → Side
+side_of s (assigns x w e) = Assigns x (sent s w e) (ascending (variables e))
+side_of s (tests d k) = Tests k (ascending (decision_variables d))
+side_of s turns = Turns
+side_of s (sends c w e held) = Sends c (sent s w e) (ascending (variables e))
+side_of s (receives c x) = Receives c x
+side_of s (syncs c held) = Syncs c
+side_of s (opens c k v) = Opens c k
+side_of s (releases c) = Releases c
+side_of s (closes c) = Closes c
+
+-- a test takes the arm that it decides on
+abbrev pub Decided : Store → Move → Type 0
+Decided s (tests d k) = decide s d ≡ k
+Decided s m = Unit {0}
+
+-- the state offers this side at the place: a local move is possible there, which is that side
+pub record Offered (S : State) (x : Ready) : Type 0 where
+  pub move : Move
+  pub after : Residual
+  pub possible : Local S.residual x.place move after
+  pub decided : Decided S.store move
+  pub shown : x.side ≡ side_of S.store move
+
+-- the place of x is not behind that of y in the order of addresses
+abbrev pub NotBehind : Ready → Ready → Type 0
+NotBehind x y = order_of x.place y.place ≡ Greater → ⊥
+
+-- the state is one of runs, as far as its places go, and offers exactly these sides
+pub record OffersExactly (S : State) (sides : List Ready) : Type 0 where
+  pub formed : WellFormed S.residual
+  pub exactly : (x : Ready) → In x sides ↔ Offered S x

@@ -1,0 +1,72 @@
+-- Where a walk through a process is, and what it has found.
+-- No reader has to believe it: `found-is` in `proofs/Walked.antt` ties what a walk from the root finds to the sides that are offered.
+use Rattle.std.specs.Prelude.{List, [], ◌∷◌, ◌++◌}
+use Rattle.address.specs.declared.Entry.{Entry}
+use Rattle.system.specs.Expression.{Store, Expression, Decision, put_value, put_decision}
+use Rattle.calculus.specs.Moves.{Place}
+use Rattle.process_tree.specs.Left.{Received}
+use Rattle.process_tree.specs.Proc.{Proc}
+use Rattle.offered_sides.specs.walking.Listed.{ready, behind, listed}
+use Rattle.offered_sides.specs.declared.around.Arrived.{Arrived}
+use Rattle.offered_sides.specs.declared.side.Ready.{Ready}
+
+-- the place, what was received in the arms around it, the innermost first, and the sides found
+pub record Walk : Type 0 where
+  pub place : Place
+  pub received : Received
+  pub sides : List Ready
+
+-- sides, each at a place below this one
+abbrev pub below : Place → List Ready → List Ready
+below p [] = []
+below p (r ∷ rs) = ready (p ++ r.place) r.side ∷ below p rs
+
+-- more sides, at places below that of the walk
+abbrev pub added : List Ready → Walk → Walk
+added rs w = record { place = w.place; received = w.received; sides = w.sides ++ below w.place rs }
+
+-- what is listed of a process
+abbrev pub lists : Store → Proc → Walk → Walk
+lists s p w = added (listed s w.received p).sides w
+
+-- of one at this entry
+abbrev pub lists_at : Entry → Store → Proc → Walk → Walk
+lists_at x s p w = added (behind x (listed s w.received p).sides) w
+
+-- one entry further down
+abbrev pub down : Entry → Walk → Walk
+down x w = record { place = w.place ++ x ∷ []; received = w.received; sides = w.sides }
+
+-- without the last
+abbrev pub without_last : {X : Type 0} → List X → List X
+without_last [] = []
+without_last (x ∷ []) = []
+without_last (x ∷ y ∷ ys) = x ∷ without_last (y ∷ ys)
+
+-- one entry up
+abbrev pub up : Walk → Walk
+up w = record { place = without_last w.place; received = w.received; sides = w.sides }
+
+-- the received values as they came, the outermost first, in front of those of further out
+abbrev pub received_onto : Received → List Arrived → Received
+received_onto env [] = env
+received_onto env (a ∷ rest) = received_onto ((a.channel, a.value) ∷ env) rest
+
+-- in an arm that received this
+abbrev pub within_arm : Received → Walk → Walk
+within_arm env w = record { place = w.place; received = env; sides = w.sides }
+
+-- without the innermost
+abbrev pub outside : Received → Received
+outside [] = []
+outside (x ∷ env) = env
+
+-- the values put in an expression, one after another
+abbrev pub put_each : List Arrived → Expression → Expression
+put_each [] e = e
+put_each (a ∷ rest) e = put_each rest (put_value a.channel a.value e)
+
+-- and in a test
+abbrev pub put_each_decision : List Arrived → Decision → Decision
+put_each_decision [] d = d
+put_each_decision (a ∷ rest) d = put_each_decision rest (put_decision a.channel a.value d)

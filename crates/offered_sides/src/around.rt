@@ -1,0 +1,185 @@
+// Where a walk through a tree is, and what it has found.
+ghost use Rattle.std.specs.Prelude.{◌≡◌, [], ◌∷◌, ◌^◌, ◌≤◌, IfOk, OnOk, OnErr};
+ghost use Rattle.system.specs.Translation.{expression_of, decision_of};
+ghost use Rattle.process_tree.specs.Left.{with_value};
+ghost use Rattle.process_tree.specs.walking.Received.{puts_value, puts_decision};
+ghost use Rattle.offered_sides.specs.walking.Listed.{ready};
+ghost use Rattle.offered_sides.specs.walking.Walk.{added, down, up, within_arm, outside, put_each, put_each_decision};
+
+use crate::side::{Ready, Side};
+use address::{Address, Entry};
+use std::alloc::{AllocError, Global};
+use std::marker::Model;
+use syntax::Items;
+use system::{Decision, Expression};
+use value::Value;
+
+/// What an arm received when it opened on its channel.
+#[derive(Clone, Copy)]
+pub struct Arrived {
+    pub channel: u32,
+    pub value: Value,
+}
+
+/// A place in a tree, what was received in the arms around it, and the sides found so far.
+#[derive(Drop)]
+pub struct Around {
+    entries: Items<Entry>,
+    /// the outermost first
+    arrived: Items<Arrived>,
+    found: Items<Ready>,
+}
+
+impl Model for Around {
+    ghost use Rattle.std.specs.Prelude.{[]};
+    ghost use Rattle.offered_sides.specs.walking.Walk.{Walk, received_onto};
+
+    ghost Value = { Walk };
+
+    ghost view = { λ a. record { place = a.entries; received = received_onto [] a.arrived; sides = a.found } };
+}
+
+impl Around {
+    /// The root of a tree, and nothing found.
+    pub fn new(alloc: Global) -> Around
+        ensures { result ≡ record { place = []; received = []; sides = [] } }
+    {
+        Around {
+            entries: Items::new(alloc),
+            arrived: Items::new(alloc),
+            found: Items::new(alloc),
+        }
+    }
+
+    /// What was found.
+    pub fn into_found(self) -> Items<Ready>
+        ensures { result ≡ self.sides }
+    {
+        let Around { found, .. } = self;
+        found
+    }
+
+    /// Goes to the child of this number in a sequence. A number of 2^32 and more has no place: it takes more memory to get
+    /// there than there is, and the answer is the same.
+    pub fn enter_child(&mut self, number: u64) -> Result<(), AllocError>
+        ensures { OnOk result (self.new ≡ down (Entry.Ordered number) self.old) }
+    {
+        self.entries.push(Entry::Ordered(small(number)?))
+    }
+
+    /// Goes to the branch of this number in a parallel.
+    pub fn enter_branch(&mut self, number: u64) -> Result<(), AllocError>
+        ensures { OnOk result (self.new ≡ down (Entry.Branch number) self.old) }
+    {
+        self.entries.push(Entry::Branch(small(number)?))
+    }
+
+    /// Goes back from a child or branch.
+    pub fn leave(&mut self)
+        ensures { self.new ≡ up self.old }
+    {
+        self.entries.pop();
+    }
+
+    /// Goes into an arm that opened on this channel, and received this if anything.
+    #[tactic(auto, using(crate::proofs::Walks::received_last))]
+    pub fn receive(&mut self, channel: u32, value: Option<Value>) -> Result<(), AllocError>
+        ensures { OnOk result (self.new ≡ within_arm (with_value channel value self.old.received) self.old) }
+    {
+        if let Some(value) = value {
+            self.arrived.push(Arrived { channel, value })?;
+        }
+        Ok(())
+    }
+
+    /// Goes out of such an arm.
+    pub fn forget(&mut self)
+        ensures { self.new ≡ within_arm (outside self.old.received) self.old }
+    {
+        self.arrived.pop();
+    }
+
+    /// The expression with what was received in place of its names.
+    #[tactic(auto, using(crate::proofs::Walks::put_each_is))]
+    pub fn with_received(
+        &self,
+        alloc: Global,
+        expression: &Expression,
+    ) -> Result<Expression, AllocError>
+        ensures { IfOk result (λ made. expression_of made ≡ puts_value self.now.received (expression_of expression.now)) }
+    {
+        put_in(alloc, expression, self.arrived.as_slice())
+    }
+
+    /// The test with what was received in place of its names.
+    #[tactic(auto, using(crate::proofs::Walks::put_each_decision_is))]
+    pub fn decision_with_received(
+        &self,
+        alloc: Global,
+        decision: &Decision,
+    ) -> Result<Decision, AllocError>
+        ensures { IfOk result (λ made. decision_of made ≡ puts_decision self.now.received (decision_of decision.now)) }
+    {
+        put_in_decision(alloc, decision, self.arrived.as_slice())
+    }
+
+    /// Adds a side at the place itself.
+    pub fn add(&mut self, alloc: Global, side: Side) -> Result<(), AllocError>
+        ensures { OnOk result (self.new ≡ added (ready [] side ∷ []) self.old) }
+    {
+        let entries = Vec::from_slice(alloc, self.entries.as_slice())?;
+        let place = Address::from_vec(entries);
+        self.found.push(Ready { place, side })
+    }
+
+    /// Adds a side at this act of the command at the place.
+    pub fn add_act(&mut self, alloc: Global, act: u64, side: Side) -> Result<(), AllocError>
+        ensures { OnOk result (self.new ≡ added (ready (Entry.Ordered act ∷ []) side ∷ []) self.old) }
+    {
+        let mut entries = Vec::from_slice(alloc, self.entries.as_slice())?;
+        entries.push(Entry::Ordered(small(act)?))?;
+        let place = Address::from_vec(entries);
+        self.found.push(Ready { place, side })
+    }
+}
+
+/// The expression with each of the values put for the name of its channel.
+fn put_in(
+    alloc: Global,
+    expression: &Expression,
+    arrived: &[Arrived],
+) -> Result<Expression, AllocError>
+    ensures { IfOk result (λ made. expression_of made ≡ put_each arrived.now (expression_of expression.now)) }
+{
+    let mut made = expression.copy(alloc)?;
+    for one in arrived {
+        made = made.with_received(alloc, one.channel, one.value)?;
+    }
+    Ok(made)
+}
+
+/// The test with each of the values put for the name of its channel.
+fn put_in_decision(
+    alloc: Global,
+    decision: &Decision,
+    arrived: &[Arrived],
+) -> Result<Decision, AllocError>
+    ensures { IfOk result (λ made. decision_of made ≡ put_each_decision arrived.now (decision_of decision.now)) }
+{
+    let mut made = decision.copy(alloc)?;
+    for one in arrived {
+        made = made.with_received(alloc, one.channel, one.value)?;
+    }
+    Ok(made)
+}
+
+/// The number as one of a place or arm.
+pub(crate) fn small(number: u64) -> Result<u32, AllocError>
+    ensures same { IfOk result (λ same. same ≡ number) }
+    ensures large { OnErr result (2 ^ 32 ≤ number) }
+{
+    match u32::try_from(number) {
+        Ok(same) => Ok(same),
+        Err(_) => Err(AllocError),
+    }
+}

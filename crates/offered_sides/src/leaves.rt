@@ -1,0 +1,181 @@
+// The sides of what is at work in a tree, one leaf at a time.
+ghost use Rattle.std.specs.Prelude.{◌≡◌, ◌*◌, [], ◌∷◌, Some, None, false, option_map, IfOk, OnOk};
+ghost use Rattle.system.specs.Expression as model;
+ghost use Rattle.system.specs.Translation.{expression_of, decision_of};
+ghost use Rattle.calculus.specs.Events.{sent};
+ghost use Rattle.process_tree.specs.Left.{residual_once, residual_sender, channel_of};
+ghost use Rattle.process_tree.specs.View.{once_view, sender_view};
+ghost use Rattle.process_tree.specs.walking.Received.{puts_value, puts_once, puts_sender, puts_guard, puts_decision};
+ghost use Rattle.offered_sides.specs.walking.Listed.{ready, offers, again_at, tested_at, opens_from};
+ghost use Rattle.offered_sides.specs.walking.Walk.{added};
+
+use crate::around::{Around, small};
+use crate::side::Side;
+use address::Entry;
+use process_tree::{Once, Sender};
+use std::alloc::{AllocError, Global};
+use syntax::Items;
+use system::{Decision, Expression};
+use value::{Value, Width};
+
+/// Lists what makes one move, before it has made it.
+pub fn list_once(
+    alloc: Global,
+    once: &Once,
+    values: &[Value],
+    around: &mut Around,
+) -> Result<(), AllocError>
+    ensures { OnOk result (around.new ≡ added (offers values.now (residual_once (puts_once around.old.received (once_view once.now)))) around.old) }
+{
+    match once {
+        Once::Assign(variable, width, value) => {
+            let value = around.with_received(alloc, value)?;
+            let read = value.variables(alloc)?;
+            let written = sent(values, *width, &value);
+            around.add(alloc, Side::Assigns(*variable, written, read))
+        }
+        Once::Receive(channel, variable) => {
+            around.add(alloc, Side::Receives(*channel, Some(*variable)))
+        }
+    }
+}
+
+/// Lists a send or sync that waits.
+pub fn list_sender(
+    alloc: Global,
+    sender: &Sender,
+    values: &[Value],
+    around: &mut Around,
+) -> Result<(), AllocError>
+    ensures { OnOk result (around.new ≡ added (offers values.now (residual_sender (puts_sender around.old.received (sender_view sender.now)))) around.old) }
+{
+    match sender {
+        Sender::Send(channel, width, value) => {
+            let value = around.with_received(alloc, value)?;
+            let read = value.variables(alloc)?;
+            let passed = sent(values, *width, &value);
+            around.add_act(alloc, 0, Side::Sends(*channel, passed, read))
+        }
+        Sender::Sync(channel) => around.add_act(alloc, 0, Side::Syncs(*channel)),
+    }
+}
+
+/// Lists a send or sync that is held.
+pub fn list_held(alloc: Global, sender: &Sender, around: &mut Around) -> Result<(), AllocError>
+    ensures { OnOk result (around.new ≡ added (ready (Entry.Ordered 1 ∷ []) (Side.Releases (channel_of (sender_view sender.now))) ∷ []) around.old) }
+{
+    match sender {
+        Sender::Send(channel, _, _) => around.add_act(alloc, 1, Side::Releases(*channel)),
+        Sender::Sync(channel) => around.add_act(alloc, 1, Side::Releases(*channel)),
+    }
+}
+
+/// Lists a loop before this turn, with its guard where it has one.
+pub fn list_again(
+    alloc: Global,
+    guard: &Option<Expression>,
+    turn: u64,
+    values: &[Value],
+    around: &mut Around,
+) -> Result<(), AllocError>
+    ensures { OnOk result (around.new ≡ added (again_at values.now turn (puts_guard around.old.received (option_map expression_of guard.now))) around.old) }
+{
+    let act = act_of_turn(turn)?;
+    match guard {
+        None => around.add_act(alloc, act, Side::Turns),
+        Some(guard) => list_guard(alloc, guard, act, values, around),
+    }
+}
+
+/// Lists the test of a loop with this guard.
+fn list_guard(
+    alloc: Global,
+    guard: &Expression,
+    act: u64,
+    values: &[Value],
+    around: &mut Around,
+) -> Result<(), AllocError>
+    ensures { OnOk result (around.new ≡ added (tested_at values.now act (model.by_guards (puts_value around.old.received (expression_of guard.now) ∷ []) false)) around.old) }
+{
+    let decision = one_guard(alloc, guard)?;
+    list_test(alloc, &decision, act, values, around)
+}
+
+/// Lists a test at this act, with the arm that it takes.
+pub fn list_test(
+    alloc: Global,
+    decision: &Decision,
+    act: u64,
+    values: &[Value],
+    around: &mut Around,
+) -> Result<(), AllocError>
+    ensures { OnOk result (around.new ≡ added (tested_at values.now act (puts_decision around.old.received (decision_of decision.now))) around.old) }
+{
+    let decision = around.decision_with_received(alloc, decision)?;
+    let arm = arm_of(&decision, values)?;
+    let read = decision.variables(alloc)?;
+    around.add_act(alloc, act, Side::Tests(arm, read))
+}
+
+/// Lists arms that wait on these channels.
+pub fn list_arms(alloc: Global, channels: &[u32], around: &mut Around) -> Result<(), AllocError>
+    ensures { OnOk result (around.new ≡ added (opens_from 0 channels.now) around.old) }
+{
+    for (arm, channel) in channels.iter().enumerate() {
+        let arm = small(arm as u64)?;
+        around.add_act(alloc, 0, Side::Opens(*channel, arm))?;
+    }
+    Ok(())
+}
+
+/// Lists the close of an arm that opened on this channel.
+pub fn list_close(alloc: Global, channel: u32, around: &mut Around) -> Result<(), AllocError>
+    ensures { OnOk result (around.new ≡ added (ready (Entry.Ordered 2 ∷ []) (Side.Closes channel) ∷ []) around.old) }
+{
+    around.add_act(alloc, 2, Side::Closes(channel))
+}
+
+/// Lists the receives on an output port, after so many.
+pub fn list_drain(
+    alloc: Global,
+    channel: u32,
+    count: u64,
+    around: &mut Around,
+) -> Result<(), AllocError>
+    ensures { OnOk result (around.new ≡ added (ready (Entry.Ordered count ∷ []) (Side.Receives channel None) ∷ []) around.old) }
+{
+    around.add_act(alloc, count, Side::Receives(channel, None))
+}
+
+/// What is sent or assigned, at the width.
+fn sent(values: &[Value], width: Width, value: &Expression) -> Value
+    ensures { result ≡ sent values.now width (expression_of value.now) }
+{
+    value::resize(value.value(values), width.bits())
+}
+
+/// The arm that a test takes, if it takes one.
+fn arm_of(decision: &Decision, values: &[Value]) -> Result<Option<u32>, AllocError>
+    ensures { IfOk result (λ arm. arm ≡ model.decide values.now (decision_of decision.now)) }
+{
+    match decision.decide(values) {
+        Some(arm) => Ok(Some(small(arm)?)),
+        None => Ok(None),
+    }
+}
+
+/// The test of a loop with a guard.
+fn one_guard(alloc: Global, guard: &Expression) -> Result<Decision, AllocError>
+    ensures { IfOk result (λ made. decision_of made ≡ model.by_guards (expression_of guard.now ∷ []) false) }
+{
+    let mut guards = Items::with_capacity(alloc, 1)?;
+    guards.push(guard.copy(alloc)?)?;
+    Ok(Decision::Guards(guards, false))
+}
+
+/// The act with which this turn of a loop begins.
+fn act_of_turn(turn: u64) -> Result<u64, AllocError>
+    ensures { IfOk result (λ act. act ≡ 2 * turn) }
+{
+    Ok(u64::from(small(turn)?) * 2)
+}

@@ -1,0 +1,18 @@
+//! The sides of events that a tree offers: what each place of it could do now, with its values.
+#![tactic(auto)]
+
+mod around;
+mod fresh;
+mod leaves;
+mod listing;
+mod moved;
+mod side;
+mod sides;
+
+pub use around::{Around, Arrived};
+pub use fresh::list_fresh;
+pub use leaves::{
+    list_again, list_arms, list_close, list_drain, list_held, list_once, list_sender, list_test,
+};
+pub use side::{Ready, Side};
+pub use sides::sides_of;

@@ -1,0 +1,11 @@
+-- The sides of the tree make its events.
+use Rattle.std.proofs.Common.{List, sym, subst}
+use Rattle.offered_sides.specs.Sides.{OffersExactly}
+use Rattle.offered_sides.specs.View.{state_of}
+use Rattle.offered_sides.specs.declared.side.Ready.{Ready}
+use Rattle.rendezvous.proofs.from_tree.event_at.Goals as goal
+
+pub returns : goal.returns
+returns c = λ t.
+    c.chosen_among.ensures (state_of c.args.tree.now c.args.store.now)
+    (subst (λ (xs : List Ready). OffersExactly (state_of c.args.tree.now c.args.store.now) xs) (sym c.as_slice.ensures) (c.in_ok-sides.ensures.exactly t))

@@ -1,0 +1,7 @@
+pub mod EventLemmas
+pub mod FaultLemmas
+pub mod LawLemmas
+pub mod LineLemmas
+pub mod LoadLemmas
+pub mod RootLemmas
+pub mod SaveLemmas

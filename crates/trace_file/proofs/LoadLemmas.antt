@@ -1,0 +1,186 @@
+-- A trace that is taken line by line.
+use Rattle.std.proofs.Common.{◌≡◌, inl, inr, ℕ, suc, ◌+◌, ◌≤◌, ◌<◌, List, [], ◌∷◌, ◌++◌, length, refl, sym, ap, ◌∙◌, subst, arith, append_assoc, Result, Err, MatchResult, Bool, false, ◌↔◌}
+use Rattle.std.specs.Prelude.{IsTrue}
+use Rattle.std.proofs.lemmas.Bool.{false≢true}
+use Rattle.system.specs.declared.system.System.{System}
+use Rattle.calculus.specs.Choices.{choice_of}
+use Rattle.calculus.specs.Does.{Answers}
+use Rattle.calculus.specs.Live.{Live, events}
+use Rattle.calculus.specs.Object.{Object, most_live, last_ticket}
+use Rattle.calculus.specs.Ready.{Chosen}
+use Rattle.calculus.specs.Steps.{State, Run, opening}
+use Rattle.calculus.specs.declared.command.Command.{Command}
+use Rattle.calculus.specs.declared.command.Reply.{Reply}
+use Rattle.calculus.specs.declared.command.Refusal.{Refusal}
+use Rattle.calculus.specs.declared.command.Refusal.TheVariants.{NotReady, HistoryFull, Spent}
+use Rattle.calculus.specs.declared.event.Choice.{Choice}
+use Rattle.calculus.specs.declared.event.Event.{Event}
+use Rattle.calculus.proofs.Orders.{run-join}
+use Rattle.calculus.proofs.Tickets.{events-join}
+use Rattle.machine.specs.AtMachine.{AtMachine, object}
+use Rattle.trace_file.specs.declared.fault.Fault.{Fault}
+use Rattle.trace_file.specs.TraceText.{header, choice_line, event_line, trace_text, IsWritable, Begins}
+use Rattle.trace_file.specs.Loading.{ticketed, IsLoaded, IsStep, CannotStep, IsRefused}
+use Rattle.trace_file.specs.walking.OneStep.{Loading, Taken, NotTaken, LineTaken, LineStops, StepStops, HeaderStops, outcome_of}
+use Rattle.trace_file.specs.walking.Fields.{HasNone, IsCut}
+use Rattle.trace_file.proofs.EventLemmas.{every-more, events-length, ticketed-more, length-more, trace-more, trace-none}
+
+-- a machine has its parts
+same-machine : (m n : AtMachine) → m.checked ≡ n.checked → m.live ≡ n.live → m.next ≡ n.next → m ≡ n
+same-machine m n a b c = λ i. record { checked = a i; live = b i; next = c i }
+
+-- before the first line
+pub loading-start : (system : System) (steps : List ℕ) (m : AtMachine) → m ≡ record { checked = system; live = []; next = 1 }
+    → Loading system (header ++ 10 ∷ steps) m steps
+loading-start system steps m e = subst (λ (n : AtMachine). Loading system (header ++ 10 ∷ steps) n steps) (sym e) (record {
+  checked = refl;
+  begins = record {
+    written = trace-none steps;
+    lines = tt;
+    runs = (opening system, refl);
+    room = omega arith;
+  };
+  tickets = refl;
+  next = refl;
+})
+
+-- one line more of the text
+begins-more : (system : System) (text : List ℕ) (h : List Event) (c : Choice) (e : Event) (rest after : List ℕ) (T : State)
+    → Begins system text h rest → IsStep c rest after → Run (opening system) h T → Chosen T c e → length h < most_live
+    → Begins system text (h ++ e ∷ []) after
+begins-more system text h c e rest after T b s r chosen room = record {
+  written = b.written
+      ∙ (ap (λ (t : List ℕ). trace_text h ++ t) (s.0 ∙ ap (λ (d : Choice). choice_line d ++ after) (sym chosen.choice))
+      ∙ (sym (append_assoc (trace_text h) (event_line e) after) ∙ ap (λ (t : List ℕ). t ++ after) (sym (trace-more h e))));
+  lines = every-more (λ f. IsWritable (choice_of f)) h e b.lines (subst IsWritable (sym chosen.choice) s.1);
+  runs = (chosen.allowed.0, run-join (opening system) T chosen.allowed.0 h (e ∷ []) r (chosen.allowed.0, chosen.allowed.1, refl));
+  room = omega (arith, length-more h e, room);
+}
+
+-- the events of a machine with one more
+events-more : (l k : Live) (n : ℕ) (e : Event) → k ≡ l ++ (n, e) ∷ [] → events k ≡ events l ++ e ∷ []
+events-more l k n e is = ap events is ∙ events-join l ((n, e) ∷ [])
+
+-- a line more
+pub loading-more : (system : System) (text : List ℕ) (m m' : AtMachine) (rest after : List ℕ) → Loading system text m rest
+    → LineTaken m rest after m' → m'.checked ≡ m.checked → Loading system text m' after
+loading-more system text m m' rest after loading (c, step, (t, e, taken)) same =
+    let live : m'.live ≡ m.live ++ (m.next, e) ∷ [] = ap (λ (o : Object). o.live) taken.4 in
+    let more : events m'.live ≡ events m.live ++ e ∷ [] = events-more m.live m'.live m.next e live in
+    let room : length (events m.live) < most_live = omega (arith, taken.1, events-length m.live) in
+    let ticket : suc (length (events m.live)) ≡ 1 + length (events m.live) = omega arith in
+    let next : m'.next ≡ suc m.next = ap (λ (o : Object). o.next) taken.4 in
+    let run : Run (opening system) (events m.live) taken.3.0 = subst (λ (s : System). Run (opening s) (events m.live) taken.3.0) loading.checked taken.3.1 in
+    record {
+      checked = same ∙ loading.checked;
+      begins = subst (λ (h : List Event). Begins system text h after) (sym more)
+          (begins-more system text (events m.live) c e rest after taken.3.0 loading.begins step run taken.3.2 room);
+      tickets = live
+          ∙ (ap (λ (l : Live). l ++ (m.next, e) ∷ []) loading.tickets
+          ∙ (ap (λ (n : ℕ). ticketed 1 (events m.live) ++ (n, e) ∷ []) (loading.next ∙ ticket)
+          ∙ (sym (ticketed-more 1 (events m.live) e) ∙ ap (ticketed 1) (sym more))));
+      next = next ∙ ap suc (loading.next ∙ (sym (length-more (events m.live) e) ∙ ap (λ (h : List Event). length h) (sym more)));
+    }
+
+-- the number of the next line
+pub number-more : (system : System) (text : List ℕ) (m m' : AtMachine) (rest after : List ℕ) (number : ℕ) → Loading system text m rest
+    → Loading system text m' after → LineTaken m rest after m' → number ≡ 2 + length (events m.live) → number + 1 ≡ 2 + length (events m'.live)
+number-more system text m m' rest after number loading then (c, step, (t, e, taken)) is =
+    let live : m'.live ≡ m.live ++ (m.next, e) ∷ [] = ap (λ (o : Object). o.live) taken.4 in
+    let more : length (events m'.live) ≡ suc (length (events m.live)) =
+    ap (λ (h : List Event). length h) (events-more m.live m'.live m.next e live) ∙ length-more (events m.live) e in
+    omega (arith, is, more)
+
+-- behind the last line
+pub loaded : (system : System) (text : List ℕ) (m : AtMachine) (rest : List ℕ) → Loading system text m rest → rest ≡ [] → IsLoaded system text m
+loaded system text m rest loading end = (
+  events m.live,
+  subst (λ (r : List ℕ). Begins system text (events m.live) r) end loading.begins,
+  same-machine m (record { checked = system; live = ticketed 1 (events m.live); next = suc (length (events m.live)) })
+      loading.checked loading.tickets loading.next,
+)
+
+-- why the step of a line is refused
+cannot : (system : System) (text : List ℕ) (m m' : AtMachine) (rest : List ℕ) (c : Choice) → Loading system text m rest → NotTaken m c m'
+    → CannotStep system (events m.live) c
+cannot system text m m' rest c loading (NotReady, none) =
+    inl (none.0.0, subst (λ (s : System). Run (opening s) (events m.live) none.0.0) loading.checked none.0.1, none.0.2)
+cannot system text m m' rest c loading (HistoryFull, full) =
+    let room : length (events m.live) ≤ most_live = loading.begins.room in
+    let many : most_live ≤ length m.live = full.0.1 in
+    inr (omega (arith, room, many, events-length m.live))
+cannot system text m m' rest c loading (Spent, spent) =
+    let room : length (events m.live) ≤ most_live = loading.begins.room in
+    let past : last_ticket < m.next = spent.0.2 in
+    absurd (omega (arith, room, past, loading.next))
+cannot system text m m' rest c loading (_, other) = absurd other.0
+
+-- a line that is not taken refuses the text
+pub line-refused : (system : System) (text : List ℕ) (m : AtMachine) (rest : List ℕ) (number : ℕ) (fault : Fault) → Loading system text m rest
+    → number ≡ 2 + length (events m.live) → (rest ≡ [] → ⊥) → LineStops m rest number fault → IsRefused system text fault
+line-refused system text m rest number Fault.Memory loading is some stops = tt
+line-refused system text m rest number Fault.BadHeader loading is some stops = absurd stops
+line-refused system text m rest number (Fault.BadLine n) loading is some stops =
+    inr (events m.live, rest, loading.begins, stops.0 ∙ is, some, stops.1)
+line-refused system text m rest number (Fault.NotAStep n) loading is some (same, (c, after, m', step, none)) =
+    (events m.live, rest, loading.begins, same ∙ is, (c, after, step, cannot system text m m' rest c loading none))
+line-refused system text m rest number Fault.ReadFailed loading is some stops = absurd stops
+line-refused system text m rest number Fault.WriteFailed loading is some stops = absurd stops
+
+-- a line whose step is not taken
+pub line-stops : (m : AtMachine) (c : Choice) (rest after : List ℕ) (number : ℕ) (fault : Fault) → IsStep c rest after → StepStops m c number fault
+    → LineStops m rest number fault
+line-stops m c rest after number Fault.Memory step stops = tt
+line-stops m c rest after number Fault.BadHeader step stops = absurd stops
+line-stops m c rest after number (Fault.BadLine n) step stops = absurd stops
+line-stops m c rest after number (Fault.NotAStep n) step stops = (stops.0, (c, after, stops.1.0, step, stops.1.1))
+line-stops m c rest after number Fault.ReadFailed step stops = absurd stops
+line-stops m c rest after number Fault.WriteFailed step stops = absurd stops
+
+-- what becomes of a step
+pub stepped : (m m' : AtMachine) (c : Choice) (number : ℕ) (reply : Reply) → Answers (object m) (Command.Step c) reply (object m')
+    → MatchResult (outcome_of number reply) (λ _. Taken m c m') (λ fault. StepStops m c number fault)
+stepped m m' c number (Reply.Stepped t e) (inl d) = (t, e, d)
+stepped m m' c number (Reply.Stepped t e) (inr (_, is, _)) = cc
+stepped m m' c number (Reply.Refused Refusal.Memory) h = tt
+stepped m m' c number (Reply.Refused why) (inl d) = (refl, (m', (why, d)))
+stepped m m' c number (Reply.Refused why) (inr (_, is, _)) = cc
+stepped m m' c number _ (inl d) = absurd d
+stepped m m' c number _ (inr (_, is, _)) = cc
+
+-- what became of it, by what is answered
+pub stepped-as : (m m' : AtMachine) (c : Choice) (number : ℕ) (reply : Reply) (r : Result (Unit {0}) Fault) → r ≡ outcome_of number reply
+    → Answers (object m) (Command.Step c) reply (object m') → MatchResult r (λ _. Taken m c m') (λ fault. StepStops m c number fault)
+stepped-as m m' c number reply r is h =
+    subst (λ (x : Result (Unit {0}) Fault). MatchResult x (λ _. Taken m c m') (λ fault. StepStops m c number fault)) (sym is) (stepped m m' c number reply h)
+
+-- the whole text has no end of a line, and is not the header
+pub no-header : (text : List ℕ) → HasNone 10 text → (text ≡ header → ⊥) → HeaderStops text Fault.BadHeader
+no-header text clear other = (text, (clear, inl refl), other)
+
+-- the first line is not the header
+pub other-line : (text line steps : List ℕ) → IsCut 10 text line steps → (line ≡ header → ⊥) → HeaderStops text Fault.BadHeader
+other-line text line steps cut other = (line, (cut.1, inr (steps, cut.0)), other)
+
+-- a text without an end of a line
+pub without-end : (text : List ℕ) (r : Bool) → HasNone 10 text → (IsTrue r ↔ (text ≡ header)) → r ≡ false → HeaderStops text Fault.BadHeader
+without-end text r clear is fails-it = no-header text clear (λ e. false≢true (sym fails-it ∙ is.1 e))
+
+-- a line that is not the header
+pub another-line : (text line steps : List ℕ) (r : Bool) → IsCut 10 text line steps → (IsTrue r ↔ (line ≡ header)) → r ≡ false → HeaderStops text Fault.BadHeader
+another-line text line steps r cut is fails-it = other-line text line steps cut (λ e. false≢true (sym fails-it ∙ is.1 e))
+
+-- what is told of a fault
+pub fails : {A : Type 0} (r : Result A Fault) (fault : Fault) (Q : A → Type 0) (P : Fault → Type 0) → r ≡ Err fault → P fault → MatchResult r Q P
+fails {A} r fault Q P is p = subst (λ (x : Result A Fault). MatchResult x Q P) (sym is) p
+
+-- why a text is refused, behind its header
+pub refused-text : (system : System) (m : AtMachine) (text steps : List ℕ) (fault : Fault) → m ≡ record { checked = system; live = []; next = 1 }
+    → text ≡ header ++ 10 ∷ steps → IsRefused m.checked (header ++ 10 ∷ steps) fault → IsRefused system text fault
+refused-text system m text steps fault new is h =
+    subst (λ (t : List ℕ). IsRefused system t fault) (sym is)
+    (subst (λ (s : System). IsRefused s (header ++ 10 ∷ steps) fault) (ap (λ (n : AtMachine). n.checked) new) h)
+
+-- the number of the first line behind the header
+pub number-start : (system : System) (m : AtMachine) → m ≡ record { checked = system; live = []; next = 1 } → 2 ≡ 2 + length (events m.live)
+number-start system m new = sym (ap (λ (n : AtMachine). 2 + length (events n.live)) new)

@@ -1,0 +1,41 @@
+-- What is saved loads again.
+use Rattle.std.specs.Prelude.{ℕ, ◌≡◌, ◌↔◌, List}
+use Rattle.syntax.specs.Lists.{Every}
+use Rattle.system.specs.declared.system.System.{System}
+use Rattle.sharing_check.specs.Rule.{SharesWell}
+use Rattle.calculus.specs.Choices.{choice_of}
+use Rattle.calculus.specs.Live.{events}
+use Rattle.calculus.specs.Object.{Reaches}
+use Rattle.calculus.specs.Sound.{Sound}
+use Rattle.calculus.specs.Steps.{State}
+use Rattle.calculus.specs.declared.event.Event.{Event}
+use Rattle.machine.specs.AtMachine.{AtMachine, object}
+use Rattle.trace_file.specs.TraceText.{trace_text, IsWritable, StandsFor}
+use Rattle.trace_file.specs.Loading.{IsLoaded, IsRefused}
+use Rattle.trace_file.specs.declared.fault.Fault.{Fault}
+use Rattle.trace_file.specs.declared.fault.Fault.TheVariants.{Memory}
+
+-- a text stands for one list of events
+abbrev pub OneList : Type 0
+OneList = (system : System) (text : List ℕ) (g h : List Event) → SharesWell system → StandsFor system text g → StandsFor system text h → g ≡ h
+
+-- a text that stands for events is refused for want of memory alone
+abbrev pub NotRefused : Type 0
+NotRefused = (system : System) (text : List ℕ) (h : List Event) (fault : Fault) →
+    SharesWell system → StandsFor system text h → IsRefused system text fault → fault ≡ Memory
+
+-- a text is refused for one reason, but for want of memory
+abbrev pub OneFault : Type 0
+OneFault = (system : System) (text : List ℕ) (one other : Fault) → SharesWell system → IsRefused system text one → IsRefused system text other →
+    (one ≡ Memory → ⊥) → (other ≡ Memory → ⊥) → one ≡ other
+
+-- the trace of a machine, whose lines can be written, stands for its events
+abbrev pub TraceStands : Type 0
+TraceStands = (m : AtMachine) → Sound (object m) → Every (λ e. IsWritable (choice_of e)) (events m.live) →
+    StandsFor m.checked (trace_text (events m.live)) (events m.live)
+
+-- what is loaded from the trace of a machine has the same events, and the same state
+abbrev pub LoadsTheSame : Type 0
+LoadsTheSame = (m m' : AtMachine) → SharesWell m.checked → Sound (object m) → Every (λ e. IsWritable (choice_of e)) (events m.live) →
+    IsLoaded m.checked (trace_text (events m.live)) m' →
+    (events m'.live ≡ events m.live) × ((T : State) → Reaches (object m') T ↔ Reaches (object m) T)

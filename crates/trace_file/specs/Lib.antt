@@ -1,0 +1,5 @@
+pub mod FaultNumbers
+pub mod Laws
+pub mod Loading
+pub mod TraceText
+pub mod walking

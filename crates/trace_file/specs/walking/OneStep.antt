@@ -1,0 +1,58 @@
+-- One line of a trace on a machine.
+-- No reader has to believe it: `proofs/LoadLemmas.antt` ties it to `IsLoaded` and `IsRefused` of `Loading.antt`.
+use Rattle.std.specs.Prelude.{ℕ, suc, ◌≡◌, ◌≢◌, List, length, Result, Ok, Err}
+use Rattle.system.specs.declared.system.System.{System}
+use Rattle.calculus.specs.Does.{Steps}
+use Rattle.calculus.specs.Live.{events}
+use Rattle.calculus.specs.declared.command.Reply.{Reply}
+use Rattle.calculus.specs.declared.command.Refusal.{Refusal}
+use Rattle.calculus.specs.declared.event.Choice.{Choice}
+use Rattle.calculus.specs.declared.event.Event.{Event}
+use Rattle.machine.specs.AtMachine.{AtMachine, object}
+use Rattle.trace_file.specs.declared.fault.Fault.{Fault}
+use Rattle.trace_file.specs.TraceText.{header, Begins}
+use Rattle.trace_file.specs.Loading.{ticketed, IsFirstLine, IsStep, IsNoStep}
+
+-- the machine has the events of the lines so far, and `rest` is to be read
+pub record Loading (system : System) (text : List ℕ) (m : AtMachine) (rest : List ℕ) : Type 0 where
+  pub checked : m.checked ≡ system
+  pub begins : Begins system text (events m.live) rest
+  pub tickets : m.live ≡ ticketed 1 (events m.live)
+  pub next : m.next ≡ suc (length (events m.live))
+
+-- the step of this choice was taken
+abbrev pub Taken : AtMachine → Choice → AtMachine → Type 0
+Taken m c m' = (t : ℕ) × (e : Event) × Steps (object m) c (Reply.Stepped t e) (object m')
+
+-- it was refused, and not for want of memory
+abbrev pub NotTaken : AtMachine → Choice → AtMachine → Type 0
+NotTaken m c m' = (why : Refusal) × Steps (object m) c (Reply.Refused why) (object m')
+
+-- the step of the first line was taken, and `after` is behind the line
+abbrev pub LineTaken : AtMachine → List ℕ → List ℕ → AtMachine → Type 0
+LineTaken m rest after m' = (c : Choice) × IsStep c rest after × Taken m c m'
+
+-- why the first line, of this number, was not taken
+abbrev pub LineStops : AtMachine → List ℕ → ℕ → Fault → Type 0
+LineStops m rest number Fault.Memory = Unit {0}
+LineStops m rest number (Fault.BadLine n) = (n ≡ number) × IsNoStep rest
+LineStops m rest number (Fault.NotAStep n) = (n ≡ number) × ((c : Choice) × (after : List ℕ) × (m' : AtMachine) × IsStep c rest after × NotTaken m c m')
+LineStops m rest number _ = ⊥
+
+-- why a step was not taken that the line of this number asks for
+abbrev pub StepStops : AtMachine → Choice → ℕ → Fault → Type 0
+StepStops m c number Fault.Memory = Unit {0}
+StepStops m c number (Fault.NotAStep n) = (n ≡ number) × ((m' : AtMachine) × NotTaken m c m')
+StepStops m c number _ = ⊥
+
+-- why a text is refused at its first line
+abbrev pub HeaderStops : List ℕ → Fault → Type 0
+HeaderStops text Fault.BadHeader = (line : List ℕ) × IsFirstLine text line × (line ≢ header)
+HeaderStops text (Fault.BadLine n) = (n ≡ 1) × (text ≡ header)
+HeaderStops text _ = ⊥
+
+-- what becomes of the line of this number whose step is answered so
+abbrev pub outcome_of : ℕ → Reply → Result (Unit {0}) Fault
+outcome_of number (Reply.Stepped t e) = Ok tt
+outcome_of number (Reply.Refused Refusal.Memory) = Err Fault.Memory
+outcome_of number _ = Err (Fault.NotAStep number)

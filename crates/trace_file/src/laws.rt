@@ -1,0 +1,12 @@
+ghost use Rattle.trace_file.specs.Laws.{OneList, NotRefused, OneFault, TraceStands, LoadsTheSame};
+
+/// What is saved loads again: a text stands for one list of events, and is then refused for want of memory alone; the trace
+/// of a machine stands for its events, and what is loaded from it has the same events and the same state. A text that
+/// is refused is refused for one reason, or for want of memory.
+pub fn trace_laws()
+    ensures list { OneList }
+    ensures refused { NotRefused }
+    ensures fault { OneFault }
+    ensures saved { TraceStands }
+    ensures loaded { LoadsTheSame }
+{}

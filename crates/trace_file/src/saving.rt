@@ -1,0 +1,109 @@
+ghost use Rattle.std.specs.Prelude.{◌≡◌, ◌++◌, ◌<◌, ◌^◌, OnOk, IfOk};
+ghost use Rattle.std.specs.Fmt.{decimal};
+ghost use Rattle.syntax.specs.Lists.{Every};
+ghost use Rattle.address.specs.Text.{entry_text, text_of};
+ghost use Rattle.address.specs.Reading.{EntryFits, NumbersFit};
+ghost use Rattle.calculus.specs.Choices.{choice_of};
+ghost use Rattle.calculus.specs.Live.{events};
+ghost use Rattle.devices.specs.Counting.{device, failures};
+ghost use Rattle.trace_file.specs.TraceText.{trace_text, event_line, IsWritable};
+ghost use Rattle.trace_file.specs.Loading.{Saves, after_writing};
+
+use crate::Fault;
+use address::{Address, Entry};
+use calculus::{Event, MOST_LIVE_EVENTS};
+use devices::{Counted, write_out};
+use machine::Machine;
+use std::alloc::{AllocError, Global};
+use std::io::Write;
+
+/// Writes the trace of the live events. `Memory` comes before the first byte, and at `WriteFailed`, which comes exactly
+/// where the writer counts a failure, a beginning is out.
+pub fn save<W: Write>(
+    alloc: Global,
+    machine: &Machine,
+    writer: &mut Counted<W>,
+) -> Result<(), Fault>
+    ensures saves { Saves (trace_text (events machine.now.live)) (W.contents (device writer.old)) (W.contents (device writer.new)) result }
+    ensures lines { OnOk result (Every (λ e. IsWritable (choice_of e)) (events machine.now.live)) }
+    ensures failures { failures writer.new ≡ after_writing result (failures writer.old) }
+{
+    let text = write_trace(alloc, machine)?;
+    match write_out(writer, text.as_slice()) {
+        Ok(()) => Ok(()),
+        Err(_) => Err(Fault::WriteFailed),
+    }
+}
+
+/// The trace of the live events: the header, and a line for the choice of each. It is an error if there is no memory.
+pub fn write_trace(alloc: Global, machine: &Machine) -> Result<Vec<u8>, AllocError>
+    ensures text { IfOk result (λ text. text.items ≡ trace_text (events machine.now.live)) }
+    ensures lines { OnOk result (Every (λ e. IsWritable (choice_of e)) (events machine.now.live)) }
+{
+    machine.is_sound();
+    let mut out = Vec::new(alloc);
+    add_bytes(&mut out, b"balsadbg trace 1\n")?;
+    for place in 0..MOST_LIVE_EVENTS {
+        let Some((_, event)) = machine.live_at(place) else {
+            return Ok(out);
+        };
+        add_line(&mut out, event)?;
+    }
+    Ok(out)
+}
+
+/// Adds the line of the event behind what is there.
+fn add_line(out: &mut Vec<u8>, event: &Event) -> Result<(), AllocError>
+    ensures text { OnOk result (out.new.items ≡ out.old.items ++ event_line event.now) }
+    ensures place { OnOk result (NumbersFit (choice_of event.now).place) }
+    ensures arm { (choice_of event.now).arm < 2 ^ 32 }
+{
+    let arm = event.arm_to_open();
+    add_bytes(out, b"step ")?;
+    add_place(out, event.acting_place())?;
+    add_bytes(out, b" ")?;
+    add_number(out, arm)?;
+    add_bytes(out, b"\n")
+}
+
+/// Adds a place.
+fn add_place(out: &mut Vec<u8>, place: &Address) -> Result<(), AllocError>
+    ensures text { OnOk result (out.new.items ≡ out.old.items ++ text_of place.now) }
+    ensures fits { OnOk result (NumbersFit place.now) }
+{
+    for entry in place.entries() {
+        add_entry(out, *entry)?;
+    }
+    Ok(())
+}
+
+/// Adds an entry of a place.
+fn add_entry(out: &mut Vec<u8>, entry: Entry) -> Result<(), AllocError>
+    ensures text { OnOk result (out.new.items ≡ out.old.items ++ entry_text entry) }
+    ensures fits { EntryFits entry }
+{
+    match entry {
+        Entry::Ordered(number) => {
+            add_bytes(out, b".")?;
+            add_number(out, number)
+        }
+        Entry::Branch(number) => {
+            add_bytes(out, b"/")?;
+            add_number(out, number)
+        }
+    }
+}
+
+/// Adds a number in decimal.
+fn add_number(out: &mut Vec<u8>, number: u32) -> Result<(), AllocError>
+    ensures { OnOk result (out.new.items ≡ out.old.items ++ decimal number) }
+{
+    write!(out, "{number}").map_err(|_| AllocError)
+}
+
+/// Adds bytes.
+fn add_bytes(out: &mut Vec<u8>, bytes: &[u8]) -> Result<(), AllocError>
+    ensures { OnOk result (out.new.items ≡ out.old.items ++ bytes.now) }
+{
+    out.extend_from_slice(bytes)
+}

@@ -1,0 +1,49 @@
+// Who depends on whom, found by going through all live events.
+
+use calculus::{Event, depends_directly};
+use std::alloc::{AllocError, Global};
+
+/// For each live event, whether it depends on the one at the place or is it.
+pub fn dependents(
+    alloc: Global,
+    live: &[(u64, Event)],
+    place: usize,
+) -> Result<Vec<bool>, AllocError> {
+    let mut found = Vec::new(alloc);
+    for later in 0..live.len() {
+        let is_one = later == place
+            || (place..later).any(|k| found[k] && depends_directly(&live[k].1, &live[later].1));
+        found.push(is_one)?;
+    }
+    Ok(found)
+}
+
+/// The tickets of the events that depend directly on the one at the place.
+pub fn direct(alloc: Global, live: &[(u64, Event)], place: usize) -> Result<Vec<u64>, AllocError> {
+    let mut found = Vec::new(alloc);
+    for later in place + 1..live.len() {
+        if depends_directly(&live[place].1, &live[later].1) {
+            found.push(live[later].0)?;
+        }
+    }
+    Ok(found)
+}
+
+/// Those of them that depend on no other event that depends on it.
+pub fn followers(
+    alloc: Global,
+    live: &[(u64, Event)],
+    place: usize,
+    dependents: &[bool],
+) -> Result<Vec<u64>, AllocError> {
+    let mut found = Vec::new(alloc);
+    for later in place + 1..live.len() {
+        let is_direct = depends_directly(&live[place].1, &live[later].1);
+        let is_further = (place + 1..later).any(|k| dependents[k]
+            && depends_directly(&live[k].1, &live[later].1));
+        if is_direct && !is_further {
+            found.push(live[later].0)?;
+        }
+    }
+    Ok(found)
+}

@@ -1,0 +1,137 @@
+// A `Live` and the plain list of its events.
+
+use crate::random::Random;
+use crate::scan::{dependents, direct, followers};
+use crate::threads::Threads;
+use calculus::Event;
+use dependence::Live;
+use std::alloc::Global;
+use std::io;
+use std::io::ErrorKind;
+
+/// A `Live`, the plain list of its events, and what may come next.
+#[derive(Drop)]
+pub struct Session {
+    alloc: Global,
+    seed: u64,
+    random: Random,
+    threads: Threads,
+    live: Live,
+    plain: Vec<(u64, Event)>,
+    last: u64,
+}
+
+impl Session {
+    /// No event is live.
+    pub fn new(alloc: Global, seed: u64) -> io::Result<Session> {
+        Ok(Session {
+            alloc,
+            seed,
+            random: Random::new(seed),
+            threads: Threads::new(alloc)?,
+            live: Live::new(alloc),
+            plain: Vec::new(alloc),
+            last: 0,
+        })
+    }
+
+    /// Adds an event, or takes one on which no other depends.
+    pub fn change(&mut self) -> io::Result<()> {
+        if self.random.below(3) == 0 && !self.plain.is_empty() {
+            self.take_one()
+        } else {
+            self.add_one()
+        }
+    }
+
+    fn add_one(&mut self) -> io::Result<()> {
+        let event = self.threads.next_event(&mut self.random)?;
+        let copy = event.copy(self.alloc)?;
+        self.threads.advance(&event);
+        self.last += 1 + self.random.below(2);
+        self.plain.push((self.last, copy))?;
+        match self.live.add(self.last, event) {
+            Ok(()) => Ok(()),
+            Err(_) => Err(io::Error::from(ErrorKind::OutOfMemory)),
+        }
+    }
+
+    /// Takes an event at a random place, the last where another depends on that.
+    fn take_one(&mut self) -> io::Result<()> {
+        let chosen = self.random.below(self.plain.len() as u64) as usize;
+        let place = match direct(self.alloc, self.plain.as_slice(), chosen)?.is_empty() {
+            true => chosen,
+            false => self.plain.len() - 1,
+        };
+        let (ticket, event) = self.plain.remove(place);
+        self.threads.retreat(&event);
+        let taken = self.live.take(ticket);
+        self.expect(taken.equals(&event), "take", ticket)
+    }
+
+    /// Compares all answers.
+    pub fn look_at_all(&mut self) -> io::Result<()> {
+        for place in 0..self.plain.len() {
+            self.look_at(place)?;
+        }
+        let past = self.live.pair_at(self.plain.len() as u64).is_none();
+        self.expect(past, "pair_at", self.last)
+    }
+
+    /// Compares the answers on so many of the last events.
+    pub fn look_at_some(&mut self, count: u64, last: usize) -> io::Result<()> {
+        for _ in 0..count {
+            if self.plain.is_empty() {
+                return Ok(());
+            }
+            let back = self.random.below(self.plain.len().min(last) as u64) as usize;
+            self.look_at(self.plain.len() - 1 - back)?;
+        }
+        Ok(())
+    }
+
+    /// Compares the answers on one event.
+    fn look_at(&mut self, place: usize) -> io::Result<()> {
+        let plain = self.plain.as_slice();
+        let ticket = plain[place].0;
+        let found = dependents(self.alloc, plain, place)?;
+        let directly = direct(self.alloc, plain, place)?;
+        let next = followers(self.alloc, plain, place, found.as_slice())?;
+        let least = (place + 1..plain.len())
+            .find(|k| found[*k])
+            .map(|k| plain[k].0);
+        let last = (0..plain.len())
+            .filter(|k| found[*k])
+            .last()
+            .map(|k| plain[k].0);
+        let many = found.iter().filter(|is_one| **is_one).count() as u64;
+        let is_pair = match self.live.pair_at(place as u64) {
+            Some((held, event)) => held == ticket && event.equals(&plain[place].1),
+            None => false,
+        };
+        self.expect(is_pair, "pair_at", ticket)?;
+        let is_next = self.live.followers(ticket) == next.as_slice();
+        self.expect(is_next, "followers", ticket)?;
+        let is_least = self.live.first_dependent(ticket) == least;
+        self.expect(is_least, "first_dependent", ticket)?;
+        let is_count = self.live.count(ticket) == directly.len() as u64;
+        self.expect(is_count, "count", ticket)?;
+        let is_many = self.live.mark_consequences(ticket) == many;
+        self.expect(is_many, "mark_consequences", ticket)?;
+        let is_last = self.live.last_marked() == last;
+        self.expect(is_last, "last_marked", ticket)
+    }
+
+    /// Names the answer, where it differs.
+    fn expect(&self, agrees: bool, answer: &str, ticket: u64) -> io::Result<()> {
+        if agrees {
+            return Ok(());
+        }
+        let seed = self.seed;
+        let last = self.last;
+        let text = format!(in self.alloc;
+            "list {seed}, ticket {ticket} of {last}: {answer} differs"
+        )?;
+        Err(io::Error::other(text.as_str()))
+    }
+}

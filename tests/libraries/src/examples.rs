@@ -1,0 +1,112 @@
+//! Descriptions with their stimuli.
+
+use debug_session::accept;
+use sharing_check::Checked;
+use std::alloc::Global;
+use std::test::Fail;
+
+/// A source text and a stimulus.
+#[derive(Clone, Copy)]
+pub struct Example {
+    source: &'static str,
+    stimulus: &'static str,
+}
+
+impl Example {
+    /// The system that they describe.
+    pub fn checked(self, alloc: Global) -> Result<Checked, Fail> {
+        Ok(accept(alloc, self.source.as_bytes(), self.stimulus.as_bytes())?)
+    }
+}
+
+/// A value in and out again.
+pub const ONCE: Example = Example {
+    source: "procedure p (input i : 8 bits ; output o : 8 bits) is
+        variable x : 8 bits begin i -> x ; o <- x end",
+    stimulus: "i = 5",
+};
+
+/// The one-place buffer.
+pub const BUFFER: Example = Example {
+    source: "procedure p (input i : 8 bits ; output o : 8 bits) is
+        variable x : 8 bits begin loop i -> x ; o <- x end end",
+    stimulus: "i = 5 7",
+};
+
+/// A value that is held until both branches have sent it.
+pub const FORK: Example = Example {
+    source: "procedure p (input i : 8 bits ; output a, b : 8 bits) is
+        variable x : 8 bits begin i -> then a <- i || b <- i end ; i -> x end",
+    stimulus: "i = 5 7",
+};
+
+/// A value of channel 0 or of channel 2.
+pub const ARBITER: Example = Example {
+    source: "procedure p (input a : 8 bits ; output o : 8 bits ; input b : 8 bits) is
+        begin arbitrate a then o <- a | b then o <- b end end",
+    stimulus: "a = 5\nb = 7",
+};
+
+/// Two branches, one of them with two steps.
+pub const BRANCHES: Example = Example {
+    source: "procedure p is variable x, y : 8 bits begin x := 1 || [y := 2 ; y := 3] end",
+    stimulus: "",
+};
+
+/// A loop of two turns.
+pub const COUNTER: Example = Example {
+    source: "procedure p is variable x : 8 bits begin
+        loop while x < 2 then x := (x + 1 as 8 bits) end end",
+    stimulus: "",
+};
+
+pub const CASE_WITH_ELSE: Example = Example {
+    source: "procedure p is variable x : 8 bits begin case x of 1 then halt else x := 4 end end",
+    stimulus: "",
+};
+
+/// Both guards are true.
+pub const BOTH_GUARDS: Example = Example {
+    source: "procedure p is variable x : 8 bits begin
+        if x = 0 then x := 1 | x = 0 then x := 2 end end",
+    stimulus: "",
+};
+
+/// The second guard is true.
+pub const SECOND_GUARD: Example = Example {
+    source: "procedure p is variable x : 8 bits begin
+        if x = 7 then x := 1 | x = 0 then x := 2 else x := 3 end end",
+    stimulus: "",
+};
+
+/// No guard is true, and there is an `else`.
+pub const NO_GUARD: Example = Example {
+    source: "procedure p is variable x : 8 bits begin
+        if x = 7 then x := 1 | x = 8 then x := 2 else x := 3 end end",
+    stimulus: "",
+};
+
+/// No guard is true, and there is no `else`.
+pub const NO_ARM: Example = Example {
+    source: "procedure p is variable x : 8 bits begin
+        if x = 7 then x := 1 | x = 8 then x := 2 end end",
+    stimulus: "",
+};
+
+/// A choice that a handshake opens.
+pub const SELECTION: Example = Example {
+    source: "procedure p is sync s begin sync s || select s then continue end end",
+    stimulus: "",
+};
+
+/// Variables that are read in no order, and one of them twice.
+pub const READER: Example = Example {
+    source: "procedure p is variable r, a, b, c : 8 bits begin r := ((c or a) and c as 8 bits) end",
+    stimulus: "",
+};
+
+/// Guards that are two variables, the later one first.
+pub const GUARDS: Example = Example {
+    source: "procedure p is variable x, y : 1 bits begin if y then x := 1 | x then y := 1 end end",
+    stimulus: "",
+};

@@ -1,0 +1,46 @@
+//! Tests of the libraries, above all of what no run of the program shows: want of memory, readers and writers that fail, runs
+//! and the machine that steps through them, what is public beside them. The rest stands in tests/runs.
+#![tactic(auto)]
+
+#[cfg(test)]
+mod addresses;
+#[cfg(test)]
+mod examples;
+#[cfg(test)]
+mod expressions;
+#[cfg(test)]
+mod faults;
+#[cfg(test)]
+mod lines;
+#[cfg(test)]
+mod lists;
+#[cfg(test)]
+mod live_events;
+#[cfg(test)]
+mod numbers;
+#[cfg(test)]
+mod one;
+#[cfg(test)]
+mod parsing;
+#[cfg(test)]
+mod runs;
+#[cfg(test)]
+mod sessions;
+#[cfg(test)]
+mod sharing;
+#[cfg(test)]
+mod streams;
+#[cfg(test)]
+mod systems;
+#[cfg(test)]
+mod tokens;
+#[cfg(test)]
+mod told;
+#[cfg(test)]
+mod transcripts;
+#[cfg(test)]
+mod trees;
+#[cfg(test)]
+mod values;
+#[cfg(test)]
+mod views;
