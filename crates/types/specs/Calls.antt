@@ -50,7 +50,7 @@ all_fit names [] (argument ∷ arguments) = false
 all_fit names (kind ∷ kinds) [] = false
 all_fit names (kind ∷ kinds) (argument ∷ arguments) = fits_port kind (look_up names argument.name) && all_fit names kinds arguments
 
--- the call call_fits the procedure, if there is one, and no channel stands twice
+-- the call fits the procedure, if there is one, and no channel stands twice
 abbrev pub call_fits : VisibleNames → Option (List PortKind) → List Identifier → List ChannelUse → Bool
 call_fits names None arguments channels = false
 call_fits names (Some kinds) arguments channels = all_fit names kinds arguments && list_all is_ok (new_channels [] channels)
