@@ -6,7 +6,7 @@ use Rattle.calculus.specs.Moves.{Place, Move, assigns, tests, turns, sends, rece
 use Rattle.value.specs.Word.{Word}
 use Rattle.system.specs.Expression.{Expression, Decision, by_guards}
 use Rattle.system.specs.Residual.{Residual, done, halted, inside, beside, assign, send, receive, sync, held, loop, while, test, choose, closing, drain, Arms, within, along, arm_at, opened}
-use Rattle.calculus.specs.Asking.{answers_to}
+use Rattle.calculus.specs.Asking.{ask_of}
 use Rattle.calculus.specs.ByPlace.{if_here, if_act, if_child, if_branch}
 use Rattle.calculus.specs.walking.After.{Answer, around, after_assign, after_send, after_receive, after_sync, after_held, after_loop, after_while, after_test, after_open, after_choose, after_closing, after_drain, after}
 use Rattle.calculus.specs.declared.ask.Ask.{Ask}
@@ -116,67 +116,67 @@ if_branch-other n j a b f x l e =
 
 -- what an assignment answers
 assign_only : (x w : ℕ) (e : Expression) (k : Ask) (m : Move) (q : Residual) → after_assign x w e k ≡ Some (m, q)
-    → (m ≡ assigns x w e) × (q ≡ done) × (answers_to m ≡ k)
-assign_only x w e ask.Assign m q h = let p = parts (assigns x w e) m done q h in (sym p.0, sym p.1, ap answers_to (sym p.0))
+    → (m ≡ assigns x w e) × (q ≡ done) × (ask_of m ≡ k)
+assign_only x w e ask.Assign m q h = let p = parts (assigns x w e) m done q h in (sym p.0, sym p.1, ap ask_of (sym p.0))
 assign_only x w e _ m q h = none-some (m, q) h
 
 -- what a send answers
 send_only : (c w : ℕ) (e : Expression) (k : Ask) (m : Move) (q : Residual) → after_send c w e k ≡ Some (m, q)
-    → (((m ≡ sends c w e false) × (q ≡ done)) ⊎ ((m ≡ sends c w e true) × (q ≡ held c))) × (answers_to m ≡ k)
-send_only c w e ask.Send m q h = let p = parts (sends c w e false) m done q h in (inl (sym p.0, sym p.1), ap answers_to (sym p.0))
-send_only c w e ask.Hold m q h = let p = parts (sends c w e true) m (held c) q h in (inr (sym p.0, sym p.1), ap answers_to (sym p.0))
+    → (((m ≡ sends c w e false) × (q ≡ done)) ⊎ ((m ≡ sends c w e true) × (q ≡ held c))) × (ask_of m ≡ k)
+send_only c w e ask.Send m q h = let p = parts (sends c w e false) m done q h in (inl (sym p.0, sym p.1), ap ask_of (sym p.0))
+send_only c w e ask.Hold m q h = let p = parts (sends c w e true) m (held c) q h in (inr (sym p.0, sym p.1), ap ask_of (sym p.0))
 send_only c w e _ m q h = none-some (m, q) h
 
 -- what a receive answers
 receive_only : (c x : ℕ) (k : Ask) (m : Move) (q : Residual) → after_receive c x k ≡ Some (m, q)
-    → (m ≡ receives c (Some x)) × (q ≡ done) × (answers_to m ≡ k)
-receive_only c x ask.Receive m q h = let p = parts (receives c (Some x)) m done q h in (sym p.0, sym p.1, ap answers_to (sym p.0))
+    → (m ≡ receives c (Some x)) × (q ≡ done) × (ask_of m ≡ k)
+receive_only c x ask.Receive m q h = let p = parts (receives c (Some x)) m done q h in (sym p.0, sym p.1, ap ask_of (sym p.0))
 receive_only c x _ m q h = none-some (m, q) h
 
 -- what a handshake without data answers
 sync_only : (c : ℕ) (k : Ask) (m : Move) (q : Residual) → after_sync c k ≡ Some (m, q)
-    → (((m ≡ syncs c false) × (q ≡ done)) ⊎ ((m ≡ syncs c true) × (q ≡ held c))) × (answers_to m ≡ k)
-sync_only c ask.Sync m q h = let p = parts (syncs c false) m done q h in (inl (sym p.0, sym p.1), ap answers_to (sym p.0))
-sync_only c ask.Hold m q h = let p = parts (syncs c true) m (held c) q h in (inr (sym p.0, sym p.1), ap answers_to (sym p.0))
+    → (((m ≡ syncs c false) × (q ≡ done)) ⊎ ((m ≡ syncs c true) × (q ≡ held c))) × (ask_of m ≡ k)
+sync_only c ask.Sync m q h = let p = parts (syncs c false) m done q h in (inl (sym p.0, sym p.1), ap ask_of (sym p.0))
+sync_only c ask.Hold m q h = let p = parts (syncs c true) m (held c) q h in (inr (sym p.0, sym p.1), ap ask_of (sym p.0))
 sync_only c _ m q h = none-some (m, q) h
 
 -- what a held send or sync answers
 held_only : (c : ℕ) (k : Ask) (m : Move) (q : Residual) → after_held c k ≡ Some (m, q)
-    → (m ≡ releases c) × (q ≡ done) × (answers_to m ≡ k)
-held_only c ask.Release m q h = let p = parts (releases c) m done q h in (sym p.0, sym p.1, ap answers_to (sym p.0))
+    → (m ≡ releases c) × (q ≡ done) × (ask_of m ≡ k)
+held_only c ask.Release m q h = let p = parts (releases c) m done q h in (sym p.0, sym p.1, ap ask_of (sym p.0))
 held_only c _ m q h = none-some (m, q) h
 
 -- what a loop answers
 loop_only : (n : ℕ) (body : Residual) (k : Ask) (m : Move) (q : Residual) → after_loop n body k ≡ Some (m, q)
-    → (m ≡ turns) × (q ≡ within (2 * n + 1) body (loop (n + 1) body)) × (answers_to m ≡ k)
+    → (m ≡ turns) × (q ≡ within (2 * n + 1) body (loop (n + 1) body)) × (ask_of m ≡ k)
 loop_only n body ask.Turn m q h =
     let p = parts turns m (within (2 * n + 1) body (loop (n + 1) body)) q h in
-    (sym p.0, sym p.1, ap answers_to (sym p.0))
+    (sym p.0, sym p.1, ap ask_of (sym p.0))
 loop_only n body _ m q h = none-some (m, q) h
 
 -- what a while loop answers
 while_only : (n : ℕ) (e : Expression) (body : Residual) (k : Ask) (m : Move) (q : Residual) → after_while n e body k ≡ Some (m, q)
     → (((m ≡ tests (by_guards (e ∷ []) false) (Some 0)) × (q ≡ within (2 * n + 1) body (while (n + 1) e body)))
-    ⊎ ((m ≡ tests (by_guards (e ∷ []) false) None) × (q ≡ done))) × (answers_to m ≡ k)
+    ⊎ ((m ≡ tests (by_guards (e ∷ []) false) None) × (q ≡ done))) × (ask_of m ≡ k)
 while_only n e body (ask.Test None) m q h =
     let p = parts (tests (by_guards (e ∷ []) false) None) m done q h in
-    (inr (sym p.0, sym p.1), ap answers_to (sym p.0))
+    (inr (sym p.0, sym p.1), ap ask_of (sym p.0))
 while_only n e body (ask.Test (Some j)) m q h =
     let t = within (2 * n + 1) body (while (n + 1) e body) in
     let d = by_guards (e ∷ []) false in
     let g = cond-some (j == 0) (Some (tests d (Some j), t)) (m, q) h in
     let p = parts (tests d (Some j)) m t q g.1 in
     let z : j ≡ 0 = eqb-true j 0 g.0 in
-    (inl (sym p.0 ∙ ap (λ i. tests d (Some i)) z, sym p.1), ap answers_to (sym p.0))
+    (inl (sym p.0 ∙ ap (λ i. tests d (Some i)) z, sym p.1), ap ask_of (sym p.0))
 while_only n e body _ m q h = none-some (m, q) h
 
 -- what a test with arms answers
 test_only : (d : Decision) (arms : Arms) (k : Ask) (m : Move) (q : Residual) → after_test d arms k ≡ Some (m, q)
-    → (((j : ℕ) × (m ≡ tests d (Some j)) × (q ≡ within 1 (arm_at arms j) done)) ⊎ ((m ≡ tests d None) × (q ≡ done))) × (answers_to m ≡ k)
-test_only d arms (ask.Test None) m q h = let p = parts (tests d None) m done q h in (inr (sym p.0, sym p.1), ap answers_to (sym p.0))
+    → (((j : ℕ) × (m ≡ tests d (Some j)) × (q ≡ within 1 (arm_at arms j) done)) ⊎ ((m ≡ tests d None) × (q ≡ done))) × (ask_of m ≡ k)
+test_only d arms (ask.Test None) m q h = let p = parts (tests d None) m done q h in (inr (sym p.0, sym p.1), ap ask_of (sym p.0))
 test_only d arms (ask.Test (Some j)) m q h =
     let p = parts (tests d (Some j)) m (within 1 (arm_at arms j) done) q h in
-    (inl (j, sym p.0, sym p.1), ap answers_to (sym p.0))
+    (inl (j, sym p.0, sym p.1), ap ask_of (sym p.0))
 test_only d arms _ m q h = none-some (m, q) h
 
 -- what an arm answers that opens on its channel
@@ -190,26 +190,26 @@ open_only (Some c) arms j v m q h =
 -- what arms answer that wait on their channels
 choose_only : (channels : List ℕ) (arms : Arms) (k : Ask) (m : Move) (q : Residual) → after_choose channels arms k ≡ Some (m, q)
     → ((c : ℕ) × (j : ℕ) × (v : Option Word) × (slice_get channels j ≡ Some c) × (m ≡ opens c j v)
-    × (q ≡ within 1 (opened c v (arm_at arms j)) (closing c))) × (answers_to m ≡ k)
+    × (q ≡ within 1 (opened c v (arm_at arms j)) (closing c))) × (ask_of m ≡ k)
 choose_only channels arms (ask.Open j v) m q h =
     let p = open_only (slice_get channels j) arms j v m q h in
-    ((p.0, j, v, p.1, p.2, p.3), ap answers_to p.2)
+    ((p.0, j, v, p.1, p.2, p.3), ap ask_of p.2)
 choose_only channels arms _ m q h = none-some (m, q) h
 
 -- what comes after an opened arm answers
 closing_only : (c : ℕ) (k : Ask) (m : Move) (q : Residual) → after_closing c k ≡ Some (m, q)
-    → (m ≡ closes c) × (q ≡ done) × (answers_to m ≡ k)
-closing_only c ask.Close m q h = let p = parts (closes c) m done q h in (sym p.0, sym p.1, ap answers_to (sym p.0))
+    → (m ≡ closes c) × (q ≡ done) × (ask_of m ≡ k)
+closing_only c ask.Close m q h = let p = parts (closes c) m done q h in (sym p.0, sym p.1, ap ask_of (sym p.0))
 closing_only c _ m q h = none-some (m, q) h
 
 -- what the receives on an output port answer
 drain_only : (c n : ℕ) (k : Ask) (m : Move) (q : Residual) → after_drain c n k ≡ Some (m, q)
-    → (m ≡ receives c None) × (q ≡ drain c (n + 1)) × (answers_to m ≡ k)
-drain_only c n ask.Receive m q h = let p = parts (receives c None) m (drain c (n + 1)) q h in (sym p.0, sym p.1, ap answers_to (sym p.0))
+    → (m ≡ receives c None) × (q ≡ drain c (n + 1)) × (ask_of m ≡ k)
+drain_only c n ask.Receive m q h = let p = parts (receives c None) m (drain c (n + 1)) q h in (sym p.0, sym p.1, ap ask_of (sym p.0))
 drain_only c n _ m q h = none-some (m, q) h
 
 -- what is answered is offered, and answers to what was asked
-pub only : (k : Ask) (r : Residual) (a : Place) (m : Move) (q : Residual) → after k r a ≡ Some (m, q) → Local r a m q × (answers_to m ≡ k)
+pub only : (k : Ask) (r : Residual) (a : Place) (m : Move) (q : Residual) → after k r a ≡ Some (m, q) → Local r a m q × (ask_of m ≡ k)
 only k done a m q h = none-some (m, q) h
 only k halted a m q h = none-some (m, q) h
 only k (inside i child next) a m q h =
@@ -274,47 +274,47 @@ only k (drain g n) a m q h =
     ((d.0, c.0, c.1), c.2)
 
 -- a leaf's answer to a move that it offers
-leaf : (f : Ask → Answer) (m n : Move) (q t : Residual) → m ≡ n → q ≡ t → f (answers_to n) ≡ answer n t → f (answers_to m) ≡ answer m q
-leaf f m n q t e d h = subst₂ (λ z u. f (answers_to z) ≡ answer z u) (sym e) (sym d) h
+leaf : (f : Ask → Answer) (m n : Move) (q t : Residual) → m ≡ n → q ≡ t → f (ask_of n) ≡ answer n t → f (ask_of m) ≡ answer m q
+leaf f m n q t e d h = subst₂ (λ z u. f (ask_of z) ≡ answer z u) (sym e) (sym d) h
 
 -- what a well-formed residual offers is answered
-pub found : (r : Residual) (a : Place) (m : Move) (q : Residual) → WellFormed r → Local r a m q → after (answers_to m) r a ≡ Some (m, q)
+pub found : (r : Residual) (a : Place) (m : Move) (q : Residual) → WellFormed r → Local r a m q → after (ask_of m) r a ≡ Some (m, q)
 found done a m q w h = absurd h
 found halted a m q w h = absurd h
 found (inside i child next) a m q w h =
-    if_child-at i a h.0 (λ b. around (λ t. within i t next) (after (answers_to m) child b)) h.2
-    ∙ around-at (λ t. within i t next) (after (answers_to m) child h.0) m q h.1 (found child h.0 m h.1 w.0 h.3) h.4
+    if_child-at i a h.0 (λ b. around (λ t. within i t next) (after (ask_of m) child b)) h.2
+    ∙ around-at (λ t. within i t next) (after (ask_of m) child h.0) m q h.1 (found child h.0 m h.1 w.0 h.3) h.4
 found (beside n child rest) a m q w (inl h) =
-    if_branch-at n a h.0 (λ b. around (λ t. along n t rest) (after (answers_to m) child b)) (around (λ t. along n child t) (after (answers_to m) rest a)) h.2
-    ∙ around-at (λ t. along n t rest) (after (answers_to m) child h.0) m q h.1 (found child h.0 m h.1 w.0 h.3) h.4
+    if_branch-at n a h.0 (λ b. around (λ t. along n t rest) (after (ask_of m) child b)) (around (λ t. along n child t) (after (ask_of m) rest a)) h.2
+    ∙ around-at (λ t. along n t rest) (after (ask_of m) child h.0) m q h.1 (found child h.0 m h.1 w.0 h.3) h.4
 found (beside n child rest) a m q w (inr h) =
     let d = branches-place (n + 1) rest a m h.0 w.2 w.1 h.1 in
-    if_branch-other n d.number a d.rest (λ b. around (λ t. along n t rest) (after (answers_to m) child b)) (around (λ t. along n child t) (after (answers_to m) rest a)) (omega arith) d.is
-    ∙ around-at (λ t. along n child t) (after (answers_to m) rest a) m q h.0 (found rest a m h.0 w.1 h.1) h.2
+    if_branch-other n d.number a d.rest (λ b. around (λ t. along n t rest) (after (ask_of m) child b)) (around (λ t. along n child t) (after (ask_of m) rest a)) (omega arith) d.is
+    ∙ around-at (λ t. along n child t) (after (ask_of m) rest a) m q h.0 (found rest a m h.0 w.1 h.1) h.2
 found (assign x v e) a m q w h =
-    if_here-at a (after_assign x v e (answers_to m)) h.0 ∙ leaf (after_assign x v e) m _ q _ h.1 h.2 refl
+    if_here-at a (after_assign x v e (ask_of m)) h.0 ∙ leaf (after_assign x v e) m _ q _ h.1 h.2 refl
 found (send c v e) a m q w h =
-    if_act-at 0 a (after_send c v e (answers_to m)) h.0
+    if_act-at 0 a (after_send c v e (ask_of m)) h.0
     ∙ ⊎_elim (λ d. leaf (after_send c v e) m _ q _ d.0 d.1 refl) (λ d. leaf (after_send c v e) m _ q _ d.0 d.1 refl) h.1
 found (receive c x) a m q w h =
-    if_here-at a (after_receive c x (answers_to m)) h.0 ∙ leaf (after_receive c x) m _ q _ h.1 h.2 refl
+    if_here-at a (after_receive c x (ask_of m)) h.0 ∙ leaf (after_receive c x) m _ q _ h.1 h.2 refl
 found (sync c) a m q w h =
-    if_act-at 0 a (after_sync c (answers_to m)) h.0
+    if_act-at 0 a (after_sync c (ask_of m)) h.0
     ∙ ⊎_elim (λ d. leaf (after_sync c) m _ q _ d.0 d.1 refl) (λ d. leaf (after_sync c) m _ q _ d.0 d.1 refl) h.1
 found (held c) a m q w h =
-    if_act-at 1 a (after_held c (answers_to m)) h.0 ∙ leaf (after_held c) m _ q _ h.1 h.2 refl
+    if_act-at 1 a (after_held c (ask_of m)) h.0 ∙ leaf (after_held c) m _ q _ h.1 h.2 refl
 found (loop k body) a m q w h =
-    if_act-at (2 * k) a (after_loop k body (answers_to m)) h.0 ∙ leaf (after_loop k body) m _ q _ h.1 h.2 refl
+    if_act-at (2 * k) a (after_loop k body (ask_of m)) h.0 ∙ leaf (after_loop k body) m _ q _ h.1 h.2 refl
 found (while k e body) a m q w h =
-    if_act-at (2 * k) a (after_while k e body (answers_to m)) h.0
+    if_act-at (2 * k) a (after_while k e body (ask_of m)) h.0
     ∙ ⊎_elim (λ d. leaf (after_while k e body) m _ q _ d.0 d.1 refl) (λ d. leaf (after_while k e body) m _ q _ d.0 d.1 refl) h.1
 found (test e arms) a m q w h =
-    if_act-at 0 a (after_test e arms (answers_to m)) h.0
+    if_act-at 0 a (after_test e arms (ask_of m)) h.0
     ∙ ⊎_elim (λ d. leaf (after_test e arms) m _ q _ d.1 d.2 refl) (λ d. leaf (after_test e arms) m _ q _ d.0 d.1 refl) h.1
 found (choose channels arms) a m q w h =
-    if_act-at 0 a (after_choose channels arms (answers_to m)) h.0
+    if_act-at 0 a (after_choose channels arms (ask_of m)) h.0
     ∙ leaf (after_choose channels arms) m _ q _ h.5 h.6 (ap (λ g. after_open g arms h.2 h.3) h.4)
 found (closing c) a m q w h =
-    if_act-at 2 a (after_closing c (answers_to m)) h.0 ∙ leaf (after_closing c) m _ q _ h.1 h.2 refl
+    if_act-at 2 a (after_closing c (ask_of m)) h.0 ∙ leaf (after_closing c) m _ q _ h.1 h.2 refl
 found (drain c k) a m q w h =
-    if_act-at k a (after_drain c k (answers_to m)) h.0 ∙ leaf (after_drain c k) m _ q _ h.1 h.2 refl
+    if_act-at k a (after_drain c k (ask_of m)) h.0 ∙ leaf (after_drain c k) m _ q _ h.1 h.2 refl

@@ -7,7 +7,7 @@ use Rattle.calculus.specs.Events.{Located, at, store_after}
 use Rattle.calculus.specs.Steps.{State, Moves, Step, Run}
 use Rattle.calculus.specs.walking.After.{after}
 use Rattle.calculus.specs.declared.ask.Ask.{Ask}
-use Rattle.calculus.specs.Asking.{answers_to, asked}
+use Rattle.calculus.specs.Asking.{ask_of, asked}
 use Rattle.calculus.specs.walking.Made.{all_ask, event_of}
 use Rattle.calculus.specs.walking.StepOf.{moves_of, agreed, step_of, run_of}
 use Rattle.calculus.specs.Tests.{same_event}
@@ -26,7 +26,7 @@ pub moves-found : (r : Residual) (ls : List Located) (q : Residual) → WellForm
 moves-found r [] q w h = ap (λ t. Some ([], t)) h
 moves-found r (l ∷ ls) q w h =
     and_then-at (λ x. option_and_then (λ y. Some (at l.place x.0 ∷ y.0, y.1)) (moves_of x.1 (all_ask ls)))
-    (after (answers_to l.move) r l.place) (l.move, h.0) (found r l.place l.move h.0 w h.1)
+    (after (ask_of l.move) r l.place) (l.move, h.0) (found r l.place l.move h.0 w h.1)
     ∙ and_then-at (λ y. Some (l ∷ y.0, y.1)) (moves_of h.0 (all_ask ls)) (ls, q)
     (moves-found h.0 ls q (formed r l.place l.move h.0 w h.1) h.2)
 

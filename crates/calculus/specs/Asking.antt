@@ -9,18 +9,18 @@ use Rattle.calculus.specs.declared.event.Kind.{Kind}
 use Rattle.calculus.specs.declared.event.Kind.TheVariants.{Assign, Test, Turn, Meet, Open, Close, Sync}
 
 -- what a move answers to
-abbrev pub answers_to : Move → Ask
-answers_to (assigns x w e) = ask.Assign
-answers_to (tests d k) = ask.Test k
-answers_to turns = ask.Turn
-answers_to (sends c w e false) = ask.Send
-answers_to (sends c w e true) = ask.Hold
-answers_to (receives c x) = ask.Receive
-answers_to (syncs c false) = ask.Sync
-answers_to (syncs c true) = ask.Hold
-answers_to (opens c k v) = ask.Open k v
-answers_to (releases c) = ask.Release
-answers_to (closes c) = ask.Close
+abbrev pub ask_of : Move → Ask
+ask_of (assigns x w e) = ask.Assign
+ask_of (tests d k) = ask.Test k
+ask_of turns = ask.Turn
+ask_of (sends c w e false) = ask.Send
+ask_of (sends c w e true) = ask.Hold
+ask_of (receives c x) = ask.Receive
+ask_of (syncs c false) = ask.Sync
+ask_of (syncs c true) = ask.Hold
+ask_of (opens c k v) = ask.Open k v
+ask_of (releases c) = ask.Release
+ask_of (closes c) = ask.Close
 
 -- what an event of this kind asks for, and at which places; `None` where a place or an arm is missing
 abbrev pub asked_by : Kind → Place → Option Place → Option ℕ → Option Word → Option (List (Place × Ask))

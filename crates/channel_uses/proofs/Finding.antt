@@ -14,9 +14,9 @@ use Rattle.process_tree.specs.View.{code_view}
 use Rattle.process_tree.specs.declared.code.Code as made
 use Rattle.process_tree.specs.Tidy.{last_moved}
 use Rattle.process_tree.specs.walking.Received.{puts_once, puts_sender, puts_guard, puts_decision}
-use Rattle.offered_sides.specs.walking.Listed.{ready, behind, opens_from, offers, again_at, tested_at, Listing, nothing, at_work, one_after, both, listed, listed_sequence, listed_parallel}
+use Rattle.offered_sides.specs.walking.Listed.{side_at, behind, open_sides, sides_of_residual, again_at, tested_at, Listing, nothing, at_work, one_after, both, listed, listed_sequence, listed_parallel}
 use Rattle.offered_sides.specs.walking.Walk.{Walk, added, down, up}
-use Rattle.offered_sides.specs.declared.side.Ready.{Ready}
+use Rattle.offered_sides.specs.declared.side.OfferedSide.{OfferedSide}
 use Rattle.offered_sides.specs.declared.side.Side.TheVariants.{Closes}
 use Rattle.offered_sides.proofs.OneByOne.{step-here, step-over, over-nothing, fresh-at, fresh-past, none-last}
 use Rattle.offered_sides.proofs.Walks.{added-none, added-both, through}
@@ -45,11 +45,11 @@ again-listed-none : (e : ℕ) (s : Store) (n : ℕ) (g : Option Expression) → 
 again-listed-none e s n None = refl
 again-listed-none e s n (Some x) = refl
 
-once-listed-none : (e : ℕ) (s : Store) (env : Received) (o : Once) → (In e (used_once o) → ⊥) → on e (offers s (residual_once (puts_once env o))) ≡ []
+once-listed-none : (e : ℕ) (s : Store) (env : Received) (o : Once) → (In e (used_once o) → ⊥) → on e (sides_of_residual s (residual_once (puts_once env o))) ≡ []
 once-listed-none e s env (assigning x w v) h = refl
 once-listed-none e s env (receiving d x) h = dropped _ _ [] (other-channel d e [] h)
 
-waiting-listed-none : (e : ℕ) (s : Store) (env : Received) (x : Sender) → (In e (channel_of x ∷ []) → ⊥) → on e (offers s (residual_sender (puts_sender env x))) ≡ []
+waiting-listed-none : (e : ℕ) (s : Store) (env : Received) (x : Sender) → (In e (channel_of x ∷ []) → ⊥) → on e (sides_of_residual s (residual_sender (puts_sender env x))) ≡ []
 waiting-listed-none e s env (sending d w v) h = dropped _ _ [] (other-channel d e [] h)
 waiting-listed-none e s env (syncing d) h = dropped _ _ [] (other-channel d e [] h)
 
@@ -80,7 +80,7 @@ mutual
   listed-none s (unopened ds cs) env c e t h = opens-none e 0 ds (λ i. subst (λ k. Unused e (used k)) t h (in-first e ds (all_used cs) i))
   listed-none s (entered ds cs d v q) env c e t h =
       let all = subst (λ k. Unused e (used k)) t.0 h in
-      after-none e 1 (listed s (with_value d v env) q) (at_work (ready (Ordered 2 ∷ []) (Closes d) ∷ []))
+      after-none e 1 (listed s (with_value d v env) q) (at_work (side_at (Ordered 2 ∷ []) (Closes d) ∷ []))
       (listed-none s q (with_value d v env) (code_at cs t.1) e t.3 (λ i. all (in-second e ds (all_used cs) (in-arm e cs t.1 i))))
       (dropped _ _ [] (ne_eqb d e (λ same. all (in-first e ds (all_used cs) (subst (λ x. In x ds) same (at-in d ds t.1 t.2))))))
   listed-none s (closed ds cs d v q) env c e t h = refl
@@ -106,7 +106,7 @@ mutual
 
 -- ---- branches by their numbers
 -- what branches from number k on offer on the channel, the first of all in branch n
-pub on_from : ℕ → Store → Received → ℕ → ℕ → Procs → List Ready
+pub on_from : ℕ → Store → Received → ℕ → ℕ → Procs → List OfferedSide
 on_from e s env k n no_procs = []
 on_from e s env zero n (proc p ps) = behind (Branch n) (on e (listed s env p).sides) ++ on_from e s env zero (n + 1) ps
 on_from e s env (suc k) n (proc p ps) = on_from e s env k (n + 1) ps
@@ -160,7 +160,7 @@ child-here e s env ps k p h o = ap (λ (l : Listing). on e l.sides) (step-here s
 
 -- ---- walks
 -- down, what is found there, and up again
-pub found-through : (x : Entry) (rs : List Ready) (w u v : Walk) → u ≡ down x w → v ≡ added rs u → up v ≡ added (behind x rs) w
+pub found-through : (x : Entry) (rs : List OfferedSide) (w u v : Walk) → u ≡ down x w → v ≡ added rs u → up v ≡ added (behind x rs) w
 found-through x rs w u v e h = ap up (h ∙ ap (added rs) e) ∙ through x rs w
 
 -- one branch more

@@ -9,7 +9,7 @@ use Rattle.channel_uses.specs.Uses.{used, all_used}
 use Rattle.channel_uses.specs.Table.{IsTableOf}
 use Rattle.channel_uses.specs.declared.table.ChannelUses.{ChannelUses}
 use Rattle.channel_uses.specs.walking.Located.{LocatedCode, LocatedRow}
-use Rattle.channel_uses.specs.walking.Parts.{end, parts, IsPart, AreParts, Told, UnusedFrom, UnusedBetween}
+use Rattle.channel_uses.specs.walking.Parts.{end, parts, IsPart, AreParts, InTable, UnusedFrom, UnusedBetween}
 use Rattle.channel_uses.specs.declared.part.Part.{Part}
 use Rattle.channel_uses.proofs.Searches.{get-first, get-second}
 
@@ -20,7 +20,7 @@ start n (code c cs) zero = n
 start n (code c cs) (suc k) = start (n + length (used c)) cs k
 
 -- the uses of a child are told
-told-child : (table : UseTable) (n : ℕ) (cs : Codes) (k : ℕ) → Told table n (all_used cs) → Told table (start n cs k) (used (code_at cs k))
+told-child : (table : UseTable) (n : ℕ) (cs : Codes) (k : ℕ) → InTable table n (all_used cs) → InTable table (start n cs k) (used (code_at cs k))
 unfolding start
 told-child table n no_code k h e i is = none-some e is
 told-child table n (code c cs) zero h e i is = h e i (get-first (used c) (all_used cs) i e is)
@@ -61,17 +61,17 @@ unused-all e cs j n h i low high u = h i low u
 
 -- the row of a sequence
 pub row-in-turn : (table : UseTable) (part : Option (Bor Part)) (c : Code) (cs : Codes) → c ≡ in_turn cs → LocatedCode table part c → LocatedRow table part cs
-row-in-turn table None c cs e h = record { number = h.number; told = subst (λ k. Told table h.number (used k)) e h.told; are = tt }
+row-in-turn table None c cs e h = record { number = h.number; told = subst (λ k. InTable table h.number (used k)) e h.told; are = tt }
 row-in-turn table (Some q) c cs e h =
     let is = subst (λ k. IsPart k h.number q.now) e h.is in
-    record { number = h.number; told = subst (λ k. Told table h.number (used k)) e h.told; are = (is.1, is.0.1) }
+    record { number = h.number; told = subst (λ k. InTable table h.number (used k)) e h.told; are = (is.1, is.0.1) }
 
 -- of a parallel
 pub row-side-by-side : (table : UseTable) (part : Option (Bor Part)) (c : Code) (cs : Codes) → c ≡ side_by_side cs → LocatedCode table part c → LocatedRow table part cs
-row-side-by-side table None c cs e h = record { number = h.number; told = subst (λ k. Told table h.number (used k)) e h.told; are = tt }
+row-side-by-side table None c cs e h = record { number = h.number; told = subst (λ k. InTable table h.number (used k)) e h.told; are = tt }
 row-side-by-side table (Some q) c cs e h =
     let is = subst (λ k. IsPart k h.number q.now) e h.is in
-    record { number = h.number; told = subst (λ k. Told table h.number (used k)) e h.told; are = (is.1, is.0.1) }
+    record { number = h.number; told = subst (λ k. InTable table h.number (used k)) e h.told; are = (is.1, is.0.1) }
 
 -- the whole command
 pub whole-located : (c : Code) (t : ChannelUses) (q : Bor Part) → q.now ≡ t.whole → IsTableOf c t → LocatedCode t.table (Some q) c

@@ -9,7 +9,7 @@ use Rattle.process_tree.specs.Code.{Code, Codes, no_code, code, code_at}
 use Rattle.last_events.specs.LastEvents.{Uses, FirstUse}
 use Rattle.last_events.specs.declared.uses.UseTable.{UseTable}
 use Rattle.channel_uses.specs.Uses.{HoldsExactly, used, all_used}
-use Rattle.channel_uses.specs.walking.Parts.{first, end, ends_before, AreParts, EndAt, Told, UnusedFrom, UnusedBetween}
+use Rattle.channel_uses.specs.walking.Parts.{first, end, ends_before, AreParts, EndAt, InTable, UnusedFrom, UnusedBetween}
 use Rattle.channel_uses.specs.declared.part.Part.{Part}
 use Rattle.channel_uses.proofs.Parts.{part-spans}
 
@@ -145,7 +145,7 @@ unused-past cs n ps e child h past i low u =
     let less : i < length ps = get-within ps i at.part at.there in omega arith
 
 -- where no use is from the child on, none of the later ones uses the channel
-pub unused-none : (table : UseTable) (cs : Codes) (n : ℕ) (ps : List Part) (e child below : ℕ) (q : Part) → Told table n (all_used cs) → AreParts cs n ps → below ≡ n + length (all_used cs)
+pub unused-none : (table : UseTable) (cs : Codes) (n : ℕ) (ps : List Part) (e child below : ℕ) (q : Part) → InTable table n (all_used cs) → AreParts cs n ps → below ≡ n + length (all_used cs)
     → slice_get ps child ≡ Some q → ((u : ℕ) → Uses table e u → first q ≤ u → u < below → ⊥) → UnusedFrom e cs child
 unused-none table cs n ps e child below q told h is there none i low u =
     let at = use-at cs n ps i e h u in
@@ -155,7 +155,7 @@ unused-none table cs n ps e child below q told h is there none i low u =
     none (n + at.number) (told e at.number at.is) (omega arith) (omega arith)
 
 -- before the first use none does
-pub unused-before : (table : UseTable) (cs : Codes) (n : ℕ) (ps : List Part) (e child below found k : ℕ) (q : Part) → Told table n (all_used cs) → AreParts cs n ps
+pub unused-before : (table : UseTable) (cs : Codes) (n : ℕ) (ps : List Part) (e child below found k : ℕ) (q : Part) → InTable table n (all_used cs) → AreParts cs n ps
     → below ≡ n + length (all_used cs) → slice_get ps child ≡ Some q → FirstUse table e (first q) below found → EndAt ps found k → UnusedBetween e cs child k
 unused-before table cs n ps e child below found k q told h is there hit ended i low high u =
     let at = use-at cs n ps i e h u in

@@ -5,8 +5,8 @@ use Rattle.system.specs.Expression.{Store}
 use Rattle.process_tree.specs.Code.{Code}
 use Rattle.process_tree.specs.Proc.{Proc}
 use Rattle.process_tree.specs.Left.{Received, left}
-use Rattle.offered_sides.specs.walking.Listed.{offers}
-use Rattle.offered_sides.specs.declared.side.Ready.{Ready}
+use Rattle.offered_sides.specs.walking.Listed.{sides_of_residual}
+use Rattle.offered_sides.specs.declared.side.OfferedSide.{OfferedSide}
 use Rattle.offered_sides.specs.declared.side.Side.{Side}
 use Rattle.offered_sides.specs.declared.side.Side.TheVariants.{Assigns, Tests, Turns, Sends, Receives, Syncs, Opens, Releases, Closes}
 use Rattle.channel_uses.specs.StemsFrom.{StemsFrom}
@@ -23,10 +23,10 @@ is_on c (Closes d) = d == c
 is_on c _ = false
 
 -- those of the sides that are on channel c
-abbrev pub on : ℕ → List Ready → List Ready
+abbrev pub on : ℕ → List OfferedSide → List OfferedSide
 on c [] = []
 on c (r ∷ rs) = cond (is_on c r.side) (r ∷ on c rs) (on c rs)
 
 -- a process that stems from a command which does not use channel e offers nothing on it
 abbrev pub OffersNothingUnused : Type 0
-OffersNothingUnused = (s : Store) (p : Proc) (env : Received) (c : Code) (e : ℕ) → StemsFrom p c → (In e (used c) → ⊥) → on e (offers s (left env p)) ≡ []
+OffersNothingUnused = (s : Store) (p : Proc) (env : Received) (c : Code) (e : ℕ) → StemsFrom p c → (In e (used c) → ⊥) → on e (sides_of_residual s (left env p)) ≡ []

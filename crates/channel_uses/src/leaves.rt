@@ -6,7 +6,7 @@ ghost use Rattle.system.specs.Residual.{drain};
 ghost use Rattle.process_tree.specs.Left.{residual_once, residual_sender};
 ghost use Rattle.process_tree.specs.View.{once_view, sender_view};
 ghost use Rattle.process_tree.specs.walking.Received.{puts_once, puts_sender};
-ghost use Rattle.offered_sides.specs.walking.Listed.{offers, opens_from};
+ghost use Rattle.offered_sides.specs.walking.Listed.{sides_of_residual, open_sides};
 ghost use Rattle.offered_sides.specs.walking.Walk.{added};
 ghost use Rattle.channel_uses.specs.OnChannel.{on};
 
@@ -24,7 +24,7 @@ pub(crate) fn once_on(
     values: &[Value],
     around: &mut Around,
 ) -> Result<(), AllocError>
-    ensures { OnOk result (around.new ≡ added (on channel (offers values.now (residual_once (puts_once around.old.received (once_view once.now))))) around.old) }
+    ensures { OnOk result (around.new ≡ added (on channel (sides_of_residual values.now (residual_once (puts_once around.old.received (once_view once.now))))) around.old) }
 {
     match once {
         Once::Receive(on, _) => {
@@ -45,7 +45,7 @@ pub(crate) fn waiting_on(
     values: &[Value],
     around: &mut Around,
 ) -> Result<(), AllocError>
-    ensures { OnOk result (around.new ≡ added (on channel (offers values.now (residual_sender (puts_sender around.old.received (sender_view sender.now))))) around.old) }
+    ensures { OnOk result (around.new ≡ added (on channel (sides_of_residual values.now (residual_sender (puts_sender around.old.received (sender_view sender.now))))) around.old) }
 {
     if channel_of(sender) == channel {
         return list_sender(alloc, sender, values, around);
@@ -61,7 +61,7 @@ pub(crate) fn drain_on(
     channel: u32,
     around: &mut Around,
 ) -> Result<(), AllocError>
-    ensures { (s : model.Store) → OnOk result (around.new ≡ added (on channel (offers s (drain port count))) around.old) }
+    ensures { (s : model.Store) → OnOk result (around.new ≡ added (on channel (sides_of_residual s (drain port count))) around.old) }
 {
     if port == channel {
         return list_drain(alloc, port, count, around);
@@ -76,7 +76,7 @@ pub(crate) fn arms_on(
     channel: u32,
     around: &mut Around,
 ) -> Result<(), AllocError>
-    ensures { OnOk result (around.new ≡ added (on channel (opens_from 0 channels.now)) around.old) }
+    ensures { OnOk result (around.new ≡ added (on channel (open_sides 0 channels.now)) around.old) }
 {
     for (arm, waits) in channels.iter().enumerate() {
         arm_on(alloc, arm, *waits, channel, around)?;
@@ -93,7 +93,7 @@ fn arm_on(
     channel: u32,
     around: &mut Around,
 ) -> Result<(), AllocError>
-    ensures { OnOk result (around.new ≡ added (on channel (opens_from arm (waits ∷ []))) around.old) }
+    ensures { OnOk result (around.new ≡ added (on channel (open_sides arm (waits ∷ []))) around.old) }
 {
     if waits != channel {
         return Ok(());

@@ -3,7 +3,7 @@ ghost use Rattle.std.specs.Prelude.{◌≡◌, ℕ, ◌≤◌, ◌<◌, ◌+◌,
 ghost use Rattle.process_tree.specs.Code.{Codes};
 ghost use Rattle.last_events.specs.LastEvents.{Uses, FirstUse};
 ghost use Rattle.channel_uses.specs.Uses.{HoldsExactly, all_used};
-ghost use Rattle.channel_uses.specs.walking.Parts.{parts as parts_of, end as end_of, ends_before, AreParts, EndAt, Told, UnusedFrom, UnusedBetween};
+ghost use Rattle.channel_uses.specs.walking.Parts.{parts as parts_of, end as end_of, ends_before, AreParts, EndAt, InTable, UnusedFrom, UnusedBetween};
 
 use crate::part::Part;
 use last_events::UseTable;
@@ -45,7 +45,7 @@ fn ended_before(parts: &[Part], found: u64) -> usize
 /// The number of the next child, from this one on, that uses the channel. It is found by two searches, by halves.
 pub(crate) fn next_child(table: &UseTable, channel: u32, part: &Part, child: usize) -> Option<usize>
     ensures later { IfSome result (λ k. child ≤ k) }
-    ensures unused { (cs : Codes) (n : ℕ) → Told table.now n (all_used cs) → AreParts cs n (parts_of part.now) → end_of part.now ≡ n + length (all_used cs) →
+    ensures unused { (cs : Codes) (n : ℕ) → InTable table.now n (all_used cs) → AreParts cs n (parts_of part.now) → end_of part.now ≡ n + length (all_used cs) →
         MatchOption result (UnusedFrom channel cs child) (λ k. UnusedBetween channel cs child k) }
 {
     let from = part.parts.get(child)?.first;

@@ -3,14 +3,14 @@ use Rattle.std.proofs.Common.{◌≡◌, ℕ, List, [], ◌∷◌, ◌++◌, Boo
 use Rattle.std.specs.Result.{OnOk, IfErr}
 use Rattle.calculus.specs.Live.{Live}
 use Rattle.calculus.specs.declared.event.Event.{Event}
-use Rattle.dependence.specs.Shown.{Shown, with_event, tickets_marked}
+use Rattle.dependence.specs.Shown.{Shown, with_newest, tickets_marked}
 
 abbrev pub shown : Live → List ℕ → Shown
 shown l ts = record { live = l; marked = ts }
 
-pub shown-added : (s : Shown) (l k : Live) (ts us : List ℕ) (t : ℕ) (e : Event) → shown l ts ≡ s → k ≡ l ++ (t, e) ∷ [] → us ≡ ts → shown k us ≡ with_event s t e
+pub shown-added : (s : Shown) (l k : Live) (ts us : List ℕ) (t : ℕ) (e : Event) → shown l ts ≡ s → k ≡ l ++ (t, e) ∷ [] → us ≡ ts → shown k us ≡ with_newest s t e
 shown-added s l k ts us t e is more same =
-    ap (λ (x : Live). shown x us) more ∙ ap (λ (x : List ℕ). shown (l ++ (t, e) ∷ []) x) same ∙ ap (λ (x : Shown). with_event x t e) is
+    ap (λ (x : Live). shown x us) more ∙ ap (λ (x : List ℕ). shown (l ++ (t, e) ∷ []) x) same ∙ ap (λ (x : Shown). with_newest x t e) is
 
 pub shown-same : (s : Shown) (l k : Live) (marks flags : List Bool) → shown l (tickets_marked l marks) ≡ s → k ≡ l → flags ≡ marks → shown k (tickets_marked k flags) ≡ s
 shown-same s l k marks flags is same_live same_marks =

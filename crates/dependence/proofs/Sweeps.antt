@@ -10,7 +10,7 @@ use Rattle.calculus.specs.declared.event.Event.{Event}
 use Rattle.calculus.proofs.Lists.{in-left, in-right, in-parts}
 use Rattle.calculus.proofs.DependsOnLaw.{depends-up}
 use Rattle.dependence.specs.Followers.{Follower, ListsFollowers, Reached, here, along}
-use Rattle.dependence.specs.walking.Tables.{StandsAt, Falling, Topmost, Reaches}
+use Rattle.dependence.specs.walking.Tables.{StandsAt, Falling, Topmost, LeadsBack}
 use Rattle.dependence.specs.walking.Sweeping.{StandWithin, FlagAt, Swept}
 use Rattle.dependence.proofs.ListPlaces.{at-one, place-in, in-order-more}
 use Rattle.calculus.proofs.ReadTests.{is-in, in-is}
@@ -112,7 +112,7 @@ module _ (from next : ℕ) (l : Live) (cs : List ℕ) (low high place s : ℕ) (
         let before : suc place + length flags ≡ high = swept.count in
         omega arith
 
-    reaches : (flag ≡ true) ↔ Reaches l cs s
+    reaches : (flag ≡ true) ↔ LeadsBack l cs s
     reaches = (
       (λ on. elim (told.0 on) [ inl is ↦ (s, is, same) | inr below ↦ let found = flagged-below below in (found.0, found.1, found.2) ]),
       (λ h. elim (cases_eq h.0 s) [
@@ -121,7 +121,7 @@ module _ (from next : ℕ) (l : Live) (cs : List ℕ) (low high place s : ℕ) (
       ]),
     )
 
-    flagged-here : FlagAt l high (flags ++ flag ∷ []) s ↔ Reaches l cs s
+    flagged-here : FlagAt l high (flags ++ flag ∷ []) s ↔ LeadsBack l cs s
     flagged-here = (
       (λ h.
           let one : h.0 ≡ place = one-place from next l s h.2.0 e h.0 place r h.2.1 at in
@@ -135,7 +135,7 @@ module _ (from next : ℕ) (l : Live) (cs : List ℕ) (low high place s : ℕ) (
           (place, length flags, (e, at), omega arith, last-at flags flag ∙ ap (λ (b : Bool). Some b) (reaches.1 h))),
     )
 
-    flagged-more : (t i : ℕ) → StandsAt l t i → place ≤ i → i < high → FlagAt l high (flags ++ flag ∷ []) t ↔ Reaches l cs t
+    flagged-more : (t i : ℕ) → StandsAt l t i → place ≤ i → i < high → FlagAt l high (flags ++ flag ∷ []) t ↔ LeadsBack l cs t
     flagged-more t i on up less = elim (cases_lt place i) [
       | inl over ↦
           let old = swept.flagged t i on (omega arith) less in
@@ -152,7 +152,7 @@ module _ (from next : ℕ) (l : Live) (cs : List ℕ) (low high place s : ℕ) (
       | inr equal ↦
           let is : i ≡ place = omega arith in
           let one : t ≡ s = ap (λ (x : ℕ × Event). x.0) (at-one l place (t, on.0) (s, e) (subst (λ (k : ℕ). slice_get l k ≡ Some (t, on.0)) is on.1) at) in
-          subst (λ (k : ℕ). FlagAt l high (flags ++ flag ∷ []) k ↔ Reaches l cs k) (sym one) flagged-here
+          subst (λ (k : ℕ). FlagAt l high (flags ++ flag ∷ []) k ↔ LeadsBack l cs k) (sym one) flagged-here
     ]
 
     -- s is kept where it is one of cs and no follower reaches another

@@ -10,8 +10,8 @@ pub record Shown : Type 0 where
   pub marked : List ℕ
 
 -- one more event, which has no mark
-abbrev pub with_event : Shown → ℕ → Event → Shown
-with_event s t e = record { live = s.live ++ (t, e) ∷ []; marked = s.marked }
+abbrev pub with_newest : Shown → ℕ → Event → Shown
+with_newest s t e = record { live = s.live ++ (t, e) ∷ []; marked = s.marked }
 
 -- t is the greatest of these tickets
 pub record Greatest (tickets : List ℕ) (t : ℕ) : Type 0 where

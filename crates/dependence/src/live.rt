@@ -3,7 +3,7 @@ ghost use Rattle.calculus.specs.Dependence.{Without};
 ghost use Rattle.calculus.specs.Live.{LiveAt, NoDependent, FirstDependent, ConsequencesList, WithoutTickets, IsLive};
 ghost use Rattle.dependence.specs.Behind.{ComesBehind};
 ghost use Rattle.dependence.specs.Followers.{ListsFollowers, CountsDirect};
-ghost use Rattle.dependence.specs.Shown.{with_event, Greatest};
+ghost use Rattle.dependence.specs.Shown.{with_newest, Greatest};
 
 use crate::count::count_direct;
 use crate::links::Links;
@@ -116,7 +116,7 @@ impl Live {
     pub fn add(&mut self, ticket: u64, event: Event) -> Result<(), Event>
         requires above { (t : ℕ) (e : Event) → LiveAt self.old.live t e → t < ticket }
         requires behind { ComesBehind self.old.live event }
-        ensures added { OnOk result (self.new ≡ with_event self.old ticket event) }
+        ensures added { OnOk result (self.new ≡ with_newest self.old ticket event) }
         ensures refused { IfErr result (λ back. (back ≡ event) × (self.new ≡ self.old)) }
     {
         add_event(

@@ -4,7 +4,7 @@ use Rattle.syntax.specs.Lists.{Every}
 use Rattle.system.specs.Residual.{Residual}
 use Rattle.address.specs.Places.{Before}
 use Rattle.calculus.specs.Moves.{Place}
-use Rattle.calculus.specs.Asking.{answers_to}
+use Rattle.calculus.specs.Asking.{ask_of}
 use Rattle.calculus.specs.declared.ask.Ask.{Ask}
 use Rattle.calculus.specs.Events.{Located}
 use Rattle.calculus.specs.walking.Made.{all_ask}
@@ -36,7 +36,7 @@ all-does p (l ∷ ls) q h =
     let d = does p [] l.place l.move h.0 h.1 in
     let rest = all-does d.0.0 ls q (subst (λ (r : Residual). Moves r ls q) (sym d.2) h.2) in (
       (rest.0.0, d.0.1 ∷ rest.0.1),
-      and_then-at (and_others (all_ask ls)) (advanced p l.place (answers_to l.move)) d.0 d.1 ∙ ap (option_map (λ y. (y.0, d.0.1 ∷ y.1))) rest.1,
+      and_then-at (and_others (all_ask ls)) (advanced p l.place (ask_of l.move)) d.0 d.1 ∙ ap (option_map (λ y. (y.0, d.0.1 ∷ y.1))) rest.1,
       rest.2,
     )
 

@@ -9,74 +9,74 @@ use Rattle.calculus.specs.Moves.{Place, Move, Local, assigns, tests, turns, send
 use Rattle.calculus.specs.Steps.{State}
 use Rattle.calculus.proofs.Lists.{in-left, in-right, in-parts}
 use Rattle.offered_sides.specs.Sides.{side_of, Decided, Offered}
-use Rattle.offered_sides.specs.walking.Listed.{ready, behind, opens_from, offers}
-use Rattle.offered_sides.specs.declared.side.Ready.{Ready}
+use Rattle.offered_sides.specs.walking.Listed.{side_at, behind, open_sides, sides_of_residual}
+use Rattle.offered_sides.specs.declared.side.OfferedSide.{OfferedSide}
 use Rattle.offered_sides.specs.declared.side.Side.{Side}
 use Rattle.offered_sides.specs.declared.side.Side.TheVariants.{Opens}
 
-in-behind : (x : Entry) (a : Place) (v : Side) (rs : List Ready) → In (ready a v) rs → In (ready (x ∷ a) v) (behind x rs)
+in-behind : (x : Entry) (a : Place) (v : Side) (rs : List OfferedSide) → In (side_at a v) rs → In (side_at (x ∷ a) v) (behind x rs)
 in-behind x a v [] h = absurd h
 in-behind x a v (r ∷ rs) h =
-    elim h [ inl u ↦ inl (ap (λ (k : Ready). ready (x ∷ k.place) k.side) u) | inr u ↦ inr (in-behind x a v rs u) ]
+    elim h [ inl u ↦ inl (ap (λ (k : OfferedSide). side_at (x ∷ k.place) k.side) u) | inr u ↦ inr (in-behind x a v rs u) ]
 
 -- a side behind an entry is one of the child's
-pub record Behind (x : Entry) (l : Ready) (rs : List Ready) : Type 0 where
+pub record Behind (x : Entry) (l : OfferedSide) (rs : List OfferedSide) : Type 0 where
   pub rest : Place
   pub is : l.place ≡ x ∷ rest
-  pub inner : In (ready rest l.side) rs
+  pub inner : In (side_at rest l.side) rs
 
-pub behind-in : (x : Entry) (l : Ready) (rs : List Ready) → In l (behind x rs) → Behind x l rs
+pub behind-in : (x : Entry) (l : OfferedSide) (rs : List OfferedSide) → In l (behind x rs) → Behind x l rs
 behind-in x l [] h = absurd h
 behind-in x l (k ∷ rs) h =
     elim h [
       | inl u ↦ record {
         rest = k.place;
-        is = ap (λ (o : Ready). o.place) u;
-        inner = inl (ap (λ (o : Ready). ready k.place o.side) u);
+        is = ap (λ (o : OfferedSide). o.place) u;
+        inner = inl (ap (λ (o : OfferedSide). side_at k.place o.side) u);
       }
       | inr u ↦ let later = behind-in x l rs u in record { rest = later.rest; is = later.is; inner = inr later.inner }
     ]
 
-in-opens : (k j n c : ℕ) (channels : List ℕ) → slice_get channels j ≡ Some c → n ≡ k + j → In (ready (Ordered 0 ∷ []) (Opens c n)) (opens_from k channels)
+in-opens : (k j n c : ℕ) (channels : List ℕ) → slice_get channels j ≡ Some c → n ≡ k + j → In (side_at (Ordered 0 ∷ []) (Opens c n)) (open_sides k channels)
 in-opens k j n c [] h e = cc
 in-opens k zero n c (d ∷ ds) h e =
     let same : c ≡ d = cc in
     let number : n ≡ k = omega (arith, e) in
-    inl (λ i. ready (Ordered 0 ∷ []) (Opens (same i) (number i)))
+    inl (λ i. side_at (Ordered 0 ∷ []) (Opens (same i) (number i)))
 in-opens k (suc j) n c (d ∷ ds) h e = inr (in-opens (suc k) j n c ds h (omega (arith, e)))
 
 -- an open in the list is of an arm that there is
-record Opening (k : ℕ) (l : Ready) (channels : List ℕ) : Type 0 where
+record Opening (k : ℕ) (l : OfferedSide) (channels : List ℕ) : Type 0 where
   pub number : ℕ
   pub channel : ℕ
   pub there : slice_get channels number ≡ Some channel
-  pub is : l ≡ ready (Ordered 0 ∷ []) (Opens channel (k + number))
+  pub is : l ≡ side_at (Ordered 0 ∷ []) (Opens channel (k + number))
 
-opens-in : (k : ℕ) (l : Ready) (channels : List ℕ) → In l (opens_from k channels) → Opening k l channels
+opens-in : (k : ℕ) (l : OfferedSide) (channels : List ℕ) → In l (open_sides k channels) → Opening k l channels
 opens-in k l [] h = absurd h
 opens-in k l (c ∷ cs) h =
     elim h [
-      | inl u ↦ record { number = 0; channel = c; there = refl; is = u ∙ ap (λ n. ready (Ordered 0 ∷ []) (Opens c n)) (let e : k ≡ k + 0 = omega arith in e) }
+      | inl u ↦ record { number = 0; channel = c; there = refl; is = u ∙ ap (λ n. side_at (Ordered 0 ∷ []) (Opens c n)) (let e : k ≡ k + 0 = omega arith in e) }
       | inr u ↦ let later = opens-in (suc k) l cs u in
           record {
             number = suc later.number;
             channel = later.channel;
             there = later.there;
-            is = later.is ∙ ap (λ n. ready (Ordered 0 ∷ []) (Opens later.channel n)) (let e : suc k + later.number ≡ k + suc later.number = omega arith in e);
+            is = later.is ∙ ap (λ n. side_at (Ordered 0 ∷ []) (Opens later.channel n)) (let e : suc k + later.number ≡ k + suc later.number = omega arith in e);
           }
     ]
 
 -- each move that is possible, and decided by the store, is listed as a side
-pub complete : (s : Store) (r : Residual) (a : Place) (m : Move) (q : Residual) → Local r a m q → Decided s m → In (ready a (side_of s m)) (offers s r)
+pub complete : (s : Store) (r : Residual) (a : Place) (m : Move) (q : Residual) → Local r a m q → Decided s m → In (side_at a (side_of s m)) (sides_of_residual s r)
 complete s done a m q h d = absurd h
 complete s halted a m q h d = absurd h
 complete s (inside i child next) a m q h d =
-    rw h.2 (in-behind (Ordered i) h.0 (side_of s m) (offers s child) (complete s child h.0 m h.1 h.3 d))
+    rw h.2 (in-behind (Ordered i) h.0 (side_of s m) (sides_of_residual s child) (complete s child h.0 m h.1 h.3 d))
 complete s (beside k child rest) a m q h d =
     elim h [
-      | inl u ↦ rw u.2 (in-left (ready (Branch k ∷ u.0) (side_of s m)) (behind (Branch k) (offers s child)) (offers s rest)
-          (in-behind (Branch k) u.0 (side_of s m) (offers s child) (complete s child u.0 m u.1 u.3 d)))
-      | inr u ↦ in-right (ready a (side_of s m)) (behind (Branch k) (offers s child)) (offers s rest) (complete s rest a m u.0 u.1 d)
+      | inl u ↦ rw u.2 (in-left (side_at (Branch k ∷ u.0) (side_of s m)) (behind (Branch k) (sides_of_residual s child)) (sides_of_residual s rest)
+          (in-behind (Branch k) u.0 (side_of s m) (sides_of_residual s child) (complete s child u.0 m u.1 u.3 d)))
+      | inr u ↦ in-right (side_at a (side_of s m)) (behind (Branch k) (sides_of_residual s child)) (sides_of_residual s rest) (complete s rest a m u.0 u.1 d)
     ]
 complete s (assign x w e) a m q h d = rw (h.0, h.1) (inl refl)
 complete s (send c w e) a m q h d = elim h.1 [ inl u ↦ rw (h.0, u.0) (inl refl) | inr u ↦ rw (h.0, u.0) (inl refl) ]
@@ -87,14 +87,14 @@ complete s (loop k body) a m q h d = rw (h.0, h.1) (inl refl)
 complete s (while k e body) a m q h d =
     elim h.1 [
       | inl u ↦ let same : decide s (by_guards (e ∷ []) false) ≡ Some 0 = rw u.0 at d in
-          rw (h.0, u.0) (inl (ap (λ o. ready (Ordered (2 * k) ∷ []) (side_of s (tests (by_guards (e ∷ []) false) o))) (sym same)))
+          rw (h.0, u.0) (inl (ap (λ o. side_at (Ordered (2 * k) ∷ []) (side_of s (tests (by_guards (e ∷ []) false) o))) (sym same)))
       | inr u ↦ let same : decide s (by_guards (e ∷ []) false) ≡ None = rw u.0 at d in
-          rw (h.0, u.0) (inl (ap (λ o. ready (Ordered (2 * k) ∷ []) (side_of s (tests (by_guards (e ∷ []) false) o))) (sym same)))
+          rw (h.0, u.0) (inl (ap (λ o. side_at (Ordered (2 * k) ∷ []) (side_of s (tests (by_guards (e ∷ []) false) o))) (sym same)))
     ]
 complete s (test t arms) a m q h d =
     elim h.1 [
-      | inl u ↦ let same : decide s t ≡ Some u.0 = rw u.1 at d in rw (h.0, u.1) (inl (ap (λ o. ready (Ordered 0 ∷ []) (side_of s (tests t o))) (sym same)))
-      | inr u ↦ let same : decide s t ≡ None = rw u.0 at d in rw (h.0, u.0) (inl (ap (λ o. ready (Ordered 0 ∷ []) (side_of s (tests t o))) (sym same)))
+      | inl u ↦ let same : decide s t ≡ Some u.0 = rw u.1 at d in rw (h.0, u.1) (inl (ap (λ o. side_at (Ordered 0 ∷ []) (side_of s (tests t o))) (sym same)))
+      | inr u ↦ let same : decide s t ≡ None = rw u.0 at d in rw (h.0, u.0) (inl (ap (λ o. side_at (Ordered 0 ∷ []) (side_of s (tests t o))) (sym same)))
     ]
 complete s (choose channels arms) a m q h d = rw (h.0, h.5) (in-opens 0 h.2 h.2 h.1 channels h.4 (omega arith))
 complete s (closing c) a m q h d = rw (h.0, h.1) (inl refl)
@@ -105,13 +105,13 @@ abbrev pub state : Residual → Store → State
 state r s = record { residual = r; store = s }
 
 -- one side of a leaf
-one : (s : Store) (r q : Residual) (x : Ready) (a : Place) (m : Move) → x ≡ ready a (side_of s m) → Decided s m → Local r a m q → Offered (state r s) x
+one : (s : Store) (r q : Residual) (x : OfferedSide) (a : Place) (m : Move) → x ≡ side_at a (side_of s m) → Decided s m → Local r a m q → Offered (state r s) x
 one s r q x a m e d h = record {
   move = m;
   after = q;
-  possible = subst (λ b. Local r b m q) (sym (ap (λ (y : Ready). y.place) e)) h;
+  possible = subst (λ b. Local r b m q) (sym (ap (λ (y : OfferedSide). y.place) e)) h;
   decided = d;
-  shown = ap (λ (y : Ready). y.side) e;
+  shown = ap (λ (y : OfferedSide). y.side) e;
 }
 
 guard-holds : (b : Bool) → (cond {A = Option ℕ} b (Some 0) None ≡ Some 0) ⊎ (cond {A = Option ℕ} b (Some 0) None ≡ None)
@@ -127,17 +127,17 @@ some-or-none None = inr refl
 some-or-none (Some k) = inl (k, refl)
 
 -- each side in the list is offered
-pub sound : (s : Store) (r : Residual) (x : Ready) → In x (offers s r) → Offered (state r s) x
+pub sound : (s : Store) (r : Residual) (x : OfferedSide) → In x (sides_of_residual s r) → Offered (state r s) x
 sound s done x i = absurd i
 sound s halted x i = absurd i
 sound s (inside i child next) x h =
-    let deep = behind-in (Ordered i) x (offers s child) h in
-    let below = sound s child (ready deep.rest x.side) deep.inner in
+    let deep = behind-in (Ordered i) x (sides_of_residual s child) h in
+    let below = sound s child (side_at deep.rest x.side) deep.inner in
     record { move = below.move; after = within i below.after next; possible = (deep.rest, below.after, deep.is, below.possible, refl); decided = below.decided; shown = below.shown }
 sound s (beside k child rest) x h =
-    elim (in-parts x (behind (Branch k) (offers s child)) (offers s rest) h) [
-      | inl v ↦ let deep = behind-in (Branch k) x (offers s child) v in
-          let below = sound s child (ready deep.rest x.side) deep.inner in
+    elim (in-parts x (behind (Branch k) (sides_of_residual s child)) (sides_of_residual s rest) h) [
+      | inl v ↦ let deep = behind-in (Branch k) x (sides_of_residual s child) v in
+          let below = sound s child (side_at deep.rest x.side) deep.inner in
           record { move = below.move; after = along k below.after rest; possible = inl (deep.rest, below.after, deep.is, below.possible, refl); decided = below.decided; shown = below.shown }
       | inr v ↦ let below = sound s rest x v in
           record { move = below.move; after = along k child below.after; possible = inr (below.after, below.possible, refl); decided = below.decided; shown = below.shown }
@@ -154,9 +154,9 @@ sound s (while k e body) x h =
     elim h [
       | inl v ↦ elim (one-guard s e) [
         | inl u ↦ one s (while k e body) (within (2 * k + 1) body (while (k + 1) e body)) x (Ordered (2 * k) ∷ []) (tests d (Some 0))
-            (v ∙ ap (λ o. ready (Ordered (2 * k) ∷ []) (side_of s (tests d o))) u) u (refl, inl (refl, refl))
+            (v ∙ ap (λ o. side_at (Ordered (2 * k) ∷ []) (side_of s (tests d o))) u) u (refl, inl (refl, refl))
         | inr u ↦ one s (while k e body) done x (Ordered (2 * k) ∷ []) (tests d None)
-            (v ∙ ap (λ o. ready (Ordered (2 * k) ∷ []) (side_of s (tests d o))) u) u (refl, inr (refl, refl))
+            (v ∙ ap (λ o. side_at (Ordered (2 * k) ∷ []) (side_of s (tests d o))) u) u (refl, inr (refl, refl))
       ]
       | inr v ↦ absurd v
     ]
@@ -164,22 +164,22 @@ sound s (test d arms) x h =
     elim h [
       | inl v ↦ elim (some-or-none (decide s d)) [
         | inl u ↦ one s (test d arms) (within 1 (arm_at arms u.0) done) x (Ordered 0 ∷ []) (tests d (Some u.0))
-            (v ∙ ap (λ o. ready (Ordered 0 ∷ []) (side_of s (tests d o))) u.1) u.1 (refl, inl (u.0, refl, refl))
+            (v ∙ ap (λ o. side_at (Ordered 0 ∷ []) (side_of s (tests d o))) u.1) u.1 (refl, inl (u.0, refl, refl))
         | inr u ↦ one s (test d arms) done x (Ordered 0 ∷ []) (tests d None)
-            (v ∙ ap (λ o. ready (Ordered 0 ∷ []) (side_of s (tests d o))) u) u (refl, inr (refl, refl))
+            (v ∙ ap (λ o. side_at (Ordered 0 ∷ []) (side_of s (tests d o))) u) u (refl, inr (refl, refl))
       ]
       | inr v ↦ absurd v
     ]
 sound s (choose channels arms) x h =
     let o = opens-in 0 x channels h in
     one s (choose channels arms) (within 1 (opened o.channel None (arm_at arms o.number)) (closing o.channel)) x (Ordered 0 ∷ []) (opens o.channel o.number None)
-    (o.is ∙ ap (λ n. ready (Ordered 0 ∷ []) (Opens o.channel n)) (let e : 0 + o.number ≡ o.number = omega arith in e)) tt (refl, o.channel, o.number, None, o.there, refl, refl)
+    (o.is ∙ ap (λ n. side_at (Ordered 0 ∷ []) (Opens o.channel n)) (let e : 0 + o.number ≡ o.number = omega arith in e)) tt (refl, o.channel, o.number, None, o.there, refl, refl)
 sound s (closing c) x h = elim h [ inl v ↦ one s (closing c) done x (Ordered 2 ∷ []) (closes c) v tt (refl, refl, refl) | inr v ↦ absurd v ]
 sound s (drain c k) x h = elim h [ inl v ↦ one s (drain c k) (drain c (k + 1)) x (Ordered k ∷ []) (receives c None) v tt (refl, refl, refl) | inr v ↦ absurd v ]
 
 -- the list of a residual's sides is exactly what it offers
-pub exactly : (s : Store) (r : Residual) (x : Ready) → In x (offers s r) ↔ Offered (state r s) x
+pub exactly : (s : Store) (r : Residual) (x : OfferedSide) → In x (sides_of_residual s r) ↔ Offered (state r s) x
 exactly s r x = (
   sound s r x,
-  λ o. subst (λ (v : Side). In (ready x.place v) (offers s r)) (sym o.shown) (complete s r x.place o.move o.after o.possible o.decided),
+  λ o. subst (λ (v : Side). In (side_at x.place v) (sides_of_residual s r)) (sym o.shown) (complete s r x.place o.move o.after o.possible o.decided),
 )

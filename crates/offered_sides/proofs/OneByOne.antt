@@ -14,7 +14,7 @@ use Rattle.process_tree.specs.View.{code_view}
 use Rattle.process_tree.specs.declared.code.Code.{Code}
 use Rattle.process_tree.proofs.Tidy.{all-unmoved}
 use Rattle.offered_sides.specs.walking.Listed.{behind, Listing, nothing, at_work, one_after, both, listed, listed_sequence, listed_parallel}
-use Rattle.offered_sides.specs.declared.side.Ready.{Ready}
+use Rattle.offered_sides.specs.declared.side.OfferedSide.{OfferedSide}
 
 -- what is not finished is not finished
 not-over : {A : Type 0} → false ≡ true → A
@@ -31,7 +31,7 @@ after-nothing i x rest h e = pick x.over h e
 both-nothing : (k : ℕ) (x rest : Listing) → (x.over ≡ true → x.sides ≡ []) → (rest.over ≡ true → rest.sides ≡ []) → (both k x rest).over ≡ true → (both k x rest).sides ≡ []
 both-nothing k x rest h g e =
     let parts = and_parts x.over rest.over e in
-    ap₂ (λ (a b : List Ready). behind (Branch k) a ++ b) (h parts.0) (g parts.1)
+    ap₂ (λ (a b : List OfferedSide). behind (Branch k) a ++ b) (h parts.0) (g parts.1)
 
 mutual
   -- nothing is listed of what is finished

@@ -26,9 +26,9 @@ use Rattle.process_tree.specs.declared.proc.Tested as made_tested
 use Rattle.process_tree.specs.declared.proc.Tested.{Tested}
 use Rattle.process_tree.specs.declared.proc.Gate.TheFolds.{the_lemmas}
 use Rattle.process_tree.proofs.Views.{code_in_turn}
-use Rattle.offered_sides.specs.walking.Listed.{ready, behind, again_at, Listing, nothing, at_work, one_after, listed, listed_sequence, listed_parallel}
+use Rattle.offered_sides.specs.walking.Listed.{side_at, behind, again_at, Listing, nothing, at_work, one_after, listed, listed_sequence, listed_parallel}
 use Rattle.offered_sides.specs.walking.Walk.{Walk, added, lists, lists_at}
-use Rattle.offered_sides.specs.declared.side.Ready.{Ready}
+use Rattle.offered_sides.specs.declared.side.OfferedSide.{OfferedSide}
 use Rattle.offered_sides.specs.declared.side.Side.TheVariants.{Closes}
 use Rattle.offered_sides.proofs.Walks.{added-none, added-both}
 use Rattle.offered_sides.proofs.OneByOne.{over-nothing, step-over, step-here, none-last}
@@ -36,7 +36,7 @@ use Rattle.offered_sides.proofs.OneByOne.{over-nothing, step-over, step-here, no
 -- a child that is finished leaves the walk as it was
 pub passed : (s : Store) (p : Proc) (j : ℕ) (w v : Walk) (b : Bool) → v ≡ lists_at (Ordered j) s p w → b ≡ (listed s w.received p).over → b ≡ true → v ≡ w
 passed s p j w v b e o t =
-    e ∙ ap (λ (l : List Ready). added (behind (Ordered j) l) w) (over-nothing s w.received p (sym o ∙ t)) ∙ added-none w
+    e ∙ ap (λ (l : List OfferedSide). added (behind (Ordered j) l) w) (over-nothing s w.received p (sym o ∙ t)) ∙ added-none w
 
 -- what is left of a sequence after one of its children
 pub record Onwards (s : Store) (start v : Walk) (m from : ℕ) (ps : Procs) : Type 0 where
@@ -132,10 +132,10 @@ opened-view ds cs c v over q = search (rules, the_lemmas)
 pub taken-sides : (s : Store) (d : Decision) (cs : Codes) (j : ℕ) (t : Tested) (q : Box made.Proc) (p : made.Proc) (w v : Walk) → t ≡ made_tested.Took j q → p ≡ q.value
     → v ≡ lists_at (Ordered 1) s (proc_view p) w → v ≡ lists s (tested_view t d cs) w
 taken-sides s d cs j t q p w v is here e =
-    e ∙ ap (λ (l : List Ready). added l w) (only (listed s w.received (proc_view p)) (over-nothing s w.received (proc_view p)))
+    e ∙ ap (λ (l : List OfferedSide). added l w) (only (listed s w.received (proc_view p)) (over-nothing s w.received (proc_view p)))
     ∙ sym (ap (λ (x : Proc). lists s x w) (ap (λ (z : Tested). tested_view z d cs) is ∙ took-view d cs j q ∙ ap (λ (z : made.Proc). took d cs j (proc_view z)) (sym here)))
   where
-    pick : (b : Bool) (l : List Ready) → (b ≡ true → l ≡ []) → behind (Ordered 1) l ≡ (cond b nothing (at_work (behind (Ordered 1) l))).sides
+    pick : (b : Bool) (l : List OfferedSide) → (b ≡ true → l ≡ []) → behind (Ordered 1) l ≡ (cond b nothing (at_work (behind (Ordered 1) l))).sides
     pick true l h = ap (behind (Ordered 1)) (h refl)
     pick false l h = refl
 
@@ -165,9 +165,9 @@ turn-again s w v u n m j g c q over b f e k o t a next =
 -- an arm whose body is finished is closed
 pub arm-close : (s : Store) (w v u : Walk) (ds : List ℕ) (cs : Codes) (c : ℕ) (x : Option Word) (q : Proc) (over b : Bool) → over ≡ false
     → v ≡ added (behind (Ordered 1) (listed s (with_value c x w.received) q).sides) w → b ≡ (listed s (with_value c x w.received) q).over → b ≡ true
-    → u ≡ added (ready (Ordered 2 ∷ []) (Closes c) ∷ []) v → u ≡ lists s (opened_of over ds cs c x q) w
+    → u ≡ added (side_at (Ordered 2 ∷ []) (Closes c) ∷ []) v → u ≡ lists s (opened_of over ds cs c x q) w
 arm-close s w v u ds cs c x q over b f e o t a =
-    a ∙ ap (added (ready (Ordered 2 ∷ []) (Closes c) ∷ []))
-    (e ∙ ap (λ (l : List Ready). added (behind (Ordered 1) l) w) (over-nothing s (with_value c x w.received) q (sym o ∙ t)) ∙ added-none w)
-    ∙ sym (ap (λ b. added (cond b (at_work (ready (Ordered 2 ∷ []) (Closes c) ∷ [])) (at_work (behind (Ordered 1) (listed s (with_value c x w.received) q).sides))).sides w) (sym o ∙ t))
+    a ∙ ap (added (side_at (Ordered 2 ∷ []) (Closes c) ∷ []))
+    (e ∙ ap (λ (l : List OfferedSide). added (behind (Ordered 1) l) w) (over-nothing s (with_value c x w.received) q (sym o ∙ t)) ∙ added-none w)
+    ∙ sym (ap (λ b. added (cond b (at_work (side_at (Ordered 2 ∷ []) (Closes c) ∷ [])) (at_work (behind (Ordered 1) (listed s (with_value c x w.received) q).sides))).sides w) (sym o ∙ t))
     ∙ sym (ap (λ z. lists s (opened_of z ds cs c x q) w) f)

@@ -17,8 +17,8 @@ use Rattle.calculus.specs.WellFormed.{WellFormed}
 use Rattle.calculus.proofs.Kept.{branches-place}
 use Rattle.calculus.proofs.Lists.{every-of}
 use Rattle.offered_sides.specs.Sides.{NotBehind}
-use Rattle.offered_sides.specs.walking.Listed.{ready, behind, opens_from, offers}
-use Rattle.offered_sides.specs.declared.side.Ready.{Ready}
+use Rattle.offered_sides.specs.walking.Listed.{side_at, behind, open_sides, sides_of_residual}
+use Rattle.offered_sides.specs.declared.side.OfferedSide.{OfferedSide}
 use Rattle.offered_sides.specs.declared.side.Side.TheVariants.{Opens}
 use Rattle.offered_sides.proofs.Exactly.{behind-in, sound}
 
@@ -31,11 +31,11 @@ no-first Greater h = cc
 same-entry : (x : Entry) (a b : Place) → order_of (x ∷ a) (x ∷ b) ≡ order_of a b
 same-entry x a b = ap (λ o. ordering_then o (order_of a b)) (no-first (entry_order x x) (order-itself (x ∷ [])))
 
-behind-every : (x : Entry) (r : Ready) (rs : List Ready) → Every (NotBehind r) rs → Every (NotBehind (ready (x ∷ r.place) r.side)) (behind x rs)
+behind-every : (x : Entry) (r : OfferedSide) (rs : List OfferedSide) → Every (NotBehind r) rs → Every (NotBehind (side_at (x ∷ r.place) r.side)) (behind x rs)
 behind-every x r [] h = tt
 behind-every x r (y ∷ rs) h = (λ e. h.0 (sym (same-entry x r.place y.place) ∙ e), behind-every x r rs h.1)
 
-behind-order : (x : Entry) (rs : List Ready) → InOrder NotBehind rs → InOrder NotBehind (behind x rs)
+behind-order : (x : Entry) (rs : List OfferedSide) → InOrder NotBehind rs → InOrder NotBehind (behind x rs)
 behind-order x [] h = tt
 behind-order x (r ∷ rs) h = (behind-every x r rs h.0, behind-order x rs h.1)
 
@@ -59,26 +59,26 @@ lesser-branch : (k n : ℕ) (a b c d : Place) → a ≡ Branch k ∷ c → b ≡
 lesser-branch k n a b c d e f l g =
     lesser (nat_cmp k n) (order_of c d) k n (ranked k n (nat_cmp k n) refl) (omega (arith, l)) (sym (λ i. order_of (e i) (f i)) ∙ g)
 
-opens-every : (k j c : ℕ) (channels : List ℕ) → Every (NotBehind (ready (Ordered 0 ∷ []) (Opens c j))) (opens_from k channels)
+opens-every : (k j c : ℕ) (channels : List ℕ) → Every (NotBehind (side_at (Ordered 0 ∷ []) (Opens c j))) (open_sides k channels)
 opens-every k j c [] = tt
 opens-every k j c (d ∷ ds) = (λ e. absurd (never e), opens-every (suc k) j c ds)
   where
     never : Equal ≡ Greater → ⊥
     never e = cc
 
-opens-order : (k : ℕ) (channels : List ℕ) → InOrder NotBehind (opens_from k channels)
+opens-order : (k : ℕ) (channels : List ℕ) → InOrder NotBehind (open_sides k channels)
 opens-order k [] = tt
 opens-order k (c ∷ cs) = (opens-every (suc k) k c cs, opens-order (suc k) cs)
 
 -- the sides of a residual stand in order
-pub in-place-order : (s : Store) (r : Residual) → WellFormed r → InOrder NotBehind (offers s r)
+pub in-place-order : (s : Store) (r : Residual) → WellFormed r → InOrder NotBehind (sides_of_residual s r)
 in-place-order s done w = tt
 in-place-order s halted w = tt
-in-place-order s (inside i child next) w = behind-order (Ordered i) (offers s child) (in-place-order s child w.0)
+in-place-order s (inside i child next) w = behind-order (Ordered i) (sides_of_residual s child) (in-place-order s child w.0)
 in-place-order s (beside k child rest) w =
-    order-both NotBehind (behind (Branch k) (offers s child)) (offers s rest) (behind-order (Branch k) (offers s child) (in-place-order s child w.0)) (in-place-order s rest w.1)
+    order-both NotBehind (behind (Branch k) (sides_of_residual s child)) (sides_of_residual s rest) (behind-order (Branch k) (sides_of_residual s child) (in-place-order s child w.0)) (in-place-order s rest w.1)
     (λ x i y j.
-    let here = behind-in (Branch k) x (offers s child) i in
+    let here = behind-in (Branch k) x (sides_of_residual s child) i in
     let there = sound s rest y j in
     let d = branches-place (k + 1) rest y.place there.move there.after w.2 w.1 there.possible in
     lesser-branch k d.number x.place y.place here.rest d.rest here.is d.is d.from)

@@ -14,33 +14,33 @@ use Rattle.process_tree.specs.walking.Received.{puts_guard}
 use Rattle.process_tree.proofs.Formed.{finished-left, left-formed}
 use Rattle.process_tree.proofs.Puts.{puts-once, puts-sender, puts-again, puts-test, puts-choose}
 use Rattle.offered_sides.specs.Sides.{NotBehind, Offered, OffersExactly}
-use Rattle.offered_sides.specs.walking.Listed.{behind, again_at, offers, Listing, nothing, at_work, one_after, both, listed, listed_sequence, listed_parallel}
+use Rattle.offered_sides.specs.walking.Listed.{behind, again_at, sides_of_residual, Listing, nothing, at_work, one_after, both, listed, listed_sequence, listed_parallel}
 use Rattle.offered_sides.specs.walking.Walk.{Walk, below, lists}
-use Rattle.offered_sides.specs.declared.side.Ready.{Ready}
+use Rattle.offered_sides.specs.declared.side.OfferedSide.{OfferedSide}
 use Rattle.offered_sides.proofs.Exactly.{state, exactly}
 use Rattle.offered_sides.proofs.PlaceOrder.{in-place-order}
 
 -- what is listed, and whether it is over
-abbrev listing : List Ready → Bool → Listing
+abbrev listing : List OfferedSide → Bool → Listing
 listing rs b = record { sides = rs; over = b }
 
 -- a sequence offers what its child does, or the rest where that is done
-within-offers : (s : Store) (i : ℕ) (r rest : Residual) → offers s (within i r rest) ≡ cond (is_done r) (offers s rest) (behind (Ordered i) (offers s r))
-within-offers s i done rest = refl
-within-offers s i r rest = refl
+within-sides_of_residual : (s : Store) (i : ℕ) (r rest : Residual) → sides_of_residual s (within i r rest) ≡ cond (is_done r) (sides_of_residual s rest) (behind (Ordered i) (sides_of_residual s r))
+within-sides_of_residual s i done rest = refl
+within-sides_of_residual s i r rest = refl
 
 -- a parallel what its branch does, and the rest
-along-offers : (s : Store) (k : ℕ) (r rest : Residual) → offers s (along k r rest) ≡ behind (Branch k) (offers s r) ++ offers s rest
-along-offers s k done rest = refl
-along-offers s k r rest = refl
+along-sides_of_residual : (s : Store) (k : ℕ) (r rest : Residual) → sides_of_residual s (along k r rest) ≡ behind (Branch k) (sides_of_residual s r) ++ sides_of_residual s rest
+along-sides_of_residual s k done rest = refl
+along-sides_of_residual s k r rest = refl
 
 -- so they are listed
 after-is : (s : Store) (i : ℕ) (r rest : Residual) (b c : Bool) → is_done r ≡ b
-    → one_after i (listing (offers s r) b) (listing (offers s rest) c) ≡ listing (offers s (within i r rest)) (b && c)
+    → one_after i (listing (sides_of_residual s r) b) (listing (sides_of_residual s rest) c) ≡ listing (sides_of_residual s (within i r rest)) (b && c)
 after-is s i r rest true c e =
-    ap (λ l. listing l c) (sym (within-offers s i r rest ∙ ap (λ b. cond b (offers s rest) (behind (Ordered i) (offers s r))) e))
+    ap (λ l. listing l c) (sym (within-sides_of_residual s i r rest ∙ ap (λ b. cond b (sides_of_residual s rest) (behind (Ordered i) (sides_of_residual s r))) e))
 after-is s i r rest false c e =
-    ap (λ l. listing l false) (sym (within-offers s i r rest ∙ ap (λ b. cond b (offers s rest) (behind (Ordered i) (offers s r))) e))
+    ap (λ l. listing l false) (sym (within-sides_of_residual s i r rest ∙ ap (λ b. cond b (sides_of_residual s rest) (behind (Ordered i) (sides_of_residual s r))) e))
 
 and-false : (b : Bool) → (b && false) ≡ false
 and-false true = refl
@@ -51,12 +51,12 @@ and-true true = refl
 and-true false = refl
 
 -- a loop
-again-offers : (s : Store) (n : ℕ) (g : Option Expression) (r : Residual) → offers s (again n g r) ≡ again_at s n g
-again-offers s n None r = refl
-again-offers s n (Some e) r = refl
+again-sides_of_residual : (s : Store) (n : ℕ) (g : Option Expression) (r : Residual) → sides_of_residual s (again n g r) ≡ again_at s n g
+again-sides_of_residual s n None r = refl
+again-sides_of_residual s n (Some e) r = refl
 
-puts-again-offers : (s : Store) (env : Received) (n : ℕ) (g : Option Expression) (c : Code) → again_at s n (puts_guard env g) ≡ offers s (puts env (again n g (residual c)))
-puts-again-offers s env n g c = sym (ap (offers s) (puts-again env n g (residual c)) ∙ again-offers s n (puts_guard env g) (puts env (residual c)))
+puts-again-sides_of_residual : (s : Store) (env : Received) (n : ℕ) (g : Option Expression) (c : Code) → again_at s n (puts_guard env g) ≡ sides_of_residual s (puts env (again n g (residual c)))
+puts-again-sides_of_residual s env n g c = sym (ap (sides_of_residual s) (puts-again env n g (residual c)) ∙ again-sides_of_residual s n (puts_guard env g) (puts env (residual c)))
 
 -- what is listed of a child that is finished only where it is over
 over-is : (b c : Bool) → (b ≡ false → c ≡ false) → c ≡ true → b ≡ true
@@ -65,32 +65,32 @@ over-is false c h e = absurd (true≢false (sym e ∙ h refl))
 
 module _ (s : Store) where
   mutual
-    pub walked : (p : Proc) → Tidy p → (env : Received) → listed s env p ≡ listing (offers s (left env p)) (finished p)
+    pub walked : (p : Proc) → Tidy p → (env : Received) → listed s env p ≡ listing (sides_of_residual s (left env p)) (finished p)
     walked idle t env = refl
     walked stopped t env = refl
     walked (once o true) t env = refl
-    walked (once o false) t env = ap at_work (sym (ap (offers s) (puts-once env o)))
-    walked (sender x waiting) t env = ap at_work (sym (ap (offers s) (puts-sender env x)))
+    walked (once o false) t env = ap at_work (sym (ap (sides_of_residual s) (puts-once env o)))
+    walked (sender x waiting) t env = ap at_work (sym (ap (sides_of_residual s) (puts-sender env x)))
     walked (sender x holding) t env = refl
     walked (sender x past) t env = refl
-    walked (fresh g c) t env = ap at_work (puts-again-offers s env 0 g c)
+    walked (fresh g c) t env = ap at_work (puts-again-sides_of_residual s env 0 g c)
     walked (turn g c n q) t env =
-        ap₂ (λ (x y : Listing). one_after (2 * n + 1) x y) (walked q t env) (ap at_work (puts-again-offers s env (n + 1) g c))
+        ap₂ (λ (x y : Listing). one_after (2 * n + 1) x y) (walked q t env) (ap at_work (puts-again-sides_of_residual s env (n + 1) g c))
         ∙ after-is s (2 * n + 1) (left env q) (puts env (again (n + 1) g (residual c))) (finished q) false (finished-left q env)
-        ∙ ap (listing (offers s (left env (turn g c n q)))) (and-false (finished q))
+        ∙ ap (listing (sides_of_residual s (left env (turn g c n q)))) (and-false (finished q))
     walked (ended_at_once g c) t env = refl
     walked (ended g c n q) t env = refl
-    walked (untested d cs) t env = ap at_work (sym (ap (offers s) (puts-test env d (residual_arms cs))))
+    walked (untested d cs) t env = ap at_work (sym (ap (sides_of_residual s) (puts-test env d (residual_arms cs))))
     walked (skipped d cs) t env = refl
     walked (took d cs j q) t env =
         ap (λ (x : Listing). one_after 1 x nothing) (walked q t env)
         ∙ after-is s 1 (left env q) done (finished q) true (finished-left q env)
-        ∙ ap (listing (offers s (left env (took d cs j q)))) (and-true (finished q))
-    walked (unopened ds cs) t env = ap at_work (sym (ap (offers s) (puts-choose env ds (residual_arms cs))))
+        ∙ ap (listing (sides_of_residual s (left env (took d cs j q)))) (and-true (finished q))
+    walked (unopened ds cs) t env = ap at_work (sym (ap (sides_of_residual s) (puts-choose env ds (residual_arms cs))))
     walked (entered ds cs c v q) t env =
-        ap (λ (x : Listing). one_after 1 x (at_work (offers s (closing c)))) (walked q t (with_value c v env))
+        ap (λ (x : Listing). one_after 1 x (at_work (sides_of_residual s (closing c)))) (walked q t (with_value c v env))
         ∙ after-is s 1 (left (with_value c v env) q) (closing c) (finished q) false (finished-left q (with_value c v env))
-        ∙ ap (listing (offers s (left env (entered ds cs c v q)))) (and-false (finished q))
+        ∙ ap (listing (sides_of_residual s (left env (entered ds cs c v q)))) (and-false (finished q))
     walked (closed ds cs c v q) t env = refl
     walked (sequence ps) t env = skipping ps t env 0 ∙ walked-sequence ps t env 0
     walked (parallel ps) t env = walked-parallel ps t env 0
@@ -107,39 +107,39 @@ module _ (s : Store) where
           | false ↦ λ e. refl
         ] refl
 
-    walked-sequence : (ps : Procs) → TidyInTurn ps → (env : Received) (n : ℕ) → listed_sequence s env zero n ps ≡ listing (offers s (left_sequence env n ps)) (all_finished ps)
+    walked-sequence : (ps : Procs) → TidyInTurn ps → (env : Received) (n : ℕ) → listed_sequence s env zero n ps ≡ listing (sides_of_residual s (left_sequence env n ps)) (all_finished ps)
     walked-sequence no_procs t env n = refl
     walked-sequence (proc p ps) t env n =
         ap₂ (λ (x y : Listing). one_after n x y) (walked p t.0 env) (walked-sequence ps t.1 env (n + 1))
         ∙ after-is s n (left env p) (left_sequence env (n + 1) ps) (finished p) (all_finished ps) (finished-left p env)
 
-    walked-parallel : (ps : Procs) → TidySideBySide ps → (env : Received) (n : ℕ) → listed_parallel s env n ps ≡ listing (offers s (left_parallel env n ps)) (all_finished ps)
+    walked-parallel : (ps : Procs) → TidySideBySide ps → (env : Received) (n : ℕ) → listed_parallel s env n ps ≡ listing (sides_of_residual s (left_parallel env n ps)) (all_finished ps)
     walked-parallel no_procs t env n = refl
     walked-parallel (proc p ps) t env n =
         ap₂ (λ (x y : Listing). both n x y) (walked p t.0 env) (walked-parallel ps t.1 env (n + 1))
-        ∙ ap (λ l. listing l (finished p && all_finished ps)) (sym (along-offers s n (left env p) (left_parallel env (n + 1) ps)))
+        ∙ ap (λ l. listing l (finished p && all_finished ps)) (sym (along-sides_of_residual s n (left env p) (left_parallel env (n + 1) ps)))
 
   -- of a tidy process that stands alone exactly what is left of it offers is listed
-  pub offers-exactly : (p : Proc) (rs : List Ready) → Tidy p → rs ≡ (listed s [] p).sides → OffersExactly (state (left [] p) s) rs
+  pub offers-exactly : (p : Proc) (rs : List OfferedSide) → Tidy p → rs ≡ (listed s [] p).sides → OffersExactly (state (left [] p) s) rs
   offers-exactly p rs t e =
-      let same : rs ≡ offers s (left [] p) = e ∙ ap (λ (x : Listing). x.sides) (walked p t []) in
+      let same : rs ≡ sides_of_residual s (left [] p) = e ∙ ap (λ (x : Listing). x.sides) (walked p t []) in
       record {
         formed = left-formed p [];
-        exactly = λ x. subst (λ (l : List Ready). In x l ↔ Offered (state (left [] p) s) x) (sym same) (exactly s (left [] p) x);
+        exactly = λ x. subst (λ (l : List OfferedSide). In x l ↔ Offered (state (left [] p) s) x) (sym same) (exactly s (left [] p) x);
       }
 
   -- in the order of their places
-  pub offers-in-order : (p : Proc) (rs : List Ready) → Tidy p → rs ≡ (listed s [] p).sides → InOrder NotBehind rs
+  pub offers-in-order : (p : Proc) (rs : List OfferedSide) → Tidy p → rs ≡ (listed s [] p).sides → InOrder NotBehind rs
   offers-in-order p rs t e =
-      subst (λ (l : List Ready). InOrder NotBehind l) (sym (e ∙ ap (λ (x : Listing). x.sides) (walked p t []))) (in-place-order s (left [] p) (left-formed p []))
+      subst (λ (l : List OfferedSide). InOrder NotBehind l) (sym (e ∙ ap (λ (x : Listing). x.sides) (walked p t []))) (in-place-order s (left [] p) (left-formed p []))
 
 -- below the root sides stand where they are
-below-root : (rs : List Ready) → below [] rs ≡ rs
+below-root : (rs : List OfferedSide) → below [] rs ≡ rs
 below-root [] = refl
 below-root (r ∷ rs) = ap (λ l. r ∷ l) (below-root rs)
 
 -- a walk from the root finds what is listed
-pub found-is : (s t : Store) (p q : Proc) (w v : Walk) (rs : List Ready) → w ≡ record { place = []; received = []; sides = [] } → v ≡ lists t q w → t ≡ s → q ≡ p → rs ≡ v.sides
+pub found-is : (s t : Store) (p q : Proc) (w v : Walk) (rs : List OfferedSide) → w ≡ record { place = []; received = []; sides = [] } → v ≡ lists t q w → t ≡ s → q ≡ p → rs ≡ v.sides
     → rs ≡ (listed s [] p).sides
 found-is s t p q w v rs e h f g is =
     is ∙ ap (λ (x : Walk). x.sides) (h ∙ (λ i. lists (f i) (g i) (e i))) ∙ below-root (listed s [] p).sides

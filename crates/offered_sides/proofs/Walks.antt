@@ -6,13 +6,13 @@ use Rattle.system.specs.Expression.{Expression, Decision, by_guards, put_decisio
 use Rattle.calculus.specs.Moves.{Place}
 use Rattle.process_tree.specs.Left.{Received}
 use Rattle.process_tree.specs.walking.Received.{puts_value, puts_decision}
-use Rattle.offered_sides.specs.walking.Listed.{ready, behind}
+use Rattle.offered_sides.specs.walking.Listed.{side_at, behind}
 use Rattle.offered_sides.specs.walking.Walk.{Walk, below, added, down, up, without_last, outside, received_onto, put_each, put_each_decision}
 use Rattle.offered_sides.specs.declared.around.Arrived.{Arrived}
-use Rattle.offered_sides.specs.declared.side.Ready.{Ready}
+use Rattle.offered_sides.specs.declared.side.OfferedSide.{OfferedSide}
 
 -- walks with the same parts
-pub walk-is : (a b : Place) (r t : Received) (xs ys : List Ready) → a ≡ b → r ≡ t → xs ≡ ys
+pub walk-is : (a b : Place) (r t : Received) (xs ys : List OfferedSide) → a ≡ b → r ≡ t → xs ≡ ys
     → ◌≡◌ {A = Walk} (record { place = a; received = r; sides = xs }) (record { place = b; received = t; sides = ys })
 walk-is a b r t xs ys e f g = λ i. record { place = e i; received = f i; sides = g i }
 
@@ -23,16 +23,16 @@ last-gone (y ∷ []) x = refl
 last-gone (y ∷ z ∷ xs) x = ap (λ l. y ∷ l) (last-gone (z ∷ xs) x)
 
 -- below a place and an entry
-pub below-behind : (p : Place) (x : Entry) (rs : List Ready) → below (p ++ x ∷ []) rs ≡ below p (behind x rs)
+pub below-behind : (p : Place) (x : Entry) (rs : List OfferedSide) → below (p ++ x ∷ []) rs ≡ below p (behind x rs)
 below-behind p x [] = refl
-below-behind p x (r ∷ rs) = ap₂ (λ (a : Place) (l : List Ready). ready a r.side ∷ l) (append_assoc p (x ∷ []) r.place) (below-behind p x rs)
+below-behind p x (r ∷ rs) = ap₂ (λ (a : Place) (l : List OfferedSide). side_at a r.side ∷ l) (append_assoc p (x ∷ []) r.place) (below-behind p x rs)
 
-pub below-both : (p : Place) (xs ys : List Ready) → below p (xs ++ ys) ≡ below p xs ++ below p ys
+pub below-both : (p : Place) (xs ys : List OfferedSide) → below p (xs ++ ys) ≡ below p xs ++ below p ys
 below-both p [] ys = refl
-below-both p (x ∷ xs) ys = ap (λ l. ready (p ++ x.place) x.side ∷ l) (below-both p xs ys)
+below-both p (x ∷ xs) ys = ap (λ l. side_at (p ++ x.place) x.side ∷ l) (below-both p xs ys)
 
 -- down, with more sides, and up again
-pub through : (x : Entry) (rs : List Ready) (w : Walk) → up (added rs (down x w)) ≡ added (behind x rs) w
+pub through : (x : Entry) (rs : List OfferedSide) (w : Walk) → up (added rs (down x w)) ≡ added (behind x rs) w
 through x rs w = walk-is (without_last (w.place ++ x ∷ [])) w.place w.received w.received _ _ (last-gone w.place x) refl (ap (λ l. w.sides ++ l) (below-behind w.place x rs))
 
 -- nothing more
@@ -40,15 +40,15 @@ pub added-none : (w : Walk) → added [] w ≡ w
 added-none w = walk-is w.place w.place w.received w.received (w.sides ++ []) w.sides refl refl (append-nil w.sides)
 
 -- more, and more again
-pub added-both : (xs ys : List Ready) (w : Walk) → added ys (added xs w) ≡ added (xs ++ ys) w
+pub added-both : (xs ys : List OfferedSide) (w : Walk) → added ys (added xs w) ≡ added (xs ++ ys) w
 added-both xs ys w =
     walk-is w.place w.place w.received w.received _ _ refl refl
     (append_assoc w.sides (below w.place xs) (below w.place ys) ∙ ap (λ l. w.sides ++ l) (sym (below-both w.place xs ys)))
 
 -- one side at the own place
-pub added-here : (r : Ready) (w : Walk) → added (ready [] r.side ∷ []) w ≡ record { place = w.place; received = w.received; sides = w.sides ++ ready w.place r.side ∷ [] }
+pub added-here : (r : OfferedSide) (w : Walk) → added (side_at [] r.side ∷ []) w ≡ record { place = w.place; received = w.received; sides = w.sides ++ side_at w.place r.side ∷ [] }
 added-here r w =
-    walk-is w.place w.place w.received w.received _ _ refl refl (ap (λ (a : Place). w.sides ++ ready a r.side ∷ []) (append-nil w.place))
+    walk-is w.place w.place w.received w.received _ _ refl refl (ap (λ (a : Place). w.sides ++ side_at a r.side ∷ []) (append-nil w.place))
 
 -- what came last stands first
 pub received_last : (env : Received) (vs : List Arrived) (a : Arrived) → received_onto env (vs ++ a ∷ []) ≡ (a.channel, a.value) ∷ received_onto env vs

@@ -9,7 +9,7 @@ use Rattle.calculus.specs.Moves.{Move, Local, assigns, tests, turns, sends, rece
 use Rattle.calculus.specs.Events.{sent}
 use Rattle.calculus.specs.Steps.{State}
 use Rattle.calculus.specs.WellFormed.{WellFormed}
-use Rattle.offered_sides.specs.declared.side.Ready.{Ready}
+use Rattle.offered_sides.specs.declared.side.OfferedSide.{OfferedSide}
 use Rattle.offered_sides.specs.declared.side.Side.{Side}
 use Rattle.offered_sides.specs.declared.side.Side.TheVariants.{Assigns, Tests, Turns, Sends, Receives, Syncs, Opens, Releases, Closes}
 
@@ -31,7 +31,7 @@ Decided s (tests d k) = decide s d ≡ k
 Decided s m = Unit {0}
 
 -- the state offers this side at the place: a local move is possible there, which is that side
-pub record Offered (S : State) (x : Ready) : Type 0 where
+pub record Offered (S : State) (x : OfferedSide) : Type 0 where
   pub move : Move
   pub after : Residual
   pub possible : Local S.residual x.place move after
@@ -39,10 +39,10 @@ pub record Offered (S : State) (x : Ready) : Type 0 where
   pub shown : x.side ≡ side_of S.store move
 
 -- the place of x is not behind that of y in the order of addresses
-abbrev pub NotBehind : Ready → Ready → Type 0
+abbrev pub NotBehind : OfferedSide → OfferedSide → Type 0
 NotBehind x y = order_of x.place y.place ≡ Greater → ⊥
 
 -- the state is one of runs, as far as its places go, and offers exactly these sides
-pub record OffersExactly (S : State) (sides : List Ready) : Type 0 where
+pub record OffersExactly (S : State) (sides : List OfferedSide) : Type 0 where
   pub formed : WellFormed S.residual
-  pub exactly : (x : Ready) → In x sides ↔ Offered S x
+  pub exactly : (x : OfferedSide) → In x sides ↔ Offered S x

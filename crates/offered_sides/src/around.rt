@@ -3,10 +3,10 @@ ghost use Rattle.std.specs.Prelude.{◌≡◌, [], ◌∷◌, ◌^◌, ◌≤◌
 ghost use Rattle.system.specs.Translation.{expression_of, decision_of};
 ghost use Rattle.process_tree.specs.Left.{with_value};
 ghost use Rattle.process_tree.specs.walking.Received.{puts_value, puts_decision};
-ghost use Rattle.offered_sides.specs.walking.Listed.{ready};
+ghost use Rattle.offered_sides.specs.walking.Listed.{side_at};
 ghost use Rattle.offered_sides.specs.walking.Walk.{added, down, up, within_arm, outside, put_each, put_each_decision};
 
-use crate::side::{Ready, Side};
+use crate::side::{OfferedSide, Side};
 use address::{Address, Entry};
 use std::alloc::{AllocError, Global};
 use std::marker::Model;
@@ -27,7 +27,7 @@ pub struct Around {
     entries: Items<Entry>,
     /// the outermost first
     arrived: Items<Arrived>,
-    found: Items<Ready>,
+    found: Items<OfferedSide>,
 }
 
 impl Model for Around {
@@ -52,7 +52,7 @@ impl Around {
     }
 
     /// What was found.
-    pub fn into_found(self) -> Items<Ready>
+    pub fn into_found(self) -> Items<OfferedSide>
         ensures { result ≡ self.sides }
     {
         let Around { found, .. } = self;
@@ -125,21 +125,21 @@ impl Around {
 
     /// Adds a side at the place itself.
     pub fn add(&mut self, alloc: Global, side: Side) -> Result<(), AllocError>
-        ensures { OnOk result (self.new ≡ added (ready [] side ∷ []) self.old) }
+        ensures { OnOk result (self.new ≡ added (side_at [] side ∷ []) self.old) }
     {
         let entries = Vec::from_slice(alloc, self.entries.as_slice())?;
         let place = Address::from_vec(entries);
-        self.found.push(Ready { place, side })
+        self.found.push(OfferedSide { place, side })
     }
 
     /// Adds a side at this act of the command at the place.
     pub fn add_act(&mut self, alloc: Global, act: u64, side: Side) -> Result<(), AllocError>
-        ensures { OnOk result (self.new ≡ added (ready (Entry.Ordered act ∷ []) side ∷ []) self.old) }
+        ensures { OnOk result (self.new ≡ added (side_at (Entry.Ordered act ∷ []) side ∷ []) self.old) }
     {
         let mut entries = Vec::from_slice(alloc, self.entries.as_slice())?;
         entries.push(Entry::Ordered(small(act)?))?;
         let place = Address::from_vec(entries);
-        self.found.push(Ready { place, side })
+        self.found.push(OfferedSide { place, side })
     }
 }
 

@@ -6,7 +6,7 @@ ghost use Rattle.calculus.specs.Events.{sent};
 ghost use Rattle.process_tree.specs.Left.{residual_once, residual_sender, channel_of};
 ghost use Rattle.process_tree.specs.View.{once_view, sender_view};
 ghost use Rattle.process_tree.specs.walking.Received.{puts_value, puts_once, puts_sender, puts_guard, puts_decision};
-ghost use Rattle.offered_sides.specs.walking.Listed.{ready, offers, again_at, tested_at, opens_from};
+ghost use Rattle.offered_sides.specs.walking.Listed.{side_at, sides_of_residual, again_at, tested_at, open_sides};
 ghost use Rattle.offered_sides.specs.walking.Walk.{added};
 
 use crate::around::{Around, small};
@@ -25,7 +25,7 @@ pub fn list_once(
     values: &[Value],
     around: &mut Around,
 ) -> Result<(), AllocError>
-    ensures { OnOk result (around.new ≡ added (offers values.now (residual_once (puts_once around.old.received (once_view once.now)))) around.old) }
+    ensures { OnOk result (around.new ≡ added (sides_of_residual values.now (residual_once (puts_once around.old.received (once_view once.now)))) around.old) }
 {
     match once {
         Once::Assign(variable, width, value) => {
@@ -47,7 +47,7 @@ pub fn list_sender(
     values: &[Value],
     around: &mut Around,
 ) -> Result<(), AllocError>
-    ensures { OnOk result (around.new ≡ added (offers values.now (residual_sender (puts_sender around.old.received (sender_view sender.now)))) around.old) }
+    ensures { OnOk result (around.new ≡ added (sides_of_residual values.now (residual_sender (puts_sender around.old.received (sender_view sender.now)))) around.old) }
 {
     match sender {
         Sender::Send(channel, width, value) => {
@@ -62,7 +62,7 @@ pub fn list_sender(
 
 /// Lists a send or sync that is held.
 pub fn list_held(alloc: Global, sender: &Sender, around: &mut Around) -> Result<(), AllocError>
-    ensures { OnOk result (around.new ≡ added (ready (Entry.Ordered 1 ∷ []) (Side.Releases (channel_of (sender_view sender.now))) ∷ []) around.old) }
+    ensures { OnOk result (around.new ≡ added (side_at (Entry.Ordered 1 ∷ []) (Side.Releases (channel_of (sender_view sender.now))) ∷ []) around.old) }
 {
     match sender {
         Sender::Send(channel, _, _) => around.add_act(alloc, 1, Side::Releases(*channel)),
@@ -119,7 +119,7 @@ pub fn list_test(
 
 /// Lists arms that wait on these channels.
 pub fn list_arms(alloc: Global, channels: &[u32], around: &mut Around) -> Result<(), AllocError>
-    ensures { OnOk result (around.new ≡ added (opens_from 0 channels.now) around.old) }
+    ensures { OnOk result (around.new ≡ added (open_sides 0 channels.now) around.old) }
 {
     for (arm, channel) in channels.iter().enumerate() {
         let arm = small(arm as u64)?;
@@ -130,7 +130,7 @@ pub fn list_arms(alloc: Global, channels: &[u32], around: &mut Around) -> Result
 
 /// Lists the close of an arm that opened on this channel.
 pub fn list_close(alloc: Global, channel: u32, around: &mut Around) -> Result<(), AllocError>
-    ensures { OnOk result (around.new ≡ added (ready (Entry.Ordered 2 ∷ []) (Side.Closes channel) ∷ []) around.old) }
+    ensures { OnOk result (around.new ≡ added (side_at (Entry.Ordered 2 ∷ []) (Side.Closes channel) ∷ []) around.old) }
 {
     around.add_act(alloc, 2, Side::Closes(channel))
 }
@@ -142,7 +142,7 @@ pub fn list_drain(
     count: u64,
     around: &mut Around,
 ) -> Result<(), AllocError>
-    ensures { OnOk result (around.new ≡ added (ready (Entry.Ordered count ∷ []) (Side.Receives channel None) ∷ []) around.old) }
+    ensures { OnOk result (around.new ≡ added (side_at (Entry.Ordered count ∷ []) (Side.Receives channel None) ∷ []) around.old) }
 {
     around.add_act(alloc, count, Side::Receives(channel, None))
 }

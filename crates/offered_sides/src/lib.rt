@@ -14,5 +14,5 @@ pub use fresh::list_fresh;
 pub use leaves::{
     list_again, list_arms, list_close, list_drain, list_held, list_once, list_sender, list_test,
 };
-pub use side::{Ready, Side};
+pub use side::{OfferedSide, Side};
 pub use sides::sides_of;

@@ -23,7 +23,7 @@ pub enum Side {
 
 /// A side, and the place that offers it.
 #[derive(Drop)]
-pub struct Ready {
+pub struct OfferedSide {
     pub place: Address,
     pub side: Side,
 }

@@ -6,7 +6,7 @@ use Rattle.system.specs.Expression.{Expression, Decision}
 use Rattle.system.specs.Residual.{Residual, done, closing, drain, within, along, arm_at, put_residual, opened}
 use Rattle.calculus.specs.walking.Passed.{is_done}
 use Rattle.calculus.specs.Moves.{Place, Move, Local}
-use Rattle.calculus.specs.Asking.{answers_to}
+use Rattle.calculus.specs.Asking.{ask_of}
 use Rattle.calculus.specs.walking.After.{Answer, around, after_loop, after_while, after_test, after_open, after_assign, after_choose, after_closing, after_drain, after_held, after_receive, after_send, after_sync, after}
 use Rattle.calculus.specs.declared.ask.Ask.{Ask}
 use Rattle.calculus.specs.declared.ask.Ask.TheVariants as ask
@@ -333,14 +333,14 @@ moved (Some y) f q e = (y, refl, some-injective (f y.0) q e)
 
 -- a local move of what is left is one of the tree
 pub does : (p : Proc) (env : Received) (a : Place) (m : Move) (q : Residual) → Local (left env p) a m q
-    → (x : Moved) × (advanced p a (answers_to m) ≡ Some x) × (left env x.0 ≡ q)
+    → (x : Moved) × (advanced p a (ask_of m) ≡ Some x) × (left env x.0 ≡ q)
 does p env a m q l =
-    moved (advanced p a (answers_to m)) (left env) q
-    (sym (simulates p env a (answers_to m)) ∙ ap residual_after (found (left env p) a m q (left-formed p env) l))
+    moved (advanced p a (ask_of m)) (left env) q
+    (sym (simulates p env a (ask_of m)) ∙ ap residual_after (found (left env p) a m q (left-formed p env) l))
 
 -- a move of the tree is a local move of what is left
 pub did : (p : Proc) (env : Received) (a : Place) (k : Ask) (x : Moved) → advanced p a k ≡ Some x
-    → (m : Move) × Local (left env p) a m (left env x.0) × (answers_to m ≡ k)
+    → (m : Move) × Local (left env p) a m (left env x.0) × (ask_of m ≡ k)
 did p env a k x e =
     let d = answered (after k (left env p) a) (left env x.0) (simulates p env a k ∙ ap (left_after (left env)) e) in
     let o = only k (left env p) a d.0 (left env x.0) d.1 in

@@ -6,7 +6,7 @@ use Rattle.system.specs.Translation.{residual_of, opening_residual}
 use Rattle.system.specs.declared.command.Command.{Command}
 use Rattle.system.specs.declared.system.System.{System}
 use Rattle.calculus.specs.Moves.{Place, Move, Local}
-use Rattle.calculus.specs.Asking.{answers_to}
+use Rattle.calculus.specs.Asking.{ask_of}
 use Rattle.calculus.specs.declared.ask.Ask.{Ask}
 use Rattle.calculus.specs.WellFormed.{WellFormed}
 use Rattle.process_tree.specs.Code.{Code}
@@ -36,13 +36,13 @@ FinishedIsDone = (p : Proc) (env : Received) → (finished p ≡ true) ↔ (left
 abbrev pub OffersAreMade : Type 0
 OffersAreMade =
     (p : Proc) (env : Received) (a : Place) (m : Move) (q : Residual) → Local (left env p) a m q →
-    (x : Moved) × (advanced p a (answers_to m) ≡ Some x) × (left env x.0 ≡ q)
+    (x : Moved) × (advanced p a (ask_of m) ≡ Some x) × (left env x.0 ≡ q)
 
 -- a move that the tree makes is a local move that what is left offers, and it answers to what was asked
 abbrev pub MadeAreOffered : Type 0
 MadeAreOffered =
     (p : Proc) (env : Received) (a : Place) (k : Ask) (x : Moved) → advanced p a k ≡ Some x →
-    (m : Move) × Local (left env p) a m (left env x.0) × (answers_to m ≡ k)
+    (m : Move) × Local (left env p) a m (left env x.0) × (ask_of m ≡ k)
 
 -- a move taken back, with what it took out, gives the same process, finished processes included
 abbrev pub MovesGoBack : Type 0

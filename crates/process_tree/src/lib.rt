@@ -12,6 +12,7 @@ mod translate;
 mod tree;
 
 pub use code::{Await, Code, Decide, Once, Repeat, Row, Sender};
+pub use environment::system_code;
 pub use laws::{
     finished_is_done, left_is_formed, moves_are_local, moves_go_back, moves_keep_tidy, moves_swap,
     one_child_moves, started_has_all_left, systems_open_alike,

@@ -22,17 +22,17 @@ use Rattle.calculus.proofs.SameCommand.{SameCommand, same_command}
 use Rattle.calculus.proofs.Options.{none-some, some-injective, cond-some, cond-at}
 use Rattle.offered_sides.specs.Sides.{side_of, Decided, Offered}
 use Rattle.rendezvous.specs.walking.Meeting.{solo, met}
-use Rattle.offered_sides.specs.declared.side.Ready.{Ready}
+use Rattle.offered_sides.specs.declared.side.OfferedSide.{OfferedSide}
 use Rattle.offered_sides.specs.declared.side.Side.{Side}
 use Rattle.offered_sides.specs.declared.side.Side.TheVariants.{Assigns, Tests, Turns, Sends, Receives, Syncs, Opens, Releases, Closes}
 
 -- the event is made by sides that the state offers: by one alone, or by one that acts and its partner
 pub data BySides (S : State) (e : Event) : Type 0 where
-  alone : (x : Ready) → Offered S x → solo x.place x.side ≡ Some e → BySides S e
-  meets : (x y : Ready) → Offered S x → Offered S y → met x.place x.side y.place y.side ≡ Some e → BySides S e
+  alone : (x : OfferedSide) → Offered S x → solo x.place x.side ≡ Some e → BySides S e
+  meets : (x y : OfferedSide) → Offered S x → Offered S y → met x.place x.side y.place y.side ≡ Some e → BySides S e
 
 -- a move that is offered, with what is left after it, shows its side
-abbrev shown_as : Store → Place → Move → Ready
+abbrev shown_as : Store → Place → Move → OfferedSide
 shown_as s a m = record { place = a; side = side_of s m }
 
 shows : (S : State) (a : Place) (m : Move) → Offers S.residual (at a m) → Decided S.store m → Offered S (shown_as S.store a m)

@@ -14,7 +14,7 @@ use Rattle.calculus.proofs.Lists.{in-left, in-right, in-parts}
 use Rattle.rendezvous.specs.ReadyBelow.{Under}
 use Rattle.offered_sides.specs.Sides.{Offered, OffersExactly}
 use Rattle.rendezvous.specs.walking.Meeting.{solo, met, met_with, acted, is_under, acted_below}
-use Rattle.offered_sides.specs.declared.side.Ready.{Ready}
+use Rattle.offered_sides.specs.declared.side.OfferedSide.{OfferedSide}
 use Rattle.rendezvous.proofs.FromSides.{BySides, alone, meets, by_sides, sides_allowed, solo-acts, met-acts}
 
 -- the test of places
@@ -54,21 +54,21 @@ those-in None e rest h = inr h
 those-in (Some f) e rest h = elim h [ inl u ↦ inl (ap (λ (x : Event). Some x) (sym u)) | inr u ↦ inr u ]
 
 -- the event of l with one of the list
-in-met : (l k : Ready) (ks : List Ready) (e : Event) → In k ks → met l.place l.side k.place k.side ≡ Some e → In e (met_with l ks)
+in-met : (l k : OfferedSide) (ks : List OfferedSide) (e : Event) → In k ks → met l.place l.side k.place k.side ≡ Some e → In e (met_with l ks)
 in-met l k [] e i h = absurd i
 in-met l k (o ∷ ks) e i h =
     elim i [
-      | inl u ↦ in-those-first _ e (met_with l ks) (subst (λ (x : Ready). met l.place l.side x.place x.side ≡ Some e) u h)
+      | inl u ↦ in-those-first _ e (met_with l ks) (subst (λ (x : OfferedSide). met l.place l.side x.place x.side ≡ Some e) u h)
       | inr u ↦ in-those-rest _ e (met_with l ks) (in-met l k ks e u h)
     ]
 
 -- an event of l with one of the list
-record Met (l : Ready) (ks : List Ready) (e : Event) : Type 0 where
-  partner : Ready
+record Met (l : OfferedSide) (ks : List OfferedSide) (e : Event) : Type 0 where
+  partner : OfferedSide
   there : In partner ks
   made : met l.place l.side partner.place partner.side ≡ Some e
 
-met-in : (l : Ready) (ks : List Ready) (e : Event) → In e (met_with l ks) → Met l ks e
+met-in : (l : OfferedSide) (ks : List OfferedSide) (e : Event) → In e (met_with l ks) → Met l ks e
 met-in l [] e i = absurd i
 met-in l (k ∷ ks) e i =
     elim (those-in _ e (met_with l ks) i) [
@@ -77,17 +77,17 @@ met-in l (k ∷ ks) e i =
     ]
 
 -- one of the list acts below the place
-in-acted : (p : Place) (l : Ready) (ls ks : List Ready) (e : Event) → In l ls → is_under p l.place ≡ true → In e (acted l ks) → In e (acted_below p ls ks)
+in-acted : (p : Place) (l : OfferedSide) (ls ks : List OfferedSide) (e : Event) → In l ls → is_under p l.place ≡ true → In e (acted l ks) → In e (acted_below p ls ks)
 in-acted p l [] ks e i h j = absurd i
 in-acted p l (o ∷ ls) ks e i h j =
     elim i [
       | inl u ↦ in-left e (cond (is_under p o.place) (acted o ks) []) (acted_below p ls ks)
-          (subst (λ (b : Bool). In e (cond b (acted o ks) [])) (sym (ap (λ (x : Ready). is_under p x.place) (sym u) ∙ h)) (subst (λ (x : Ready). In e (acted x ks)) u j))
+          (subst (λ (b : Bool). In e (cond b (acted o ks) [])) (sym (ap (λ (x : OfferedSide). is_under p x.place) (sym u) ∙ h)) (subst (λ (x : OfferedSide). In e (acted x ks)) u j))
       | inr u ↦ in-right e (cond (is_under p o.place) (acted o ks) []) (acted_below p ls ks) (in-acted p l ls ks e u h j)
     ]
 
-record Acted (p : Place) (ls ks : List Ready) (e : Event) : Type 0 where
-  side : Ready
+record Acted (p : Place) (ls ks : List OfferedSide) (e : Event) : Type 0 where
+  side : OfferedSide
   there : In side ls
   under : is_under p side.place ≡ true
   inside : In e (acted side ks)
@@ -96,7 +96,7 @@ cond-in : (b : Bool) (es : List Event) (e : Event) → In e (cond b es []) → (
 cond-in true es e i = (refl, i)
 cond-in false es e i = absurd i
 
-acted-in : (p : Place) (ls ks : List Ready) (e : Event) → In e (acted_below p ls ks) → Acted p ls ks e
+acted-in : (p : Place) (ls ks : List OfferedSide) (e : Event) → In e (acted_below p ls ks) → Acted p ls ks e
 acted-in p [] ks e i = absurd i
 acted-in p (l ∷ ls) ks e i =
     elim (in-parts e (cond (is_under p l.place) (acted l ks) []) (acted_below p ls ks) i) [
@@ -105,13 +105,13 @@ acted-in p (l ∷ ls) ks e i =
     ]
 
 -- what is listed is offered; what is offered below the place is listed to act, and all else as a partner
-pub record Listing (S : State) (p : Place) (ls ks : List Ready) : Type 0 where
-  pub acting_offered : (l : Ready) → In l ls → Offered S l
-  pub partners_offered : (k : Ready) → In k ks → Offered S k
-  pub all_acting : (l : Ready) → Offered S l → Under p l.place → In l ls
-  pub all_partners : (l k : Ready) (e : Event) → In l ls → Offered S k → met l.place l.side k.place k.side ≡ Some e → In k ks
+pub record Listing (S : State) (p : Place) (ls ks : List OfferedSide) : Type 0 where
+  pub acting_offered : (l : OfferedSide) → In l ls → Offered S l
+  pub partners_offered : (k : OfferedSide) → In k ks → Offered S k
+  pub all_acting : (l : OfferedSide) → Offered S l → Under p l.place → In l ls
+  pub all_partners : (l k : OfferedSide) (e : Event) → In l ls → Offered S k → met l.place l.side k.place k.side ≡ Some e → In k ks
 
-module _ (S : State) (w : WellFormed S.residual) (p : Place) (ls ks : List Ready) (listing : Listing S p ls ks) where
+module _ (S : State) (w : WellFormed S.residual) (p : Place) (ls ks : List OfferedSide) (listing : Listing S p ls ks) where
   -- an event in which a listed side acts
   listed-allowed : (e : Event) → In e (acted_below p ls ks) → Allowed S e × Under p (acting e)
   listed-allowed e i =
@@ -144,7 +144,7 @@ module _ (S : State) (w : WellFormed S.residual) (p : Place) (ls ks : List Ready
   listed e = ((λ i. listed-allowed e i), (λ h. sides-listed e (by_sides S e w h.0) h.1))
 
 -- of one list with all that is offered
-pub all-listed : (S : State) (p : Place) (ls : List Ready) → WellFormed S.residual → ((x : Ready) → In x ls ↔ Offered S x) →
+pub all-listed : (S : State) (p : Place) (ls : List OfferedSide) → WellFormed S.residual → ((x : OfferedSide) → In x ls ↔ Offered S x) →
     (e : Event) → In e (acted_below p ls ls) ↔ (Allowed S e × Under p (acting e))
 all-listed S p ls w exactly = listed S w p ls ls (record {
   acting_offered = λ l i. (exactly l).0 i;
@@ -154,7 +154,7 @@ all-listed S p ls w exactly = listed S w p ls ls (record {
 })
 
 -- the same, of the lists of the code
-pub below-listed : (S : State) (p : Place) (ls : List Ready) (es : List Event) → OffersExactly S ls → es ≡ acted_below p ls ls →
+pub below-listed : (S : State) (p : Place) (ls : List OfferedSide) (es : List Event) → OffersExactly S ls → es ≡ acted_below p ls ls →
     (e : Event) → In e es ↔ (Allowed S e × Under p (acting e))
 below-listed S p ls es o is e =
     let all = all-listed S p ls o.formed o.exactly e in

@@ -6,7 +6,7 @@ ghost use Rattle.rendezvous.specs.walking.Meeting as model;
 use crate::meeting::{met, solo};
 use address::Entry;
 use calculus::Event;
-use offered_sides::Ready;
+use offered_sides::OfferedSide;
 use std::alloc::{AllocError, Global};
 use syntax::Items;
 
@@ -14,8 +14,8 @@ use syntax::Items;
 pub(crate) fn acted_below(
     alloc: Global,
     place: &[Entry],
-    sides: &[Ready],
-    others: &[Ready],
+    sides: &[OfferedSide],
+    others: &[OfferedSide],
 ) -> Result<Items<Event>, AllocError>
     ensures { IfOk result (λ events. events ≡ model.acted_below place.now sides.now others.now) }
 {
@@ -30,8 +30,8 @@ pub(crate) fn acted_below(
 fn add_below(
     alloc: Global,
     place: &[Entry],
-    one: &Ready,
-    others: &[Ready],
+    one: &OfferedSide,
+    others: &[OfferedSide],
     events: &mut Items<Event>,
 ) -> Result<(), AllocError>
     ensures { OnOk result (events.new ≡ events.old ++ cond (model.is_under place.now one.now.place) (model.acted one.now others.now) []) }
@@ -46,8 +46,8 @@ fn add_below(
 /// Adds the events in which the side acts with one of the others.
 fn add_met(
     alloc: Global,
-    one: &Ready,
-    others: &[Ready],
+    one: &OfferedSide,
+    others: &[OfferedSide],
     events: &mut Items<Event>,
 ) -> Result<(), AllocError>
     ensures { OnOk result (events.new ≡ events.old ++ model.met_with one.now others.now) }

@@ -13,7 +13,7 @@ use crate::acting::acted_below;
 use crate::order::{has_choice, latest_first, sooner_count};
 use address::Entry;
 use calculus::{Choice, Event};
-use offered_sides::Ready;
+use offered_sides::OfferedSide;
 use std::alloc::{AllocError, Global};
 use syntax::Items;
 
@@ -21,7 +21,7 @@ use syntax::Items;
 /// their acting addresses, then of their arms, then of their other addresses.
 pub fn ready_among(
     alloc: Global,
-    sides: &[Ready],
+    sides: &[OfferedSide],
     place: &[Entry],
 ) -> Result<Items<Event>, AllocError>
     ensures { (S : State) → OffersExactly S sides.now → IfOk result (λ events. ReadyBelow S place.now events) }
@@ -39,7 +39,7 @@ pub fn ready_among(
 /// one whose other address is the least. `None` where there is none.
 pub fn chosen_among(
     alloc: Global,
-    sides: &[Ready],
+    sides: &[OfferedSide],
     choice: &Choice,
 ) -> Result<Option<Event>, AllocError>
     ensures { (S : State) → OffersExactly S sides.now →

@@ -7,7 +7,7 @@ use Rattle.address.specs.Order.{order_of}
 use Rattle.value.specs.Word.{Word}
 use Rattle.system.specs.Expression.{Expression, Store, variables, decision_variables, decide, ascending}
 use Rattle.calculus.specs.Events.{Located, sent}
-use Rattle.calculus.specs.Asking.{answers_to}
+use Rattle.calculus.specs.Asking.{ask_of}
 use Rattle.calculus.specs.declared.ask.Ask.{Ask}
 use Rattle.calculus.specs.walking.Below.{apart}
 use Rattle.calculus.specs.Tests.{same_option, same_word}
@@ -16,7 +16,7 @@ use Rattle.calculus.specs.declared.event.Kind.TheVariants.{Assign, Test, Turn, M
 
 -- what a located move answers to, and where
 abbrev pub asks_at : Located → Place × Ask
-asks_at l = (l.place, answers_to l.move)
+asks_at l = (l.place, ask_of l.move)
 
 -- what located moves answer to
 abbrev pub all_ask : List Located → List (Place × Ask)

@@ -13,19 +13,19 @@ use Rattle.offered_sides.specs.walking.Walk.{Walk, added}
 use Rattle.channel_uses.specs.OnChannel.{on}
 use Rattle.channel_uses.specs.StemsFrom.{StemsFrom}
 use Rattle.channel_uses.specs.Uses.{used, all_used}
-use Rattle.channel_uses.specs.walking.Parts.{parts, end, IsPart, AreParts, Told}
+use Rattle.channel_uses.specs.walking.Parts.{parts, end, IsPart, AreParts, InTable}
 use Rattle.channel_uses.specs.declared.part.Part.{Part}
 
 -- the part, where it is known, is that of the command, and all of the command's uses are in the table
 pub record LocatedCode (table : UseTable) (part : Option (Bor Part)) (c : Code) : Type 0 where
   pub number : ℕ
-  pub told : Told table number (used c)
+  pub told : InTable table number (used c)
   pub is : IfSome part (λ q. IsPart c number q.now)
 
 -- the part, where it is known, has those of the commands in the row, and all of their uses are in the table
 pub record LocatedRow (table : UseTable) (part : Option (Bor Part)) (cs : Codes) : Type 0 where
   pub number : ℕ
-  pub told : Told table number (all_used cs)
+  pub told : InTable table number (all_used cs)
   pub are : IfSome part (λ q. AreParts cs number (parts q.now) × (end q.now ≡ number + length (all_used cs)))
 
 -- what is found on a channel of a process

@@ -62,14 +62,14 @@ pub record NumberedRow (cs : Codes) (from : ℕ) (old new : List ℕ) (p : Part)
   pub are : AreParts cs (length old) (parts p)
 
 -- the table has the uses in this list, numbered from n on
-abbrev pub Told : UseTable → ℕ → List ℕ → Type 0
-Told table n channels = (c i : ℕ) → slice_get channels i ≡ Some c → Uses table c (n + i)
+abbrev pub InTable : UseTable → ℕ → List ℕ → Type 0
+InTable table n channels = (c i : ℕ) → slice_get channels i ≡ Some c → Uses table c (n + i)
 
 -- whether the part ends at the use or before it
 abbrev pub ends_before : ℕ → Part → Bool
 ends_before u p = nat_le (end p) u
 
--- the first k parts end at the use or before it, and the others behind it
+-- the first k parts end at the use or before it
 pub record EndAt (ps : List Part) (u k : ℕ) : Type 0 where
   pub before : (j : ℕ) (p : Part) → j < k → slice_get ps j ≡ Some p → end p ≤ u
 

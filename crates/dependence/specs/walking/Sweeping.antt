@@ -3,7 +3,7 @@
 use Rattle.std.specs.Prelude.{◌≡◌, ◌↔◌, ℕ, ◌+◌, ◌<◌, ◌≤◌, List, length, Bool, true, Some, slice_get}
 use Rattle.syntax.specs.Lists.{In}
 use Rattle.calculus.specs.Live.{Live}
-use Rattle.dependence.specs.walking.Tables.{StandsAt, Falling, Topmost, Reaches}
+use Rattle.dependence.specs.walking.Tables.{StandsAt, Falling, Topmost, LeadsBack}
 
 -- each of cs stands from the place `low` on and below `high`
 abbrev pub StandWithin : Live → List ℕ → ℕ → ℕ → Type 0
@@ -16,6 +16,6 @@ FlagAt l high flags t = (i : ℕ) × (k : ℕ) × StandsAt l t i × (i + k + 1 �
 -- from `high` down to `place`: which events reach one of cs, and which of these are topmost
 pub record Swept (l : Live) (cs : List ℕ) (high place : ℕ) (flags : List Bool) (kept : List ℕ) : Type 0 where
   pub count : place + length flags ≡ high
-  pub flagged : (t i : ℕ) → StandsAt l t i → place ≤ i → i < high → FlagAt l high flags t ↔ Reaches l cs t
+  pub flagged : (t i : ℕ) → StandsAt l t i → place ≤ i → i < high → FlagAt l high flags t ↔ LeadsBack l cs t
   pub chosen : (t : ℕ) → In t kept ↔ (Topmost l cs t × ((i : ℕ) → StandsAt l t i → place ≤ i))
   pub falling : Falling kept

@@ -67,8 +67,8 @@ abbrev pub Topmost : Live → List ℕ → ℕ → Type 0
 Topmost l cs t = In t cs × ((c : ℕ) → In c cs → DependsOn l t c → c ≡ t)
 
 -- one of cs depends on t
-abbrev pub Reaches : Live → List ℕ → ℕ → Type 0
-Reaches l cs t = (c : ℕ) × In c cs × DependsOn l t c
+abbrev pub LeadsBack : Live → List ℕ → ℕ → Type 0
+LeadsBack l cs t = (c : ℕ) × In c cs × DependsOn l t c
 
 -- exactly the tickets of the events of l that depend directly on e, ascending
 pub record DirectAmong (e : Event) (l : Live) (tickets : List ℕ) : Type 0 where

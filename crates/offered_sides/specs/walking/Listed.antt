@@ -12,54 +12,54 @@ use Rattle.process_tree.specs.Proc.{waiting, holding, past, Proc, idle, stopped,
 use Rattle.process_tree.specs.Tidy.{last_moved}
 use Rattle.process_tree.specs.walking.Received.{puts_once, puts_sender, puts_guard, puts_decision}
 use Rattle.offered_sides.specs.Sides.{side_of}
-use Rattle.offered_sides.specs.declared.side.Ready.{Ready}
+use Rattle.offered_sides.specs.declared.side.OfferedSide.{OfferedSide}
 use Rattle.offered_sides.specs.declared.side.Side.{Side}
 use Rattle.offered_sides.specs.declared.side.Side.TheVariants.{Opens}
 
 -- a side at a place
-abbrev pub ready : Place → Side → Ready
-ready a x = record { place = a; side = x }
+abbrev pub side_at : Place → Side → OfferedSide
+side_at a x = record { place = a; side = x }
 
 -- sides, each at a place behind the entry
-abbrev pub behind : Entry → List Ready → List Ready
+abbrev pub behind : Entry → List OfferedSide → List OfferedSide
 behind x [] = []
-behind x (r ∷ rs) = ready (x ∷ r.place) r.side ∷ behind x rs
+behind x (r ∷ rs) = side_at (x ∷ r.place) r.side ∷ behind x rs
 
 -- the opens of arms on these channels, the first of them arm k
-abbrev pub opens_from : ℕ → List ℕ → List Ready
-opens_from k [] = []
-opens_from k (c ∷ cs) = ready (Ordered 0 ∷ []) (Opens c k) ∷ opens_from (suc k) cs
+abbrev pub open_sides : ℕ → List ℕ → List OfferedSide
+open_sides k [] = []
+open_sides k (c ∷ cs) = side_at (Ordered 0 ∷ []) (Opens c k) ∷ open_sides (suc k) cs
 
 -- a test at this act, with the arm that it takes
-abbrev pub tested_at : Store → ℕ → Decision → List Ready
-tested_at s n d = ready (Ordered n ∷ []) (side_of s (tests d (decide s d))) ∷ []
+abbrev pub tested_at : Store → ℕ → Decision → List OfferedSide
+tested_at s n d = side_at (Ordered n ∷ []) (side_of s (tests d (decide s d))) ∷ []
 
 -- a loop before turn n
-abbrev pub again_at : Store → ℕ → Option Expression → List Ready
-again_at s n None = ready (Ordered (2 * n) ∷ []) (side_of s turns) ∷ []
+abbrev pub again_at : Store → ℕ → Option Expression → List OfferedSide
+again_at s n None = side_at (Ordered (2 * n) ∷ []) (side_of s turns) ∷ []
 again_at s n (Some e) = tested_at s (2 * n) (by_guards (e ∷ []) false)
 
 -- the sides that a residual offers over a store, a test with the arm that it takes
-abbrev pub offers : Store → Residual → List Ready
-offers s done = []
-offers s halted = []
-offers s (inside i child next) = behind (Ordered i) (offers s child)
-offers s (beside k child rest) = behind (Branch k) (offers s child) ++ offers s rest
-offers s (assign x w e) = ready [] (side_of s (assigns x w e)) ∷ []
-offers s (send c w e) = ready (Ordered 0 ∷ []) (side_of s (sends c w e false)) ∷ []
-offers s (receive c x) = ready [] (side_of s (receives c (Some x))) ∷ []
-offers s (sync c) = ready (Ordered 0 ∷ []) (side_of s (syncs c false)) ∷ []
-offers s (held c) = ready (Ordered 1 ∷ []) (side_of s (releases c)) ∷ []
-offers s (loop k body) = again_at s k None
-offers s (while k e body) = again_at s k (Some e)
-offers s (test d arms) = tested_at s 0 d
-offers s (choose channels arms) = opens_from 0 channels
-offers s (closing c) = ready (Ordered 2 ∷ []) (side_of s (closes c)) ∷ []
-offers s (drain c k) = ready (Ordered k ∷ []) (side_of s (receives c None)) ∷ []
+abbrev pub sides_of_residual : Store → Residual → List OfferedSide
+sides_of_residual s done = []
+sides_of_residual s halted = []
+sides_of_residual s (inside i child next) = behind (Ordered i) (sides_of_residual s child)
+sides_of_residual s (beside k child rest) = behind (Branch k) (sides_of_residual s child) ++ sides_of_residual s rest
+sides_of_residual s (assign x w e) = side_at [] (side_of s (assigns x w e)) ∷ []
+sides_of_residual s (send c w e) = side_at (Ordered 0 ∷ []) (side_of s (sends c w e false)) ∷ []
+sides_of_residual s (receive c x) = side_at [] (side_of s (receives c (Some x))) ∷ []
+sides_of_residual s (sync c) = side_at (Ordered 0 ∷ []) (side_of s (syncs c false)) ∷ []
+sides_of_residual s (held c) = side_at (Ordered 1 ∷ []) (side_of s (releases c)) ∷ []
+sides_of_residual s (loop k body) = again_at s k None
+sides_of_residual s (while k e body) = again_at s k (Some e)
+sides_of_residual s (test d arms) = tested_at s 0 d
+sides_of_residual s (choose channels arms) = open_sides 0 channels
+sides_of_residual s (closing c) = side_at (Ordered 2 ∷ []) (side_of s (closes c)) ∷ []
+sides_of_residual s (drain c k) = side_at (Ordered k ∷ []) (side_of s (receives c None)) ∷ []
 
 -- what a walk through a process lists, and whether it finds it finished
 pub record Listing : Type 0 where
-  pub sides : List Ready
+  pub sides : List OfferedSide
   pub over : Bool
 
 -- what is finished
@@ -67,7 +67,7 @@ abbrev pub nothing : Listing
 nothing = record { sides = []; over = true }
 
 -- what is at work
-abbrev pub at_work : List Ready → Listing
+abbrev pub at_work : List OfferedSide → Listing
 at_work rs = record { sides = rs; over = false }
 
 -- child i, or what comes after it where it is finished
@@ -84,9 +84,9 @@ abbrev mutual
   listed s env idle = nothing
   listed s env stopped = at_work []
   listed s env (once o true) = nothing
-  listed s env (once o false) = at_work (offers s (residual_once (puts_once env o)))
-  listed s env (sender x waiting) = at_work (offers s (residual_sender (puts_sender env x)))
-  listed s env (sender x holding) = at_work (offers s (held (channel_of x)))
+  listed s env (once o false) = at_work (sides_of_residual s (residual_once (puts_once env o)))
+  listed s env (sender x waiting) = at_work (sides_of_residual s (residual_sender (puts_sender env x)))
+  listed s env (sender x holding) = at_work (sides_of_residual s (held (channel_of x)))
   listed s env (sender x past) = nothing
   listed s env (fresh g c) = at_work (again_at s 0 (puts_guard env g))
   listed s env (turn g c n q) = one_after (2 * n + 1) (listed s env q) (at_work (again_at s (n + 1) (puts_guard env g)))
@@ -95,12 +95,12 @@ abbrev mutual
   listed s env (untested d cs) = at_work (tested_at s 0 (puts_decision env d))
   listed s env (skipped d cs) = nothing
   listed s env (took d cs j q) = one_after 1 (listed s env q) nothing
-  listed s env (unopened ds cs) = at_work (opens_from 0 ds)
-  listed s env (entered ds cs c v q) = one_after 1 (listed s (with_value c v env) q) (at_work (offers s (closing c)))
+  listed s env (unopened ds cs) = at_work (open_sides 0 ds)
+  listed s env (entered ds cs c v q) = one_after 1 (listed s (with_value c v env) q) (at_work (sides_of_residual s (closing c)))
   listed s env (closed ds cs c v q) = nothing
   listed s env (sequence ps) = listed_sequence s env (last_moved ps) 0 ps
   listed s env (parallel ps) = listed_parallel s env 0 ps
-  listed s env (drained c n) = at_work (offers s (drain c n))
+  listed s env (drained c n) = at_work (sides_of_residual s (drain c n))
 
   -- of children one after another without so many of the first, the first with number n
   pub listed_sequence : Store → Received → ℕ → ℕ → Procs → Listing

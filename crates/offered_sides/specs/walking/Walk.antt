@@ -6,23 +6,23 @@ use Rattle.system.specs.Expression.{Store, Expression, Decision, put_value, put_
 use Rattle.calculus.specs.Moves.{Place}
 use Rattle.process_tree.specs.Left.{Received}
 use Rattle.process_tree.specs.Proc.{Proc}
-use Rattle.offered_sides.specs.walking.Listed.{ready, behind, listed}
+use Rattle.offered_sides.specs.walking.Listed.{side_at, behind, listed}
 use Rattle.offered_sides.specs.declared.around.Arrived.{Arrived}
-use Rattle.offered_sides.specs.declared.side.Ready.{Ready}
+use Rattle.offered_sides.specs.declared.side.OfferedSide.{OfferedSide}
 
 -- the place, what was received in the arms around it, the innermost first, and the sides found
 pub record Walk : Type 0 where
   pub place : Place
   pub received : Received
-  pub sides : List Ready
+  pub sides : List OfferedSide
 
 -- sides, each at a place below this one
-abbrev pub below : Place → List Ready → List Ready
+abbrev pub below : Place → List OfferedSide → List OfferedSide
 below p [] = []
-below p (r ∷ rs) = ready (p ++ r.place) r.side ∷ below p rs
+below p (r ∷ rs) = side_at (p ++ r.place) r.side ∷ below p rs
 
 -- more sides, at places below that of the walk
-abbrev pub added : List Ready → Walk → Walk
+abbrev pub added : List OfferedSide → Walk → Walk
 added rs w = record { place = w.place; received = w.received; sides = w.sides ++ below w.place rs }
 
 -- what is listed of a process

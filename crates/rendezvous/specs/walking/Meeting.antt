@@ -8,7 +8,7 @@ use Rattle.calculus.specs.Moves.{Place}
 use Rattle.calculus.specs.walking.AllowedEvents.{those}
 use Rattle.calculus.specs.declared.event.Event.{Event}
 use Rattle.calculus.specs.declared.event.Kind.TheVariants.{Assign, Test, Turn, Meet, Open, Close, Sync}
-use Rattle.offered_sides.specs.declared.side.Ready.{Ready}
+use Rattle.offered_sides.specs.declared.side.OfferedSide.{OfferedSide}
 use Rattle.offered_sides.specs.declared.side.Side.{Side}
 use Rattle.offered_sides.specs.declared.side.Side.TheVariants.{Assigns, Tests, Turns, Sends, Receives, Syncs, Opens, Releases, Closes}
 
@@ -67,12 +67,12 @@ met b (Syncs c) a y = synced b c a y
 met b _ a y = None
 
 -- the events in which this side acts, with one of the others
-abbrev pub met_with : Ready → List Ready → List Event
+abbrev pub met_with : OfferedSide → List OfferedSide → List Event
 met_with l [] = []
 met_with l (k ∷ ks) = those (met l.place l.side k.place k.side) (met_with l ks)
 
 -- and alone
-abbrev pub acted : Ready → List Ready → List Event
+abbrev pub acted : OfferedSide → List OfferedSide → List Event
 acted l ks = those (solo l.place l.side) (met_with l ks)
 
 -- whether the second place is the first or below it
@@ -85,6 +85,6 @@ is_under (Branch i ∷ p) (Ordered j ∷ a) = false
 is_under (Branch i ∷ p) (Branch j ∷ a) = (i == j) && is_under p a
 
 -- the events in which one of these acts, below a place
-abbrev pub acted_below : Place → List Ready → List Ready → List Event
+abbrev pub acted_below : Place → List OfferedSide → List OfferedSide → List Event
 acted_below p [] ks = []
 acted_below p (l ∷ ls) ks = cond (is_under p l.place) (acted l ks) [] ++ acted_below p ls ks
