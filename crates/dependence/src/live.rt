@@ -1,13 +1,14 @@
 ghost use Rattle.std.specs.Prelude.{◌≡◌, ◌<◌, ℕ, [], length, Some, None, slice_get, MatchOption, IfErr, OnOk};
 ghost use Rattle.calculus.specs.Dependence.{Without};
-ghost use Rattle.calculus.specs.Live.{LiveAt, NoDependent, FirstDependent, ConsequencesList, WithoutTickets, IsLive};
+ghost use Rattle.calculus.specs.Live.{LiveAt, NoneAt, NoDependent, FirstDependent, ConsequencesList, WithoutTickets, IsLive};
 ghost use Rattle.dependence.specs.Behind.{ComesBehind};
 ghost use Rattle.dependence.specs.Followers.{ListsFollowers, CountsDirect};
-ghost use Rattle.dependence.specs.Shown.{with_newest, Greatest};
+ghost use Rattle.dependence.specs.Shown.{with_newest, Greatest, IsSound};
 
 use crate::count::count_direct;
 use crate::links::Links;
 use crate::marks::{count_marked, last_marked, mark_dependents};
+use crate::places::place_of;
 use crate::tables::Tables;
 use crate::whole::{add_event, followers_of, least_dependent, take_event};
 use calculus::Event;
@@ -49,6 +50,34 @@ impl Live {
             marks: Vec::new(alloc),
             tables: Tables::new(alloc),
         }
+    }
+
+    /// What holds of all live events and marks at every moment. Nothing is done, the contract says it.
+    pub fn is_sound(&self)
+        ensures { IsSound self.now }
+    {
+        let _pairs = &self.pairs;
+    }
+
+    /// How many events are live.
+    pub fn len(&self) -> usize
+        ensures { result ≡ length self.now.live }
+    {
+        self.pairs.len()
+    }
+
+    /// The live events with their tickets, in order of tickets.
+    pub fn as_slice(&self) -> &[(u64, Event)]
+        ensures { result.now ≡ self.now.live }
+    {
+        self.pairs.as_slice()
+    }
+
+    /// The place, counted from 0 in order of tickets, of the live event of this ticket.
+    pub fn place_of(&self, ticket: u64) -> Option<usize>
+        ensures { MatchOption result (NoneAt self.now.live ticket) (λ i. (e : Event) × (slice_get self.now.live i ≡ Some (ticket, e))) }
+    {
+        place_of(self.pairs.as_slice(), ticket)
     }
 
     /// The ticket and the event at a place, counted from 0 in order of tickets; `None` past the last.
