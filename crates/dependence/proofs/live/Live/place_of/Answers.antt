@@ -1,5 +1,5 @@
-use Rattle.std.proofs.Common.{Some, sym, subst, ◌≡◌}
-use Rattle.std.specs.Prelude.{MatchOption, slice_get}
+use Rattle.std.proofs.Common.{sym, subst}
+use Rattle.std.specs.Prelude.{MatchOption}
 use Rattle.calculus.specs.Live.{Live, NoneAt}
 use Rattle.dependence.specs.Shown.{Shown}
 use Rattle.dependence.specs.walking.Tables.{IsRising, StandsAt}
