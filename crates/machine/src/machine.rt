@@ -144,7 +144,7 @@ impl Machine {
         ensures answers { Answers (object self.old) (Command.Consequences ticket) result (object self.new) }
         ensures same { self.new ≡ self.old }
     {
-        or_no_memory(self.history.tell_consequences(self.alloc, ticket))
+        or_no_memory(self.history.tell_consequences(ticket))
     }
 
     /// Tells the live events.

@@ -10,7 +10,7 @@ ghost use Rattle.machine.specs.walking.Marking.{MarksDependents};
 use crate::following::last_writer;
 use crate::history::History;
 use calculus::{Command, Refusal, Reply};
-use std::alloc::{AllocError, Global};
+use std::alloc::AllocError;
 use syntax::Items;
 
 impl History {
@@ -94,24 +94,20 @@ impl History {
     }
 
     /// Tells the tickets of the live events that depend on the one of this ticket, which it marks.
-    pub(crate) fn tell_consequences(
-        &mut self,
-        alloc: Global,
-        ticket: u64,
-    ) -> Result<Reply, AllocError>
+    pub(crate) fn tell_consequences(&mut self, ticket: u64) -> Result<Reply, AllocError>
         ensures done { (system : Checked) → Holds system self.old → IfOk result (λ reply. Does (execution system self.old) (Command.Consequences ticket) reply (execution system self.old)) }
         ensures wanted { OnErr result (IsLive self.old.live.live ticket) }
         ensures same { (system : Checked) → execution system self.new ≡ execution system self.old }
         ensures holds { (system : Checked) → Holds system self.old → Holds system self.new }
     {
         match self.live.place_of(ticket) {
-            Some(_) => self.tell_dependents(alloc, ticket),
+            Some(_) => self.tell_dependents(ticket),
             None => Ok(Reply::Refused(Refusal::NoSuchEvent)),
         }
     }
 
     /// Tells the tickets of the live events that depend on the live event of this ticket, which it marks.
-    fn tell_dependents(&mut self, alloc: Global, ticket: u64) -> Result<Reply, AllocError>
+    fn tell_dependents(&mut self, ticket: u64) -> Result<Reply, AllocError>
         requires { IsLive self.old.live.live ticket }
         ensures done { (system : Checked) → Holds system self.old → IfOk result (λ reply. Does (execution system self.old) (Command.Consequences ticket) reply (execution system self.old)) }
         ensures same { (system : Checked) → execution system self.new ≡ execution system self.old }
