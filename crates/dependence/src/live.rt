@@ -112,7 +112,7 @@ impl Live {
         requires { IsLive self.now.live ticket }
         ensures { CountsDirect self.now.live ticket result }
     {
-        count_direct(self.pairs.as_slice(), ticket) as u64
+        count_direct(self.pairs.as_slice(), self.links.as_slice(), ticket) as u64
     }
 
     /// Marks the live event of this ticket and all live events that depend on it, and no others; how many they are. The marks
