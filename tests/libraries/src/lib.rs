@@ -37,6 +37,8 @@ mod tokens;
 #[cfg(test)]
 mod told;
 #[cfg(test)]
+mod traces;
+#[cfg(test)]
 mod transcripts;
 #[cfg(test)]
 mod trees;
