@@ -1,17 +1,13 @@
 -- The last writer of a variable is found in one pass over the live events.
-use Rattle.std.proofs.Common.{◌≡◌, ◌⊎◌, ◌↔◌, inl, inr, ℕ, zero, suc, ◌+◌, ◌<◌, ◌≤◌, List, [], ◌∷◌, ◌++◌, Bool, true, false, cond, length, take, drop, get_or, Option, Some, None, IsTrue, refl, sym, ◌∙◌, ap, subst, arith, append_assoc}
+use Rattle.std.proofs.Common.{◌≡◌, ◌⊎◌, inl, inr, ℕ, zero, suc, ◌+◌, ◌<◌, ◌≤◌, List, [], ◌∷◌, ◌++◌, length, take, drop, get_or, Option, Some, None, refl, sym, ◌∙◌, ap, subst, arith, append_assoc}
 use Rattle.std.specs.Prelude.{MatchOption}
 use Rattle.syntax.specs.Lists.{In}
-use Rattle.system.specs.Expression.{is_in}
-use Rattle.calculus.specs.Dependence.{Directly}
-use Rattle.calculus.specs.InOrder.{InOrder}
-use Rattle.calculus.specs.Live.{Live, Rising, LiveAt, DependsOn, same, later, ConsequencesList, LastWriter, NoWriter}
+use Rattle.calculus.specs.Live.{Live, Rising, LiveAt, LastWriter, NoWriter}
 use Rattle.calculus.specs.declared.event.Event.{Event}
-use Rattle.calculus.proofs.Lists.{in-left, in-right, in-parts, every-in, every-of}
-use Rattle.calculus.proofs.Tickets.{rising-in, rising-one, rising-parts}
-use Rattle.machine.specs.walking.Following.{Leads, DependsOnSome, Gathered, WritesLast}
+use Rattle.calculus.proofs.Lists.{in-right, in-parts}
+use Rattle.calculus.proofs.Tickets.{rising-in, rising-parts}
+use Rattle.machine.specs.walking.Following.{WritesLast}
 use Rattle.machine.proofs.Entries.{parts-at, item-at, take-next}
-use Rattle.calculus.proofs.ReadTests.{is-in, in-is}
 
 -- the whole list, once all of it is passed
 pub take-all : {X : Type 0} (l : List X) (i : ℕ) → length l ≤ i → take i l ≡ l
@@ -93,15 +89,3 @@ written-step l x i e last new less is here other either h =
       | inl w ↦ subst P (sym (here w)) (written-here l x i e less is w)
       | inr w ↦ subst P (sym (other w)) (written-before l x i e last less is w h)
     ]
-
--- one more entry, whether it follows or not
-pub followers-step : (l : Live) (t next i : ℕ) (x : ℕ × Event) (ts found us : List ℕ) (b : Bool) → Rising 1 l next → i < length l → x ≡ get_or l i x →
-    Gathered l (take i l) t ts → found ≡ ts → IsTrue b ↔ ((x.0 ≡ t) ⊎ DependsOnSome x.1 l found) → us ≡ cond b (ts ++ x.0 ∷ []) ts →
-    Gathered l (take (i + 1) l) t us
-followers-step l t next i x ts found us b r less is g same_list tells e =
-    subst (λ (k : List ℕ). Gathered l (take (i + 1) l) t k) (sym e)
-    (pick b (subst (λ (k : List ℕ). IsTrue b ↔ ((x.0 ≡ t) ⊎ DependsOnSome x.1 l k)) same_list tells))
-  where
-    pick : (c : Bool) → IsTrue c ↔ ((x.0 ≡ t) ⊎ DependsOnSome x.1 l ts) → Gathered l (take (i + 1) l) t (cond c (ts ++ x.0 ∷ []) ts)
-    pick true told = gathered-more l t next i x ts r less is g (told.0 refl)
-    pick false told = gathered-same l t next i x ts r less is g (λ h. let on : false ≡ true = told.1 h in cc)

@@ -1,10 +1,7 @@
 -- Who wrote a variable last, as it is gathered from the first live event to the last.
 -- No reader has to believe it: the proofs of `tell_blame` and `roll_value` tie it to `LastWriter` of `calculus`.
-use Rattle.std.specs.Prelude.{◌≡◌, ◌↔◌, ℕ, ◌<◌, List, ◌∷◌, ◌++◌, Some}
-use Rattle.syntax.specs.Lists.{In}
-use Rattle.calculus.specs.Dependence.{Directly}
-use Rattle.calculus.specs.InOrder.{InOrder}
-use Rattle.calculus.specs.Live.{Live, LiveAt, DependsOn, NoWriter}
+use Rattle.std.specs.Prelude.{◌≡◌, ℕ, ◌∷◌, ◌++◌, Some}
+use Rattle.calculus.specs.Live.{Live, NoWriter}
 use Rattle.calculus.specs.declared.event.Event.{Event}
 
 -- t is the ticket of the last entry whose event writes the variable x

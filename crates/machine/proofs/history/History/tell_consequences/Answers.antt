@@ -1,5 +1,3 @@
-use Rattle.std.proofs.Common.{refl}
-use Rattle.machine.specs.walking.Histories.{tree_of}
 use Rattle.machine.proofs.Standing.{live-at}
 use Rattle.machine.proofs.Stepped.{on-error}
 use Rattle.machine.proofs.history.History.tell_consequences.Goals as goal
