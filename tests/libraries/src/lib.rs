@@ -17,6 +17,8 @@ mod lists;
 #[cfg(test)]
 mod live_events;
 #[cfg(test)]
+mod numbered;
+#[cfg(test)]
 mod numbers;
 #[cfg(test)]
 mod one;
@@ -28,6 +30,8 @@ mod runs;
 mod sessions;
 #[cfg(test)]
 mod sharing;
+#[cfg(test)]
+mod steps;
 #[cfg(test)]
 mod streams;
 #[cfg(test)]
