@@ -25,6 +25,8 @@ mod one;
 #[cfg(test)]
 mod parsing;
 #[cfg(test)]
+mod rollbacks;
+#[cfg(test)]
 mod runs;
 #[cfg(test)]
 mod sessions;
