@@ -4,5 +4,6 @@ pub mod LeafLaws
 pub mod Locations
 pub mod OnChannel
 pub mod Parts
+pub mod Processes
 pub mod Searches
 pub mod Stems
