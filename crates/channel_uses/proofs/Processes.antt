@@ -280,3 +280,7 @@ rest-found e s xs row rs w u v k from l is same rest h =
     h ∙ ap (λ (z : Walk). added (on e (listed_sequence s z.received k 0 (all_started (row_of (map code_view rs)))).sides) z) same
     ∙ ap (λ (ys : List made_code.Code). added (on e (listed_sequence s w.received k 0 (all_started (row_of (map code_view ys)))).sides) w) is
     ∙ ap (λ (x : Listing). added (on e x.sides) w) (sym (row-past s w.received xs row k l) ∙ rest)
+
+-- ---- the whole tree
+pub tree-located : (table : UseTable) (part : Option (Bor Part)) (c : Code) (p q : Proc) → LocatedCode table part c → q ≡ p → StemsFrom p c → LocatedProc table part q
+tree-located table part c p q h e t = record { code = c; located = h; stems = subst (λ (x : Proc). StemsFrom x c) (sym e) t }

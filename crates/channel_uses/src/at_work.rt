@@ -50,7 +50,16 @@ pub(crate) fn list_on(
         }
         Proc::Sequence(row, begun) => {
             let begun = begun.as_slice();
-            sequence_on(alloc, begun, row.get(), part, table, channel, values, around)
+            sequence_on(
+                alloc,
+                begun,
+                row.get(),
+                part,
+                table,
+                channel,
+                values,
+                around,
+            )
         }
         Proc::Parallel(procs) => {
             let procs = procs.as_slice();
@@ -112,7 +121,9 @@ fn loop_on(
     match turns {
         Turns::Fresh | Turns::EndedAtOnce => Ok(()),
         Turns::Turn(turn, over, body) => {
-            turn_on(alloc, body, *turn, *over, part, table, channel, values, around)
+            turn_on(
+                alloc, body, *turn, *over, part, table, channel, values, around,
+            )
         }
     }
 }
@@ -210,7 +221,9 @@ fn opened_on(
     if over {
         return Ok(());
     }
-    body_on(alloc, body, opened, value, part, table, channel, values, around)?;
+    body_on(
+        alloc, body, opened, value, part, table, channel, values, around,
+    )?;
     close_on(alloc, body, opened, channel, around)
 }
 
@@ -280,7 +293,16 @@ fn sequence_on(
     'children: while number < end {
         let child = &begun[number];
         let own = part_at(part, number);
-        child_on(alloc, child, own, number as u64, table, channel, values, around)?;
+        child_on(
+            alloc,
+            child,
+            own,
+            number as u64,
+            table,
+            channel,
+            values,
+            around,
+        )?;
         if around.count() > found {
             return Ok(());
         }
@@ -334,7 +356,16 @@ fn parallel_on(
     let mut number = 0;
     'branches: while let Some(next) = next_user(table, channel, part, number, procs.len()) {
         let own = part_at(part, next);
-        branch_on(alloc, &procs[next], own, next as u64, table, channel, values, around)?;
+        branch_on(
+            alloc,
+            &procs[next],
+            own,
+            next as u64,
+            table,
+            channel,
+            values,
+            around,
+        )?;
         number = next + 1;
     }
     Ok(())
