@@ -1,15 +1,17 @@
+-- Commands that were passed have nothing to do.
 use Rattle.std.proofs.Common.{◌≡◌, ◌+◌, ◌≤◌, ◌∙◌, false, true, length, drop, map, sym, ap, subst, rules, arith}
 use Rattle.std.proofs.lemmas.List.{drop_all}
+use Rattle.process_tree.specs.Code.{side_by_side}
 use Rattle.process_tree.specs.Proc.{started, all_started}
 use Rattle.process_tree.specs.Translation.{row_of}
 use Rattle.process_tree.specs.View.{code_view}
 use Rattle.process_tree.specs.declared.code.Row.{Row}
+use Rattle.process_tree.proofs.Views.{code_parallel}
 use Rattle.offered_sides.specs.walking.Listed.{Listing, listed}
+use Rattle.offered_sides.specs.walking.Over.{AllOver}
 use Rattle.offered_sides.proofs.Passing.{fresh-next, fresh-in-turn}
-use Rattle.channel_uses.specs.walking.Located.{AllOver}
-use Rattle.channel_uses.proofs.Finding.{over-none, over-more, over-not}
-use Rattle.channel_uses.proofs.Parts.{is-side-by-side}
-use Rattle.channel_uses.proofs.fresh.+starts_over.Goals as goal
+use Rattle.offered_sides.proofs.Endings.{over-none, over-more, over-not, over-alike}
+use Rattle.offered_sides.proofs.over.+starts_over.Goals as goal
 
 pub all_start_over-returns-then-not-starts_over : goal.all_start_over-returns-then-not-starts_over
 all_start_over-returns-then-not-starts_over t c =
@@ -30,11 +32,13 @@ all_start_over-returns t c =
 
 pub starts_over-returns-in-InTurn : goal.starts_over-returns-in-InTurn
 starts_over-returns-in-InTurn t c s env =
-    (c.all_start_over.ensures s env 0).0 ∙ ap (λ (l : Listing). l.over)
+    c.all_start_over.ensures s env 0
+    ∙ sym (over-alike s env 0 (all_started (row_of (map code_view c.as_slice.result.now))))
+    ∙ ap (λ (l : Listing). l.over)
     (fresh-in-turn s env c.args.code.now c.in-InTurn.row c.as_slice.result.now c.in-InTurn.is (c.as_slice.ensures ∙ ap (λ (r : Row). r.codes) c.get.ensures))
 
 pub starts_over-returns-in-SideBySide : goal.starts_over-returns-in-SideBySide
 starts_over-returns-in-SideBySide t c s env =
-    (c.all_start_over-in-SideBySide.ensures s env 0).1
-    ∙ ap (λ k. (listed s env (started k)).over)
-    (sym (is-side-by-side c.args.code.now c.in-SideBySide.row c.get-in-SideBySide.result.now c.as_slice-in-SideBySide.result.now c.in-SideBySide.is c.get-in-SideBySide.ensures c.as_slice-in-SideBySide.ensures))
+    c.all_start_over-in-SideBySide.ensures s env 0
+    ∙ ap (λ cs. (listed s env (started (side_by_side (row_of (map code_view cs))))).over) (c.as_slice-in-SideBySide.ensures ∙ ap (λ (r : Row). r.codes) c.get-in-SideBySide.ensures)
+    ∙ ap (λ k. (listed s env (started k)).over) (sym (ap code_view c.in-SideBySide.is ∙ code_parallel c.in-SideBySide.row))

@@ -1,9 +1,9 @@
-use Rattle.std.proofs.Common.{◌≡◌, ℕ, true, Bool, drop, map}
+use Rattle.std.proofs.Common.{Bool, drop, map}
 use Rattle.process_tree.specs.Proc.{all_started}
 use Rattle.process_tree.specs.Translation.{row_of}
 use Rattle.process_tree.specs.View.{code_view}
-use Rattle.channel_uses.specs.walking.Located.{AllOver}
-use Rattle.channel_uses.proofs.fresh.+starts_over.Given as goal
+use Rattle.offered_sides.specs.walking.Over.{AllOver}
+use Rattle.offered_sides.proofs.over.+starts_over.Given as goal
 
 abbrev pub invariant-all_start_over-loop-code : goal.invariant-all_start_over-loop-code
 invariant-all_start_over-loop-code l =
