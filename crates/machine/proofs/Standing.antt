@@ -18,6 +18,8 @@ use Rattle.calculus.proofs.ObjectLaws.{begins-sound}
 use Rattle.system.specs.Translation.{opening_store}
 use Rattle.process_tree.specs.Proc.{started}
 use Rattle.process_tree.specs.Tidy.{Tidy}
+use Rattle.channel_uses.specs.StemsFrom.{StemsFrom}
+use Rattle.channel_uses.proofs.RunStems.{runs-keep-origin}
 use Rattle.process_tree.specs.Translation.{system_code}
 use Rattle.event_inverse.specs.Grown.{TreeAndStore, Taken, Records, StandFor, state_of_tree, opening_tree, applied}
 use Rattle.event_inverse.specs.Laws.{UndoneBy}
@@ -72,6 +74,10 @@ stands-reaches checked T l is n s = s.run.runs
 -- the tree is tidy
 pub stands-tidy : (checked : Checked) (T : TreeAndStore) (l : Live) (is : List Inverse) (n : ℕ) → Stands checked T l is n → Tidy T.proc
 stands-tidy checked T l is n s = runs-are-tidy checked (events l) T (with_inverses (events l) is) s.run
+
+-- it stems from the command of the system
+pub stands-stems : (checked : Checked) (T : TreeAndStore) (l : Live) (is : List Inverse) (n : ℕ) → Stands checked T l is n → StemsFrom T.proc (system_code checked)
+stands-stems checked T l is n s = runs-keep-origin checked (events l) T (with_inverses (events l) is) s.run
 
 -- an option with something in it
 some-then : {X : Type 0} (o : Option X) (x : X) → o ≡ Some x → IsSome o

@@ -7,4 +7,4 @@ use Rattle.machine.proofs.machine.Machine.value.Goals as goal
 pub returns : goal.returns
 returns c =
     subst (λ (h : AtMachine). Answers (object h) (Command.Value c.args.variable) c.tell_value.result (object h)) c.self.view_is
-    (inl (c.tell_value.ensures c.self.inside.system c.self.invariant))
+    (inl (c.tell_value.ensures c.self.inside.system c.self.invariant.0))
