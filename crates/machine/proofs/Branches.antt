@@ -14,19 +14,16 @@ use Rattle.calculus.specs.Ready.{ReadyList, Chosen}
 use Rattle.calculus.specs.Live.{events}
 use Rattle.calculus.specs.Object.{Reaches, most_live, last_ticket, with_event}
 use Rattle.calculus.specs.Does.{Steps, RefusesStep}
-use Rattle.calculus.specs.Sound.{Sound}
 use Rattle.calculus.specs.declared.event.Event.{Event}
 use Rattle.calculus.specs.declared.event.Choice.{Choice}
-use Rattle.calculus.specs.declared.command.Command.{Command}
 use Rattle.calculus.specs.declared.command.Reply.{Reply}
 use Rattle.calculus.specs.declared.command.Refusal.{Refusal}
 use Rattle.calculus.specs.declared.command.Refusal.TheVariants.{Memory}
 use Rattle.calculus.proofs.Options.{some-injective}
 use Rattle.calculus.proofs.Lists.{every-in, every-of, in-parts}
-use Rattle.calculus.proofs.Effects.{stays-sound}
 use Rattle.machine.specs.AtMachine.{AtMachine, object, at_machine}
 use Rattle.machine.specs.walking.Histories.{execution}
-use Rattle.machine.specs.walking.Choosing.{NotTaken, FirstAt, Takes, moves, line_of_first}
+use Rattle.machine.specs.walking.Choosing.{NotTaken, FirstAt, Takes, IsChosenAt, moves, line_of_first}
 use Rattle.machine.specs.Branching.{is_branch, acts_in, in_branch, has_no_break, line_of, is_free, FirstFree, Branched, StepsBranch, AnswersBranch, SteppedIsStep, OthersLeave}
 use Rattle.machine.specs.declared.history.History.{History}
 use Rattle.machine.specs.declared.branching.BranchReply.{BranchReply}
@@ -107,6 +104,11 @@ pub moving-chosen : (h : AtMachine) (k : ℕ) (breaks : List ℕ) (T : State) (e
     Chosen T (choice_of first.0) first.0
 moving-chosen h k breaks T es i ready first = first-chosen (moves h k breaks) (same-moves h k breaks) T es i first.0 ready first.1 first.2 first.3
 
+-- the event at the place is the one that is chosen
+pub chosen-there : (T : State) (es : List Event) (i : ℕ) (e : Event) → IsChosenAt T es i → slice_get es i ≡ Some e → Chosen T (choice_of e) e
+chosen-there T es i e chosen at =
+    subst (λ (f : Event). Chosen T (choice_of f) f) (some-injective chosen.0 e (sym chosen.1 ∙ at)) chosen.2
+
 -- the event at the place is taken
 pub take-done : (h h' : AtMachine) (T : State) (e x f : Event) (entry : ℕ × Event) → Reaches (object h) T → Chosen T (choice_of e) e → x ≡ e → Some x ≡ Some f →
     length h.live < most_live → h.next ≤ last_ticket → entry ≡ (h.next, f) → object h' ≡ with_event (object h) f → Takes h e (Stepped entry.0 entry.1) h'
@@ -156,20 +158,6 @@ pub branch-answers : {E : Type 0} (h h' : AtMachine) (k : ℕ) (breaks : List �
     AnswersBranch h k breaks reply h'
 branch-answers h h' k breaks (Ok told) reply done same is = inl (subst (λ (x : BranchReply). StepsBranch h k breaks x h') (sym is) done)
 branch-answers h h' k breaks (Err x) reply done same is = inr (is, same)
-
--- it leaves a sound execution sound
-branched-sound : (h h' : AtMachine) (breaks : List ℕ) (es : List Event) (reply : BranchReply) → Sound (object h) → Branched h breaks es reply h' → Sound (object h')
-branched-sound h h' breaks es (Stepped t e) s b = stays-sound (object h) (Command.Step (choice_of e)) (Reply.Stepped t e) (object h') s (inl b.1)
-branched-sound h h' breaks es (Stopped line) s b = subst (λ (x : AtMachine). Sound (object x)) (sym b.1) s
-branched-sound h h' breaks es Idle s b = subst (λ (x : AtMachine). Sound (object x)) (sym b.1) s
-branched-sound h h' breaks es (Refused why) s b = subst (λ (x : AtMachine). Sound (object x)) (sym b.1) s
-
-pub answers-sound : (h h' : AtMachine) (k : ℕ) (breaks : List ℕ) (reply : BranchReply) → Sound (object h) → AnswersBranch h k breaks reply h' → Sound (object h')
-answers-sound h h' k breaks reply s a =
-    elim a [
-      | inl b ↦ branched-sound h h' breaks (in_branch h k b.1) reply s b.4
-      | inr b ↦ subst (λ (x : AtMachine). Sound (object x)) (sym b.1) s
-    ]
 
 pub stepped-is-step : SteppedIsStep
 stepped-is-step h h' k t breaks e a = elim a [ inl b ↦ b.4.1 | inr b ↦ cc ]

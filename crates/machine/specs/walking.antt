@@ -1,5 +1,6 @@
 pub mod Choosing
-pub mod Dependents
+pub mod Entering
 pub mod Following
 pub mod Histories
+pub mod Marking
 pub mod Sorting

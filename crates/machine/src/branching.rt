@@ -1,17 +1,13 @@
 // A step of a branch: its first ready event whose line has no breakpoint.
-ghost use Rattle.std.specs.Prelude.{◌≡◌, ◌<◌, false, length, slice_get, Some, IfOk, OnErr, MatchOption, MatchResult};
+ghost use Rattle.std.specs.Prelude.{◌≡◌, false, slice_get, Some, IfOk, OnErr, MatchOption, MatchResult};
 ghost use Rattle.syntax.specs.Lists.{Every};
 ghost use Rattle.system_places.specs.SystemBranches.{branch_at};
 ghost use Rattle.calculus.specs.Events.{acting};
-ghost use Rattle.calculus.specs.Choices.{choice_of};
-ghost use Rattle.calculus.specs.Steps.{State};
-ghost use Rattle.calculus.specs.Ready.{Chosen};
-ghost use Rattle.calculus.specs.Object.{Reaches};
-ghost use Rattle.calculus.specs.Sound.{Sound};
-ghost use Rattle.machine.specs.Branching.{is_branch, acts_in, in_branch, is_free, StepsBranch};
-ghost use Rattle.machine.specs.walking.Choosing.{moves, line_of_first, FirstAt, Takes};
+ghost use Rattle.event_inverse.specs.Grown.{state_of_tree};
+ghost use Rattle.machine.specs.Branching.{is_branch, in_branch, is_free, StepsBranch};
+ghost use Rattle.machine.specs.walking.Choosing.{moves, line_of_first, FirstAt, Takes, IsChosenAt};
 ghost use Rattle.machine.specs.AtMachine.{at_machine};
-ghost use Rattle.machine.specs.walking.Histories.{execution, KeepsState};
+ghost use Rattle.machine.specs.walking.Histories.{tree_of, Holds};
 
 use crate::following::is_among;
 use crate::history::History;
@@ -43,53 +39,36 @@ impl History {
         branch: u32,
         breaks: &[u64],
     ) -> Result<BranchReply, AllocError>
-        requires sound { Sound (execution system.now self.old) }
-        requires kept { KeepsState system.now self.old }
+        requires { Holds system.now self.old }
         ensures done { IfOk result (λ reply. StepsBranch (at_machine system.now self.old) branch breaks.now reply (at_machine system.now self.new)) }
         ensures unchanged { OnErr result (at_machine system.now self.new ≡ at_machine system.now self.old) }
-        ensures kept { KeepsState system.now self.new }
+        ensures holds { Holds system.now self.new }
     {
-        self.keep_state(alloc, system)?;
-        self.branch_from_state(alloc, system, branch, breaks)
-    }
-
-    /// Takes that event. The state after it is kept where that before it is.
-    fn branch_from_state(
-        &mut self,
-        alloc: Global,
-        system: &Checked,
-        branch: u32,
-        breaks: &[u64],
-    ) -> Result<BranchReply, AllocError>
-        requires sound { Sound (execution system.now self.old) }
-        requires kept { KeepsState system.now self.old }
-        ensures done { IfOk result (λ reply. StepsBranch (at_machine system.now self.old) branch breaks.now reply (at_machine system.now self.new)) }
-        ensures unchanged { OnErr result (at_machine system.now self.new ≡ at_machine system.now self.old) }
-        ensures kept { KeepsState system.now self.new }
-    {
-        let events = self.ready(alloc, system)?;
+        let events = self.ready(alloc)?;
         match self.first_moving(system, events.as_slice(), branch, breaks) {
-            Some(place) => self.take_at(alloc, events, place),
+            Some(place) => self.take_ready(alloc, system, events, place),
             None => Ok(self.kept_back(system, events.as_slice(), branch)),
         }
     }
 
-    /// Takes the event at this place of the list, where the limits leave room for it.
-    fn take_at(
+    /// Takes the event at this place of the list of those that are ready, where the limits leave room for it.
+    fn take_ready(
         &mut self,
         alloc: Global,
+        system: &Checked,
         events: Items<Event>,
         place: usize,
     ) -> Result<BranchReply, AllocError>
-        requires { place < length events }
-        ensures done { (system : Checked) (T : State) (e : Event) → Reaches (execution system self.old) T → slice_get events place ≡ Some e → Chosen T (choice_of e) e → IfOk result (λ reply. Takes (at_machine system self.old) e reply (at_machine system self.new)) }
-        ensures unchanged { (system : Checked) → OnErr result (at_machine system self.new ≡ at_machine system self.old) }
-        ensures kept { (system : Checked) → KeepsState system self.old → KeepsState system self.new }
+        requires holds { Holds system.now self.old }
+        requires chosen { IsChosenAt (state_of_tree (tree_of self.old)) events place }
+        ensures done { (e : Event) → slice_get events place ≡ Some e → IfOk result (λ reply. Takes (at_machine system.now self.old) e reply (at_machine system.now self.new)) }
+        ensures unchanged { OnErr result (at_machine system.now self.new ≡ at_machine system.now self.old) }
+        ensures holds { Holds system.now self.new }
     {
         let mut events = events.into_vec();
         match self.admitted(Some(events.swap_remove(place))) {
             Ok(event) => {
-                let entry = self.add(alloc, event)?;
+                let entry = self.add(alloc, system, event)?;
                 Ok(BranchReply::Stepped(entry.0, entry.1))
             }
             Err(why) => Ok(BranchReply::Refused(why)),

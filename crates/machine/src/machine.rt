@@ -1,4 +1,4 @@
-ghost use Rattle.std.specs.Prelude.{◌≡◌, [], IfOk, MatchOption, slice_get, Some, None};
+ghost use Rattle.std.specs.Prelude.{◌≡◌, ◌≢◌, [], IfOk, MatchOption, slice_get, Some, None};
 ghost use Rattle.calculus.specs.Steps.{State};
 ghost use Rattle.calculus.specs.Live.{events};
 ghost use Rattle.calculus.specs.Object.{Reaches};
@@ -15,15 +15,15 @@ use crate::branching::{BranchReply, or_refused};
 use crate::history::History;
 use crate::replying::or_no_memory;
 use address::Address;
-use calculus::{Choice, Event, Reply};
+use calculus::{Choice, Event, Refusal, Reply};
 use event_places::{line_after, select_after};
 use sharing_check::Checked;
 use std::alloc::{AllocError, Global};
 use std::marker::Model;
 use syntax::Items;
 
-/// One execution of a system: its live events with their tickets, and the ticket of the next step. The state is what
-/// the live events lead to: a step keeps it, and where none is kept it is replayed.
+/// One execution of a system: its live events with their tickets, and the ticket of the next step. The tree and the values to
+/// which they lead are changed in place, by a step and by its undo; no event is ever replayed.
 #[derive(Drop)]
 pub struct Machine {
     alloc: Global,
@@ -40,25 +40,20 @@ impl Model for Machine {
 
     ghost coded = { Prim.hlevel (codes, whole.the_row.coded) };
 
-    ghost use Rattle.calculus.specs.Sound.{Sound};
-    ghost use Rattle.machine.specs.AtMachine.{at_machine, object};
-    ghost use Rattle.machine.specs.walking.Histories.{execution, KeepsState};
+    ghost use Rattle.machine.specs.AtMachine.{at_machine};
+    ghost use Rattle.machine.specs.walking.Histories.{Holds};
 
     ghost view = { λ machine. at_machine machine.system machine.history };
 
-    ghost invariant = { λ machine. Sound (execution machine.system machine.history) × KeepsState machine.system machine.history };
+    ghost invariant = { λ machine. Holds machine.system machine.history };
 }
 
 impl Machine {
-    /// The execution before its first event. It takes no memory yet.
+    /// The execution before its first event.
     pub fn new(alloc: Global, checked: Checked) -> Result<Machine, AllocError>
         ensures { IfOk result (λ made. made ≡ record { checked = checked; live = []; next = 1 }) }
     {
-        let history = History {
-            live: Vec::new(alloc),
-            next: 1,
-            state: None,
-        };
+        let history = History::new(alloc, &checked)?;
         Ok(Machine {
             alloc,
             system: checked,
@@ -77,10 +72,7 @@ impl Machine {
     pub fn live_at(&self, place: u64) -> Option<(u64, &Event)>
         ensures { MatchOption result (slice_get self.now.live place ≡ None) (λ entry. slice_get self.now.live place ≡ Some (entry.0, entry.1.now)) }
     {
-        match self.history.live.get(place as usize) {
-            Some(entry) => Some((entry.0, &entry.1)),
-            None => None,
-        }
+        self.history.live.pair_at(place)
     }
 
     /// The ticket of the next step.
@@ -124,20 +116,22 @@ impl Machine {
         self.history.undo(ticket)
     }
 
-    /// Takes the event of this ticket back, and all live events that depend on it.
+    /// Takes the event of this ticket back, and all live events that depend on it. It takes no memory.
     pub fn roll(&mut self, ticket: u64) -> Reply
         ensures answers { Answers (object self.old) (Command.Roll ticket) result (object self.new) }
+        ensures no_memory { result ≢ Reply.Refused Refusal.Memory }
         ensures system { self.new.checked ≡ self.old.checked }
     {
-        or_no_memory(self.history.roll(self.alloc, ticket))
+        self.history.roll(ticket)
     }
 
-    /// Takes the last event that wrote the variable back, and all live events that depend on it.
+    /// Takes the last event that wrote the variable back, and all live events that depend on it. It takes no memory.
     pub fn roll_value(&mut self, variable: u32) -> Reply
         ensures answers { Answers (object self.old) (Command.RollValue variable) result (object self.new) }
+        ensures no_memory { result ≢ Reply.Refused Refusal.Memory }
         ensures system { self.new.checked ≡ self.old.checked }
     {
-        or_no_memory(self.history.roll_value(self.alloc, variable))
+        self.history.roll_value(variable)
     }
 
     /// Tells the last live event that wrote the variable. It takes no memory.
@@ -158,28 +152,29 @@ impl Machine {
     pub fn live(&self) -> Reply
         ensures { Answers (object self.now) Command.Live result (object self.now) }
     {
-        or_no_memory(self.history.tell_live(self.alloc, &self.system))
+        or_no_memory(self.history.tell_live(self.alloc))
     }
 
-    /// Tells the value of the variable now.
+    /// Tells the value of the variable now. It takes no memory.
     pub fn value(&self, variable: u32) -> Reply
-        ensures { Answers (object self.now) (Command.Value variable) result (object self.now) }
+        ensures answers { Answers (object self.now) (Command.Value variable) result (object self.now) }
+        ensures no_memory { result ≢ Reply.Refused Refusal.Memory }
     {
-        or_no_memory(self.history.tell_value(self.alloc, &self.system, variable))
+        self.history.tell_value(variable)
     }
 
     /// Tells the events that may be taken now.
     pub fn tell_ready(&self) -> Reply
         ensures { Answers (object self.now) Command.Ready result (object self.now) }
     {
-        or_no_memory(self.history.tell_ready(self.alloc, &self.system))
+        or_no_memory(self.history.tell_ready(self.alloc))
     }
 
     /// The events that may be taken now, in order of acting address, then arm.
     pub fn ready(&self) -> Result<Items<Event>, AllocError>
         ensures { IfOk result (λ events. (T : State) × Reaches (object self.now) T × ReadyList T events) }
     {
-        self.history.ready(self.alloc, &self.system)
+        self.history.ready(self.alloc)
     }
 
     /// The line, from 1, of the command that has this place after the live events. None where no command has it.

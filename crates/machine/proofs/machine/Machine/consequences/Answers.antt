@@ -11,5 +11,5 @@ returns c =
     let o = execution c.self.inside.system c.self.inside.history in
     subst (λ (h : AtMachine). Answers (object h) (Command.Consequences c.args.ticket) c.or_no_memory.result (object h)) c.self.view_is
     (answers-of o o (Command.Consequences c.args.ticket) c.tell_consequences.result c.or_no_memory.result
-    (c.tell_consequences.ensures.done c.self.inside.system c.self.invariant.0) c.tell_consequences.ensures.wanted
+    (c.tell_consequences.ensures.done c.self.inside.system c.self.invariant) c.tell_consequences.ensures.wanted
     (on-error c.tell_consequences.result refl) c.or_no_memory.ensures)
