@@ -1,5 +1,6 @@
 //! Compares the tree that is changed in place with the slow replay, on random runs of the descriptions that standard input
-//! gives: after each step and after each undo, in random orders. It names the first difference of each description.
+//! gives: after each step and after each undo, in random orders. It names the first difference of each description. Deep and
+//! wide ones are made and taken back as a whole.
 #![tactic(auto)]
 
 mod cases;
@@ -7,6 +8,7 @@ mod numbered;
 mod random;
 mod rows;
 mod session;
+mod sizes;
 mod states;
 
 use cases::{Case, first_case};
@@ -21,6 +23,20 @@ use std::{env, io};
 const SEEDS: u64 = 1_000_000;
 /// How many steps and undos each run has at most, before all is taken back.
 const CHANGES: u64 = 50;
+
+/// A run of the description, of the kind that its name says.
+fn run_case(rt: &HostRuntime, case: Case<'_>, seed: u64, rows: &mut Rows) -> io::Result<()> {
+    let alloc = rt.alloc();
+    if case.name.starts_with(b"deep") {
+        sizes::deep(alloc, case.checked(alloc)?)
+    } else if case.name.starts_with(b"long") {
+        sizes::long(alloc, case.checked(alloc)?)
+    } else if case.name.starts_with(b"wide") {
+        sizes::wide(alloc, case.checked(alloc)?)
+    } else {
+        run(rt, case, seed, rows)
+    }
+}
 
 /// A run of the description: steps and undos in random orders, and then undos of all that is left.
 fn run(rt: &HostRuntime, case: Case<'_>, seed: u64, rows: &mut Rows) -> io::Result<()> {
@@ -55,7 +71,7 @@ fn compare(rt: &HostRuntime, text: &[u8], seed: u64, rows: &mut Rows) -> io::Res
     let mut failed = 0;
     while let Some((case, behind)) = first_case(rest)? {
         rest = behind;
-        match run(rt, case, seed * SEEDS + passed + failed, rows) {
+        match run_case(rt, case, seed * SEEDS + passed + failed, rows) {
             Ok(()) => passed += 1,
             Err(error) => {
                 failed += 1;
