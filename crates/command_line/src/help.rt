@@ -30,7 +30,7 @@ pub const CHECK: &str = "Say whether a description is accepted";
 pub const CHECK_LONG: &str = "\
 Say whether a description is accepted. If it is, the answer is `accepted`. If not,
 standard error gets the line `balsadbg: refused N ..` with one of the numbers
-below, and the byte of FILE that is meant.
+below and, where a byte of FILE is meant, that byte.
 
 Example:
   balsadbg check examples/buffer.balsa";

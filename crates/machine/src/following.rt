@@ -1,4 +1,4 @@
-// Who wrote a variable last.
+// Who wrote a variable last, and whether a number is among some.
 ghost use Rattle.std.specs.Prelude.{◌≡◌, ◌⊎◌, Some, MatchOption};
 ghost use Rattle.system.specs.Expression.{is_in};
 ghost use Rattle.calculus.specs.Live.{NoWriter};

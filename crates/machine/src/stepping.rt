@@ -15,8 +15,8 @@ ghost use Rattle.machine.specs.walking.Entering.{Entered, NotEntered};
 
 use crate::history::History;
 use calculus::{Choice, Command, Event, LAST_TICKET, MOST_LIVE_EVENTS, Refusal, Reply};
-use event_inverse::{Inverse, Record, apply, invert};
 use channel_uses::ChannelUses;
+use event_inverse::{Inverse, Record, apply, invert};
 use rendezvous::{event_with, ready_events};
 use sharing_check::Checked;
 use std::alloc::{AllocError, Global};
