@@ -97,7 +97,7 @@ Example:
   balsadbg replay examples/one.balsa examples/one.stimulus examples/one.trace";
 
 /// What each refusal of a command means: with lines for a trace, for the files, for a stimulus and for a script.
-macro_rules! refusals {
+macro_rules! each_refusal {
     ([$($trace:literal)*] [$($files:literal)*] [$($stimulus:literal)*] [$($script:literal)*]) => {
         concat!(
             "Refusals. The line `balsadbg: refused N ..` on standard error ends a run with\n",
@@ -135,7 +135,7 @@ macro_rules! refusals {
 /// The same with the lines for a stimulus.
 macro_rules! refusals_over_ports {
     ([$($trace:literal)*] [$($files:literal)*] [$($script:literal)*]) => {
-        refusals!(
+        each_refusal!(
             [$($trace)*]
             [$($files)*]
             [
@@ -183,7 +183,7 @@ pub const REFUSALS: &str = refusals_of_scripts!(
     ["  41  a file is missing, or reading it or the script failed\n"]
 );
 
-pub const CHECK_REFUSALS: &str = refusals!(
+pub const CHECK_REFUSALS: &str = each_refusal!(
     []
     ["  41  FILE is missing, or reading it failed\n"]
     []
