@@ -13,7 +13,7 @@ use std::io;
 use store::Store;
 
 /// How many steps a deep description takes at most.
-const STEPS: usize = 1_100;
+const STEPS: usize = 150;
 
 /// A tree with its store, and what takes its events back.
 #[derive(Drop)]
