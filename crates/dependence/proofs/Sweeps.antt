@@ -1,14 +1,14 @@
 -- The sweep that finds the topmost of some events, one place after another.
 use Rattle.std.proofs.Common.{◌≡◌, ◌≢◌, ◌⊎◌, ◌↔◌, inl, inr, ℕ, zero, suc, ◌+◌, ◌-◌, ◌<◌, ◌≤◌, List, [], ◌∷◌, ◌++◌, Bool, true, false, cond, ◌||◌, ◌&&◌, not, IsTrue, length, get_or, take, drop, Some, refl, sym, ◌∙◌, ap, subst, arith, length-append}
 use Rattle.std.specs.Prelude.{slice_get}
-use Rattle.std.specs.List.Sorted.{IsPermutation}
+use Rattle.std.specs.List.Sorted.{IsPermutation, IsNonDecreasing}
 use Rattle.std.proofs.lemmas.Bool.{cases_eq, cases_lt}
 use Rattle.std.proofs.lemmas.List.Sorted.{Contains-permutation}
 use Rattle.std.proofs.lemmas.Option.{slice_get_within, slice_get-get_or}
 use Rattle.syntax.specs.Lists.{In}
 use Rattle.system.specs.Expression.{is_in}
 use Rattle.calculus.specs.InOrder.{InOrder}
-use Rattle.calculus.specs.Live.{Live, Rising, DependsOn, same}
+use Rattle.calculus.specs.Live.{Live, Rising, DependsOn, same, IsLive}
 use Rattle.calculus.specs.declared.event.Event.{Event}
 use Rattle.calculus.proofs.Lists.{in-left, in-right, in-parts, every-in}
 use Rattle.calculus.proofs.DependsOnLaw.{depends-up}
@@ -303,24 +303,70 @@ flag-at from next l high flags t place e d r at less size =
           at-one flags k (get_or flags k d) true read (subst (λ (j : ℕ). slice_get flags j ≡ Some true) same_flag h.4)),
     )
 
--- behind the first of some ascending tickets that stands at `high` or above none has a flag
-pub none-above : (from next : ℕ) (l : Live) (high : ℕ) (flags : List Bool) (ts : List ℕ) (i place : ℕ) (e : Event) → Rising from l next → InOrder ◌<◌ ts → i < length ts →
-    slice_get l place ≡ Some (get_or ts i 0, e) → high ≤ place → ((t : ℕ) → In t (take i ts) → FlagAt l high flags t → ⊥) → (t : ℕ) → In t ts → FlagAt l high flags t → ⊥
-none-above from next l high flags ts i place e r o less at past none t j flag =
-    let x : ℕ = get_or ts i 0 in
-    let parts : ts ≡ take i ts ++ x ∷ drop (suc i) ts = parts-at ts i x (slice_get-get_or ts i 0 less) in
+pub last-below : (l : Live) (high : ℕ) (d : ℕ × Event) → 0 < high → high ≤ length l → slice_get l (high - 1) ≡ Some (get_or l (high - 1) d)
+last-below l high d some size = slice_get-get_or l (high - 1) d (omega arith)
+
+-- a ticket that is not above that of the last place below `high` stands below it
+pub stands-below : (from next : ℕ) (l : Live) (high place t : ℕ) (e : Event) (x : ℕ × Event) → Rising from l next → 0 < high → slice_get l (high - 1) ≡ Some x →
+    slice_get l place ≡ Some (t, e) → t ≤ x.0 → place < high
+stands-below from next l high place t e x r some last at low = elim (cases_lt place high) [
+  | inl below ↦ below
+  | inr above ↦
+      let over : high - 1 < place = omega arith in
+      let more : x.0 < t = place-rises from next l (high - 1) place x.0 t x.1 e r last at over in
+      omega arith
+]
+
+-- from the first of some ascending tickets on that is above it none has a flag
+pub none-above : (from next : ℕ) (l : Live) (high : ℕ) (flags : List Bool) (ts : List ℕ) (i : ℕ) (x : ℕ × Event) → Rising from l next → InOrder ◌<◌ ts → i < length ts →
+    0 < high → slice_get l (high - 1) ≡ Some x → x.0 < get_or ts i 0 → ((t : ℕ) → In t (take i ts) → FlagAt l high flags t → ⊥) → (t : ℕ) → In t ts →
+    FlagAt l high flags t → ⊥
+none-above from next l high flags ts i x r o less some last past none t j flag =
+    let y : ℕ = get_or ts i 0 in
+    let parts : ts ≡ take i ts ++ y ∷ drop (suc i) ts = parts-at ts i y (slice_get-get_or ts i 0 less) in
     let sum : flag.0 + flag.1 + 1 ≡ high = flag.3 in
-    elim (in-parts t (take i ts) (x ∷ drop (suc i) ts) (subst (λ (k : List ℕ). In t k) parts j)) [
+    let within : flag.0 ≤ high - 1 = omega arith in
+    let low : t ≤ x.0 = not-above t flag.0 flag.2 within in
+    elim (in-parts t (take i ts) (y ∷ drop (suc i) ts) (subst (λ (k : List ℕ). In t k) parts j)) [
       | inl a ↦ none t a flag
-      | inr (inl is) ↦
-          let one : flag.0 ≡ place =
-          one-place from next l x flag.2.0 e flag.0 place r (subst (λ (v : ℕ). slice_get l flag.0 ≡ Some (v, flag.2.0)) is flag.2.1) at in
-          omega arith
+      | inr (inl is) ↦ omega arith
       | inr (inr later) ↦
-          let up : x < t =
-          every-in (λ y. x < y) (drop (suc i) ts) t (in-order-right ◌<◌ (take i ts) (x ∷ drop (suc i) ts) (subst (InOrder ◌<◌) parts o)).0 later in
-          let above : place < flag.0 = lesser-stands from next l place flag.0 x t e flag.2.0 r at flag.2.1 up in
+          let up : y < t =
+          every-in (λ z. y < z) (drop (suc i) ts) t (in-order-right ◌<◌ (take i ts) (y ∷ drop (suc i) ts) (subst (InOrder ◌<◌) parts o)).0 later in
           omega arith
+    ]
+  where
+    not-above : (t place : ℕ) → StandsAt l t place → place ≤ high - 1 → t ≤ x.0
+    not-above t place on within = elim (cases_lt x.0 t) [
+      | inl more ↦
+          let over : high - 1 < place = lesser-stands from next l (high - 1) place x.0 t x.1 on.0 r last on.1 more in
+          omega arith
+      | inr low ↦ low
+    ]
+
+-- between the places of the first and the last of some ascending tickets stand all of them
+pub span-of : (from next : ℕ) (l : Live) (ts : List ℕ) (first last : ℕ) (e f : Event) → Rising from l next → 0 < length ts → IsNonDecreasing ts →
+    slice_get l first ≡ Some (get_or ts 0 0, e) → slice_get l last ≡ Some (get_or ts (length ts - 1) 0, f) → ((t : ℕ) → In t ts → IsLive l t) →
+    (first ≤ last) × StandWithin l ts first (last + 1)
+span-of from next l ts first last e f r some rise at on live = (
+  between first last (get_or ts 0 0) (get_or ts (length ts - 1) 0) e f at on (rise 0 (length ts - 1) 0 (omega arith) (omega arith)),
+  λ t i.
+      let k = place-in ts t i in
+      let within : k.0 < length ts = slice_get_within ts k.0 t k.1 in
+      let here : get_or ts k.0 0 ≡ t = got-here ts k.0 t 0 k.1 in
+      let low : get_or ts 0 0 ≤ get_or ts k.0 0 = rise 0 k.0 0 (omega arith) within in
+      let high : get_or ts k.0 0 ≤ get_or ts (length ts - 1) 0 = rise k.0 (length ts - 1) 0 (omega arith) (omega arith) in
+      let event = live t i in
+      let stands = place-in l (t, event.0) event.1 in
+      let above : first ≤ stands.0 = between first stands.0 (get_or ts 0 0) t e event.0 at stands.1 (omega arith) in
+      let below : stands.0 ≤ last = between stands.0 last t (get_or ts (length ts - 1) 0) event.0 f stands.1 on (omega arith) in
+      (stands.0, (event.0, stands.1), above, omega arith),
+)
+  where
+    between : (i j t u : ℕ) (e f : Event) → slice_get l i ≡ Some (t, e) → slice_get l j ≡ Some (u, f) → t ≤ u → i ≤ j
+    between i j t u e f a b le = elim (cases_lt j i) [
+      | inl back ↦ let more : u < t = place-rises from next l j i u t f e r b a back in absurd (omega arith)
+      | inr up ↦ up
     ]
 
 pub not-both : (b : Bool) → b ≡ true → b ≡ false → ⊥
@@ -367,16 +413,3 @@ few-falling (x ∷ y ∷ cs) h = absurd (omega arith)
 
 pub few-topmost : (l : Live) (cs : List ℕ) → length cs ≤ 1 → (t : ℕ) → In t cs ↔ Topmost l cs t
 few-topmost l cs h t = ((λ i. (i, λ c j on. one-of-few cs c t h j i)), (λ top. top.0))
-
--- the places from the first of some events to the last, with one more of them
-pub span-next : (from next : ℕ) (l : Live) (ts us : List ℕ) (t place low high : ℕ) → Rising from l next → us ≡ ts ++ t ∷ [] → StandsAt l t place →
-    StandWithin l ts low high → (new_low new_high : ℕ) → new_low ≤ low → new_low ≤ place → high ≤ new_high → place < new_high → StandWithin l us new_low new_high
-span-next from next l ts us t place low high r is at stand new_low new_high a b c d u i = elim (in-parts u ts (t ∷ []) (subst (λ (k : List ℕ). In u k) is i)) [
-  | inl old ↦
-      let was = stand u old in
-      let first : low ≤ was.0 = was.2 in
-      let last : was.0 < high = was.3 in
-      (was.0, was.1, omega arith, omega arith)
-  | inr (inl one) ↦ (place, subst (λ (v : ℕ). StandsAt l v place) (sym one) at, b, d)
-  | inr (inr none) ↦ absurd none
-]

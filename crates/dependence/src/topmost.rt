@@ -51,23 +51,19 @@ pub(crate) fn topmost(
     Ok(kept)
 }
 
-/// From which place on and below which one these live events stand.
+/// From which place on and below which one these live events stand, whose tickets ascend.
 pub(crate) fn span(live: &[(u64, Event)], tickets: &[u64]) -> (usize, usize)
     requires rising { IsRising live.now }
     requires live { (t : ℕ) → In t tickets.now → IsLive live.now t }
     requires some { 0 < length tickets.now }
+    requires ascending { IsNonDecreasing tickets.now }
     ensures order { result.0 ≤ result.1 }
     ensures size { result.1 ≤ length live.now }
     ensures stand { StandWithin live.now tickets.now result.0 result.1 }
 {
-    let mut low = place_of_live(live, tickets[0]);
-    let mut high = low + 1;
-    for ticket in tickets {
-        let place = place_of_live(live, *ticket);
-        low = low.min(place);
-        high = high.max(place + 1);
-    }
-    (low, high)
+    let low = place_of_live(live, tickets[0]);
+    let last = place_of_live(live, tickets[tickets.len() - 1]);
+    (low, last + 1)
 }
 
 /// Whether one of these live events, whose tickets ascend, stands below `high` at a place that is flagged. The flags begin at the
@@ -77,13 +73,16 @@ fn is_flagged(live: &[(u64, Event)], high: usize, flags: &[bool], tickets: &[u64
     requires live { (t : ℕ) → In t tickets.now → IsLive live.now t }
     requires passed { (t i : ℕ) → In t tickets.now → StandsAt live.now t i → high ≤ i + length flags.now }
     requires ascending { InOrder ◌<◌ tickets.now }
+    requires some { 0 < high }
+    requires size { high ≤ length live.now }
     ensures { IsTrue result ↔ ((t : ℕ) × In t tickets.now × FlagAt live.now high flags.now t) }
 {
+    let last = live[high - 1].0;
     for ticket in tickets {
-        let place = place_of_live(live, *ticket);
-        if place >= high {
+        if *ticket > last {
             return false;
         }
+        let place = place_of_live(live, *ticket);
         if flags[high - 1 - place] {
             return true;
         }

@@ -27,6 +27,7 @@ span-low-requires c =
       live = candidates-live new.live.now new.event.now c.as_slice.result.now sorted c.as_slice.ensures.value
           (candidates-alike new.live.now new.event.now c.in_ok-found.found.items sorted c.ascending-sorted.ensures.same c.in_ok-found.ensures);
       some = omega (arith, c.in_ok-found.found.ok);
+      ascending = subst (λ (k : List ℕ). IsNonDecreasing k) (sym c.as_slice.ensures.value) c.ascending-sorted.ensures.ascending;
     }
 
 pub topmost-requires : goal.topmost-requires
