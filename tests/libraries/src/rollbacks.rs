@@ -1,5 +1,5 @@
 //! Undo, roll, blame and roll_value behind steps, one after the other. What memory the calls themselves ask for may be
-//! wanting (`tests/memory/run`): undo and blame ask for none; a rollback that finds none changes nothing.
+//! wanting (`tests/memory/run`), but they ask for none.
 
 use crate::examples::*;
 use crate::told::place;
@@ -8,9 +8,6 @@ use machine::Machine;
 use std::alloc::Global;
 use std::process::Abort;
 use std::test::Fail;
-
-/// Whether a rollback may ask for memory.
-const ROLLS_MAY_WANT: bool = true;
 
 /// A call in short.
 #[derive(Clone, Copy)]
@@ -59,18 +56,6 @@ fn ask(machine: &mut Machine, asked: Asked) -> Reply {
     }
 }
 
-/// The answer; where a rollback was refused for want of memory, nothing has changed, and it is asked again.
-fn answer(rt: &impl Abort, machine: &mut Machine, asked: Asked, live: &[u64]) -> Reply {
-    let reply = ask(machine, asked);
-    let is_roll = matches!(asked, Asked::Roll(_) | Asked::RollValue(_));
-    if !matches!(&reply, Reply::Refused(Refusal::Memory)) {
-        return reply;
-    }
-    assert!(rt; is_roll && ROLLS_MAY_WANT);
-    assert!(rt; are_live(machine, live));
-    ask(machine, asked)
-}
-
 fn is_told(reply: &Reply, told: Told) -> bool {
     match (reply, told) {
         (Reply::Undone(ticket, _), Told::Undone(same)) => *ticket == same,
@@ -91,14 +76,12 @@ fn are_live(machine: &Machine, tickets: &[u64]) -> bool {
     machine.live_at(tickets.len() as u64).is_none()
 }
 
-/// Asks one call after the other. The tickets of the steps are live at first.
-fn look(rt: &impl Abort, machine: &mut Machine, steps: &[u64], calls: Calls) {
-    let mut live = steps;
+/// Asks one call after the other.
+fn look(rt: &impl Abort, machine: &mut Machine, calls: Calls) {
     for (asked, told, left) in calls {
-        let reply = answer(rt, machine, *asked, live);
+        let reply = ask(machine, *asked);
         assert!(rt; is_told(&reply, *told));
         assert!(rt; are_live(machine, left));
-        live = left;
     }
 }
 
@@ -124,7 +107,7 @@ fn steps_are_undone_the_last_first(rt: HostRuntime) -> Result<(), Fail> {
         (Asked::Undo(1), Told::Undone(1), &[]),
         (Asked::Undo(1), Told::Refused(Refusal::NoSuchEvent), &[]),
     ];
-    look(&rt, &mut machine, &[1, 2, 3], calls);
+    look(&rt, &mut machine, calls);
     Ok(())
 }
 
@@ -156,7 +139,7 @@ fn a_rollback_takes_what_depends_on_it(rt: HostRuntime) -> Result<(), Fail> {
         (Asked::RollValue(0), Told::Rolled(1), &[1]),
         (Asked::Roll(3), Told::Refused(Refusal::NoSuchEvent), &[1]),
     ];
-    look(&rt, &mut machine, &[1, 2, 3, 4], calls);
+    look(&rt, &mut machine, calls);
     Ok(())
 }
 
@@ -173,7 +156,7 @@ fn a_rollback_of_a_value_takes_what_read_it(rt: HostRuntime) -> Result<(), Fail>
         (Asked::Undo(1), Told::Undone(1), &[2]),
         (Asked::Roll(2), Told::Rolled(1), &[]),
     ];
-    look(&rt, &mut machine, &[1, 2, 3, 4], calls);
+    look(&rt, &mut machine, calls);
     Ok(())
 }
 
@@ -184,7 +167,7 @@ fn what_an_arm_did_holds_its_open(rt: HostRuntime) -> Result<(), Fail> {
         (Asked::Undo(1), Told::Refused(Refusal::NeededBy(2)), &[1, 2]),
         (Asked::Roll(1), Told::Rolled(2), &[]),
     ];
-    look(&rt, &mut machine, &[1, 2], calls);
+    look(&rt, &mut machine, calls);
     Ok(())
 }
 
@@ -195,7 +178,7 @@ fn an_opened_arm_is_undone(rt: HostRuntime) -> Result<(), Fail> {
         (Asked::Undo(1), Told::Undone(1), &[]),
         (Asked::Roll(1), Told::Refused(Refusal::NoSuchEvent), &[]),
     ];
-    look(&rt, &mut machine, &[1], calls);
+    look(&rt, &mut machine, calls);
     Ok(())
 }
 
@@ -214,7 +197,7 @@ fn a_branch_is_undone_behind_another(rt: HostRuntime) -> Result<(), Fail> {
         (Asked::Blame(1), Told::Blamed(3), &[1, 3]),
         (Asked::Roll(1), Told::Rolled(2), &[]),
     ];
-    look(&rt, &mut machine, &[1, 2, 3, 4], calls);
+    look(&rt, &mut machine, calls);
     Ok(())
 }
 
@@ -233,7 +216,7 @@ fn the_last_write_is_rolled_back_first(rt: HostRuntime) -> Result<(), Fail> {
         ),
         (Asked::Blame(1), Told::Refused(Refusal::NeverWritten), &[]),
     ];
-    look(&rt, &mut machine, &[1, 2], calls);
+    look(&rt, &mut machine, calls);
     Ok(())
 }
 
@@ -258,6 +241,6 @@ fn a_test_depends_on_what_it_reads(rt: HostRuntime) -> Result<(), Fail> {
         (Asked::RollValue(0), Told::Rolled(2), &[1]),
         (Asked::Undo(1), Told::Undone(1), &[]),
     ];
-    look(&rt, &mut machine, &[1, 2, 3, 4, 5], calls);
+    look(&rt, &mut machine, calls);
     Ok(())
 }
