@@ -97,7 +97,7 @@ Example:
   balsadbg replay examples/one.balsa examples/one.stimulus examples/one.trace";
 
 /// What each refusal of a command means: with lines for a trace, for the files, for a stimulus and for a script.
-macro_rules! each_refusal {
+macro_rules! refusal_lines {
     ([$($trace:literal)*] [$($files:literal)*] [$($stimulus:literal)*] [$($script:literal)*]) => {
         concat!(
             "Refusals. The line `balsadbg: refused N ..` on standard error ends a run with\n",
@@ -133,9 +133,9 @@ macro_rules! each_refusal {
 }
 
 /// The same with the lines for a stimulus.
-macro_rules! refusals_over_ports {
+macro_rules! refusal_lines_over_ports {
     ([$($trace:literal)*] [$($files:literal)*] [$($script:literal)*]) => {
-        each_refusal!(
+        refusal_lines!(
             [$($trace)*]
             [$($files)*]
             [
@@ -148,9 +148,9 @@ macro_rules! refusals_over_ports {
 }
 
 /// The same with the lines for a script.
-macro_rules! refusals_of_scripts {
+macro_rules! refusal_lines_of_scripts {
     ([$($trace:literal)*] [$($files:literal)*]) => {
-        refusals_over_ports!(
+        refusal_lines_over_ports!(
             [$($trace)*]
             [$($files)*]
             [
@@ -174,7 +174,7 @@ macro_rules! refusals_of_scripts {
     };
 }
 
-pub const REFUSALS: &str = refusals_of_scripts!(
+pub const REFUSALS: &str = refusal_lines_of_scripts!(
     [
         "  31  TRACE does not begin with the line `balsadbg trace 1`\n"
         "  32  this line of TRACE, from 1, is no step, or has no end\n"
@@ -183,18 +183,18 @@ pub const REFUSALS: &str = refusals_of_scripts!(
     ["  41  a file is missing, or reading it or the script failed\n"]
 );
 
-pub const CHECK_REFUSALS: &str = each_refusal!(
+pub const CHECK_REFUSALS: &str = refusal_lines!(
     []
     ["  41  FILE is missing, or reading it failed\n"]
     []
     []
 );
 
-pub const DEBUG_REFUSALS: &str = refusals_of_scripts!(
+pub const DEBUG_REFUSALS: &str = refusal_lines_of_scripts!(
     []["  41  FILE or STIMULUS is missing, or reading it or the script failed\n"]
 );
 
-pub const REPLAY_REFUSALS: &str = refusals_over_ports!(
+pub const REPLAY_REFUSALS: &str = refusal_lines_over_ports!(
     [
         "  31  TRACE does not begin with the line `balsadbg trace 1`\n"
         "  32  this line of TRACE, from 1, is no step, or has no end\n"
