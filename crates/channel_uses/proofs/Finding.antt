@@ -1,26 +1,26 @@
 -- What a walk for one channel finds, child by child.
-use Rattle.std.proofs.Common.{◌≡◌, ◌⊎◌, inl, inr, ℕ, zero, suc, ◌+◌, ◌*◌, ◌<◌, ◌≤◌, ◌==◌, List, [], ◌∷◌, ◌++◌, length, map, Bool, true, false, cond, Option, Some, None, slice_get, slice_index_or, ◌&&◌, refl, sym, ap, ap₂, ◌∙◌, subst, true≢false, ne_eqb, append-nil, length-append, arith}
+use Rattle.std.proofs.Common.{◌≡◌, inl, inr, ℕ, zero, suc, ◌+◌, ◌*◌, ◌<◌, ◌≤◌, List, [], ◌∷◌, ◌++◌, length, map, Bool, true, false, cond, Option, Some, None, slice_index_or, refl, sym, ap, ap₂, ◌∙◌, subst, ne_eqb, arith}
 use Rattle.address.specs.declared.Entry.{Entry}
 use Rattle.address.specs.declared.Entry.TheVariants.{Ordered, Branch}
 use Rattle.syntax.specs.Lists.{In}
-use Rattle.system.specs.Expression.{Store, Expression, Decision}
+use Rattle.system.specs.Expression.{Store, Expression}
 use Rattle.calculus.proofs.Options.{none-some, some-injective}
 use Rattle.process_tree.specs.Children.{proc_at}
-use Rattle.process_tree.specs.Code.{Once, assigning, receiving, Sender, sending, syncing, Code, continues, halts, moves_once, may_be_held, repeats, decides, awaits, in_turn, side_by_side, drains, Codes, no_code, code, code_at}
+use Rattle.process_tree.specs.Code.{Once, assigning, receiving, Sender, sending, syncing, Code, Codes, no_code, code, code_at}
 use Rattle.process_tree.specs.Left.{Received, with_value, residual_once, residual_sender, channel_of}
-use Rattle.process_tree.specs.Proc.{waiting, holding, past, Proc, idle, stopped, once, sender, fresh, turn, ended_at_once, ended, untested, skipped, took, unopened, entered, closed, sequence, parallel, drained, Procs, no_procs, proc, started, all_started}
+use Rattle.process_tree.specs.Proc.{waiting, holding, past, Proc, idle, stopped, once, sender, fresh, turn, ended_at_once, ended, untested, skipped, took, unopened, entered, closed, sequence, parallel, drained, Procs, no_procs, proc, all_started}
 use Rattle.process_tree.specs.Translation.{row_of}
 use Rattle.process_tree.specs.View.{code_view}
 use Rattle.process_tree.specs.declared.code.Code as made
 use Rattle.process_tree.specs.Tidy.{last_moved}
-use Rattle.process_tree.specs.walking.Received.{puts_once, puts_sender, puts_guard, puts_decision}
-use Rattle.offered_sides.specs.walking.Listed.{side_at, behind, open_sides, sides_of_residual, again_at, tested_at, Listing, nothing, at_work, one_after, both, listed, listed_sequence, listed_parallel}
+use Rattle.process_tree.specs.walking.Received.{puts_once, puts_sender, puts_guard}
+use Rattle.offered_sides.specs.walking.Listed.{side_at, behind, sides_of_residual, again_at, Listing, nothing, at_work, one_after, both, listed, listed_sequence, listed_parallel}
 use Rattle.offered_sides.specs.walking.Walk.{Walk, added, down, up}
 use Rattle.offered_sides.specs.declared.side.OfferedSide.{OfferedSide}
 use Rattle.offered_sides.specs.declared.side.Side.TheVariants.{Closes}
-use Rattle.offered_sides.proofs.OneByOne.{step-here, step-over, over-nothing, fresh-at, fresh-past, none-last}
+use Rattle.offered_sides.proofs.OneByOne.{step-here}
 use Rattle.offered_sides.proofs.Walks.{added-none, added-both, through}
-use Rattle.channel_uses.specs.OnChannel.{is_on, on}
+use Rattle.channel_uses.specs.OnChannel.{on}
 use Rattle.channel_uses.specs.StemsFrom.{StemsFrom, AllStemFrom}
 use Rattle.channel_uses.specs.Uses.{used_once, used, all_used}
 use Rattle.std.proofs.lemmas.Bool.{cases_lt}

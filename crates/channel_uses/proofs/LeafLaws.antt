@@ -1,18 +1,15 @@
 -- Leaves on a channel, and on others.
-use Rattle.std.proofs.Common.{◌≡◌, ◌⊎◌, inl, inr, ℕ, suc, ◌+◌, ◌==◌, List, [], ◌∷◌, ◌++◌, Bool, true, false, cond, refl, sym, ap, ◌∙◌, eq-eqb, ne_eqb}
-use Rattle.address.specs.declared.Entry.TheVariants.{Ordered}
-use Rattle.syntax.specs.Lists.{In}
+use Rattle.std.proofs.Common.{◌≡◌, ℕ, suc, List, [], ◌∷◌, ◌++◌, Bool, true, cond, sym, ap, ◌∙◌, eq-eqb, ne_eqb}
 use Rattle.system.specs.Expression.{Store}
-use Rattle.system.specs.Residual.{drain, held}
+use Rattle.system.specs.Residual.{drain}
 use Rattle.process_tree.specs.Code.{Once, assigning, receiving, Sender, sending, syncing}
 use Rattle.process_tree.specs.Left.{Received, residual_once, residual_sender, channel_of}
 use Rattle.process_tree.specs.walking.Received.{puts_once, puts_sender}
-use Rattle.offered_sides.specs.walking.Listed.{side_at, sides_of_residual, open_sides}
+use Rattle.offered_sides.specs.walking.Listed.{sides_of_residual, open_sides}
 use Rattle.offered_sides.specs.walking.Walk.{Walk, added}
 use Rattle.offered_sides.specs.declared.side.OfferedSide.{OfferedSide}
-use Rattle.offered_sides.proofs.Walks.{added-none, added-both}
-use Rattle.channel_uses.specs.OnChannel.{is_on, on}
-use Rattle.channel_uses.specs.Uses.{used_once}
+use Rattle.offered_sides.proofs.Walks.{added-none}
+use Rattle.channel_uses.specs.OnChannel.{on}
 use Rattle.channel_uses.proofs.OnChannel.{dropped, on-both}
 
 kept : (b : Bool) (r : OfferedSide) (rs : List OfferedSide) → b ≡ true → cond b (r ∷ rs) rs ≡ r ∷ rs

@@ -1,22 +1,20 @@
 -- What a process offers on a channel, form by form.
-use Rattle.std.proofs.Common.{◌≡◌, ◌⊎◌, inl, inr, ℕ, zero, suc, ◌+◌, ◌*◌, ◌==◌, List, [], ◌∷◌, ◌++◌, Bool, true, false, cond, Option, Some, None, slice_get, refl, sym, ap, ap₂, ◌∙◌, subst, true≢false, eqb-true, eq-eqb, ne_eqb}
+use Rattle.std.proofs.Common.{◌≡◌, inl, inr, ℕ, zero, suc, ◌+◌, ◌*◌, ◌==◌, List, [], ◌∷◌, ◌++◌, Bool, true, false, cond, Option, Some, None, slice_get, refl, sym, ap, ap₂, ◌∙◌, subst, ne_eqb}
 use Rattle.address.specs.declared.Entry.{Entry}
 use Rattle.address.specs.declared.Entry.TheVariants.{Ordered, Branch}
 use Rattle.syntax.specs.Lists.{In}
 use Rattle.system.specs.Expression.{Store, Expression, Decision}
-use Rattle.system.specs.Residual.{Residual, done, halted, inside, beside, assign, send, receive, sync, held, loop, while, test, choose, closing, drain, within, along}
+use Rattle.system.specs.Residual.{Residual, done, test, choose, closing, within, along}
 use Rattle.calculus.specs.walking.Passed.{is_done}
 use Rattle.calculus.proofs.Options.{none-some, some-injective}
-use Rattle.process_tree.specs.Code.{Once, assigning, receiving, Sender, sending, syncing, Code, continues, halts, moves_once, may_be_held, repeats, decides, awaits, in_turn, side_by_side, drains, Codes, no_code, code, code_at}
-use Rattle.process_tree.specs.Proc.{waiting, holding, past, Proc, idle, stopped, once, sender, fresh, turn, ended_at_once, ended, untested, skipped, took, unopened, entered, closed, sequence, parallel, drained, Procs, no_procs, proc, finished}
+use Rattle.process_tree.specs.Code.{Once, assigning, receiving, Sender, sending, syncing, Codes, no_code, code, code_at}
+use Rattle.process_tree.specs.Proc.{waiting, holding, past, idle, stopped, once, sender, fresh, turn, ended_at_once, ended, untested, skipped, took, unopened, entered, closed, sequence, parallel, drained, Procs, no_procs, proc}
 use Rattle.process_tree.specs.Left.{Received, with_value, puts, residual_once, residual_sender, channel_of, again, residual, residual_arms, left, left_sequence, left_parallel}
-use Rattle.process_tree.specs.walking.Received.{puts_once, puts_sender, puts_guard, puts_decision, puts_arms}
-use Rattle.process_tree.proofs.Formed.{finished-left, is_done-done}
 use Rattle.process_tree.proofs.Puts.{puts-once, puts-sender, puts-again, puts-test, puts-choose}
 use Rattle.offered_sides.specs.walking.Listed.{side_at, behind, open_sides, sides_of_residual}
 use Rattle.offered_sides.specs.declared.side.OfferedSide.{OfferedSide}
 use Rattle.channel_uses.specs.OnChannel.{is_on, on, OffersNothingUnused}
-use Rattle.channel_uses.specs.StemsFrom.{StemsFrom, AllStemFrom}
+use Rattle.channel_uses.specs.StemsFrom.{AllStemFrom}
 use Rattle.channel_uses.specs.Uses.{used_once, used, all_used}
 
 -- ---- lists

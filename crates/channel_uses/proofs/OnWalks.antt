@@ -1,5 +1,5 @@
 -- What a walk from the root finds on a channel is exactly what is offered there.
-use Rattle.std.proofs.Common.{◌≡◌, ◌⊎◌, inl, inr, ℕ, List, [], ◌∷◌, Bool, true, false, cond, refl, sym, ap, ◌∙◌, subst, ◌↔◌}
+use Rattle.std.proofs.Common.{◌≡◌, inl, inr, ℕ, List, [], ◌∷◌, Bool, true, false, cond, refl, sym, ap, ◌∙◌, subst, ◌↔◌}
 use Rattle.syntax.specs.Lists.{In}
 use Rattle.system.specs.Expression.{Store}
 use Rattle.process_tree.specs.Left.{left}

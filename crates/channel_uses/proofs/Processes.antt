@@ -1,22 +1,19 @@
 -- What processes offer on a channel, form by form, and child by child.
-use Rattle.std.proofs.Common.{◌≡◌, ◌⊎◌, inl, inr, ℕ, zero, suc, ◌+◌, ◌*◌, ◌<◌, ◌≤◌, ◌==◌, min, List, [], ◌∷◌, ◌++◌, length, map, Bool, true, false, cond, Option, Some, None, IfSome, MatchOption, slice_get, slice_index_or, Bor, refl, sym, ap, ap₂, ◌∙◌, subst, eq-eqb, ne_eqb, append-nil, length-append, append_assoc, arith, rules}
+use Rattle.std.proofs.Common.{◌≡◌, ℕ, zero, suc, ◌+◌, ◌*◌, ◌<◌, ◌≤◌, min, List, [], ◌∷◌, ◌++◌, length, map, Bool, true, false, cond, Option, Some, None, IfSome, slice_get, Bor, refl, sym, ap, ap₂, ◌∙◌, subst, append-nil, length-append, arith, rules}
 use Rattle.std.specs.Global.{Box}
-use Rattle.std.proofs.lemmas.Bool.{cases_lt}
-use Rattle.address.specs.declared.Entry.TheVariants.{Ordered, Branch}
+use Rattle.address.specs.declared.Entry.TheVariants.{Ordered}
 use Rattle.value.specs.Word.{Word}
-use Rattle.syntax.specs.Lists.{In}
 use Rattle.system.specs.Expression.{Store, Expression, Decision}
 use Rattle.calculus.proofs.Options.{none-some, some-injective}
 use Rattle.last_events.specs.LastEvents.{Uses}
 use Rattle.last_events.specs.declared.uses.UseTable.{UseTable}
 use Rattle.process_tree.specs.Children.{proc_at}
-use Rattle.process_tree.specs.Code.{Once, Sender, Code, continues, halts, moves_once, may_be_held, repeats, decides, awaits, in_turn, side_by_side, drains, Codes, no_code, code, code_at}
+use Rattle.process_tree.specs.Code.{Code, continues, halts, moves_once, may_be_held, repeats, decides, awaits, in_turn, side_by_side, drains, Codes, no_code, code, code_at}
 use Rattle.process_tree.specs.Left.{Received, with_value}
-use Rattle.process_tree.specs.Proc.{Proc, idle, stopped, once, sender, fresh, turn, ended_at_once, ended, untested, skipped, took, unopened, entered, closed, sequence, parallel, drained, Procs, no_procs, proc, started, all_started}
-use Rattle.process_tree.specs.Tidy.{last_moved}
+use Rattle.process_tree.specs.Proc.{Proc, turn, took, entered, sequence, parallel, drained, Procs, no_procs, proc, started, all_started}
 use Rattle.process_tree.specs.Translation.{row_of}
-use Rattle.process_tree.specs.View.{code_view, await_view, proc_view, procs_of, begun_of, turn_of, opened_of}
-use Rattle.process_tree.specs.walking.Parts.{turns_view, tested_view, gate_view}
+use Rattle.process_tree.specs.View.{code_view, await_view, proc_view, begun_of, turn_of, opened_of}
+use Rattle.process_tree.specs.walking.Parts.{tested_view, gate_view}
 use Rattle.process_tree.specs.walking.Received.{puts_guard}
 use Rattle.process_tree.specs.declared.code.Code as made_code
 use Rattle.process_tree.specs.declared.code.Await.{Await}
@@ -28,25 +25,22 @@ use Rattle.process_tree.specs.declared.proc.Gate.{Gate}
 use Rattle.process_tree.specs.declared.proc.Gate.TheFolds.{the_lemmas}
 use Rattle.process_tree.specs.declared.proc.Tested as made_tested
 use Rattle.process_tree.specs.declared.proc.Tested.{Tested}
-use Rattle.process_tree.specs.declared.proc.Turns as made_turns
-use Rattle.process_tree.specs.declared.proc.Turns.{Turns}
-use Rattle.offered_sides.specs.walking.Listed.{side_at, behind, again_at, Listing, nothing, at_work, one_after, listed, listed_sequence, listed_parallel}
-use Rattle.offered_sides.specs.walking.Walk.{Walk, added, below}
+use Rattle.offered_sides.specs.walking.Listed.{side_at, behind, again_at, Listing, nothing, at_work, one_after, listed, listed_sequence}
+use Rattle.offered_sides.specs.walking.Walk.{Walk, added}
 use Rattle.offered_sides.specs.declared.side.OfferedSide.{OfferedSide}
 use Rattle.offered_sides.specs.declared.side.Side.TheVariants.{Closes}
 use Rattle.offered_sides.proofs.Begun.{begun-row, row-is, row-past}
-use Rattle.offered_sides.proofs.OneByOne.{over-nothing, listed-step, step-over}
+use Rattle.offered_sides.proofs.OneByOne.{over-nothing, listed-step}
 use Rattle.offered_sides.proofs.Walks.{added-none, added-both}
-use Rattle.channel_uses.specs.OnChannel.{is_on, on}
+use Rattle.channel_uses.specs.OnChannel.{on}
 use Rattle.channel_uses.specs.StemsFrom.{StemsFrom, AllStemFrom}
-use Rattle.channel_uses.specs.Uses.{used, all_used}
-use Rattle.channel_uses.specs.walking.Located.{LocatedCode, LocatedRow, LocatedProc, LocatedProcs, AgreeFrom, ClosesOn, NoneBetween, finds, finds_at}
-use Rattle.channel_uses.specs.walking.Parts.{parts, end, IsPart, AreParts, InTable, UnusedBetween}
+use Rattle.channel_uses.specs.Uses.{all_used}
+use Rattle.channel_uses.specs.walking.Located.{LocatedCode, LocatedRow, LocatedProc, LocatedProcs, AgreeFrom, ClosesOn, finds, finds_at}
+use Rattle.channel_uses.specs.walking.Parts.{end, InTable, UnusedBetween}
 use Rattle.channel_uses.specs.declared.part.Part.{Part}
 use Rattle.channel_uses.proofs.Finding.{after-none, listed-none}
-use Rattle.channel_uses.proofs.OnChannel.{dropped, on-behind, on-both}
-use Rattle.channel_uses.proofs.Searches.{get-second, get-within}
-use Rattle.channel_uses.proofs.Stems.{all-stem}
+use Rattle.channel_uses.proofs.OnChannel.{on-behind}
+use Rattle.channel_uses.proofs.Searches.{get-second}
 
 -- ---- what a process stems from, part by part
 -- a loop has the part of its body

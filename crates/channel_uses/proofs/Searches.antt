@@ -1,11 +1,11 @@
 -- The search of the next child that uses a channel.
-use Rattle.std.proofs.Common.{◌≡◌, ◌⊎◌, ◌↔◌, inl, inr, ℕ, zero, suc, ◌+◌, ◌<◌, ◌≤◌, List, [], ◌∷◌, ◌++◌, length, Some, None, Option, slice_get, get_or, Bool, true, Bor, refl, sym, ap, ◌∙◌, subst, length-append, arith}
+use Rattle.std.proofs.Common.{◌≡◌, ◌⊎◌, ◌↔◌, inl, inr, ℕ, zero, suc, ◌+◌, ◌<◌, ◌≤◌, List, [], ◌∷◌, ◌++◌, length, Some, None, Option, slice_get, get_or, true, Bor, refl, sym, ap, ◌∙◌, subst, arith}
 use Rattle.std.proofs.lemmas.Bool.{cases_lt, leb-true, le-leb}
 use Rattle.std.proofs.lemmas.Option.{slice_get-get_or}
 use Rattle.std.specs.Option.{option_copied}
 use Rattle.syntax.specs.Lists.{In}
 use Rattle.calculus.proofs.Options.{none-some, some-injective}
-use Rattle.process_tree.specs.Code.{Code, Codes, no_code, code, code_at}
+use Rattle.process_tree.specs.Code.{Codes, no_code, code, code_at}
 use Rattle.last_events.specs.LastEvents.{Uses, FirstUse}
 use Rattle.last_events.specs.declared.uses.UseTable.{UseTable}
 use Rattle.channel_uses.specs.Uses.{HoldsExactly, used, all_used}

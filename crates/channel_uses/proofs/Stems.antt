@@ -1,9 +1,9 @@
 -- A command before its first move stems from itself, and a move keeps where a process stems from.
-use Rattle.std.proofs.Common.{◌≡◌, ℕ, ◌+◌, ◌*◌, ◌==◌, List, [], ◌∷◌, Bool, true, false, cond, Option, Some, None, slice_get, refl, sym, ap, ◌∙◌, subst}
+use Rattle.std.proofs.Common.{◌≡◌, ℕ, ◌+◌, ◌*◌, ◌==◌, List, Bool, true, false, Option, Some, None, slice_get, refl, subst}
 use Rattle.value.specs.Word.{Word}
 use Rattle.system.specs.Expression.{Expression, Decision}
 use Rattle.calculus.specs.Moves.{Place}
-use Rattle.calculus.specs.ByPlace.{if_here, if_act, if_child, if_branch}
+use Rattle.calculus.specs.ByPlace.{if_act, if_child}
 use Rattle.calculus.specs.declared.ask.Ask.{Ask}
 use Rattle.calculus.specs.declared.ask.Ask.TheVariants as ask
 use Rattle.process_tree.specs.Code.{Once, assigning, receiving, Sender, sending, syncing, Code, continues, halts, moves_once, may_be_held, repeats, decides, awaits, in_turn, side_by_side, drains, Codes, no_code, code, code_at}

@@ -8,7 +8,7 @@ use Rattle.process_tree.specs.Left.{Received, left}
 use Rattle.offered_sides.specs.walking.Listed.{sides_of_residual}
 use Rattle.offered_sides.specs.declared.side.OfferedSide.{OfferedSide}
 use Rattle.offered_sides.specs.declared.side.Side.{Side}
-use Rattle.offered_sides.specs.declared.side.Side.TheVariants.{Assigns, Tests, Turns, Sends, Receives, Syncs, Opens, Releases, Closes}
+use Rattle.offered_sides.specs.declared.side.Side.TheVariants.{Sends, Receives, Syncs, Opens, Releases, Closes}
 use Rattle.channel_uses.specs.StemsFrom.{StemsFrom}
 use Rattle.channel_uses.specs.Uses.{used}
 

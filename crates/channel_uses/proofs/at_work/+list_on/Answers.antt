@@ -1,5 +1,5 @@
 -- What is found of processes on a channel.
-use Rattle.std.proofs.Common.{◌≡◌, ℕ, ◌+◌, ◌<◌, ◌≤◌, ◌∙◌, List, suc, min, length, map, false, true, Some, IfSome, OnOk, slice_get, refl, sym, ap, subst, rules, arith}
+use Rattle.std.proofs.Common.{◌≡◌, ℕ, ◌+◌, ◌<◌, ◌∙◌, List, suc, min, length, map, false, true, Some, IfSome, OnOk, slice_get, refl, sym, ap, subst, rules, arith}
 use Rattle.std.proofs.lemmas.Result.{on_ok_weaker}
 use Rattle.address.specs.declared.Entry.TheVariants.{Ordered, Branch}
 use Rattle.process_tree.specs.Proc.{Proc}

@@ -1,4 +1,4 @@
-use Rattle.std.proofs.Common.{◌≡◌, ◌+◌, ◌<◌, ◌≤◌, ◌∙◌, suc, false, true, length, map, refl, sym, ap, subst, rules, arith}
+use Rattle.std.proofs.Common.{◌≡◌, ◌+◌, ◌<◌, ◌∙◌, suc, length, map, refl, sym, ap, subst, arith}
 use Rattle.std.proofs.lemmas.Result.{on_ok_weaker}
 use Rattle.std.specs.Result.{OnOk}
 use Rattle.address.specs.declared.Entry.TheVariants.{Ordered, Branch}
@@ -14,7 +14,7 @@ use Rattle.channel_uses.specs.OnChannel.{on}
 use Rattle.channel_uses.specs.walking.Located.{LocatedCode, finds}
 use Rattle.channel_uses.proofs.Finding.{found-below, child-found, code-at, branch-added, from-done, all-found}
 use Rattle.channel_uses.proofs.LeafLaws.{none-added}
-use Rattle.channel_uses.proofs.Locations.{row-in-turn, row-side-by-side}
+use Rattle.channel_uses.proofs.Locations.{row-in-turn}
 use Rattle.channel_uses.proofs.Parts.{is-drain, is-in-turn}
 use Rattle.channel_uses.proofs.Stems.{all-stem}
 use Rattle.channel_uses.proofs.fresh.+fresh_on.Goals as goal

@@ -1,4 +1,4 @@
-use Rattle.std.proofs.Common.{◌≡◌, ◌≤◌, length, None, Some, MatchOption, subst, sym, ap, ◌∙◌, slice_get, arith}
+use Rattle.std.proofs.Common.{MatchOption, subst, sym}
 use Rattle.channel_uses.specs.walking.Parts.{end, parts, AreParts, EndAt, UnusedFrom, UnusedBetween}
 use Rattle.channel_uses.proofs.Searches.{unused-past, unused-none, unused-before, none-past}
 use Rattle.channel_uses.proofs.search.next_child.Goals as goal
