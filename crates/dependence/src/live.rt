@@ -1,4 +1,4 @@
-ghost use Rattle.std.specs.Prelude.{◌≡◌, ◌<◌, ℕ, [], length, Some, None, slice_get, MatchOption, IfErr, OnOk};
+ghost use Rattle.std.specs.Prelude.{◌≡◌, ◌<◌, ℕ, [], length, Some, None, slice_get, MatchOption, IfErr, IfOk, OnOk};
 ghost use Rattle.calculus.specs.Dependence.{Without};
 ghost use Rattle.calculus.specs.Live.{LiveAt, NoneAt, NoDependent, FirstDependent, ConsequencesList, WithoutTickets, IsLive};
 ghost use Rattle.dependence.specs.Behind.{ComesBehind};
@@ -7,12 +7,12 @@ ghost use Rattle.dependence.specs.Shown.{with_newest, Greatest, IsSound};
 
 use crate::count::count_direct;
 use crate::links::Links;
-use crate::marks::{count_marked, last_marked, mark_dependents};
+use crate::marks::{copy_marked, count_marked, last_marked, mark_dependents};
 use crate::places::place_of;
 use crate::tables::Tables;
 use crate::whole::{add_event, followers_of, least_dependent, take_event};
 use calculus::Event;
-use std::alloc::Global;
+use std::alloc::{AllocError, Global};
 use std::marker::Model;
 
 /// The live events of an execution with their tickets, in order of tickets, the followers of each, and marks.
@@ -137,6 +137,13 @@ impl Live {
         ensures { MatchOption result (self.now.marked ≡ []) (λ t. Greatest self.now.marked t) }
     {
         last_marked(self.pairs.as_slice(), self.marks.as_slice())
+    }
+
+    /// The tickets of the marked live events, ascending.
+    pub fn marked(&self) -> Result<Vec<u64>, AllocError>
+        ensures { IfOk result (λ tickets. tickets.items ≡ self.now.marked) }
+    {
+        copy_marked(self.alloc, self.pairs.as_slice(), self.marks.as_slice())
     }
 
     /// Adds an event under a ticket that is greater than every live one; it has no mark. It comes behind the live events, as it

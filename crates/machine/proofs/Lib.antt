@@ -4,6 +4,7 @@ pub mod Gathering
 pub mod HeadlineLaws
 pub mod Marked
 pub mod SetLines
+pub mod Sites
 pub mod Standing
 pub mod Stepped
 pub mod TakenOut

@@ -11,13 +11,18 @@ use Rattle.calculus.specs.Object.{Object, Reaches, most_live, last_ticket, with_
 use Rattle.calculus.specs.declared.event.Event.{Event}
 use Rattle.calculus.specs.declared.command.Command.{Command}
 use Rattle.calculus.specs.declared.command.Reply.{Reply}
-use Rattle.calculus.proofs.Effects.{added, effect-sound, does-sound, reaches-more}
+use Rattle.calculus.proofs.Effects.{added, effect-sound, does-sound, reaches-more, sound-formed}
+use Rattle.calculus.proofs.Orders.{run-formed}
+use Rattle.calculus.proofs.ReadyLists.{ready-list}
+use Rattle.calculus.specs.Ready.{ReadyList}
 use Rattle.calculus.proofs.Tickets.{events-join, in-event, rising-in, rising-one, rising-parts}
 use Rattle.calculus.proofs.Lists.{in-right}
 use Rattle.calculus.proofs.ObjectLaws.{begins-sound}
 use Rattle.system.specs.Translation.{opening_store}
 use Rattle.process_tree.specs.Proc.{started}
 use Rattle.process_tree.specs.Tidy.{Tidy}
+use Rattle.channel_uses.specs.StemsFrom.{StemsFrom}
+use Rattle.channel_uses.proofs.RunStems.{runs-keep-origin}
 use Rattle.process_tree.specs.Translation.{system_code}
 use Rattle.event_inverse.specs.Grown.{TreeAndStore, Taken, Records, StandFor, state_of_tree, opening_tree, applied}
 use Rattle.event_inverse.specs.Laws.{UndoneBy}
@@ -72,6 +77,16 @@ stands-reaches checked T l is n s = s.run.runs
 -- the tree is tidy
 pub stands-tidy : (checked : Checked) (T : TreeAndStore) (l : Live) (is : List Inverse) (n : ℕ) → Stands checked T l is n → Tidy T.proc
 stands-tidy checked T l is n s = runs-are-tidy checked (events l) T (with_inverses (events l) is) s.run
+
+-- it stems from the command of the system
+pub stands-stems : (checked : Checked) (T : TreeAndStore) (l : Live) (is : List Inverse) (n : ℕ) → Stands checked T l is n → StemsFrom T.proc (system_code checked)
+stands-stems checked T l is n s = runs-keep-origin checked (events l) T (with_inverses (events l) is) s.run
+
+-- there is a list of what is ready
+pub stands-ready : (checked : Checked) (T : TreeAndStore) (l : Live) (is : List Inverse) (n : ℕ) → Stands checked T l is n → (es : List Event) × ReadyList (state_of_tree T) es
+stands-ready checked T l is n s =
+    ready-list (state_of_tree T) (run-formed (opening checked) (state_of_tree T) (events l)
+    (sound-formed (record { opening = opening checked; live = l; next = n }) s.sound) s.run.runs)
 
 -- an option with something in it
 some-then : {X : Type 0} (o : Option X) (x : X) → o ≡ Some x → IsSome o

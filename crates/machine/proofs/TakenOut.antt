@@ -1,5 +1,5 @@
--- Rollbacks, and questions about a live event.
-use Rattle.std.proofs.Common.{◌≢◌, ℕ, subst}
+-- Rollbacks of a live event.
+use Rattle.std.proofs.Common.{ℕ}
 use Rattle.calculus.specs.Live.{LiveAt, LastWriter}
 use Rattle.calculus.specs.Object.{Object}
 use Rattle.calculus.specs.Does.{Does, RefusesTicket}
@@ -7,7 +7,7 @@ use Rattle.calculus.specs.declared.event.Event.{Event}
 use Rattle.calculus.specs.declared.command.Command.{Command}
 use Rattle.calculus.specs.declared.command.Reply.{Reply}
 use Rattle.calculus.specs.declared.command.Refusal.{Refusal}
-use Rattle.calculus.specs.declared.command.Refusal.TheVariants.{Memory, NoSuchEvent}
+use Rattle.calculus.specs.declared.command.Refusal.TheVariants.{NoSuchEvent}
 
 -- a live event is not refused
 live-refused : (o : Object) (t : ℕ) (e : Event) (why : Refusal) → LiveAt o.live t e → RefusesTicket o t why → ⊥
@@ -19,13 +19,3 @@ pub value-rolled : (o o' : Object) (x t : ℕ) (reply : Reply) → LastWriter o.
 value-rolled o o' x t (Reply.Rolled n) last h = (t, last, h.1)
 value-rolled o o' x t (Reply.Refused why) last h = absurd (live-refused o t last.event why last.live h.0)
 value-rolled o o' x t _ last h = absurd h
-
--- neither, nor a question about a value, is refused for want of memory
-pub roll-has-memory : (o o' : Object) (t : ℕ) (reply : Reply) → Does o (Command.Roll t) reply o' → reply ≢ Reply.Refused Memory
-roll-has-memory o o' t reply h is = let off = subst (λ (r : Reply). Does o (Command.Roll t) r o') is h in absurd off.0
-
-pub roll-value-has-memory : (o o' : Object) (x : ℕ) (reply : Reply) → Does o (Command.RollValue x) reply o' → reply ≢ Reply.Refused Memory
-roll-value-has-memory o o' x reply h is = let off = subst (λ (r : Reply). Does o (Command.RollValue x) r o') is h in absurd off.0
-
-pub value-has-memory : (o o' : Object) (x : ℕ) (reply : Reply) → Does o (Command.Value x) reply o' → reply ≢ Reply.Refused Memory
-value-has-memory o o' x reply h is = let off = subst (λ (r : Reply). Does o (Command.Value x) r o') is h in absurd off.0

@@ -3,4 +3,5 @@ pub mod Entering
 pub mod Following
 pub mod Histories
 pub mod Marking
+pub mod Sites
 pub mod Sorting

@@ -1,21 +1,30 @@
 // A step of a branch: its first ready event whose line has no breakpoint.
-ghost use Rattle.std.specs.Prelude.{◌≡◌, false, slice_get, Some, IfOk, OnErr, MatchOption, MatchResult};
+ghost use Rattle.std.specs.Prelude.{◌≡◌, true, false, slice_get, Some, IfOk, OnErr, MatchOption, MatchResult};
+ghost use Rattle.std.specs.Option.{option_copied};
 ghost use Rattle.syntax.specs.Lists.{Every};
-ghost use Rattle.system_places.specs.SystemBranches.{branch_at};
+ghost use Rattle.system_places.specs.SystemBranches.{branch_at, parallel_of};
 ghost use Rattle.calculus.specs.Events.{acting};
+ghost use Rattle.calculus.specs.Moves.{Place};
 ghost use Rattle.event_inverse.specs.Grown.{state_of_tree};
-ghost use Rattle.machine.specs.Branching.{is_branch, in_branch, is_free, StepsBranch};
+ghost use Rattle.process_tree.specs.Tidy.{Tidy};
+ghost use Rattle.process_tree.specs.View.{tree_view};
+ghost use Rattle.rendezvous.specs.ReadyBelow.{ReadyBelow};
+ghost use Rattle.machine.specs.Branching.{is_branch, acts_in, in_branch, is_free, StepsBranch};
 ghost use Rattle.machine.specs.walking.Choosing.{moves, line_of_first, FirstAt, Takes, IsChosenAt};
+ghost use Rattle.machine.specs.walking.Sites.{IsAtSite, ReadyWith, site_among};
 ghost use Rattle.machine.specs.AtMachine.{at_machine};
 ghost use Rattle.machine.specs.walking.Histories.{tree_of, Holds};
 
 use crate::following::is_among;
 use crate::history::History;
+use address::Entry;
 use calculus::{Event, Refusal};
 use event_places::line_after;
+use rendezvous::ready_below;
 use sharing_check::Checked;
 use std::alloc::{AllocError, Global};
 use syntax::Items;
+use system::{Action, Command, System};
 
 /// What is answered to a step of a branch.
 #[derive(Drop)]
@@ -44,11 +53,37 @@ impl History {
         ensures unchanged { OnErr result (at_machine system.now self.new ≡ at_machine system.now self.old) }
         ensures holds { Holds system.now self.new }
     {
-        let events = self.ready(alloc)?;
+        let events = self.ready_near(alloc, system, branch)?;
         match self.first_moving(system, events.as_slice(), branch, breaks) {
             Some(place) => self.take_ready(alloc, system, events, place),
             None => Ok(self.kept_back(system, events.as_slice(), branch)),
         }
+    }
+
+    /// Events that are ready, in order, and all that act in the branch among them.
+    fn ready_near(
+        &self,
+        alloc: Global,
+        system: &Checked,
+        branch: u32,
+    ) -> Result<Items<Event>, AllocError>
+        requires { Holds system.now self.now }
+        ensures { IfOk result (λ events. ReadyWith (state_of_tree (tree_of self.now)) (acts_in (at_machine system.now self.now) branch) events) }
+    {
+        match site_of(system.system(), branch) {
+            Site::Child => self.ready_under(alloc, &[Entry::Branch(0), Entry::Branch(branch)]),
+            Site::Body => self.ready_under(alloc, &[Entry::Branch(0)]),
+            Site::Port(number) => self.ready_under(alloc, &[Entry::Branch(number)]),
+            Site::Unknown => self.ready_under(alloc, &[]),
+        }
+    }
+
+    /// The events that are allowed now and act at the place or below it, in order.
+    fn ready_under(&self, alloc: Global, place: &[Entry]) -> Result<Items<Event>, AllocError>
+        requires { Tidy (tree_view self.now.tree) }
+        ensures { IfOk result (λ events. ReadyBelow (state_of_tree (tree_of self.now)) place.now events) }
+    {
+        ready_below(alloc, &self.tree, &self.store, place)
     }
 
     /// Takes the event at this place of the list of those that are ready, where the limits leave room for it.
@@ -130,6 +165,50 @@ impl History {
             }
         }
         None
+    }
+}
+
+/// Where the events of branch k act: at `/0/k`, where it is a child of a body that is a parallel; at `/0`, where the body is none;
+/// at the place of a port; or at a place that is not known.
+#[derive(Clone, Copy)]
+pub(crate) enum Site {
+    Child,
+    Body,
+    Port(u32),
+    Unknown,
+}
+
+/// Where the events of the branch act.
+fn site_of(system: &System, branch: u32) -> Site
+    ensures { (a : Place) → is_branch branch (branch_at system.now a) ≡ true → IsAtSite branch result a }
+{
+    match parallel_of(&system.main) {
+        Some(children) => site_among(children.len(), branch, Site::Child),
+        None => site_among(1, branch, Site::Body),
+    }
+}
+
+/// The children of a command that is a parallel.
+fn parallel_of(command: &Command) -> Option<&Items<Command>>
+    ensures { option_copied result ≡ parallel_of command.now }
+{
+    match command.action.get() {
+        Action::Parallel(children) => Some(children),
+        _ => None,
+    }
+}
+
+/// The site of the first branches, so many, which are those of the body, else that of a port: these come behind, and the first
+/// of them lies at `/1`.
+fn site_among(count: usize, branch: u32, body: Site) -> Site
+    ensures { result ≡ site_among count branch body }
+{
+    if (branch as usize) < count {
+        return body;
+    }
+    match (branch - count as u32).checked_add(1) {
+        Some(number) => Site::Port(number),
+        None => Site::Unknown,
     }
 }
 

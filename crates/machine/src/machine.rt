@@ -1,4 +1,4 @@
-ghost use Rattle.std.specs.Prelude.{◌≡◌, ◌≢◌, [], IfOk, MatchOption, slice_get, Some, None};
+ghost use Rattle.std.specs.Prelude.{◌≡◌, [], IfOk, MatchOption, slice_get, Some, None};
 ghost use Rattle.calculus.specs.Steps.{State};
 ghost use Rattle.calculus.specs.Live.{events};
 ghost use Rattle.calculus.specs.Object.{Reaches};
@@ -9,14 +9,17 @@ ghost use Rattle.event_places.specs.EventPlaces.{line_after, is_open_after};
 ghost use Rattle.machine.specs.Branching.{AnswersBranch};
 ghost use Rattle.machine.specs.AtMachine.{object};
 ghost use Rattle.machine.specs.Headline.{Headline};
+ghost use Rattle.machine.specs.walking.Histories.{KnowsUses};
 
 use crate::Breaks;
 use crate::branching::{BranchReply, or_refused};
 use crate::history::History;
 use crate::replying::or_no_memory;
 use address::Address;
-use calculus::{Choice, Event, Refusal, Reply};
+use calculus::{Choice, Event, Reply};
+use channel_uses::ChannelUses;
 use event_places::{line_after, select_after};
+use process_tree::system_code;
 use sharing_check::Checked;
 use std::alloc::{AllocError, Global};
 use std::marker::Model;
@@ -28,6 +31,7 @@ use syntax::Items;
 pub struct Machine {
     alloc: Global,
     system: Checked,
+    uses: ChannelUses,
     history: History,
 }
 
@@ -41,11 +45,11 @@ impl Model for Machine {
     ghost coded = { Prim.hlevel (codes, whole.the_row.coded) };
 
     ghost use Rattle.machine.specs.AtMachine.{at_machine};
-    ghost use Rattle.machine.specs.walking.Histories.{Holds};
+    ghost use Rattle.machine.specs.walking.Histories.{Holds, KnowsUses};
 
     ghost view = { λ machine. at_machine machine.system machine.history };
 
-    ghost invariant = { λ machine. Holds machine.system machine.history };
+    ghost invariant = { λ machine. Holds machine.system machine.history × KnowsUses machine.system machine.uses };
 }
 
 impl Machine {
@@ -54,9 +58,11 @@ impl Machine {
         ensures { IfOk result (λ made. made ≡ record { checked = checked; live = []; next = 1 }) }
     {
         let history = History::new(alloc, &checked)?;
+        let uses = uses_in(alloc, &checked)?;
         Ok(Machine {
             alloc,
             system: checked,
+            uses,
             history,
         })
     }
@@ -94,7 +100,10 @@ impl Machine {
         ensures answers { Answers (object self.old) (Command.Step choice.now) result (object self.new) }
         ensures system { self.new.checked ≡ self.old.checked }
     {
-        or_no_memory(self.history.step(self.alloc, &self.system, choice))
+        or_no_memory(
+            self.history
+                .step(self.alloc, &self.system, &self.uses, choice),
+        )
     }
 
     /// Takes the first ready event of the branch whose line has no breakpoint.
@@ -119,7 +128,6 @@ impl Machine {
     /// Takes the event of this ticket back, and all live events that depend on it. It takes no memory.
     pub fn roll(&mut self, ticket: u64) -> Reply
         ensures answers { Answers (object self.old) (Command.Roll ticket) result (object self.new) }
-        ensures no_memory { result ≢ Reply.Refused Refusal.Memory }
         ensures system { self.new.checked ≡ self.old.checked }
     {
         self.history.roll(ticket)
@@ -128,7 +136,6 @@ impl Machine {
     /// Takes the last event that wrote the variable back, and all live events that depend on it. It takes no memory.
     pub fn roll_value(&mut self, variable: u32) -> Reply
         ensures answers { Answers (object self.old) (Command.RollValue variable) result (object self.new) }
-        ensures no_memory { result ≢ Reply.Refused Refusal.Memory }
         ensures system { self.new.checked ≡ self.old.checked }
     {
         self.history.roll_value(variable)
@@ -142,10 +149,11 @@ impl Machine {
     }
 
     /// Tells the live events that depend on the one of this ticket.
-    pub fn consequences(&self, ticket: u64) -> Reply
-        ensures { Answers (object self.now) (Command.Consequences ticket) result (object self.now) }
+    pub fn consequences(&mut self, ticket: u64) -> Reply
+        ensures answers { Answers (object self.old) (Command.Consequences ticket) result (object self.new) }
+        ensures same { self.new ≡ self.old }
     {
-        or_no_memory(self.history.tell_consequences(self.alloc, ticket))
+        or_no_memory(self.history.tell_consequences(ticket))
     }
 
     /// Tells the live events.
@@ -157,8 +165,7 @@ impl Machine {
 
     /// Tells the value of the variable now. It takes no memory.
     pub fn value(&self, variable: u32) -> Reply
-        ensures answers { Answers (object self.now) (Command.Value variable) result (object self.now) }
-        ensures no_memory { result ≢ Reply.Refused Refusal.Memory }
+        ensures { Answers (object self.now) (Command.Value variable) result (object self.now) }
     {
         self.history.tell_value(variable)
     }
@@ -190,4 +197,12 @@ impl Machine {
     {
         select_after(&self.system, self.history.live.as_slice(), place)
     }
+}
+
+/// Which commands of the system use which channel.
+fn uses_in(alloc: Global, system: &Checked) -> Result<ChannelUses, AllocError>
+    ensures { IfOk result (λ uses. KnowsUses system.now uses) }
+{
+    let code = system_code(alloc, system.system())?;
+    ChannelUses::new(alloc, &code)
 }

@@ -7,10 +7,10 @@ ghost use Rattle.calculus.specs.Does.{Does};
 ghost use Rattle.machine.specs.walking.Histories.{execution, Holds};
 ghost use Rattle.machine.specs.walking.Marking.{MarksDependents};
 
-use crate::following::{followers, last_writer};
+use crate::following::last_writer;
 use crate::history::History;
 use calculus::{Command, Refusal, Reply};
-use std::alloc::{AllocError, Global};
+use std::alloc::AllocError;
 use syntax::Items;
 
 impl History {
@@ -93,23 +93,28 @@ impl History {
         }
     }
 
-    /// The tickets of the live events that depend on the one of this ticket.
-    pub(crate) fn tell_consequences(&self, alloc: Global, ticket: u64) -> Result<Reply, AllocError>
-        ensures done { (system : Checked) → Holds system self.now → IfOk result (λ reply. Does (execution system self.now) (Command.Consequences ticket) reply (execution system self.now)) }
-        ensures wanted { OnErr result (IsLive self.now.live.live ticket) }
+    /// Tells the tickets of the live events that depend on the one of this ticket, which it marks.
+    pub(crate) fn tell_consequences(&mut self, ticket: u64) -> Result<Reply, AllocError>
+        ensures done { (system : Checked) → Holds system self.old → IfOk result (λ reply. Does (execution system self.old) (Command.Consequences ticket) reply (execution system self.old)) }
+        ensures wanted { OnErr result (IsLive self.old.live.live ticket) }
+        ensures same { (system : Checked) → execution system self.new ≡ execution system self.old }
+        ensures holds { (system : Checked) → Holds system self.old → Holds system self.new }
     {
         match self.live.place_of(ticket) {
-            Some(_) => self.tell_followers(alloc, ticket),
+            Some(_) => self.tell_dependents(ticket),
             None => Ok(Reply::Refused(Refusal::NoSuchEvent)),
         }
     }
 
-    /// The tickets of the live events that depend on the live event of this ticket.
-    fn tell_followers(&self, alloc: Global, ticket: u64) -> Result<Reply, AllocError>
-        requires { IsLive self.now.live.live ticket }
-        ensures { (system : Checked) → Holds system self.now → IfOk result (λ reply. Does (execution system self.now) (Command.Consequences ticket) reply (execution system self.now)) }
+    /// Tells the tickets of the live events that depend on the live event of this ticket, which it marks.
+    fn tell_dependents(&mut self, ticket: u64) -> Result<Reply, AllocError>
+        requires { IsLive self.old.live.live ticket }
+        ensures done { (system : Checked) → Holds system self.old → IfOk result (λ reply. Does (execution system self.old) (Command.Consequences ticket) reply (execution system self.old)) }
+        ensures same { (system : Checked) → execution system self.new ≡ execution system self.old }
+        ensures holds { (system : Checked) → Holds system self.old → Holds system self.new }
     {
-        let tickets = followers(alloc, self.live.as_slice(), ticket)?;
+        self.live.mark_consequences(ticket);
+        let tickets = self.live.marked()?;
         Ok(Reply::Consequences(Items::from_vec(tickets)))
     }
 }

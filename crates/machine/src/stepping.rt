@@ -10,13 +10,14 @@ ghost use Rattle.dependence.specs.Behind.{ComesBehind};
 ghost use Rattle.event_inverse.specs.Grown.{TreeAndStore, state_of_tree, applied};
 ghost use Rattle.event_inverse.specs.View.{inverse_view};
 ghost use Rattle.machine.specs.walking.Choosing.{NotTaken};
-ghost use Rattle.machine.specs.walking.Histories.{execution, tree_of, Holds};
+ghost use Rattle.machine.specs.walking.Histories.{execution, tree_of, Holds, KnowsUses};
 ghost use Rattle.machine.specs.walking.Entering.{Entered, NotEntered};
 
 use crate::history::History;
 use calculus::{Choice, Command, Event, LAST_TICKET, MOST_LIVE_EVENTS, Refusal, Reply};
+use channel_uses::ChannelUses;
 use event_inverse::{Inverse, Record, apply, invert};
-use rendezvous::{event_at, ready_events};
+use rendezvous::{event_with, ready_events};
 use sharing_check::Checked;
 use std::alloc::{AllocError, Global};
 use syntax::Items;
@@ -27,14 +28,16 @@ impl History {
         &mut self,
         alloc: Global,
         system: &Checked,
+        uses: &ChannelUses,
         choice: &Choice,
     ) -> Result<Reply, AllocError>
-        requires { Holds system.now self.old }
+        requires holds { Holds system.now self.old }
+        requires uses { KnowsUses system.now uses.now }
         ensures done { IfOk result (λ reply. Does (execution system.now self.old) (Command.Step choice.now) reply (execution system.now self.new)) }
         ensures unchanged { OnErr result (execution system.now self.new ≡ execution system.now self.old) }
         ensures holds { Holds system.now self.new }
     {
-        let found = event_at(alloc, &self.tree, &self.store, choice)?;
+        let found = event_with(alloc, uses, &self.tree, &self.store, choice)?;
         match self.admitted(found) {
             Ok(event) => {
                 let entry = self.add(alloc, system, event)?;

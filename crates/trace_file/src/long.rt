@@ -12,13 +12,13 @@ use crate::line::{fields, read_arm};
 use calculus::Event;
 use machine::Machine;
 
-/// A place of more bytes is looked at first.
+/// The most bytes of a place that is read without a look at how deep the ready events act.
 const LONG_PLACE: usize = 65_536;
 
 /// The most bytes of an entry: a mark and ten digits.
 const ENTRY_BYTES: usize = 11;
 
-/// Whether the first line, which has this number, may be read: not one whose place is too long for every ready event.
+/// Refuses the first line, which has this number, where its place is longer than that of any ready event.
 pub(crate) fn refuse_long(machine: &Machine, rest: &[u8], number: u64) -> Result<(), Fault>
     ensures { IfErr result (λ fault. LineStops machine.now rest.now number fault) }
 {
@@ -53,7 +53,7 @@ fn acts_so_deep(events: &[Event], depth: usize) -> bool
     false
 }
 
-/// Whether a place other than the root has the text, which is gone through entry by entry.
+/// Whether a place has the text, which is gone through entry by entry.
 fn is_place(text: &[u8]) -> bool
     ensures { IsTrue result ↔ ((a : List Entry) × IsTextOf a text.now) }
 {

@@ -7,9 +7,12 @@ use Rattle.calculus.specs.Live.{Live, events}
 use Rattle.calculus.specs.Object.{Object}
 use Rattle.calculus.specs.Sound.{Sound}
 use Rattle.calculus.specs.declared.event.Event.{Event}
+use Rattle.process_tree.specs.Translation.{system_code}
 use Rattle.event_inverse.specs.Grown.{TreeAndStore, Records, StandFor}
 use Rattle.event_inverse.specs.View.{both_view, inverse_view}
 use Rattle.event_inverse.specs.declared.record.Inverse.{Inverse}
+use Rattle.channel_uses.specs.Table.{IsTableOf}
+use Rattle.channel_uses.specs.declared.table.ChannelUses.{ChannelUses}
 use Rattle.machine.specs.AtMachine.{at_machine, object}
 use Rattle.machine.specs.declared.history.History.{History}
 
@@ -36,3 +39,7 @@ pub record Stands (checked : Checked) (T : TreeAndStore) (l : Live) (inverses : 
 -- so it is in a history
 abbrev pub Holds : Checked → History → Type 0
 Holds checked h = Stands checked (tree_of h) h.live.live h.inverses.items h.next
+
+-- these are the uses of channels in the system
+abbrev pub KnowsUses : Checked → ChannelUses → Type 0
+KnowsUses checked uses = IsTableOf (system_code checked) uses

@@ -7,21 +7,26 @@ use Rattle.event_inverse.specs.Grown.{state_of_tree}
 use Rattle.machine.specs.walking.Choosing.{FirstAt, Takes, moves, line_of_first}
 use Rattle.machine.specs.walking.Histories.{tree_of}
 use Rattle.machine.specs.AtMachine.{at_machine}
-use Rattle.machine.specs.Branching.{in_branch, StepsBranch}
+use Rattle.machine.specs.Branching.{acts_in, in_branch, StepsBranch}
 use Rattle.machine.specs.declared.branching.BranchReply.{BranchReply}
-use Rattle.machine.proofs.Branches.{moving-chosen, taken-branched, back-branched}
+use Rattle.machine.proofs.Branches.{moving-with, taken-with, back-with}
+use Rattle.machine.proofs.Sites.{filter-same}
+use Rattle.machine.proofs.Standing.{stands-ready}
 use Rattle.machine.proofs.history.History.branch_step.Goals as goal
 
 pub take_ready-requires : goal.take_ready-requires
 take_ready-requires c =
     let h = at_machine c.args.system.now c.args.self.now in
     let T = state_of_tree (tree_of c.args.self.now) in
-    let state = c.in_ok-events.ensures c.args.system.now c.requires in
     let first : FirstAt (moves h c.args.branch c.args.breaks.now) c.in_ok-events.events c.in-Some.place =
     subst (λ (k : List Event). FirstAt (moves h c.args.branch c.args.breaks.now) k c.in-Some.place) c.as_slice.ensures c.in-Some.ensures in
     record {
       holds = c.requires;
-      chosen = (first.0, first.1, moving-chosen h c.args.branch c.args.breaks.now T c.in_ok-events.events c.in-Some.place state.1 first);
+      chosen = (
+        first.0,
+        first.1,
+        moving-with h c.args.branch c.args.breaks.now T c.in_ok-events.events c.in-Some.place c.in_ok-events.ensures first,
+      );
     }
 
 pub returns-in-Some-clause-done : goal.returns-in-Some-clause-done
@@ -29,18 +34,22 @@ returns-in-Some-clause-done c =
     let h = at_machine c.args.system.now c.args.self.now in
     let h' = at_machine c.args.system.now c.take_ready.new.self in
     let T = state_of_tree (tree_of c.args.self.now) in
-    let state = c.in_ok-events.ensures c.args.system.now c.requires in
+    let all = stands-ready c.args.system.now (tree_of c.args.self.now) _ _ _ c.requires in
     let first : FirstAt (moves h c.args.branch c.args.breaks.now) c.in_ok-events.events c.in-Some.place =
     subst (λ (k : List Event). FirstAt (moves h c.args.branch c.args.breaks.now) k c.in-Some.place) c.as_slice.ensures c.in-Some.ensures in
     IfOk-weaker c.take_ready.result (λ reply. Takes h first.0 reply h') (λ reply. StepsBranch h c.args.branch c.args.breaks.now reply h')
-    (λ reply takes. taken-branched h h' c.args.branch c.args.breaks.now T c.in_ok-events.events c.in-Some.place reply state.0 state.1 first takes)
+    (λ reply takes.
+    taken-with h h' c.args.branch c.args.breaks.now T all.0 c.in_ok-events.events c.in-Some.place reply c.requires.run.runs all.1
+    (filter-same T (acts_in h c.args.branch) all.0 c.in_ok-events.events all.1 c.in_ok-events.ensures) first takes)
     (c.take_ready.ensures.done first.0 first.1)
 
 pub returns-in-None-clause-done : goal.returns-in-None-clause-done
 returns-in-None-clause-done c =
     let h = at_machine c.args.system.now c.args.self.now in
-    let state = c.in_ok-events.ensures c.args.system.now c.requires in
-    back-branched h c.args.branch c.args.breaks.now (state_of_tree (tree_of c.args.self.now)) c.in_ok-events.events c.kept_back.result state.0 state.1
+    let T = state_of_tree (tree_of c.args.self.now) in
+    let all = stands-ready c.args.system.now (tree_of c.args.self.now) _ _ _ c.requires in
+    back-with h c.args.branch c.args.breaks.now T all.0 c.in_ok-events.events c.kept_back.result c.requires.run.runs all.1
+    (filter-same T (acts_in h c.args.branch) all.0 c.in_ok-events.events all.1 c.in_ok-events.ensures)
     (subst (λ (k : List Event). Every (λ e. moves h c.args.branch c.args.breaks.now e ≡ false) k) c.as_slice.ensures c.in-None.ensures)
     (subst
     (λ (k : List Event). MatchOption (line_of_first h (in_branch h c.args.branch k)) (c.kept_back.result ≡ BranchReply.Idle) (λ line. c.kept_back.result ≡ BranchReply.Stopped line))

@@ -13,4 +13,4 @@ returns-clause-answers c =
     c.branch_step.ensures.done c.branch_step.ensures.unchanged c.or_refused.ensures))
 
 pub invariant_of-self : goal.invariant_of-self
-invariant_of-self c = c.branch_step.ensures.holds
+invariant_of-self c = (c.branch_step.ensures.holds, c.self.invariant.1)

@@ -3,21 +3,15 @@ use Rattle.calculus.specs.Does.{Answers}
 use Rattle.calculus.specs.declared.command.Command.{Command}
 use Rattle.machine.specs.AtMachine.{AtMachine, object}
 use Rattle.machine.specs.walking.Histories.{execution}
-use Rattle.machine.proofs.TakenOut.{roll-value-has-memory}
 use Rattle.machine.proofs.machine.Machine.roll_value.Goals as goal
 
 pub roll_value-requires : goal.roll_value-requires
-roll_value-requires c = (c.self.inside.system, c.self.invariant)
+roll_value-requires c = (c.self.inside.system, c.self.invariant.0)
 
 pub returns-clause-answers : goal.returns-clause-answers
 returns-clause-answers c =
     subst (λ (h : AtMachine). Answers (object h) (Command.RollValue c.args.variable) c.roll_value.result (execution c.self.inside.system c.roll_value.new.self)) c.self.view_is
     (inl (c.roll_value.ensures.answers c.self.inside.system))
 
-pub returns-clause-no_memory : goal.returns-clause-no_memory
-returns-clause-no_memory c =
-    roll-value-has-memory (execution c.self.inside.system c.self.inside.history) (execution c.self.inside.system c.roll_value.new.self) c.args.variable c.roll_value.result
-    (c.roll_value.ensures.answers c.self.inside.system)
-
 pub invariant_of-self : goal.invariant_of-self
-invariant_of-self c = c.roll_value.ensures.holds c.self.inside.system c.self.invariant
+invariant_of-self c = (c.roll_value.ensures.holds c.self.inside.system c.self.invariant.0, c.self.invariant.1)

@@ -6,7 +6,7 @@ use Rattle.machine.specs.walking.Histories.{execution}
 use Rattle.machine.proofs.machine.Machine.undo.Goals as goal
 
 pub undo-requires : goal.undo-requires
-undo-requires c = (c.self.inside.system, c.self.invariant)
+undo-requires c = (c.self.inside.system, c.self.invariant.0)
 
 pub returns-clause-answers : goal.returns-clause-answers
 returns-clause-answers c =
@@ -14,4 +14,4 @@ returns-clause-answers c =
     (inl (c.undo.ensures.answers c.self.inside.system))
 
 pub invariant_of-self : goal.invariant_of-self
-invariant_of-self c = c.undo.ensures.holds c.self.inside.system c.self.invariant
+invariant_of-self c = (c.undo.ensures.holds c.self.inside.system c.self.invariant.0, c.self.invariant.1)
