@@ -5,9 +5,10 @@ use crate::random::Random;
 use crate::rows::{Rows, row_of};
 use crate::states::{allowed, are_equal, below};
 use calculus::{Choice, Event, Plain, depends_directly, replay};
+use channel_uses::ChannelUses;
 use event_inverse::{Record, apply, invert};
-use process_tree::Tree;
-use rendezvous::{event_at, ready_below, ready_events};
+use process_tree::{Tree, system_code};
+use rendezvous::{event_at, event_with, ready_below, ready_events};
 use sharing_check::Checked;
 use std::alloc::Global;
 use std::io;
@@ -23,6 +24,7 @@ const CHOICES: usize = 2;
 pub struct Session {
     alloc: Global,
     checked: Checked,
+    uses: ChannelUses,
     tree: Tree,
     store: Store,
     events: Vec<Event>,
@@ -37,12 +39,15 @@ pub struct Session {
 impl Session {
     /// The tree of the system before its first event.
     pub fn new(alloc: Global, checked: Checked) -> io::Result<Session> {
+        let code = system_code(alloc, checked.system())?;
+        let uses = ChannelUses::new(alloc, &code)?;
         let tree = Tree::new(alloc, checked.system())?;
         let store = Store::new(alloc, checked.system())?;
         let state = replay(alloc, &checked, &[])?;
         Ok(Session {
             alloc,
             checked,
+            uses,
             tree,
             store,
             events: Vec::new(alloc),
@@ -183,13 +188,11 @@ impl Session {
     }
 
     fn look_at_choice(&self, choice: &Choice, expected: &[Event]) -> io::Result<()> {
+        let same = first_with(expected, choice);
         let found = event_at(self.alloc, &self.tree, &self.store, choice)?;
-        let is_same = match (&found, first_with(expected, choice)) {
-            (Some(event), Some(same)) => event.equals(same),
-            (None, None) => true,
-            _ => false,
-        };
-        self.expect(is_same, "event_at")
+        self.expect(is_that(&found, same), "event_at")?;
+        let found = event_with(self.alloc, &self.uses, &self.tree, &self.store, choice)?;
+        self.expect(is_that(&found, same), "event_with")
     }
 
     /// Compares the list of a part of the tree.
@@ -243,4 +246,13 @@ fn first_with<'a>(events: &'a [Event], choice: &Choice) -> Option<&'a Event> {
         }
     }
     None
+}
+
+/// Whether the event is the one that is expected, or none is.
+fn is_that(found: &Option<Event>, expected: Option<&Event>) -> bool {
+    match (found, expected) {
+        (Some(event), Some(same)) => event.equals(same),
+        (None, None) => true,
+        _ => false,
+    }
 }
