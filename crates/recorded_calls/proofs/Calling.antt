@@ -25,14 +25,14 @@ module _ {O C R : Type 0} (performs : O → ℕ → C → R → O → Type 0) (o
   reads_at id v o n seen own said told other u letter is from =
       subst (λ (x : View O C R). Joins (Kept performs opening) id x other u (reads x u) Nobody) (sym is)
       (subst (λ (y : View O C R). Joins (Kept performs opening) id (saying performs opening o n seen own said told) other y (reads (saying performs opening o n seen own said told) y) Nobody) (sym from)
-        (reads_letter performs opening id (record { opening = o; number = n; seen = seen; own = own; announced = said; told = told }) other letter))
+      (reads_letter performs opening id (record { opening = o; number = n; seen = seen; own = own; announced = said; told = told }) other letter))
 
   pub hears_at : (id : ℕ) (v : View O C R) (o : O) (made : ℕ) (noted : List (Entry C R)) (other : ℕ) (u : View O C R) (c : Claimed C R) → v ≡ keeper_at o made noted → u ≡ Claim c
       → Joins (Kept performs opening) id v other u (hears v u) Nobody
   hears_at id v o made noted other u c is from =
       subst (λ (x : View O C R). Joins (Kept performs opening) id x other u (hears x u) Nobody) (sym is)
       (subst (λ (y : View O C R). Joins (Kept performs opening) id (keeper_at o made noted) other y (hears (keeper_at o made noted) y) Nobody) (sym from)
-        (hears_claim performs opening id (record { opening = o; made = made; noted = noted; claim = record { number = 0; seen = []; own = []; says = [] } }) other c))
+      (hears_claim performs opening id (record { opening = o; made = made; noted = noted; claim = record { number = 0; seen = []; own = []; says = [] } }) other c))
 
   pub announces_at : (slots id : ℕ) (me : Me ℕ (View O C R)) (o : O) (n : ℕ) (seen own told entries : List (Entry C R)) → length entries ≤ 1 → me ≡ (saying performs opening o n seen own [] told, [])
       → Allows (Kept performs opening) slots id me 0 (λ x. x) (Announces entries (step slots 0 0 0 none) me)
@@ -81,5 +81,5 @@ module _ {O C R : Type 0} where
       record {
         of_table = at;
         rests = is ∙ sym (ap (λ (m : Me ℕ (View O C R)). (pass_at o (number_in m.0) (seen_in m.0) (own_in m.0), [])) is);
-        own_calls = subst (λ (m : Me ℕ (View O C R)). calls_by (number_in m.0) (seen_in m.0) ≡ own_in m.0) (sym is) calls
+        own_calls = subst (λ (m : Me ℕ (View O C R)). calls_by (number_in m.0) (seen_in m.0) ≡ own_in m.0) (sym is) calls;
       }

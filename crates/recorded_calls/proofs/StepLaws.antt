@@ -37,9 +37,9 @@ module _ {O C R : Type 0} where
   keeper_after views keeper id v w is at stays =
       dite (ℕ_discrete id keeper)
       (λ e.
-          let same : v ≡ Keeper is.0 = at_one views id v (Keeper is.0) at (subst (λ (i : ℕ). get_elem? views i ≡ some (Keeper is.0)) (sym e) is.1) in
-          let after = stays is.0 same in
-          (after.0, subst (λ (i : ℕ). get_elem? (set views id w) i ≡ some (Keeper after.0)) e (set_here views id w (at_below views id v at) ∙ ap some after.1)))
+      let same : v ≡ Keeper is.0 = at_one views id v (Keeper is.0) at (subst (λ (i : ℕ). get_elem? views i ≡ some (Keeper is.0)) (sym e) is.1) in
+      let after = stays is.0 same in
+      (after.0, subst (λ (i : ℕ). get_elem? (set views id w) i ≡ some (Keeper after.0)) e (set_here views id w (at_below views id v at) ∙ ap some after.1)))
       (λ ne. (is.0, set_else views id keeper w (λ q. ne (sym q)) ∙ is.1))
 
 module _ {O C R : Type 0} (performs : O → ℕ → C → R → O → Type 0) (opening : O) where
@@ -55,7 +55,7 @@ module _ {O C R : Type 0} (performs : O → ℕ → C → R → O → Type 0) (o
         legal = legal;
         keeper_is = subst (λ (i : ℕ). (k : Keeping O C R) × (get_elem? (set s.views id w) i ≡ some (Keeper k))) (sym same) (keeper_after s.views kept.account.keeper id v w kept.keeper_is at stays);
         no_others = nothing;
-        each = all_set (Fits opening a) s.views id w (λ j u ne e. others j u ne (kept.each j u e)) mine
+        each = all_set (Fits opening a) s.views id w (λ j u ne e. others j u ne (kept.each j u e)) mine;
       }
 
   after_more : (s : State ℕ (View O C R)) (kept : Kept performs opening s) (w : View O C R) → Fits opening kept.account (length s.views) w
@@ -67,7 +67,7 @@ module _ {O C R : Type 0} (performs : O → ℕ → C → R → O → Type 0) (o
         legal = kept.legal;
         keeper_is = (kept.keeper_is.0, at_longer s.views (w ∷ []) kept.account.keeper (Keeper kept.keeper_is.0) kept.keeper_is.1);
         no_others = kept.no_others;
-        each = all_more (Fits opening kept.account) s.views w kept.each mine
+        each = all_more (Fits opening kept.account) s.views w kept.each mine;
       }
 
   -- the seat keeps its view, and one more comes
@@ -108,7 +108,7 @@ module _ {O C R : Type 0} (performs : O → ℕ → C → R → O → Type 0) (o
         keeper_is = (record { opening = opening; made = 0; noted = []; claim = no_claim }, refl);
         no_others = λ n le. (refl, refl);
         each = all_more (Fits opening (record { log = []; keeper = 0; made = 0; seat = λ n. 0; said = λ n. [] })) [] (keeper_at opening 0 []) (λ j u e. absurd (some-ne-none u (sym e)))
-            (record { opened = refl; one = refl; count = refl; notes = refl; claim_holds = record { seen_before = ([], refl); said_before = ([], refl) } })
+            (record { opened = refl; one = refl; count = refl; notes = refl; claim_holds = record { seen_before = ([], refl); said_before = ([], refl) } });
       }
 
   letter_fits : (a : Account C R) (id j : ℕ) (v : View O C R) → Fits opening a id v → Fits opening a j (letter_of v)
@@ -137,8 +137,14 @@ module _ {O C R : Type 0} (performs : O → ℕ → C → R → O → Type 0) (o
       let f = kept.each id (Speaker p) at in
       join_same s kept id (Speaker p) w other (Letter told) at apart there (no_keeper (Speaker p) w (λ x. x)) (λ x. x)
       (record {
-        opened = f.opened; one = f.one; counted = f.counted; all_said = f.all_said; at_most_one = f.at_most_one; saw = f.saw;
-        was_told = came s kept id other w (Letter told) apart there; stands = f.stands
+        opened = f.opened;
+        one = f.one;
+        counted = f.counted;
+        all_said = f.all_said;
+        at_most_one = f.at_most_one;
+        saw = f.saw;
+        was_told = came s kept id other w (Letter told) apart there;
+        stands = f.stands;
       })
 
   pub hears_claim : (id : ℕ) (k : Keeping O C R) (other : ℕ) (c : Claimed C R) → Joins (Kept performs opening) id (Keeper k) other (Claim c) (with_claim k (Claim c)) Nobody
@@ -157,8 +163,14 @@ module _ {O C R : Type 0} (performs : O → ℕ → C → R → O → Type 0) (o
   more_fits a place id j (Keeper k) is ne f = absurd (ne (f.one ∙ sym is))
   more_fits a place id j (Speaker p) is ne f =
       record {
-        opened = f.opened; one = f.one ∙ sym (changed_else a.seat a.made place p.number (λ e. let c = f.counted in omega arith)); counted = let c = f.counted in omega arith;
-        all_said = f.all_said; at_most_one = f.at_most_one; saw = f.saw; was_told = f.was_told; stands = f.stands
+        opened = f.opened;
+        one = f.one ∙ sym (changed_else a.seat a.made place p.number (λ e. let c = f.counted in omega arith));
+        counted = let c = f.counted in omega arith;
+        all_said = f.all_said;
+        at_most_one = f.at_most_one;
+        saw = f.saw;
+        was_told = f.was_told;
+        stands = f.stands;
       }
   more_fits a place id j (Letter told) is ne f = f
   more_fits a place id j (Claim c) is ne f = record { seen_before = f.seen_before; said_before = f.said_before }
@@ -173,14 +185,20 @@ module _ {O C R : Type 0} (performs : O → ℕ → C → R → O → Type 0) (o
       let nothing = kept.no_others k.made (let c = f.count in omega arith) in
       let middle : State ℕ (View O C R) = record { words = s.words; homes = s.homes; views = set s.views id w } in
       let kept' = after_set s kept id (Keeper k) w at a' s.words s.homes kept.word kept.legal refl
-          (λ k' e. (record { opening = k.opening; made = k.made + 1; noted = k.noted; claim = k.claim }, refl))
-          (λ n le. kept.no_others n (omega arith))
-          (λ j u ne g. more_fits a (length s.views) id j u f.one ne g)
-          (record { opened = f.opened; one = f.one; count = ap (λ (n : ℕ). n + 1) f.count; notes = f.notes; claim_holds = record { seen_before = f.claim_holds.seen_before; said_before = f.claim_holds.said_before } }) in
+      (λ k' e. (record { opening = k.opening; made = k.made + 1; noted = k.noted; claim = k.claim }, refl))
+      (λ n le. kept.no_others n (omega arith))
+      (λ j u ne g. more_fits a (length s.views) id j u f.one ne g)
+      (record { opened = f.opened; one = f.one; count = ap (λ (n : ℕ). n + 1) f.count; notes = f.notes; claim_holds = record { seen_before = f.claim_holds.seen_before; said_before = f.claim_holds.said_before } }) in
       after_more middle kept' (newcomer_of (Keeper k))
       (record {
-        opened = f.opened; one = set_length s.views id w ∙ sym (changed_here a.seat a.made (length s.views) k.made f.count); counted = let c = f.count in omega arith;
-        all_said = nothing.0; at_most_one = omega arith; saw = (a.log, refl); was_told = (a.log, refl); stands = inl nothing.1
+        opened = f.opened;
+        one = set_length s.views id w ∙ sym (changed_here a.seat a.made (length s.views) k.made f.count);
+        counted = let c = f.count in omega arith;
+        all_said = nothing.0;
+        at_most_one = omega arith;
+        saw = (a.log, refl);
+        was_told = (a.log, refl);
+        stands = inl nothing.1;
       })
 
   -- announce
@@ -197,14 +215,22 @@ module _ {O C R : Type 0} (performs : O → ℕ → C → R → O → Type 0) (o
   said_fits a n all longer id j Nobody is ne f = tt
   said_fits a n all longer id j (Keeper k) is ne f =
       record {
-        opened = f.opened; one = f.one; count = f.count; notes = f.notes;
-        claim_holds = record { seen_before = f.claim_holds.seen_before; said_before = said_grows a n all longer k.claim.number (k.claim.own ++ k.claim.says) f.claim_holds.said_before }
+        opened = f.opened;
+        one = f.one;
+        count = f.count;
+        notes = f.notes;
+        claim_holds = record { seen_before = f.claim_holds.seen_before; said_before = said_grows a n all longer k.claim.number (k.claim.own ++ k.claim.says) f.claim_holds.said_before };
       }
   said_fits a n all longer id j (Speaker p) is ne f =
       record {
-        opened = f.opened; one = f.one; counted = f.counted;
+        opened = f.opened;
+        one = f.one;
+        counted = f.counted;
         all_said = changed_else a.said n all p.number (λ e. ne (f.one ∙ ap a.seat e ∙ sym is)) ∙ f.all_said;
-        at_most_one = f.at_most_one; saw = f.saw; was_told = f.was_told; stands = f.stands
+        at_most_one = f.at_most_one;
+        saw = f.saw;
+        was_told = f.was_told;
+        stands = f.stands;
       }
   said_fits a n all longer id j (Letter told) is ne f = f
   said_fits a n all longer id j (Claim c) is ne f = record { seen_before = f.seen_before; said_before = said_grows a n all longer c.number (c.own ++ c.says) f.said_before }
@@ -228,11 +254,18 @@ module _ {O C R : Type 0} (performs : O → ℕ → C → R → O → Type 0) (o
         keeps,
         tt,
         after_set s kept id v w at (more_said a n all) (slice_set s.words 0 (slice_index s.words 0)) s.homes (loaded s kept ∙ kept.word) kept.legal refl (no_keeper v w (λ x. x))
-        (λ m le. (changed_else a.said n all m (λ e. let c = f.counted in omega arith) ∙ (kept.no_others m le).0, (kept.no_others m le).1))
-        (λ j u ne g. said_fits a n all longer id j u f.one ne g)
-        (record {
-          opened = f.opened; one = f.one; counted = f.counted; all_said = changed_here a.said n all n refl; at_most_one = few; saw = f.saw; was_told = f.was_told; stands = inl is
-        }),
+            (λ m le. (changed_else a.said n all m (λ e. let c = f.counted in omega arith) ∙ (kept.no_others m le).0, (kept.no_others m le).1))
+            (λ j u ne g. said_fits a n all longer id j u f.one ne g)
+            (record {
+              opened = f.opened;
+              one = f.one;
+              counted = f.counted;
+              all_said = changed_here a.said n all n refl;
+              at_most_one = few;
+              saw = f.saw;
+              was_told = f.was_told;
+              stands = inl is;
+            }),
         (refl, subst (λ (l : List (Entry C R)). IsPrefix (calls_by n told) l) is (calls_prefix n told a.log f.was_told)),
       )
 
@@ -255,9 +288,14 @@ module _ {O C R : Type 0} (performs : O → ℕ → C → R → O → Type 0) (o
     recorded_fits id j (Keeper k) is ne f = absurd (ne (f.one ∙ sym is))
     recorded_fits id j (Speaker p) is ne f =
         record {
-          opened = f.opened; one = f.one; counted = f.counted; all_said = f.all_said; at_most_one = f.at_most_one;
-          saw = prefix_more p.seen a.log (e ∷ []) f.saw; was_told = prefix_more p.told a.log (e ∷ []) f.was_told;
-          stands = speaker_recorded j p f (ℕ_discrete p.number e.pass)
+          opened = f.opened;
+          one = f.one;
+          counted = f.counted;
+          all_said = f.all_said;
+          at_most_one = f.at_most_one;
+          saw = prefix_more p.seen a.log (e ∷ []) f.saw;
+          was_told = prefix_more p.told a.log (e ∷ []) f.was_told;
+          stands = speaker_recorded j p f (ℕ_discrete p.number e.pass);
         }
     recorded_fits id j (Letter told) is ne f = prefix_more told a.log (e ∷ []) f
     recorded_fits id j (Claim c) is ne f = record { seen_before = prefix_more c.seen a.log (e ∷ []) f.seen_before; said_before = f.said_before }
@@ -285,16 +323,19 @@ module _ {O C R : Type 0} (performs : O → ℕ → C → R → O → Type 0) (o
         keeps,
         tt,
         after_set s kept id v w at (longer_log a (e ∷ [])) (slice_set s.words 0 ((slice_index s.words 0 + 1) % 2 ^ 64)) s.homes
-        (ap (λ (ws : List ℕ). slice_set ws 0 ((slice_index ws 0 + 1) % 2 ^ 64)) kept.word ∙ ap (λ (n : ℕ). n ∷ []) counts)
-        (subst (λ (l : List (Entry C R)). IsLegal performs opening (l ++ e ∷ [])) f.notes legal)
-        refl
-        (λ k' q. (record { opening = o; made = made; noted = noted ++ e ∷ []; claim = no_claim }, refl))
-        (others_none a own e f.claim_holds.said_before told' kept.no_others)
-        (λ j u ne g. recorded_fits a own e f.claim_holds.said_before told' id j u f.one ne g)
-        (record {
-          opened = f.opened; one = f.one; count = f.count; notes = ap (λ (l : List (Entry C R)). l ++ e ∷ []) f.notes;
-          claim_holds = record { seen_before = (a.log ++ e ∷ [], refl); said_before = (a.said 0, refl) }
-        }),
+            (ap (λ (ws : List ℕ). slice_set ws 0 ((slice_index ws 0 + 1) % 2 ^ 64)) kept.word ∙ ap (λ (n : ℕ). n ∷ []) counts)
+            (subst (λ (l : List (Entry C R)). IsLegal performs opening (l ++ e ∷ [])) f.notes legal)
+            refl
+            (λ k' q. (record { opening = o; made = made; noted = noted ++ e ∷ []; claim = no_claim }, refl))
+            (others_none a own e f.claim_holds.said_before told' kept.no_others)
+            (λ j u ne g. recorded_fits a own e f.claim_holds.said_before told' id j u f.one ne g)
+            (record {
+              opened = f.opened;
+              one = f.one;
+              count = f.count;
+              notes = ap (λ (l : List (Entry C R)). l ++ e ∷ []) f.notes;
+              claim_holds = record { seen_before = (a.log ++ e ∷ [], refl); said_before = (a.said 0, refl) };
+            }),
         (refl, subst (λ (l : List (Entry C R)). IsPrefix seen l) (sym f.notes) f.claim_holds.seen_before),
       )
 
@@ -312,10 +353,16 @@ module _ {O C R : Type 0} (performs : O → ℕ → C → R → O → Type 0) (o
         keeps,
         tt,
         set_same s kept id v w at (slice_set s.words 0 (slice_index s.words 0)) s.homes (loaded s kept) (no_keeper v w (λ x. x))
-        (record {
-          opened = f.opened; one = f.one; counted = f.counted; all_said = f.all_said ∙ sym (append-nil (own ++ said)); at_most_one = omega arith;
-          saw = f.was_told; was_told = (a.log, refl); stands = inl (prefix_both (calls_by n a.log) (own ++ said) more less)
-        }),
+            (record {
+              opened = f.opened;
+              one = f.one;
+              counted = f.counted;
+              all_said = f.all_said ∙ sym (append-nil (own ++ said));
+              at_most_one = omega arith;
+              saw = f.was_told;
+              was_told = (a.log, refl);
+              stands = inl (prefix_both (calls_by n a.log) (own ++ said) more less);
+            }),
         refl,
       )
 
@@ -332,10 +379,16 @@ module _ {O C R : Type 0} (performs : O → ℕ → C → R → O → Type 0) (o
         keeps,
         tt,
         set_same s kept id v w at (slice_set s.words 0 (slice_index s.words 0)) s.homes (loaded s kept) (no_keeper v w (λ x. x))
-        (record {
-          opened = f.opened; one = f.one; counted = f.counted; all_said = f.all_said; at_most_one = f.at_most_one;
-          saw = prefix_same a.log a.log refl; was_told = (a.log, refl); stands = inl is
-        }),
+            (record {
+              opened = f.opened;
+              one = f.one;
+              counted = f.counted;
+              all_said = f.all_said;
+              at_most_one = f.at_most_one;
+              saw = prefix_same a.log a.log refl;
+              was_told = (a.log, refl);
+              stands = inl is;
+            }),
         (a.log, refl, sym (ap (λ (ws : List ℕ). slice_index ws 0) kept.word), subst (λ (x : O). IsLegal performs x a.log) (sym f.opened) kept.legal, f.saw, f.was_told, is),
       )
 
@@ -352,9 +405,15 @@ module _ {O C R : Type 0} (performs : O → ℕ → C → R → O → Type 0) (o
         keeps,
         tt,
         set_same s kept id v w at (slice_set s.words 0 (slice_index s.words 0)) s.homes (loaded s kept) (no_keeper v w (λ x. x))
-        (record {
-          opened = f.opened; one = f.one; counted = f.counted; all_said = f.all_said ∙ sym (append-nil (own ++ [])); at_most_one = f.at_most_one;
-          saw = f.was_told; was_told = (a.log, refl); stands = inl (is ∙ sym (append-nil own))
-        }),
+            (record {
+              opened = f.opened;
+              one = f.one;
+              counted = f.counted;
+              all_said = f.all_said ∙ sym (append-nil (own ++ []));
+              at_most_one = f.at_most_one;
+              saw = f.was_told;
+              was_told = (a.log, refl);
+              stands = inl (is ∙ sym (append-nil own));
+            }),
         (refl, subst (λ (l : List (Entry C R)). IsPrefix (calls_by n told) l) is (calls_prefix n told a.log f.was_told)),
       )

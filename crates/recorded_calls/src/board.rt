@@ -34,7 +34,10 @@ impl<O, C, R, P: Sequential<O, C, R>> Board<O, C, R, P> {
     ghost use Rattle.recorded_calls.specs.Seats.{IsPassOf, IsScribeOf, seen, own, number, noted, made};
 
     /// The word at 0, and the keeper's seat, which notes no call.
-    pub fn new(alloc: Global, opening: &O) -> Result<(Board<O, C, R, P>, Scribe<O, C, R>), AllocError>
+    pub fn new(
+        alloc: Global,
+        opening: &O,
+    ) -> Result<(Board<O, C, R, P>, Scribe<O, C, R>), AllocError>
         ensures opening { IfOk result (λ b. b.0.table.shared.key ≡ opening.now) }
         ensures scribe { IfOk result (λ b. IsScribeOf b.0.table.shared.table_id opening.now b.1 × (noted b.1 ≡ []) × (made b.1 ≡ 0)) }
     {
@@ -54,7 +57,12 @@ impl<O, C, R, P: Sequential<O, C, R>> Board<O, C, R, P> {
     }
 
     /// Records a call of the pass, which the object has answered from the state after the noted history.
-    pub fn record(&self, scribe: &mut Scribe<O, C, R>, pass: &mut Pass<O, C, R>, entry: &Entry<C, R>)
+    pub fn record(
+        &self,
+        scribe: &mut Scribe<O, C, R>,
+        pass: &mut Pass<O, C, R>,
+        entry: &Entry<C, R>,
+    )
         requires scribe { IsScribeOf self.now.table.shared.table_id self.now.table.shared.key scribe.old }
         requires pass { IsPassOf self.now.table.shared.table_id self.now.table.shared.key pass.old }
         requires number { entry.now.pass ≡ number pass.old }
@@ -71,7 +79,12 @@ impl<O, C, R, P: Sequential<O, C, R>> Board<O, C, R, P> {
     }
 
     // The same, with the entry by its name, from which the step that announces takes it.
-    fn record_named<J: Naming<C, R>>(&self, scribe: &mut Scribe<O, C, R>, pass: &mut Pass<O, C, R>, _entry: &Entry<C, R>)
+    fn record_named<J: Naming<C, R>>(
+        &self,
+        scribe: &mut Scribe<O, C, R>,
+        pass: &mut Pass<O, C, R>,
+        _entry: &Entry<C, R>,
+    )
         requires scribe { IsScribeOf self.now.table.shared.table_id self.now.table.shared.key scribe.old }
         requires pass { IsPassOf self.now.table.shared.table_id self.now.table.shared.key pass.old }
         requires named { (e : Entry C R) × (J.entries ≡ e ∷ []) × (e.pass ≡ number pass.old) }
@@ -88,8 +101,12 @@ impl<O, C, R, P: Sequential<O, C, R>> Board<O, C, R, P> {
         self.table.shared.join_seat::<Tells>(&mut pass.seat, letter);
         self.table.shared.load::<Announce<J>>(&mut pass.seat, 0);
         let claim = self.table.shared.split_seat::<Claims>(&mut pass.seat);
-        self.table.shared.join_seat::<Claims>(&mut scribe.seat, claim);
-        self.table.shared.fetch_add::<Record>(&mut scribe.seat, 0, 1);
+        self.table
+            .shared
+            .join_seat::<Claims>(&mut scribe.seat, claim);
+        self.table
+            .shared
+            .fetch_add::<Record>(&mut scribe.seat, 0, 1);
         let news = self.table.shared.split_seat::<Tells>(&mut scribe.seat);
         self.table.shared.join_seat::<Tells>(&mut pass.seat, news);
         self.table.shared.load::<Adopt>(&mut pass.seat, 0);

@@ -65,4 +65,3 @@ returns-clause-other g c =
     let told = subst (λ m. OwnAreAll m.0) heard c.load.ensures.2.1 in
     let calls = calls_same (number y) (seen y) look.0 (own y) c.requires.other.own_calls look.5 told in
     (is_pass _ _ _ (number y) look.0 (own y) (c.load.ensures.0 ∙ c.join_seat-2.ensures.0 ∙ c.split_seat-letter.ensures.0 ∙ c.requires.other.of_table) took calls, ap (λ m. number_in m.0) took, ap (λ m. own_in m.0) took)
-

@@ -111,4 +111,3 @@ returns-clause-pass g c =
     let calls = calls_recorded (number p) (seen p) (noted s) (own p) g.J.Naming.entries c.requires.named.0 c.requires.named.1 (sym c.requires.named.2) c.requires.pass.own_calls saw told in
     let took : c.load-2.new.seat.me ≡ (pass_at c.args.self.now.table.shared.key (number p) (noted s ++ g.J.Naming.entries) (own p ++ g.J.Naming.entries), []) = c.load-2.ensures.2 ∙ ap (λ m. (adopted m.0, m.1)) last in
     (is_pass _ _ _ (number p) (noted s ++ g.J.Naming.entries) (own p ++ g.J.Naming.entries) (c.load-2.ensures.0 ∙ c.join_seat-3.ensures.0 ∙ c.split_seat-claim.ensures.0 ∙ c.load.ensures.0 ∙ c.join_seat.ensures.0 ∙ c.requires.pass.of_table) took calls, ap (λ m. number_in m.0) took)
-
