@@ -20,16 +20,25 @@ pub enum Row {
     TwoParallels,
     /// a branch that meets another one at each hundredth step of it
     Meeting,
+    /// a sequence in which one step of 2,000 writes a variable that all others read
+    Readers,
+    /// a sequence 100 parallels deep
+    Deep,
+    /// two sequences, of which the first is taken back before the other
+    Middle,
 }
 
 /// All of them.
-pub const ROWS: [Row; 6] = [
+pub const ROWS: [Row; 9] = [
     Row::Loops,
     Row::ManyLoops,
     Row::Sequence,
     Row::Parallel,
     Row::TwoParallels,
     Row::Meeting,
+    Row::Readers,
+    Row::Deep,
+    Row::Middle,
 ];
 
 impl Row {
@@ -42,11 +51,22 @@ impl Row {
             Row::Parallel => "parallel of 4,000 again and again",
             Row::TwoParallels => "two parallels of 200 in a loop",
             Row::Meeting => "a meeting each 100 steps",
+            Row::Readers => "2,000 reads to a write",
+            Row::Deep => "a sequence at depth 100",
+            Row::Middle => "the first half taken first",
         }
     }
 
-    /// The event at this index.
-    pub fn event(self, alloc: Global, index: u32) -> Result<Event, AllocError> {
+    /// The place among the live ones, of which there are one more than the index, of the event that is taken next.
+    pub fn taken_at(self, index: u32, size: u32) -> u32 {
+        match self {
+            Row::Middle => index.checked_rem(size / 2).unwrap_or(0),
+            _ => index,
+        }
+    }
+
+    /// The event at this index, of so many.
+    pub fn event(self, alloc: Global, index: u32, size: u32) -> Result<Event, AllocError> {
         match self {
             Row::Loops => step_of_four(alloc, index % 8, index / 8),
             Row::ManyLoops => {
@@ -58,6 +78,13 @@ impl Row {
             Row::Parallel => step_of_all(alloc, index / 4_001, index % 4_001),
             Row::TwoParallels => step_of_two(alloc, index / 401, index % 401),
             Row::Meeting => step_or_meeting(alloc, index),
+            Row::Readers => step_of_readers(alloc, index),
+            Row::Deep => deep_step(alloc, index),
+            Row::Middle => {
+                let branch = if index < size / 2 { 0 } else { 1 };
+                let entries = [Entry::Branch(branch), Entry::Ordered(index)];
+                alone(alloc, &entries, Some(branch))
+            }
         }
     }
 }
@@ -138,6 +165,28 @@ fn step_of_two(alloc: Global, turn: u32, step: u32) -> Result<Event, AllocError>
         Entry::Branch(step % 201),
     ];
     alone(alloc, &entries, Some(step))
+}
+
+/// A step of a sequence that reads variable 0 or, each 2,000 steps, writes it.
+fn step_of_readers(alloc: Global, index: u32) -> Result<Event, AllocError> {
+    let entries = [Entry::Branch(0), Entry::Ordered(index)];
+    let mut event = alone(alloc, &entries, None)?;
+    if index % 2_000 == 0 {
+        event.written = Some(0);
+    } else {
+        event.read.insert(0)?;
+    }
+    Ok(event)
+}
+
+/// A step of a sequence below 100 parallels.
+fn deep_step(alloc: Global, index: u32) -> Result<Event, AllocError> {
+    let mut entries = Vec::new(alloc);
+    for _ in 0..100 {
+        entries.push(Entry::Branch(0))?;
+    }
+    entries.push(Entry::Ordered(index))?;
+    alone(alloc, entries.as_slice(), Some(0))
 }
 
 /// A step of branch 0, at each hundredth with branch 1.

@@ -61,14 +61,15 @@ pub fn time_row(rt: &HostRuntime, row: Row, size: u32) -> io::Result<()> {
         take: Times::none(),
     };
     for index in 0..size {
-        let event = row.event(rt.alloc(), index)?;
+        let event = row.event(rt.alloc(), index, size)?;
         time_add(rt, &mut live, u64::from(index), event, &mut times.add)?;
     }
     for index in 0..size {
         ask_at(rt, &mut live, u64::from(index), &mut times)?;
     }
     for index in (0..size).rev() {
-        time_take(rt, &mut live, u64::from(index), &mut times.take)?;
+        let place = u64::from(row.taken_at(index, size));
+        time_take(rt, &mut live, place, &mut times.take)?;
     }
     tell(rt, row, size, times)
 }

@@ -116,13 +116,14 @@ Does o (Command.Consequences t) reply o' = ListsConsequences o t reply o'
 Does o Command.Live reply o' = ListsLive o reply o'
 Does o (Command.Value x) reply o' = TellsValue o x reply o'
 
--- there may be no memory for the command: an undo and a blame take none, and a command on an event takes none where
--- there is no such event
+-- there may be no memory for the command: what takes back, blame and the value of a variable take none, and a command on an event
+-- takes none where there is no such event
 abbrev pub MayWantMemory : Object → Command → Type 0
 MayWantMemory o (Command.Undo t) = ⊥
+MayWantMemory o (Command.Roll t) = ⊥
+MayWantMemory o (Command.RollValue x) = ⊥
 MayWantMemory o (Command.Blame x) = ⊥
-MayWantMemory o (Command.Roll t) = IsLive o.live t
-MayWantMemory o (Command.RollValue x) = (t : ℕ) × LastWriter o.live x t
+MayWantMemory o (Command.Value x) = ⊥
 MayWantMemory o (Command.Consequences t) = IsLive o.live t
 MayWantMemory o _ = Unit {0}
 

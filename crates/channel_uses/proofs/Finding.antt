@@ -24,13 +24,13 @@ use Rattle.channel_uses.specs.OnChannel.{is_on, on}
 use Rattle.channel_uses.specs.StemsFrom.{StemsFrom, AllStemFrom}
 use Rattle.channel_uses.specs.Uses.{used_once, used, all_used}
 use Rattle.std.proofs.lemmas.Bool.{cases_lt}
-use Rattle.channel_uses.specs.walking.Located.{finds, finds_at, AllOver}
+use Rattle.channel_uses.specs.walking.Located.{finds, finds_at}
 use Rattle.channel_uses.specs.walking.Parts.{UnusedBetween}
 use Rattle.channel_uses.proofs.Stems.{all-stem}
 use Rattle.channel_uses.proofs.OnChannel.{dropped, on-behind, on-both, other-channel, opens-none, in-first, in-second, in-arm, at-in}
 
 -- ---- what does not use the channel
-after-none : (e i : ℕ) (x rest : Listing) → on e x.sides ≡ [] → on e rest.sides ≡ [] → on e (one_after i x rest).sides ≡ []
+pub after-none : (e i : ℕ) (x rest : Listing) → on e x.sides ≡ [] → on e rest.sides ≡ [] → on e (one_after i x rest).sides ≡ []
 after-none e i x rest h k = pick x.over
   where
     pick : (b : Bool) → on e (cond b rest (at_work (behind (Ordered i) x.sides))).sides ≡ []
@@ -145,6 +145,18 @@ from-skip e s env (proc p ps) (code c cs) (suc j) zero n t h l = absurd (omega a
 from-skip e s env (proc p ps) (code c cs) (suc j) (suc k) n t h l =
     from-skip e s env ps cs j k (n + 1) t.1 (λ i low high u. h (suc i) (omega arith) (omega arith) u) (omega arith)
 
+-- where none of the others uses the channel, of so many
+pub parallel-rest : (e : ℕ) (s : Store) (env : Received) (ps : Procs) (cs : Codes) (k m n : ℕ) → AllStemFrom ps cs → UnusedBetween e cs k m → proc_at ps m ≡ None → on_from e s env k n ps ≡ []
+unfolding on_from
+parallel-rest e s env no_procs cs k m n t h none = refl
+parallel-rest e s env (proc p ps) no_code k m n t h none = absurd t
+parallel-rest e s env (proc p ps) (code c cs) k zero n t h none = none-some p (sym none)
+parallel-rest e s env (proc p ps) (code c cs) zero (suc m) n t h none =
+    ap₂ (λ (xs ys : List OfferedSide). behind (Branch n) xs ++ ys) (listed-none s p env c e t.0 (h 0 (omega arith) (omega arith)))
+    (parallel-rest e s env ps cs zero m (n + 1) t.1 (λ i low high u. h (suc i) (omega arith) (omega (arith, high)) u) none)
+parallel-rest e s env (proc p ps) (code c cs) (suc k) (suc m) n t h none =
+    parallel-rest e s env ps cs k m (n + 1) t.1 (λ i low high u. h (suc i) (omega (arith, low)) (omega (arith, high)) u) none
+
 -- past the last command there is none
 pub from-end : (e : ℕ) (s : Store) (env : Received) (xs : List made.Code) (k n : ℕ) → length xs ≤ k → on_from e s env k n (all_started (row_of (map code_view xs))) ≡ []
 unfolding on_from
@@ -207,20 +219,3 @@ from-done e s env xs j h = elim (cases_lt (length xs) j) [
 pub all-found : (e : ℕ) (s : Store) (w u : Walk) (ps : Procs) (j : ℕ) → on_from e s w.received j 0 ps ≡ [] → added (on_from e s w.received j 0 ps) u ≡ added (on_from e s w.received 0 0 ps) w
     → u ≡ added (on e (listed_parallel s w.received 0 ps).sides) w
 all-found e s w u ps j done h = sym (added-none u) ∙ ap (λ l. added l u) (sym done) ∙ h ∙ ap (λ l. added l w) (from-all e s w.received 0 ps)
-
--- ---- what has nothing to do
-pub over-none : AllOver true no_procs
-over-none s env n = (refl, refl)
-
-pub over-more : (b : Bool) (p : Proc) (ps : Procs) → ((s : Store) (env : Received) → (listed s env p).over ≡ true) → AllOver b ps → AllOver b (proc p ps)
-over-more b p ps h all s env n =
-    let rest = all s env (n + 1) in (
-      rest.0 ∙ sym (ap (λ o. (cond o (listed_sequence s env 0 (n + 1) ps) (at_work (behind (Ordered n) (listed s env p).sides))).over) (h s env)),
-      rest.1 ∙ sym (ap (λ o. o && (listed_parallel s env (n + 1) ps).over) (h s env)),
-    )
-
-pub over-not : (p : Proc) (ps : Procs) → ((s : Store) (env : Received) → (listed s env p).over ≡ false) → AllOver false (proc p ps)
-over-not p ps h s env n = (
-  sym (ap (λ o. (cond o (listed_sequence s env 0 (n + 1) ps) (at_work (behind (Ordered n) (listed s env p).sides))).over) (h s env)),
-  sym (ap (λ o. o && (listed_parallel s env (n + 1) ps).over) (h s env)),
-)

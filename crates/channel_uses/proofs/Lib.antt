@@ -3,6 +3,9 @@ pub mod Finding
 pub mod LeafLaws
 pub mod Locations
 pub mod OnChannel
+pub mod OnWalks
 pub mod Parts
+pub mod Processes
+pub mod RunStems
 pub mod Searches
 pub mod Stems

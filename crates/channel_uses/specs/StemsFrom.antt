@@ -1,10 +1,14 @@
 -- A process stems from a command: it is that command with what it has done.
-use Rattle.std.specs.Prelude.{◌≡◌, ℕ, Some, slice_get}
+use Rattle.std.specs.Prelude.{◌≡◌, ℕ, List, Some, slice_get}
+use Rattle.system.specs.declared.system.System.{System}
 use Rattle.calculus.specs.Moves.{Place}
 use Rattle.calculus.specs.declared.ask.Ask.{Ask}
+use Rattle.calculus.specs.declared.event.Event.{Event}
 use Rattle.process_tree.specs.Code.{Code, continues, halts, moves_once, may_be_held, repeats, decides, awaits, in_turn, side_by_side, drains, Codes, no_code, code, code_at}
 use Rattle.process_tree.specs.Proc.{Proc, idle, stopped, once, sender, fresh, turn, ended_at_once, ended, untested, skipped, took, unopened, entered, closed, sequence, parallel, drained, Procs, no_procs, proc, started}
 use Rattle.process_tree.specs.Advanced.{Moved, advanced}
+use Rattle.process_tree.specs.Translation.{system_code}
+use Rattle.event_inverse.specs.Grown.{TreeAndStore, Records, StandFor}
 
 abbrev mutual
   -- the process stems from the command
@@ -40,3 +44,7 @@ StartedStems = (c : Code) → StemsFrom (started c) c
 -- a move keeps what a process stems from
 abbrev pub MovesKeepOrigin : Type 0
 MovesKeepOrigin = (p : Proc) (c : Code) (a : Place) (k : Ask) (x : Moved) → StemsFrom p c → advanced p a k ≡ Some x → StemsFrom x.0 c
+
+-- what stands for a run of a system stems from the command of the system
+abbrev pub RunsKeepOrigin : Type 0
+RunsKeepOrigin = (system : System) (h : List Event) (T : TreeAndStore) (records : Records) → StandFor system h T records → StemsFrom T.proc (system_code system)

@@ -1,21 +1,20 @@
 // What commands that have made no move offer on a channel.
-ghost use Rattle.std.specs.Prelude.{◌≡◌, map, IfOk, OnOk};
+ghost use Rattle.std.specs.Prelude.{◌≡◌, map, OnOk};
 ghost use Rattle.address.specs.declared.Entry.TheVariants.{Ordered as IsOrdered, Branch as IsBranch};
+ghost use Rattle.process_tree.specs.Code.{Codes};
 ghost use Rattle.process_tree.specs.Proc.{started, all_started};
 ghost use Rattle.process_tree.specs.Translation.{row_of};
 ghost use Rattle.process_tree.specs.View.{code_view};
-ghost use Rattle.system.specs.Expression as model;
-ghost use Rattle.process_tree.specs.Left.{Received};
-ghost use Rattle.offered_sides.specs.walking.Listed.{listed, listed_sequence, listed_parallel};
+ghost use Rattle.offered_sides.specs.walking.Listed.{listed_sequence, listed_parallel};
 ghost use Rattle.offered_sides.specs.walking.Walk.{added};
 ghost use Rattle.channel_uses.specs.OnChannel.{on};
-ghost use Rattle.channel_uses.specs.walking.Located.{LocatedCode, LocatedRow, finds, finds_at, AllOver};
+ghost use Rattle.channel_uses.specs.walking.Located.{AgreeFrom, LocatedCode, LocatedRow, finds, finds_at};
 
 use crate::leaves::{arms_on, drain_on, once_on, waiting_on};
 use crate::located::{next_user, part_at};
 use crate::part::Part;
 use last_events::UseTable;
-use offered_sides::Around;
+use offered_sides::{Around, starts_over};
 use process_tree::Code;
 use std::alloc::{AllocError, Global};
 use value::Value;
@@ -118,7 +117,7 @@ pub(crate) fn fresh_in_turn_on(
     values: &[Value],
     around: &mut Around,
 ) -> Result<(), AllocError>
-    ensures { LocatedRow table.now part.entry (row_of (map code_view codes.now)) →
+    ensures { (cs : Codes) → LocatedRow table.now part.entry cs → AgreeFrom from cs (row_of (map code_view codes.now)) →
         OnOk result (around.new ≡ added (on channel (listed_sequence values.now around.old.received from 0 (all_started (row_of (map code_view codes.now)))).sides) around.old) }
 {
     let mut number = from;
@@ -161,30 +160,4 @@ fn fresh_child_on(
     fresh_on(alloc, code, part, table, channel, values, around)?;
     around.leave();
     Ok(())
-}
-
-/// Whether the command has nothing to do.
-#[cycle(starts_over)]
-fn starts_over(code: &Code) -> bool
-    ensures { (s : model.Store) (env : Received) → result ≡ (listed s env (started (code_view code.now))).over }
-{
-    match code {
-        Code::Continue => true,
-        Code::InTurn(row) => all_start_over(row.get().codes.as_slice()),
-        Code::SideBySide(row) => all_start_over(row.get().codes.as_slice()),
-        _ => false,
-    }
-}
-
-/// Whether none of the commands has anything to do.
-#[cycle(starts_over)]
-fn all_start_over(codes: &[Code]) -> bool
-    ensures { AllOver result (all_started (row_of (map code_view codes.now))) }
-{
-    for code in codes {
-        if !starts_over(code) {
-            return false;
-        }
-    }
-    true
 }

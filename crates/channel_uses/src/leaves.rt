@@ -3,15 +3,16 @@ ghost use Rattle.std.specs.Prelude.{◌≡◌, [], ◌∷◌, OnOk};
 ghost use Rattle.address.specs.declared.Entry.TheVariants.{Ordered};
 ghost use Rattle.system.specs.Expression as model;
 ghost use Rattle.system.specs.Residual.{drain};
-ghost use Rattle.process_tree.specs.Left.{residual_once, residual_sender};
+ghost use Rattle.process_tree.specs.Left.{residual_once, residual_sender, channel_of};
 ghost use Rattle.process_tree.specs.View.{once_view, sender_view};
 ghost use Rattle.process_tree.specs.walking.Received.{puts_once, puts_sender};
-ghost use Rattle.offered_sides.specs.walking.Listed.{sides_of_residual, open_sides};
+ghost use Rattle.offered_sides.specs.walking.Listed.{side_at, sides_of_residual, open_sides};
 ghost use Rattle.offered_sides.specs.walking.Walk.{added};
+ghost use Rattle.offered_sides.specs.declared.side.Side.TheVariants.{Releases};
 ghost use Rattle.channel_uses.specs.OnChannel.{on};
 
 use crate::part::channel_of;
-use offered_sides::{Around, Side, list_drain, list_once, list_sender};
+use offered_sides::{Around, Side, list_drain, list_held, list_once, list_sender};
 use process_tree::{Once, Sender};
 use std::alloc::{AllocError, Global};
 use value::Value;
@@ -49,6 +50,21 @@ pub(crate) fn waiting_on(
 {
     if channel_of(sender) == channel {
         return list_sender(alloc, sender, values, around);
+    }
+    Ok(())
+}
+
+/// Lists a send or sync that is held.
+pub(crate) fn held_on(
+    alloc: Global,
+    sender: &Sender,
+    channel: u32,
+    around: &mut Around,
+) -> Result<(), AllocError>
+    ensures { OnOk result (around.new ≡ added (on channel (side_at (Ordered 1 ∷ []) (Releases (channel_of (sender_view sender.now))) ∷ [])) around.old) }
+{
+    if channel_of(sender) == channel {
+        return list_held(alloc, sender, around);
     }
     Ok(())
 }

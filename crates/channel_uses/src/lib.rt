@@ -1,6 +1,7 @@
 //! Which commands of a system use which channel, so that what a tree offers on a channel is found without a look at what does not use it.
 #![tactic(auto)]
 
+mod at_work;
 mod fresh;
 mod laws;
 mod leaves;

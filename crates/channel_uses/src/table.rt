@@ -1,17 +1,28 @@
 // Where a whole system uses channels.
-ghost use Rattle.std.specs.Prelude.{◌≡◌, IfOk, OnOk};
+ghost use Rattle.std.specs.Prelude.{◌≡◌, ◌↔◌, true, IfOk, OnOk};
+ghost use Rattle.syntax.specs.Lists.{In};
+ghost use Rattle.process_tree.specs.Code as model;
 ghost use Rattle.process_tree.specs.Proc.{started};
-ghost use Rattle.process_tree.specs.View.{code_view};
+ghost use Rattle.process_tree.specs.Tidy.{Tidy};
+ghost use Rattle.process_tree.specs.View.{code_view, tree_view};
+ghost use Rattle.offered_sides.specs.Sides.{Offered};
+ghost use Rattle.offered_sides.specs.View.{state_of};
+ghost use Rattle.offered_sides.specs.declared.side.OfferedSide as any;
+ghost use Rattle.channel_uses.specs.OnChannel.{is_on};
+ghost use Rattle.channel_uses.specs.StemsFrom.{StemsFrom};
 ghost use Rattle.channel_uses.specs.Table.{IsTableOf};
 ghost use Rattle.channel_uses.specs.walking.Located.{finds};
 
+use crate::at_work::list_on;
 use crate::fresh::fresh_on;
 use crate::part::{Part, part_of};
 use crate::search::table_of;
 use last_events::UseTable;
-use offered_sides::Around;
-use process_tree::Code;
+use offered_sides::{Around, OfferedSide};
+use process_tree::{Code, Tree};
 use std::alloc::{AllocError, Global};
+use store::Store;
+use syntax::Items;
 use value::Value;
 
 /// Which commands use which channel: for each channel the numbers of its uses in order, and for each command between which
@@ -48,5 +59,33 @@ impl ChannelUses {
     {
         let part = Some(&self.whole);
         fresh_on(alloc, code, part, &self.table, channel, values, around)
+    }
+
+    /// Exactly the sides that the tree offers on the channel over the values of the store, where the tree stems from the command
+    /// whose table this is, and is tidy, as each is that stands for a run. Of a parallel only the branches are looked at that
+    /// use the channel.
+    pub fn sides_on(
+        &self,
+        alloc: Global,
+        tree: &Tree,
+        store: &Store,
+        channel: u32,
+    ) -> Result<Items<OfferedSide>, AllocError>
+        ensures { (code : model.Code) → IsTableOf code self.now → StemsFrom (tree_view tree.now) code → Tidy (tree_view tree.now) →
+            IfOk result (λ sides. (x : any.OfferedSide) → In x sides ↔ (Offered (state_of tree.now store.now) x × (is_on channel x.side ≡ true))) }
+    {
+        let mut around = Around::new(alloc);
+        let part = Some(&self.whole);
+        let values = store.as_slice();
+        list_on(
+            alloc,
+            tree.root(),
+            part,
+            &self.table,
+            channel,
+            values,
+            &mut around,
+        )?;
+        Ok(around.into_found())
     }
 }

@@ -14,13 +14,13 @@ TellsSome caused wrote contents = (text : List ℕ) × (ended : Outcome) × (tex
 abbrev pub TellsFault : Fault → (Outcome → Type 0) → Option (List ℕ) → Option (List ℕ) → Type 0
 TellsFault fault caused wrote contents = (ended : Outcome) × Told (fault_line fault) wrote contents ended × caused ended
 
--- help is told on the output, and where that failed, which is told on standard error
+-- help or the version is told on the output, and where that failed, which is told on standard error
 abbrev pub TellsHelp : ℕ → Type 0 → (Outcome → Type 0) → (Outcome → Type 0) → Option (List ℕ) → Option (List ℕ) → Option (List ℕ) → Option (List ℕ) → Type 0
 TellsHelp status untold written told wrote contents before behind =
     (text : List ℕ) × (ended : Outcome) × (text ≢ []) × Told text wrote contents ended × written ended × (status ≡ status_of ended)
     × (((ended ≡ Ok tt) × untold) ⊎ ((ended ≡ Err WriteFailed) × TellsFault WriteFailed told before behind))
 
--- there is no request: there was no memory for it, or the words are mistaken, which is told on standard error, or help is told
+-- there is no request: there was no memory for it, or the words are mistaken, which is told on standard error, or help or the version is told
 -- on the output
 abbrev pub Explains : ℕ → Type 0 → Type 0 → (Outcome → Type 0) → (Outcome → Type 0) → Option (List ℕ) → Option (List ℕ) → Option (List ℕ) → Option (List ℕ) → Type 0
 Explains status unwritten untold written told wrote contents before behind =

@@ -1,4 +1,6 @@
-//! The texts of `--help`.
+//! The texts of `--help` and `--version`.
+
+pub const VERSION: &str = "0.1.0";
 
 pub const BALSADBG: &str = "\
 A debugger for Balsa that takes back any step, in any order, as long as nothing
@@ -28,7 +30,7 @@ pub const CHECK: &str = "Say whether a description is accepted";
 pub const CHECK_LONG: &str = "\
 Say whether a description is accepted. If it is, the answer is `accepted`. If not,
 standard error gets the line `balsadbg: refused N ..` with one of the numbers
-below, and the byte of FILE that is meant.
+below and, where a byte of FILE is meant, that byte.
 
 Example:
   balsadbg check examples/buffer.balsa";
@@ -94,48 +96,110 @@ the line `balsadbg trace 1`, and for each step that is live a line `step PLACE A
 Example:
   balsadbg replay examples/one.balsa examples/one.stimulus examples/one.trace";
 
-pub const REFUSALS: &str = "\
-Refusals. The line `balsadbg: refused N ..` on standard error ends a run with
-status 1. Behind most numbers stands the byte of FILE that is meant, from 0:
+/// What each refusal of a command means: with lines for a trace, for the files, for a stimulus and for a script.
+macro_rules! each_refusal {
+    ([$($trace:literal)*] [$($files:literal)*] [$($stimulus:literal)*] [$($script:literal)*]) => {
+        concat!(
+            "Refusals. The line `balsadbg: refused N ..` on standard error ends a run with\n",
+            "status 1. Behind most numbers stands the byte of FILE that is meant, from 0:\n",
+            "\n",
+            "   1  memory is used up\n",
+            "   2  this byte begins no word, number or sign\n",
+            "   3  this (-- is closed by no --)\n",
+            "   4  this number is over 2^64 - 1\n",
+            "   5  no description goes on with this word\n",
+            "   6  this opens more than 64 levels\n",
+            "   7  nothing visible has this name\n",
+            "   8  this name is declared already\n",
+            "   9  this name is that of another kind of thing\n",
+            "  10  this is too wide: over 64 bits, or wider than what takes it\n",
+            "  11  this condition is not one bit wide\n",
+            "  12  this label or channel stands in two arms, or the label is too wide\n",
+            "  13  the arguments of this call do not fit the ports\n",
+            "  14  the system has over 16384 nodes, or a command inside over 1024 others\n",
+            "  15  this variable is written in one parallel branch and used in another\n",
+            "  16  this channel has two senders, two receivers or three syncs at a time\n",
+            "  17  this channel is open around this place\n",
+            $($trace,)*
+            $($files,)*
+            "  42  writing the answers failed\n",
+            $($stimulus,)*
+            $($script,)*
+            "\n",
+            "docs/refusals.md has an example and the usual cause of each. A command line that\n",
+            "cannot be read ends with status 2. All else ends with status 0."
+        )
+    };
+}
 
-   1  memory is used up
-   2  this byte begins no word, number or sign
-   3  this (-- is closed by no --)
-   4  this number is over 2^64 - 1
-   5  no description goes on with this word
-   6  this opens more than 64 levels
-   7  nothing visible has this name
-   8  this name is declared already
-   9  this name is that of another kind of thing
-  10  this is too wide: over 64 bits, or wider than what takes it
-  11  this condition is not one bit wide
-  12  this label or channel stands in two arms, or the label is too wide
-  13  the arguments of this call do not fit the ports
-  14  the system has over 16384 nodes, or a command inside over 1024 others
-  15  this variable is written in one parallel branch and used in another
-  16  this channel has two senders, two receivers or three syncs at a time
-  17  this channel is open around this place
-  31  TRACE does not begin with the line `balsadbg trace 1`
-  32  this line of TRACE, from 1, is no step, or has no end
-  33  the step of this line of TRACE, from 1, cannot be taken there
-  41  a file is missing, or reading it or the script failed
-  42  writing the answers failed
-  51  this line of STIMULUS, from 1, fits no port
-  61  this line of the script, from 1, is none of its lines, or names no
-      variable (a port or a channel is none)
+/// The same with the lines for a stimulus.
+macro_rules! refusals_over_ports {
+    ([$($trace:literal)*] [$($files:literal)*] [$($script:literal)*]) => {
+        each_refusal!(
+            [$($trace)*]
+            [$($files)*]
+            [
+                "  51  this line of STIMULUS, from 1, fits no port, is a second one for a port, or\n"
+                "      has another form (blanks, line ends)\n"
+            ]
+            [$($script)*]
+        )
+    };
+}
 
-`refused N` as the answer of a script line says that it cannot be done now. Then
-nothing has changed, and the script goes on:
+/// The same with the lines for a script.
+macro_rules! refusals_of_scripts {
+    ([$($trace:literal)*] [$($files:literal)*]) => {
+        refusals_over_ports!(
+            [$($trace)*]
+            [$($files)*]
+            [
+                "  61  this line of the script, from 1, is none of its lines, or names no\n"
+                "      variable (a port or a channel is none)\n"
+                "\n"
+                "`refused N` as the answer of a script line says that it cannot be done now. Then\n"
+                "nothing has changed, and the script goes on:\n"
+                "\n"
+                "   1  memory is used up\n"
+                "  21  nothing waits at this place with this arm\n"
+                "  22  65536 steps are live\n"
+                "  23  no live step has this ticket\n"
+                "  24  the step with the ticket that is named depends on this one\n"
+                "  25  no live step has written this variable\n"
+                "  26  no ticket is left\n"
+                "  27  this session has 64 breakpoints\n"
+                "  28  no command begins on this line\n"
+            ]
+        )
+    };
+}
 
-   1  memory is used up
-  21  nothing waits at this place with this arm
-  22  65536 steps are live
-  23  no live step has this ticket
-  24  the step with the ticket that is named depends on this one
-  25  no live step has written this variable
-  26  no ticket is left
-  27  this session has 64 breakpoints
-  28  no command begins on this line
+pub const REFUSALS: &str = refusals_of_scripts!(
+    [
+        "  31  TRACE does not begin with the line `balsadbg trace 1`\n"
+        "  32  this line of TRACE, from 1, is no step, or has no end\n"
+        "  33  the step of this line of TRACE, from 1, cannot be taken there\n"
+    ]
+    ["  41  a file is missing, or reading it or the script failed\n"]
+);
 
-docs/refusals.md has an example and the usual cause of each. A command line that
-cannot be read ends with status 2. All else ends with status 0.";
+pub const CHECK_REFUSALS: &str = each_refusal!(
+    []
+    ["  41  FILE is missing, or reading it failed\n"]
+    []
+    []
+);
+
+pub const DEBUG_REFUSALS: &str = refusals_of_scripts!(
+    []["  41  FILE or STIMULUS is missing, or reading it or the script failed\n"]
+);
+
+pub const REPLAY_REFUSALS: &str = refusals_over_ports!(
+    [
+        "  31  TRACE does not begin with the line `balsadbg trace 1`\n"
+        "  32  this line of TRACE, from 1, is no step, or has no end\n"
+        "  33  the step of this line of TRACE, from 1, cannot be taken there\n"
+    ]
+    ["  41  FILE, STIMULUS or TRACE is missing, or reading it failed\n"]
+    []
+);

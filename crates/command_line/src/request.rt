@@ -51,7 +51,7 @@ fn check<'a>(alloc: Global) -> Result<Command<'a>, AllocError> {
     Command::new(alloc, "check")
         .about(help::CHECK)
         .long_about(help::CHECK_LONG)
-        .after_long_help(help::REFUSALS)
+        .after_long_help(help::CHECK_REFUSALS)
         .arg(file(alloc))
 }
 
@@ -59,7 +59,7 @@ fn debug<'a>(alloc: Global) -> Result<Command<'a>, AllocError> {
     Command::new(alloc, "debug")
         .about(help::DEBUG)
         .long_about(help::DEBUG_LONG)
-        .after_long_help(help::REFUSALS)
+        .after_long_help(help::DEBUG_REFUSALS)
         .arg(file(alloc))?
         .arg(stimulus(alloc))
 }
@@ -68,7 +68,7 @@ fn replay<'a>(alloc: Global) -> Result<Command<'a>, AllocError> {
     Command::new(alloc, "replay")
         .about(help::REPLAY)
         .long_about(help::REPLAY_LONG)
-        .after_long_help(help::REFUSALS)
+        .after_long_help(help::REPLAY_REFUSALS)
         .arg(file(alloc))?
         .arg(stimulus(alloc))?
         .arg(trace(alloc))
@@ -77,6 +77,7 @@ fn replay<'a>(alloc: Global) -> Result<Command<'a>, AllocError> {
 fn balsadbg<'a>(alloc: Global) -> Result<Command<'a>, AllocError> {
     Command::new(alloc, "balsadbg")
         .bin_name("balsadbg")?
+        .version(help::VERSION)
         .about(help::BALSADBG)
         .long_about(help::BALSADBG_LONG)
         .after_long_help(help::REFUSALS)

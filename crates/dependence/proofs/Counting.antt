@@ -1,15 +1,19 @@
 -- Counting the events that depend directly on one.
 use Rattle.std.proofs.Common.{◌≡◌, inl, inr, ℕ, suc, ◌+◌, ◌-◌, ◌<◌, ◌≤◌, List, [], ◌∷◌, ◌++◌, length, take, drop, get_or, Some, refl, sym, ◌∙◌, ap, subst, arith, length-append, length-drop}
 use Rattle.std.specs.Prelude.{slice_get}
+use Rattle.std.proofs.lemmas.Bool.{cases_eq, cases_lt}
 use Rattle.std.proofs.lemmas.Option.{slice_get-get_or}
+use Rattle.syntax.specs.Lists.{In}
 use Rattle.calculus.specs.Dependence.{Directly}
-use Rattle.calculus.specs.Live.{Live, Rising, LiveAt}
+use Rattle.calculus.specs.Live.{Live, Rising, LiveAt, NoDependent, FirstDependent}
 use Rattle.calculus.specs.declared.event.Event.{Event}
+use Rattle.calculus.proofs.DependsOnLaw.{depends-up}
 use Rattle.calculus.proofs.Lists.{in-left, in-right, in-parts}
-use Rattle.calculus.proofs.Tickets.{rising-in, rising-one, rising-parts, rising-lower}
+use Rattle.calculus.proofs.Tickets.{rising-in, rising-one, rising-parts}
 use Rattle.dependence.specs.Followers.{CountsDirect}
 use Rattle.dependence.specs.walking.Tables.{IsRising, CountsAmong}
-use Rattle.dependence.proofs.ListPlaces.{parts-at, take-next, take-all, in-order-more}
+use Rattle.dependence.proofs.ListPlaces.{parts-at, in-at, take-next, drop-next, take-all, in-order-more}
+use Rattle.dependence.proofs.FollowerLaws.{direct-follows}
 
 pub among-none : (e : Event) → CountsAmong e [] 0
 among-none e = ([], record { exactly = λ u. ((λ i. absurd i), (λ h. absurd h.1)); ascending = tt }, refl)
@@ -100,40 +104,83 @@ module _ (l : Live) (t place : ℕ) (e : Event) (r : IsRising l) (at : slice_get
   here-live : LiveAt l t e
   here-live = subst (λ (k : Live). LiveAt k t e) (sym (parts-at l place (t, e) at)) (in-right (t, e) (take place l) ((t, e) ∷ drop (suc place) l) (inl refl))
 
-  pub counts-direct : (n : ℕ) → CountsAmong e (drop (suc place) l) n → CountsDirect l t n
-  counts-direct n counted = (
+module _ (l : Live) (t u from : ℕ) (e f : Event) (r : IsRising l) (here : LiveAt l t e) (at : slice_get l from ≡ Some (u, f)) (first : FirstDependent l t u) where
+  rest : drop from l ≡ (u, f) ∷ drop (suc from) l
+  rest = drop-next l from (u, f) at
+
+  -- the first dependent is later
+  later-first : t < u
+  later-first =
+      let up : t ≤ u = depends-up l t u first.depends in
+      elim (cases_eq u t) [ inl is ↦ absurd (first.other is) | inr differs ↦ omega arith ]
+
+  -- what stands from it on
+  rest-live : (v : ℕ) (g : Event) → LiveAt (drop from l) v g → LiveAt l v g × (u ≤ v)
+  rest-live v g i = elim (subst (λ (k : Live). LiveAt k v g) rest i) [
+    | inl is ↦ (
+      subst (λ (x : ℕ × Event). In x l) (sym is) (in-at l from (u, f) at),
+      let same_ticket : v ≡ u = ap (λ (x : ℕ × Event). x.0) is in omega arith,
+    )
+    | inr behind ↦ (
+      after-live l u from f r at v g behind,
+      let above : suc u ≤ v = (rising-in (suc u) r.0 (drop (suc from) l) v g (rising-after l u from f r at) behind).0 in omega arith,
+    )
+  ]
+
+  live-rest : (v : ℕ) (g : Event) → LiveAt l v g → u ≤ v → LiveAt (drop from l) v g
+  live-rest v g i up = subst (λ (k : Live). LiveAt k v g) (sym rest) (elim (cases_lt u v) [
+    | inl less ↦ inr (live-after l u from f r at v g i less)
+    | inr high ↦
+        let is : v ≡ u = omega arith in
+        let same_event : g ≡ f = rising-one 0 r.0 l u g f r.1 (subst (λ (k : ℕ). LiveAt l k g) is i) (in-at l from (u, f) at) in
+        inl (ap (λ (k : ℕ). (k, g)) is ∙ ap (λ (x : Event). (u, x)) same_event)
+  ])
+
+  pub counts-from : (n : ℕ) → CountsAmong e (drop from l) n → CountsDirect l t n
+  counts-from n counted = (
     counted.0,
     record {
-      exactly = λ u. (
+      exactly = λ v. (
         (λ j.
-            let found = (counted.1.exactly u).0 j in
-            let above : suc t ≤ u = (rising-in (suc t) r.0 (drop (suc place) l) u found.0 rising-after found.1).0 in
-            record {
-              event = e;
-              dependent = found.0;
-              live = here-live;
-              dependent_live = after-live u found.0 found.1;
-              less = omega arith;
-              direct = found.2;
-            }),
-        (λ d. (counted.1.exactly u).1 (
-          d.dependent,
-          live-after u d.dependent d.dependent_live d.less,
-          subst (λ (g : Event). Directly g d.dependent) (rising-one 0 r.0 l t d.event e r.1 d.live here-live) d.direct,
-        )),
+            let found = (counted.1.exactly v).0 j in
+            let stands = rest-live v found.0 found.1 in
+            let low : u ≤ v = stands.1 in
+            let more : t < u = later-first in
+            record { event = e; dependent = found.0; live = here; dependent_live = stands.0; less = omega arith; direct = found.2 }),
+        (λ d.
+            let differs : v ≡ t → ⊥ = λ is. let less : t < v = d.less in omega arith in
+            (counted.1.exactly v).1 (
+              d.dependent,
+              live-rest v d.dependent d.dependent_live (first.least v d.dependent d.dependent_live differs (direct-follows l t v d)),
+              subst (λ (g : Event). Directly g d.dependent) (rising-one 0 r.0 l t d.event e r.1 d.live here) d.direct,
+            )),
       );
       ascending = counted.1.ascending;
     },
     counted.2,
   )
 
--- what stands after an entry rises, and what is counted there is what depends directly on it
-pub after-rises : (l : Live) (t place : ℕ) (e : Event) → IsRising l → slice_get l place ≡ Some (t, e) → IsRising (drop (suc place) l)
-after-rises l t place e r at = (r.0, rising-lower 0 (suc t) r.0 (drop (suc place) l) (omega arith) (rising-after l t place e r at))
+  -- what stands from it on rises
+  pub from-rises : IsRising (drop from l)
+  from-rises = subst (λ (k : Live). IsRising k) (sym rest) (r.0, (omega arith, rising-after l u from f r at))
 
--- what stands behind a place
-pub rest-is : (l : Live) (place : ℕ) → take (length l - (place + 1)) (drop (place + 1) l) ≡ drop (suc place) l
-rest-is l place =
-    let more : place + 1 ≡ suc place = omega arith in
-    let size = length-drop (place + 1) l in
-    take-all (drop (place + 1) l) (length l - (place + 1)) (omega arith) ∙ ap (λ (k : ℕ). drop k l) more
+-- without a dependent there is none to count
+pub counts-none : (l : Live) (t : ℕ) → NoDependent l t → CountsDirect l t 0
+counts-none l t none = (
+  [],
+  record {
+    exactly = λ v. (
+      (λ i. absurd i),
+      (λ d.
+          let is : v ≡ t = none v d.dependent d.dependent_live (direct-follows l t v d) in
+          let less : t < v = d.less in
+          absurd (omega arith)),
+    );
+    ascending = tt;
+  },
+  refl,
+)
+
+-- what stands from a place on
+pub rest-is : (l : Live) (place : ℕ) → take (length l - place) (drop place l) ≡ drop place l
+rest-is l place = let size = length-drop place l in take-all (drop place l) (length l - place) (omega arith)

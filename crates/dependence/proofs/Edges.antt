@@ -225,6 +225,13 @@ take-whole {X = X} xs ys n same is =
 pub candidates-live : (l : Live) (f : Event) (cs ds : List ℕ) → cs ≡ ds → Candidates l f ds → (t : ℕ) → In t cs → IsLive l t
 candidates-live l f cs ds is c t i = let at = c.sound t (subst (λ (k : List ℕ). In t k) is i) in (at.0, at.1)
 
+-- the same candidates in another list
+pub candidates-alike : (l : Live) (f : Event) (cs ds : List ℕ) → ((t : ℕ) → In t cs ↔ In t ds) → Candidates l f cs → Candidates l f ds
+candidates-alike l f cs ds same c = record {
+  sound = λ t i. c.sound t ((same t).1 i);
+  complete = λ t e live direct. let found = c.complete t e live direct in (found.0, (same found.0).0 found.1, found.2);
+}
+
 -- all that the take of an event asks and leaves
 pub record TakenAt (l k : Live) (rest : List Links) (t : ℕ) (kept : List ℕ) : Type 0 where
   pub rising : IsRising k

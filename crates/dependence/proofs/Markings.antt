@@ -13,7 +13,7 @@ use Rattle.calculus.proofs.Lists.{every-of, in-left, in-right, in-parts}
 use Rattle.calculus.proofs.Options.{none-some}
 use Rattle.calculus.proofs.Tickets.{rising-in}
 use Rattle.dependence.specs.Followers.{Follower, ListsFollowers, Reached, here, along}
-use Rattle.dependence.specs.Shown.{tickets_marked, Greatest}
+use Rattle.dependence.specs.Shown.{tickets_marked, Greatest, IsSound}
 use Rattle.dependence.specs.walking.Tables.{IsRising}
 use Rattle.dependence.specs.walking.Marking.{MarkedAt, MarkedBelow}
 use Rattle.dependence.proofs.ListPlaces.{in-at, at-one, take-next, set-here, set-other}
@@ -233,3 +233,11 @@ none-at-all l marks none = pick (tickets_marked l marks) refl
     pick (t ∷ ts) is =
         let h = (is-marked l marks t).0 (subst (λ (k : List ℕ). In t k) (sym is) (inl refl)) in
         absurd (none h.0 (omega arith) h.2)
+
+-- where the tickets rise, what is shown is sound
+pub all-sound : (l : Live) (marks : List Bool) → IsRising l → IsSound (record { live = l; marked = tickets_marked l marks })
+all-sound l marks r = record {
+  rising = r;
+  live = λ t i. let h = (is-marked l marks t).0 i in (h.1.0, in-at l h.0 (t, h.1.0) h.1.1);
+  ascending = marked-ascend 0 r.0 l marks r.1;
+}

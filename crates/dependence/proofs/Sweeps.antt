@@ -1,18 +1,21 @@
 -- The sweep that finds the topmost of some events, one place after another.
-use Rattle.std.proofs.Common.{◌≡◌, ◌≢◌, ◌⊎◌, ◌↔◌, inl, inr, ℕ, zero, suc, ◌+◌, ◌-◌, ◌<◌, ◌≤◌, List, [], ◌∷◌, ◌++◌, Bool, true, false, cond, ◌||◌, ◌&&◌, not, IsTrue, length, get_or, Some, refl, sym, ◌∙◌, ap, subst, arith, length-append}
+use Rattle.std.proofs.Common.{◌≡◌, ◌≢◌, ◌⊎◌, ◌↔◌, inl, inr, ℕ, zero, suc, ◌+◌, ◌-◌, ◌<◌, ◌≤◌, List, [], ◌∷◌, ◌++◌, Bool, true, false, cond, ◌||◌, ◌&&◌, not, IsTrue, length, get_or, take, drop, Some, refl, sym, ◌∙◌, ap, subst, arith, length-append}
 use Rattle.std.specs.Prelude.{slice_get}
+use Rattle.std.specs.List.Sorted.{IsPermutation}
 use Rattle.std.proofs.lemmas.Bool.{cases_eq, cases_lt}
+use Rattle.std.proofs.lemmas.List.Sorted.{Contains-permutation}
 use Rattle.std.proofs.lemmas.Option.{slice_get_within, slice_get-get_or}
 use Rattle.syntax.specs.Lists.{In}
 use Rattle.system.specs.Expression.{is_in}
+use Rattle.calculus.specs.InOrder.{InOrder}
 use Rattle.calculus.specs.Live.{Live, Rising, DependsOn, same}
 use Rattle.calculus.specs.declared.event.Event.{Event}
-use Rattle.calculus.proofs.Lists.{in-left, in-right, in-parts}
+use Rattle.calculus.proofs.Lists.{in-left, in-right, in-parts, every-in}
 use Rattle.calculus.proofs.DependsOnLaw.{depends-up}
 use Rattle.dependence.specs.Followers.{Follower, ListsFollowers, Reached, here, along}
 use Rattle.dependence.specs.walking.Tables.{StandsAt, Falling, Topmost, LeadsBack}
 use Rattle.dependence.specs.walking.Sweeping.{StandWithin, FlagAt, Swept}
-use Rattle.dependence.proofs.ListPlaces.{at-one, place-in, in-order-more}
+use Rattle.dependence.proofs.ListPlaces.{at-one, place-in, parts-at, in-at, in-read, in-order-more, in-order-right, got-here}
 use Rattle.calculus.proofs.ReadTests.{is-in, in-is}
 use Rattle.dependence.proofs.Linking.{one-place}
 use Rattle.dependence.proofs.Standing.{place-rises, lesser-stands}
@@ -300,15 +303,56 @@ flag-at from next l high flags t place e d r at less size =
           at-one flags k (get_or flags k d) true read (subst (λ (j : ℕ). slice_get flags j ≡ Some true) same_flag h.4)),
     )
 
-pub no-flag-at : (from next : ℕ) (l : Live) (high : ℕ) (flags : List Bool) (t place : ℕ) (e : Event) → Rising from l next → slice_get l place ≡ Some (t, e) →
-    high ≤ place → IsTrue false ↔ FlagAt l high flags t
-no-flag-at from next l high flags t place e r at past = (
-  (λ on. cc),
-  (λ h.
-      let one : h.0 ≡ place = one-place from next l t h.2.0 e h.0 place r h.2.1 at in
-      let sum : h.0 + h.1 + 1 ≡ high = h.3 in
-      absurd (omega arith)),
-)
+-- behind the first of some ascending tickets that stands at `high` or above none has a flag
+pub none-above : (from next : ℕ) (l : Live) (high : ℕ) (flags : List Bool) (ts : List ℕ) (i place : ℕ) (e : Event) → Rising from l next → InOrder ◌<◌ ts → i < length ts →
+    slice_get l place ≡ Some (get_or ts i 0, e) → high ≤ place → ((t : ℕ) → In t (take i ts) → FlagAt l high flags t → ⊥) → (t : ℕ) → In t ts → FlagAt l high flags t → ⊥
+none-above from next l high flags ts i place e r o less at past none t j flag =
+    let x : ℕ = get_or ts i 0 in
+    let parts : ts ≡ take i ts ++ x ∷ drop (suc i) ts = parts-at ts i x (slice_get-get_or ts i 0 less) in
+    let sum : flag.0 + flag.1 + 1 ≡ high = flag.3 in
+    elim (in-parts t (take i ts) (x ∷ drop (suc i) ts) (subst (λ (k : List ℕ). In t k) parts j)) [
+      | inl a ↦ none t a flag
+      | inr (inl is) ↦
+          let one : flag.0 ≡ place =
+          one-place from next l x flag.2.0 e flag.0 place r (subst (λ (v : ℕ). slice_get l flag.0 ≡ Some (v, flag.2.0)) is flag.2.1) at in
+          omega arith
+      | inr (inr later) ↦
+          let up : x < t =
+          every-in (λ y. x < y) (drop (suc i) ts) t (in-order-right ◌<◌ (take i ts) (x ∷ drop (suc i) ts) (subst (InOrder ◌<◌) parts o)).0 later in
+          let above : place < flag.0 = lesser-stands from next l place flag.0 x t e flag.2.0 r at flag.2.1 up in
+          omega arith
+    ]
+
+pub not-both : (b : Bool) → b ≡ true → b ≡ false → ⊥
+not-both true on off = cc
+not-both false on off = cc
+
+-- what a search by halves tells
+pub found-among : (ns : List ℕ) (n i : ℕ) → (i < length ns) × (get_or ns i 0 ≡ n) → true ≡ is_in n ns
+found-among ns n i h = sym (in-is n ns (subst (λ (k : ℕ). In k ns) h.1 (in-read ns i h.0)))
+
+pub none-among : (ns : List ℕ) (n i : ℕ) → (i ≤ length ns) × ((k : ℕ) → k < i → get_or ns k 0 < n) × ((k : ℕ) → i ≤ k → k < length ns → n < get_or ns k 0) →
+    false ≡ is_in n ns
+none-among ns n i h = pick (is_in n ns) refl
+  where
+    pick : (b : Bool) → is_in n ns ≡ b → false ≡ b
+    pick false is = refl
+    pick true is =
+        let at = place-in ns n (is-in n ns is) in
+        let k : ℕ = at.0 in
+        let within : k < length ns = slice_get_within ns k n at.1 in
+        let here : get_or ns k 0 ≡ n = got-here ns k n 0 at.1 in
+        elim (cases_lt k i) [
+          | inl low ↦ let less : get_or ns k 0 < n = h.1 k low in absurd (omega arith)
+          | inr high ↦ let more : n < get_or ns k 0 = h.2 k high within in absurd (omega arith)
+        ]
+
+-- the elements of a list in another order
+pub permuted : (xs ys : List ℕ) → IsPermutation xs ys → (n : ℕ) → In n xs → In n ys
+permuted xs ys p n i =
+    let at = place-in xs n i in
+    let there = Contains-permutation xs ys n p (at.0, slice_get_within xs at.0 n at.1, got-here xs at.0 n n at.1) in
+    in-at ys there.0 n (slice_get-get_or ys there.0 n there.1 ∙ ap (λ (k : ℕ). Some k) there.2)
 
 -- of one event none depends on another
 one-of-few : (cs : List ℕ) (c t : ℕ) → length cs ≤ 1 → In c cs → In t cs → c ≡ t

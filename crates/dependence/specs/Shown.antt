@@ -1,13 +1,20 @@
 -- What callers see of a `Live`: the live events with their tickets, and the tickets that are marked.
-use Rattle.std.specs.Prelude.{ℕ, ◌≤◌, List, [], ◌∷◌, ◌++◌, Bool, true, false}
+use Rattle.std.specs.Prelude.{ℕ, ◌<◌, ◌≤◌, List, [], ◌∷◌, ◌++◌, Bool, true, false}
 use Rattle.syntax.specs.Lists.{In}
-use Rattle.calculus.specs.Live.{Live}
+use Rattle.calculus.specs.InOrder.{InOrder}
+use Rattle.calculus.specs.Live.{Live, Rising, IsLive}
 use Rattle.calculus.specs.declared.event.Event.{Event}
 
 -- the live events with their tickets, in order of tickets, and the tickets that are marked, ascending
 pub record Shown : Type 0 where
   pub live : Live
   pub marked : List ℕ
+
+-- the tickets rise, and the marked ones, which ascend, are tickets of live events
+pub record IsSound (s : Shown) : Type 0 where
+  pub rising : (next : ℕ) × Rising 0 s.live next
+  pub live : (t : ℕ) → In t s.marked → IsLive s.live t
+  pub ascending : InOrder ◌<◌ s.marked
 
 -- one more event, which has no mark
 abbrev pub with_newest : Shown → ℕ → Event → Shown

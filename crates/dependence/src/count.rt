@@ -1,19 +1,36 @@
 // How many events depend directly on one.
 ghost use Rattle.dependence.specs.Followers.{CountsDirect};
-ghost use Rattle.calculus.specs.Live.{IsLive};
-ghost use Rattle.dependence.specs.walking.Tables.{IsRising, CountsAmong};
+ghost use Rattle.calculus.specs.Live.{FirstDependent, IsLive};
+ghost use Rattle.dependence.specs.walking.Tables.{IsRising, Linked, CountsAmong};
 
+use crate::links::Links;
 use crate::places::place_of_live;
+use crate::whole::least_dependent;
 use calculus::{Event, depends_directly};
 
-/// How many live events depend directly on the one of this ticket.
-pub(crate) fn count_direct(live: &[(u64, Event)], ticket: u64) -> usize
+/// How many live events depend directly on the one of this ticket. The first that may is its first follower.
+pub(crate) fn count_direct(live: &[(u64, Event)], links: &[Links], ticket: u64) -> usize
     requires rising { IsRising live.now }
+    requires linked { Linked live.now links.now }
     requires live { IsLive live.now ticket }
     ensures { CountsDirect live.now ticket result }
 {
+    match least_dependent(live, links, ticket) {
+        Some(first) => count_from(live, ticket, first),
+        None => 0,
+    }
+}
+
+/// How many live events depend directly on the one of this ticket, of which `first` is the least dependent.
+fn count_from(live: &[(u64, Event)], ticket: u64, first: u64) -> usize
+    requires rising { IsRising live.now }
+    requires live { IsLive live.now ticket }
+    requires first { FirstDependent live.now ticket first }
+    ensures { CountsDirect live.now ticket result }
+{
     let place = place_of_live(live, ticket);
-    count_among(&live[place].1, &live[place + 1..])
+    let from = place_of_live(live, first);
+    count_among(&live[place].1, &live[from..])
 }
 
 /// How many of these events depend directly on the event.

@@ -1,6 +1,7 @@
 // A new event in the tables, and one taken out of them.
 ghost use Rattle.std.specs.Prelude.{◌≡◌, ◌<◌, ◌++◌, ◌∷◌, [], ℕ, List, false, length, vec_len, ◌↔◌, IfOk, OnOk, OnErr};
 ghost use Rattle.std.specs.List.{remove};
+ghost use Rattle.std.specs.List.Sorted.{IsNonDecreasing};
 ghost use Rattle.std.specs.Vec.{vec_capacity};
 ghost use Rattle.syntax.specs.Lists.{In};
 ghost use Rattle.calculus.specs.Live.{Rising, LiveAt, NoDependent, IsLive};
@@ -35,8 +36,19 @@ pub(crate) fn leads_of(
     if found.len() <= 1 {
         return Ok(found);
     }
-    let (low, high) = span(new.live, found.as_slice());
-    topmost(alloc, new.live, links, found.as_slice(), low, high)
+    let sorted = ascending(found);
+    let (low, high) = span(new.live, sorted.as_slice());
+    topmost(alloc, new.live, links, sorted.as_slice(), low, high)
+}
+
+/// The same tickets in ascending order.
+fn ascending(mut tickets: Vec<u64>) -> Vec<u64>
+    ensures same { (t : ℕ) → In t tickets.items ↔ In t result.items }
+    ensures length { length result.items ≡ length tickets.items }
+    ensures ascending { IsNonDecreasing result.items }
+{
+    tickets.sort_unstable();
+    tickets
 }
 
 /// Links a new event to those that it follows. Without memory for it the tables are as before.

@@ -1,17 +1,18 @@
-ghost use Rattle.std.specs.Prelude.{◌≡◌, ◌<◌, ℕ, [], length, Some, None, slice_get, MatchOption, IfErr, OnOk};
+ghost use Rattle.std.specs.Prelude.{◌≡◌, ◌<◌, ℕ, [], length, Some, None, slice_get, MatchOption, IfErr, IfOk, OnOk};
 ghost use Rattle.calculus.specs.Dependence.{Without};
-ghost use Rattle.calculus.specs.Live.{LiveAt, NoDependent, FirstDependent, ConsequencesList, WithoutTickets, IsLive};
+ghost use Rattle.calculus.specs.Live.{LiveAt, NoneAt, NoDependent, FirstDependent, ConsequencesList, WithoutTickets, IsLive};
 ghost use Rattle.dependence.specs.Behind.{ComesBehind};
 ghost use Rattle.dependence.specs.Followers.{ListsFollowers, CountsDirect};
-ghost use Rattle.dependence.specs.Shown.{with_newest, Greatest};
+ghost use Rattle.dependence.specs.Shown.{with_newest, Greatest, IsSound};
 
 use crate::count::count_direct;
 use crate::links::Links;
-use crate::marks::{count_marked, last_marked, mark_dependents};
+use crate::marks::{copy_marked, count_marked, last_marked, mark_dependents};
+use crate::places::place_of;
 use crate::tables::Tables;
 use crate::whole::{add_event, followers_of, least_dependent, take_event};
 use calculus::Event;
-use std::alloc::Global;
+use std::alloc::{AllocError, Global};
 use std::marker::Model;
 
 /// The live events of an execution with their tickets, in order of tickets, the followers of each, and marks.
@@ -51,6 +52,34 @@ impl Live {
         }
     }
 
+    /// What holds of all live events and marks at every moment. Nothing is done, the contract says it.
+    pub fn is_sound(&self)
+        ensures { IsSound self.now }
+    {
+        let _pairs = &self.pairs;
+    }
+
+    /// How many events are live.
+    pub fn len(&self) -> usize
+        ensures { result ≡ length self.now.live }
+    {
+        self.pairs.len()
+    }
+
+    /// The live events with their tickets, in order of tickets.
+    pub fn as_slice(&self) -> &[(u64, Event)]
+        ensures { result.now ≡ self.now.live }
+    {
+        self.pairs.as_slice()
+    }
+
+    /// The place, counted from 0 in order of tickets, of the live event of this ticket.
+    pub fn place_of(&self, ticket: u64) -> Option<usize>
+        ensures { MatchOption result (NoneAt self.now.live ticket) (λ i. (e : Event) × (slice_get self.now.live i ≡ Some (ticket, e))) }
+    {
+        place_of(self.pairs.as_slice(), ticket)
+    }
+
     /// The ticket and the event at a place, counted from 0 in order of tickets; `None` past the last.
     pub fn pair_at(&self, place: u64) -> Option<(u64, &Event)>
         ensures { MatchOption result (slice_get self.now.live place ≡ None) (λ entry. slice_get self.now.live place ≡ Some (entry.0, entry.1.now)) }
@@ -83,7 +112,7 @@ impl Live {
         requires { IsLive self.now.live ticket }
         ensures { CountsDirect self.now.live ticket result }
     {
-        count_direct(self.pairs.as_slice(), ticket) as u64
+        count_direct(self.pairs.as_slice(), self.links.as_slice(), ticket) as u64
     }
 
     /// Marks the live event of this ticket and all live events that depend on it, and no others; how many they are. The marks
@@ -108,6 +137,13 @@ impl Live {
         ensures { MatchOption result (self.now.marked ≡ []) (λ t. Greatest self.now.marked t) }
     {
         last_marked(self.pairs.as_slice(), self.marks.as_slice())
+    }
+
+    /// The tickets of the marked live events, ascending.
+    pub fn marked(&self) -> Result<Vec<u64>, AllocError>
+        ensures { IfOk result (λ tickets. tickets.items ≡ self.now.marked) }
+    {
+        copy_marked(self.alloc, self.pairs.as_slice(), self.marks.as_slice())
     }
 
     /// Adds an event under a ticket that is greater than every live one; it has no mark. It comes behind the live events, as it

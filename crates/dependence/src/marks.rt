@@ -1,5 +1,5 @@
 // Marks on the events that depend on one.
-ghost use Rattle.std.specs.Prelude.{◌≡◌, ◌<◌, ◌⊎◌, ◌↔◌, ℕ, [], length, true, Some, slice_get, MatchOption};
+ghost use Rattle.std.specs.Prelude.{◌≡◌, ◌<◌, ◌⊎◌, ◌↔◌, ℕ, [], length, true, Some, slice_get, MatchOption, IfOk};
 ghost use Rattle.syntax.specs.Lists.{In};
 ghost use Rattle.calculus.specs.Live.{ConsequencesList, IsLive};
 ghost use Rattle.dependence.specs.Shown.{tickets_marked, Greatest};
@@ -9,6 +9,7 @@ ghost use Rattle.dependence.specs.walking.Marking.{MarkedAt};
 use crate::links::Links;
 use crate::places::place_of_live;
 use calculus::Event;
+use std::alloc::{AllocError, Global};
 
 /// Marks the event of this ticket and all that depend on it, and no others.
 pub(crate) fn mark_dependents(
@@ -61,6 +62,24 @@ pub(crate) fn count_marked(live: &[(u64, Event)], marks: &[bool]) -> usize
     ensures { result ≡ length (tickets_marked live.now marks.now) }
 {
     marks.iter().filter(|mark| **mark).count()
+}
+
+/// The tickets of the marked events, ascending.
+pub(crate) fn copy_marked(
+    alloc: Global,
+    live: &[(u64, Event)],
+    marks: &[bool],
+) -> Result<Vec<u64>, AllocError>
+    requires { length marks.now ≡ length live.now }
+    ensures { IfOk result (λ tickets. tickets.items ≡ tickets_marked live.now marks.now) }
+{
+    let mut tickets = Vec::new(alloc);
+    for (place, entry) in live.iter().enumerate() {
+        if marks[place] {
+            tickets.push(entry.0)?;
+        }
+    }
+    Ok(tickets)
 }
 
 /// The greatest ticket of a marked event.

@@ -2,6 +2,8 @@
 ghost use Rattle.std.specs.Prelude.{◌≡◌, ◌<◌, ◌≤◌, ◌+◌, ◌↔◌, ◌||◌, ◌&&◌, not, ℕ, length, IsTrue, IfOk};
 ghost use Rattle.syntax.specs.Lists.{In};
 ghost use Rattle.system.specs.Expression.{is_in};
+ghost use Rattle.std.specs.List.Sorted.{IsNonDecreasing};
+ghost use Rattle.calculus.specs.InOrder.{InOrder};
 ghost use Rattle.calculus.specs.Live.{IsLive};
 ghost use Rattle.dependence.specs.walking.Tables.{IsRising, StandsAt, Falling, Linked, Topmost};
 ghost use Rattle.dependence.specs.walking.Sweeping.{StandWithin, FlagAt};
@@ -12,7 +14,7 @@ use crate::places::place_of_live;
 use calculus::Event;
 use std::alloc::{AllocError, Global};
 
-/// Of these events, which stand from the place `low` on and below `high`, those on which no other of them depends, the last
+/// Of these events, whose tickets ascend and which stand from the place `low` on and below `high`, those on which no other of them depends, the last
 /// first. One sweep goes down from the last place and notes where one of them is reached.
 pub(crate) fn topmost(
     alloc: Global,
@@ -27,6 +29,7 @@ pub(crate) fn topmost(
     requires order { low ≤ high }
     requires size { high ≤ length live.now }
     requires stand { StandWithin live.now candidates.now low high }
+    requires ascending { IsNonDecreasing candidates.now }
     ensures falling { IfOk result (λ kept. Falling kept.items) }
     ensures topmost { IfOk result (λ kept. (t : ℕ) → In t kept.items ↔ Topmost live.now candidates.now t) }
 {
@@ -67,45 +70,36 @@ pub(crate) fn span(live: &[(u64, Event)], tickets: &[u64]) -> (usize, usize)
     (low, high)
 }
 
-/// Whether one of these live events stands below `high` at a place that is flagged. The flags begin at the last place.
+/// Whether one of these live events, whose tickets ascend, stands below `high` at a place that is flagged. The flags begin at the
+/// last place. None behind the first that stands above is looked at.
 fn is_flagged(live: &[(u64, Event)], high: usize, flags: &[bool], tickets: &[u64]) -> bool
     requires rising { IsRising live.now }
     requires live { (t : ℕ) → In t tickets.now → IsLive live.now t }
     requires passed { (t i : ℕ) → In t tickets.now → StandsAt live.now t i → high ≤ i + length flags.now }
+    requires ascending { InOrder ◌<◌ tickets.now }
     ensures { IsTrue result ↔ ((t : ℕ) × In t tickets.now × FlagAt live.now high flags.now t) }
 {
     for ticket in tickets {
-        if flag_of(live, high, flags, *ticket) {
+        let place = place_of_live(live, *ticket);
+        if place >= high {
+            return false;
+        }
+        if flags[high - 1 - place] {
             return true;
         }
     }
     false
 }
 
-/// Whether this live event stands below `high` at a place that is flagged.
-fn flag_of(live: &[(u64, Event)], high: usize, flags: &[bool], ticket: u64) -> bool
-    requires rising { IsRising live.now }
-    requires live { IsLive live.now ticket }
-    requires passed { (i : ℕ) → StandsAt live.now ticket i → high ≤ i + length flags.now }
-    ensures { IsTrue result ↔ FlagAt live.now high flags.now ticket }
-{
-    let place = place_of_live(live, ticket);
-    if place >= high {
-        return false;
-    }
-    flags[high - 1 - place]
-}
-
-/// Whether the number is among these.
+/// Whether the number is among these, which ascend.
 fn is_among(numbers: &[u64], number: u64) -> bool
+    requires { IsNonDecreasing numbers.now }
     ensures { result ≡ is_in number numbers.now }
 {
-    for held in numbers {
-        if number == *held {
-            return true;
-        }
+    match numbers.binary_search(&number) {
+        Ok(_) => true,
+        Err(_) => false,
     }
-    false
 }
 
 /// Whether one of them holds.

@@ -1,11 +1,12 @@
--- An event taken back by its record leaves the run without it.
+-- An event taken back by its record leaves the run without it, and where it was the last, what stood before it.
 use Rattle.std.proofs.Common.{◌≡◌, List, [], ◌∷◌, ◌++◌, length, Some, sym, ap, subst, ◌∙◌, arith}
 use Rattle.calculus.specs.declared.event.Event.{Event}
 use Rattle.calculus.proofs.Options.{some-injective}
 use Rattle.event_inverse.specs.Grown.{TreeAndStore, Taken, StandFor}
-use Rattle.event_inverse.specs.Laws.{UndoneBy}
+use Rattle.event_inverse.specs.Laws.{UndoneBy, LastUndone}
 use Rattle.event_inverse.specs.walking.Reverted.{reverted}
 use Rattle.event_inverse.proofs.FromOpening.{undone-by-records}
+use Rattle.event_inverse.proofs.Neighbours.{reverts}
 
 -- the first of a list, or x
 abbrev first_or : {X : Type 0} → X → List X → X
@@ -33,3 +34,6 @@ undone-by T U r back system h k earlier later s l none =
     at-place (λ first x rest. reverted T r.0 x.1 ≡ Some U → StandFor system (h ++ k) U (first ++ rest)) u.earlier (r.0, u.taken) u.later earlier r later
     (u.placed ∙ sym l) u.found
     (λ e. subst (λ (S : TreeAndStore). StandFor system (h ++ k) S (u.earlier ++ u.later)) (some-injective u.tree U (sym u.reverts ∙ e)) u.stands) back
+
+pub last-undone : (T U : TreeAndStore) (r : Event × Taken) → reverted T r.0 r.1 ≡ Some U → LastUndone T r U
+last-undone T U r back S made = some-injective U S (sym back ∙ reverts S r.0 (T, r.1) made)

@@ -66,6 +66,10 @@ UndoneBy T r U =
     (system : System) (h k : List Event) (earlier later : Records) → StandFor system (h ++ r.0 ∷ k) T (earlier ++ r ∷ later) → length earlier ≡ length h →
     ((f : Event) → In f k → Directly r.0 f → ⊥) → StandFor system (h ++ k) U (earlier ++ later)
 
+-- r leads from T to U as the undo of the last event: where its event was made on S, and left T and this record, U is S
+abbrev pub LastUndone : TreeAndStore → Event × Taken → TreeAndStore → Type 0
+LastUndone T r U = (S : TreeAndStore) → applied S r.0 ≡ Some (T, r.1) → U ≡ S
+
 -- a respecting order of a run has the same tree and the same records
 abbrev pub OrdersHaveOneTree : Type 0
 OrdersHaveOneTree =

@@ -8,6 +8,7 @@ use Rattle.process_tree.specs.declared.tree.Tree as process_tree
 use Rattle.event_inverse.specs.Grown.{TreeAndStore, Taken}
 use Rattle.event_inverse.specs.declared.record.Outs.{Outs}
 use Rattle.event_inverse.specs.declared.record.Outs.TheVariants.{One, Two}
+use Rattle.event_inverse.specs.declared.record.Inverse.{Inverse}
 use Rattle.event_inverse.specs.declared.record.Record.{Record}
 
 -- a tree in memory, with the values of the variables
@@ -19,6 +20,10 @@ abbrev pub outs_view : Outs → List (Option Proc)
 outs_view (One out) = out_view out ∷ []
 outs_view (Two first second) = out_view first ∷ out_view second ∷ []
 
--- an event with what its undo needs
+-- what the undo of an event needs beside the event
+abbrev pub inverse_view : Inverse → Taken
+inverse_view v = record { procs = outs_view v.outs; old = v.overwritten }
+
+-- an event with its inverse
 abbrev pub record_view : Record → Event × Taken
-record_view r = (r.event, record { procs = outs_view r.outs; old = r.overwritten })
+record_view r = (r.event, inverse_view r.inverse)

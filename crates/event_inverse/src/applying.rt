@@ -1,6 +1,6 @@
 // Events made on the tree and the store.
-ghost use Rattle.std.specs.Prelude.{◌≡◌, ◌<◌, length, Some, IsSome, IfOk, OnErr};
-ghost use Rattle.std.specs.Option.{ForSome, option_map};
+ghost use Rattle.std.specs.Prelude.{◌≡◌, Some, IsSome, IfOk, OnErr};
+ghost use Rattle.std.specs.Option.{option_map};
 ghost use Rattle.system.specs.Expression.{get};
 ghost use Rattle.calculus.specs.Events.{store_after};
 ghost use Rattle.event_inverse.specs.Grown.{applied};
@@ -8,7 +8,7 @@ ghost use Rattle.event_inverse.specs.View.{both_view, record_view};
 ghost use Rattle.event_inverse.specs.walking.Reverted.{reverted};
 
 use crate::moves::make;
-use crate::record::Record;
+use crate::record::{Inverse, Record};
 use calculus::Event;
 use process_tree::Tree;
 use std::alloc::{AllocError, Global};
@@ -25,7 +25,6 @@ pub fn apply(
     event: Event,
 ) -> Result<Record, AllocError>
     requires possible { IsSome (applied (both_view tree.old store.old) event) }
-    requires in_store { ForSome event.written (λ x. x < length store.old) }
     ensures event { IfOk result (λ r. (record_view r).0 ≡ event) }
     ensures made { IfOk result (λ r. applied (both_view tree.old store.old) event ≡ Some (both_view tree.new store.new, (record_view r).1)) }
     ensures back { IfOk result (λ r. reverted (both_view tree.new store.new) event (record_view r).1 ≡ Some (both_view tree.old store.old)) }
@@ -34,11 +33,8 @@ pub fn apply(
     match make(alloc, tree, &event) {
         Ok(outs) => {
             let overwritten = write(store, &event);
-            Ok(Record {
-                event,
-                outs,
-                overwritten,
-            })
+            let inverse = Inverse { outs, overwritten };
+            Ok(Record { event, inverse })
         }
         Err(error) => Err(error),
     }
@@ -46,7 +42,6 @@ pub fn apply(
 
 /// Writes what the event writes. The value that it overwrites, if it writes a variable.
 fn write(store: &mut Store, event: &Event) -> Option<Value>
-    requires { ForSome event.now.written (λ x. x < length store.old) }
     ensures written { store.new ≡ store_after event.now store.old }
     ensures old { result ≡ option_map (get store.old) event.now.written }
 {

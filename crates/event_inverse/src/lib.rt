@@ -14,4 +14,4 @@ pub use laws::{
     neighbours_keep_records, orders_have_one_tree, records_revert, runs_have_trees,
     steps_are_applied, undone_by_records,
 };
-pub use record::Record;
+pub use record::{Inverse, Record};

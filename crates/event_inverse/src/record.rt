@@ -9,11 +9,17 @@ pub(crate) enum Outs {
     Two(Option<Box<Proc>>, Option<Box<Proc>>),
 }
 
-/// An event with what its undo needs. What it stands for is an event and what it left (`record_view`).
+/// What the undo of an event needs beside the event. What it stands for is what the event left (`inverse_view`).
 #[derive(Drop)]
-pub struct Record {
-    pub(crate) event: Event,
+pub struct Inverse {
     pub(crate) outs: Outs,
     /// the value that stood in the variable that the event wrote, if it wrote one
     pub(crate) overwritten: Option<Value>,
+}
+
+/// An event with its inverse.
+#[derive(Drop)]
+pub struct Record {
+    pub event: Event,
+    pub inverse: Inverse,
 }

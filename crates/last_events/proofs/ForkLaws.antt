@@ -117,6 +117,19 @@ fork-below (suc n) (suc m) (x ∷ s) (y ∷ a) h less f =
       | inr both ↦ let rest : m < n = fork-below n m s a short both.1 f.1 in omega arith
     ]
 
+-- what shares all entries of a place is not less than it
+pub shared-not-less : (n : ℕ) (a s : List Entry) → length s ≤ n → Shares n a s → order_of a s ≡ Less → ⊥
+shared-not-less n [] [] h shares less = less-not-equal (sym less)
+shared-not-less n (x ∷ a) [] h shares less = greater-not-less less
+shared-not-less zero a (y ∷ s) h shares less = absurd (omega arith)
+shared-not-less (suc n) [] (y ∷ s) h shares less = shares
+shared-not-less (suc n) (x ∷ a) (y ∷ s) h shares less =
+    let short : length s ≤ n = omega arith in
+    elim (less-parts x y a s less) [
+      | inl first ↦ less-not-equal (sym first ∙ subst (λ (z : Entry). entry_order x z ≡ Equal) shares.0 (entry-itself x))
+      | inr both ↦ shared-not-less n a s short shares.1 both.1
+    ]
+
 -- what is less than a beginning is less than a longer one
 pub less-longer : (m n : ℕ) (s a : List Entry) → m ≤ n → order_of s (take m a) ≡ Less → order_of s (take n a) ≡ Less
 less-longer zero n [] a h less = absurd (less-not-equal (sym less))

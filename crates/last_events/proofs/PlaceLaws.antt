@@ -20,7 +20,7 @@ use Rattle.last_events.specs.declared.places.PlaceTable.{PlaceTable}
 use Rattle.last_events.specs.LastEvents.{IsAt, Same, PutAt, RemovedAt, OneTree, Orderly, LastBefore}
 use Rattle.last_events.specs.walking.Forks.{IsFork, Shares, is_ordered_entry}
 use Rattle.last_events.specs.walking.Walks.{NoneBelow, LastBelow, NoneBefore, NearestBefore, Collected}
-use Rattle.last_events.proofs.ForkLaws.{shares-back, shares-on, fork-shares, fork-shares-no-more, fork-within, fork-below, less-longer, before-forks, apart-forks, before-near, shared-before, jump-branch, jump-ordered, between-shares}
+use Rattle.last_events.proofs.ForkLaws.{shared-not-less, shares-back, shares-on, fork-shares, fork-shares-no-more, fork-within, fork-below, less-longer, before-forks, apart-forks, before-near, shared-before, jump-branch, jump-ordered, between-shares}
 
 -- ---- keys
 -- whether a key is this place
@@ -272,6 +272,14 @@ walked-none table first n end old o long is = record {
   sound = λ t i. inl i;
   complete = λ a t at shares less. inr
       (subst (λ (m : ℕ). order_of a (take m first) ≡ Less) (sym is) (subst (λ (b : List Entry). order_of a b ≡ Less) (sym (take-whole first)) less));
+}
+
+-- there is nothing to collect where the entries are all of the place
+pub none-collected : (table : PlaceTable) (s : List Entry) (n : ℕ) (found : List ℕ) → length s ≤ n → Collected table s n found found
+none-collected table s n found short = record {
+  kept = λ t i. i;
+  sound = λ t i. inl i;
+  complete = λ a t at shares less. absurd (shared-not-less n a s short shares less);
 }
 
 pub walked-end : (table : PlaceTable) (first last : List Entry) (n end : ℕ) (old found : List ℕ) → Walked table first last n end old found → NoneBelow table (take end last) →

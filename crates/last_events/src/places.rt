@@ -87,7 +87,7 @@ impl PlaceTable {
     }
 
     /// Adds the tickets of the last places of other branches among those that are less than `first` and share its entries up to
-    /// the one at `parted`.
+    /// the one at `parted`. Where that is its last entry there are none, and no look is taken.
     fn collect(
         &self,
         first: &[Entry],
@@ -98,6 +98,9 @@ impl PlaceTable {
         requires long { parted < length first.now }
         ensures { IfOk result (λ _. Collected self.now first.now (parted + 1) found.old.items found.new.items) }
     {
+        if first.len() <= parted + 1 {
+            return Ok(());
+        }
         let mut last = first;
         let mut end = first.len();
         while let Some((seat, ticket)) = self.last_below(&last[..end])? {

@@ -14,25 +14,24 @@ use Rattle.calculus.specs.Ready.{ReadyList, Chosen}
 use Rattle.calculus.specs.Live.{events}
 use Rattle.calculus.specs.Object.{Reaches, most_live, last_ticket, with_event}
 use Rattle.calculus.specs.Does.{Steps, RefusesStep}
-use Rattle.calculus.specs.Sound.{Sound}
 use Rattle.calculus.specs.declared.event.Event.{Event}
 use Rattle.calculus.specs.declared.event.Choice.{Choice}
-use Rattle.calculus.specs.declared.command.Command.{Command}
 use Rattle.calculus.specs.declared.command.Reply.{Reply}
 use Rattle.calculus.specs.declared.command.Refusal.{Refusal}
 use Rattle.calculus.specs.declared.command.Refusal.TheVariants.{Memory}
 use Rattle.calculus.proofs.Options.{some-injective}
 use Rattle.calculus.proofs.Lists.{every-in, every-of, in-parts}
-use Rattle.calculus.proofs.Effects.{stays-sound}
 use Rattle.machine.specs.AtMachine.{AtMachine, object, at_machine}
 use Rattle.machine.specs.walking.Histories.{execution}
-use Rattle.machine.specs.walking.Choosing.{NotTaken, FirstAt, Takes, moves, line_of_first}
+use Rattle.machine.specs.walking.Choosing.{NotTaken, FirstAt, Takes, IsChosenAt, moves, line_of_first}
 use Rattle.machine.specs.Branching.{is_branch, acts_in, in_branch, has_no_break, line_of, is_free, FirstFree, Branched, StepsBranch, AnswersBranch, SteppedIsStep, OthersLeave}
 use Rattle.machine.specs.declared.history.History.{History}
 use Rattle.machine.specs.declared.branching.BranchReply.{BranchReply}
 use Rattle.machine.specs.declared.branching.BranchReply.TheVariants.{Stepped, Stopped, Idle, Refused}
 use Rattle.machine.proofs.Entries.{parts-at, item-at}
 use Rattle.machine.proofs.Gathering.{take-more, take-all}
+use Rattle.machine.specs.walking.Sites.{ReadyWith}
+use Rattle.machine.proofs.Sites.{with-chosen}
 use Rattle.machine.proofs.Stepped.{chosen-first, not-taken}
 
 -- the same execution of one system is the same `AtMachine`
@@ -107,6 +106,11 @@ pub moving-chosen : (h : AtMachine) (k : ℕ) (breaks : List ℕ) (T : State) (e
     Chosen T (choice_of first.0) first.0
 moving-chosen h k breaks T es i ready first = first-chosen (moves h k breaks) (same-moves h k breaks) T es i first.0 ready first.1 first.2 first.3
 
+-- the event at the place is the one that is chosen
+pub chosen-there : (T : State) (es : List Event) (i : ℕ) (e : Event) → IsChosenAt T es i → slice_get es i ≡ Some e → Chosen T (choice_of e) e
+chosen-there T es i e chosen at =
+    subst (λ (f : Event). Chosen T (choice_of f) f) (some-injective chosen.0 e (sym chosen.1 ∙ at)) chosen.2
+
 -- the event at the place is taken
 pub take-done : (h h' : AtMachine) (T : State) (e x f : Event) (entry : ℕ × Event) → Reaches (object h) T → Chosen T (choice_of e) e → x ≡ e → Some x ≡ Some f →
     length h.live < most_live → h.next ≤ last_ticket → entry ≡ (h.next, f) → object h' ≡ with_event (object h) f → Takes h e (Stepped entry.0 entry.1) h'
@@ -121,17 +125,34 @@ pub take-refused : (h : AtMachine) (T : State) (e x : Event) (why : Refusal) →
 take-refused h T e x why reaches chosen is h-not =
     not-taken (object h) (choice_of e) (Some x) why T reaches (subst (λ (y : Event). Chosen T (choice_of e) y) (sym is) chosen) h-not
 
--- what was taken is the first free event of the branch
-pub taken-branched : (h h' : AtMachine) (k : ℕ) (breaks : List ℕ) (T : State) (es : List Event) (i : ℕ) (reply : BranchReply) → Reaches (object h) T → ReadyList T es →
-    (first : FirstAt (moves h k breaks) es i) → Takes h first.0 reply h' → StepsBranch h k breaks reply h'
-taken-branched h h' k breaks T es i reply reaches ready first takes =
-    (T, es, reaches, ready, by-reply reply (first-free (acts_in h k) (is_free h breaks) es i first.0 first.1 first.2 first.3) takes)
+-- the same of a list with all events of the branch that are ready
+pub moving-with : (h : AtMachine) (k : ℕ) (breaks : List ℕ) (T : State) (bs : List Event) (i : ℕ) → ReadyWith T (acts_in h k) bs → (first : FirstAt (moves h k breaks) bs i) →
+    Chosen T (choice_of first.0) first.0
+moving-with h k breaks T bs i some first =
+    with-chosen T (acts_in h k) (moves h k breaks) bs i first.0 (same-moves h k breaks) (λ x on. (both-true (acts_in h k x) (is_free h breaks x) on).0) some first.1 first.2
+    first.3
+
+-- what was taken is the first free event of the branch, of any list with the same events of the branch as the ready list
+pub taken-with : (h h' : AtMachine) (k : ℕ) (breaks : List ℕ) (T : State) (es bs : List Event) (i : ℕ) (reply : BranchReply) → Reaches (object h) T → ReadyList T es →
+    in_branch h k bs ≡ in_branch h k es → (first : FirstAt (moves h k breaks) bs i) → Takes h first.0 reply h' → StepsBranch h k breaks reply h'
+taken-with h h' k breaks T es bs i reply reaches ready one first takes = (
+  T,
+  es,
+  reaches,
+  ready,
+  subst (λ (l : List Event). Branched h breaks l reply h') one
+      (by-reply reply (first-free (acts_in h k) (is_free h breaks) bs i first.0 first.1 first.2 first.3) takes),
+)
   where
-    by-reply : (r : BranchReply) → FirstFree (is_free h breaks) (in_branch h k es) first.0 → Takes h first.0 r h' → Branched h breaks (in_branch h k es) r h'
+    by-reply : (r : BranchReply) → FirstFree (is_free h breaks) (in_branch h k bs) first.0 → Takes h first.0 r h' → Branched h breaks (in_branch h k bs) r h'
     by-reply (Stepped t f) found w =
-        subst (λ (g : Event). FirstFree (is_free h breaks) (in_branch h k es) g × Steps (object h) (choice_of g) (Reply.Stepped t g) (object h')) (sym w.0) (found, w.1)
+        subst (λ (g : Event). FirstFree (is_free h breaks) (in_branch h k bs) g × Steps (object h) (choice_of g) (Reply.Stepped t g) (object h')) (sym w.0) (found, w.1)
     by-reply (Refused why) found w = ((first.0, found, w.0), w.1)
     by-reply _ found w = absurd w
+
+pub taken-branched : (h h' : AtMachine) (k : ℕ) (breaks : List ℕ) (T : State) (es : List Event) (i : ℕ) (reply : BranchReply) → Reaches (object h) T → ReadyList T es →
+    (first : FirstAt (moves h k breaks) es i) → Takes h first.0 reply h' → StepsBranch h k breaks reply h'
+taken-branched h h' k breaks T es i reply reaches ready first takes = taken-with h h' k breaks T es es i reply reaches ready refl first takes
 
 -- breakpoints keep all back, or there is none
 all-back : (h : AtMachine) (breaks : List ℕ) (es : List Event) (reply : BranchReply) → Every (λ e. is_free h breaks e ≡ false) es →
@@ -144,11 +165,22 @@ all-back h breaks (e ∷ es) reply none told = by-line (line_of h e) refl none.0
     by-line None is off said = cc
     by-line (Some n) is off said = subst (λ (r : BranchReply). Branched h breaks (e ∷ es) r h) (sym said) ((is, none), refl)
 
+pub back-with : (h : AtMachine) (k : ℕ) (breaks : List ℕ) (T : State) (es bs : List Event) (reply : BranchReply) → Reaches (object h) T → ReadyList T es →
+    in_branch h k bs ≡ in_branch h k es → Every (λ e. moves h k breaks e ≡ false) bs →
+    MatchOption (line_of_first h (in_branch h k bs)) (reply ≡ Idle) (λ line. reply ≡ Stopped line) → StepsBranch h k breaks reply h
+back-with h k breaks T es bs reply reaches ready one none told = (
+  T,
+  es,
+  reaches,
+  ready,
+  subst (λ (l : List Event). Branched h breaks l reply h) one
+      (all-back h breaks (in_branch h k bs) reply (none-free (acts_in h k) (is_free h breaks) bs none) told),
+)
+
 pub back-branched : (h : AtMachine) (k : ℕ) (breaks : List ℕ) (T : State) (es : List Event) (reply : BranchReply) → Reaches (object h) T → ReadyList T es →
     Every (λ e. moves h k breaks e ≡ false) es → MatchOption (line_of_first h (in_branch h k es)) (reply ≡ Idle) (λ line. reply ≡ Stopped line) →
     StepsBranch h k breaks reply h
-back-branched h k breaks T es reply reaches ready none told =
-    (T, es, reaches, ready, all-back h breaks (in_branch h k es) reply (none-free (acts_in h k) (is_free h breaks) es none) told)
+back-branched h k breaks T es reply reaches ready none told = back-with h k breaks T es es reply reaches ready refl none told
 
 -- what is answered where the step may want memory
 pub branch-answers : {E : Type 0} (h h' : AtMachine) (k : ℕ) (breaks : List ℕ) (r : Result BranchReply E) (reply : BranchReply) →
@@ -156,20 +188,6 @@ pub branch-answers : {E : Type 0} (h h' : AtMachine) (k : ℕ) (breaks : List �
     AnswersBranch h k breaks reply h'
 branch-answers h h' k breaks (Ok told) reply done same is = inl (subst (λ (x : BranchReply). StepsBranch h k breaks x h') (sym is) done)
 branch-answers h h' k breaks (Err x) reply done same is = inr (is, same)
-
--- it leaves a sound execution sound
-branched-sound : (h h' : AtMachine) (breaks : List ℕ) (es : List Event) (reply : BranchReply) → Sound (object h) → Branched h breaks es reply h' → Sound (object h')
-branched-sound h h' breaks es (Stepped t e) s b = stays-sound (object h) (Command.Step (choice_of e)) (Reply.Stepped t e) (object h') s (inl b.1)
-branched-sound h h' breaks es (Stopped line) s b = subst (λ (x : AtMachine). Sound (object x)) (sym b.1) s
-branched-sound h h' breaks es Idle s b = subst (λ (x : AtMachine). Sound (object x)) (sym b.1) s
-branched-sound h h' breaks es (Refused why) s b = subst (λ (x : AtMachine). Sound (object x)) (sym b.1) s
-
-pub answers-sound : (h h' : AtMachine) (k : ℕ) (breaks : List ℕ) (reply : BranchReply) → Sound (object h) → AnswersBranch h k breaks reply h' → Sound (object h')
-answers-sound h h' k breaks reply s a =
-    elim a [
-      | inl b ↦ branched-sound h h' breaks (in_branch h k b.1) reply s b.4
-      | inr b ↦ subst (λ (x : AtMachine). Sound (object x)) (sym b.1) s
-    ]
 
 pub stepped-is-step : SteppedIsStep
 stepped-is-step h h' k t breaks e a = elim a [ inl b ↦ b.4.1 | inr b ↦ cc ]

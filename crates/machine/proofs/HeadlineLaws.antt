@@ -1,16 +1,7 @@
 -- What a designer may rely on holds of every sound execution.
-use Rattle.std.proofs.Common.{◌≡◌, [], sym, subst}
-use Rattle.calculus.specs.Sound.{Sound}
-use Rattle.calculus.specs.Steps.{opening}
-use Rattle.calculus.specs.Live.{Live}
-use Rattle.system.specs.declared.system.System.{System}
-use Rattle.calculus.proofs.ObjectLaws.{begins-sound, state-in-every-order, step-then-undo, undoes-exactly, needed-exactly, rolls-exactly, rolls-value-exactly}
+use Rattle.calculus.proofs.ObjectLaws.{state-in-every-order, step-then-undo, undoes-exactly, needed-exactly, rolls-exactly, rolls-value-exactly}
 use Rattle.calculus.proofs.SomeReplies.{steps-exactly, rolls-where-live, rolls-value-where-written}
 use Rattle.machine.specs.Headline.{HeadlineOfSound}
-
--- before the first event
-pub begun : (system : System) (l : Live) → l ≡ [] → Sound (record { opening = opening system; live = l; next = 1 })
-begun system l is = subst (λ (k : Live). Sound (record { opening = opening system; live = k; next = 1 })) (sym is) (begins-sound system)
 
 pub headline : HeadlineOfSound
 headline o s =

@@ -1,13 +1,11 @@
 pub mod Branches
-pub mod Direct
 pub mod Entries
-pub mod Found
 pub mod Gathering
 pub mod HeadlineLaws
-pub mod KeptStates
-pub mod Placed
+pub mod Marked
 pub mod SetLines
-pub mod Sooner
+pub mod Sites
+pub mod Standing
 pub mod Stepped
 pub mod TakenOut
-pub mod Undone
+pub mod Withouts

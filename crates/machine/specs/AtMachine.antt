@@ -16,6 +16,6 @@ pub record AtMachine : Type 0 where
 abbrev pub object : AtMachine → Object
 object h = record { opening = opening h.checked; live = h.live; next = h.next }
 
--- what a machine shows: its system, and the live events as they lie in memory
+-- what a machine shows: its system, and the live events
 abbrev pub at_machine : Checked → History → AtMachine
-at_machine checked h = record { checked = checked; live = h.live.items; next = h.next }
+at_machine checked h = record { checked = checked; live = h.live.live; next = h.next }

@@ -1,5 +1,7 @@
 pub mod Choosing
-pub mod Dependents
+pub mod Entering
 pub mod Following
 pub mod Histories
+pub mod Marking
+pub mod Sites
 pub mod Sorting

@@ -1,75 +1,39 @@
 // Questions, which change nothing.
 ghost use Rattle.std.specs.Prelude.{◌≡◌, IfOk};
-ghost use Rattle.calculus.specs.Object.{Object, Reaches};
-ghost use Rattle.calculus.specs.Left.{state_of};
+ghost use Rattle.sharing_check.specs.declared.checked.Checked.{Checked};
 ghost use Rattle.calculus.specs.Does.{Does};
-ghost use Rattle.calculus.specs.Sound.{Sound};
-ghost use Rattle.machine.specs.walking.Histories.{execution, KeepsState};
+ghost use Rattle.machine.specs.walking.Histories.{execution, Holds};
 
 use crate::history::History;
-use calculus::{Command, Event, Plain, Refusal, Reply};
-use sharing_check::Checked;
+use calculus::{Command, Event, Refusal, Reply};
 use std::alloc::{AllocError, Global};
 use syntax::Items;
 
 impl History {
     /// The live events.
-    pub(crate) fn tell_live(&self, alloc: Global, system: &Checked) -> Result<Reply, AllocError>
-        ensures { IfOk result (λ reply. Does (execution system.now self.now) Command.Live reply (execution system.now self.now)) }
+    pub(crate) fn tell_live(&self, alloc: Global) -> Result<Reply, AllocError>
+        ensures { (system : Checked) → IfOk result (λ reply. Does (execution system self.now) Command.Live reply (execution system self.now)) }
     {
         let live = copy_live(alloc, self.live.as_slice())?;
         Ok(Reply::Live(live))
     }
 
-    /// The value of the variable now.
-    pub(crate) fn tell_value(
-        &self,
-        alloc: Global,
-        system: &Checked,
-        variable: u32,
-    ) -> Result<Reply, AllocError>
-        requires sound { Sound (execution system.now self.now) }
-        requires kept { KeepsState system.now self.now }
-        ensures { IfOk result (λ reply. Does (execution system.now self.now) (Command.Value variable) reply (execution system.now self.now)) }
+    /// The value of the variable now, or that there is no such variable.
+    pub(crate) fn tell_value(&self, variable: u32) -> Reply
+        ensures { (system : Checked) → Holds system self.now → Does (execution system self.now) (Command.Value variable) result (execution system self.now) }
     {
-        match &self.state {
-            Some(state) => Ok(value_told(state, variable)),
-            None => self.tell_replayed(alloc, system, variable),
+        match self.store.as_slice().get(variable as usize) {
+            Some(held) => Reply::Value(*held),
+            None => Reply::Refused(Refusal::NeverWritten),
         }
     }
 
-    /// The value of the variable now, in the state that a replay finds.
-    fn tell_replayed(
-        &self,
-        alloc: Global,
-        system: &Checked,
-        variable: u32,
-    ) -> Result<Reply, AllocError>
-        requires { Sound (execution system.now self.now) }
-        ensures { IfOk result (λ reply. Does (execution system.now self.now) (Command.Value variable) reply (execution system.now self.now)) }
-    {
-        let state = self.replayed(alloc, system)?;
-        Ok(value_told(&state, variable))
-    }
-
     /// The events that may be taken now.
-    pub(crate) fn tell_ready(&self, alloc: Global, system: &Checked) -> Result<Reply, AllocError>
-        requires sound { Sound (execution system.now self.now) }
-        requires kept { KeepsState system.now self.now }
-        ensures { IfOk result (λ reply. Does (execution system.now self.now) Command.Ready reply (execution system.now self.now)) }
+    pub(crate) fn tell_ready(&self, alloc: Global) -> Result<Reply, AllocError>
+        ensures { (system : Checked) → Holds system self.now → IfOk result (λ reply. Does (execution system self.now) Command.Ready reply (execution system self.now)) }
     {
-        let events = self.ready(alloc, system)?;
+        let events = self.ready(alloc)?;
         Ok(Reply::Ready(events))
-    }
-}
-
-/// The value of the variable in this state, or that there is no such variable.
-fn value_told(state: &Plain, variable: u32) -> Reply
-    ensures { (o : Object) → Reaches o (state_of state.now) → Does o (Command.Value variable) result o }
-{
-    match state.value(variable) {
-        Some(held) => Reply::Value(held),
-        None => Reply::Refused(Refusal::NeverWritten),
     }
 }
 

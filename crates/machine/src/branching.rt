@@ -1,25 +1,30 @@
 // A step of a branch: its first ready event whose line has no breakpoint.
-ghost use Rattle.std.specs.Prelude.{◌≡◌, ◌<◌, false, length, slice_get, Some, IfOk, OnErr, MatchOption, MatchResult};
+ghost use Rattle.std.specs.Prelude.{◌≡◌, true, false, slice_get, Some, IfOk, OnErr, MatchOption, MatchResult};
+ghost use Rattle.std.specs.Option.{option_copied};
 ghost use Rattle.syntax.specs.Lists.{Every};
-ghost use Rattle.system_places.specs.SystemBranches.{branch_at};
+ghost use Rattle.system_places.specs.SystemBranches.{branch_at, parallel_of};
 ghost use Rattle.calculus.specs.Events.{acting};
-ghost use Rattle.calculus.specs.Choices.{choice_of};
-ghost use Rattle.calculus.specs.Steps.{State};
-ghost use Rattle.calculus.specs.Ready.{Chosen};
-ghost use Rattle.calculus.specs.Object.{Reaches};
-ghost use Rattle.calculus.specs.Sound.{Sound};
+ghost use Rattle.calculus.specs.Moves.{Place};
+ghost use Rattle.event_inverse.specs.Grown.{state_of_tree};
+ghost use Rattle.process_tree.specs.Tidy.{Tidy};
+ghost use Rattle.process_tree.specs.View.{tree_view};
+ghost use Rattle.rendezvous.specs.ReadyBelow.{ReadyBelow};
 ghost use Rattle.machine.specs.Branching.{is_branch, acts_in, in_branch, is_free, StepsBranch};
-ghost use Rattle.machine.specs.walking.Choosing.{moves, line_of_first, FirstAt, Takes};
+ghost use Rattle.machine.specs.walking.Choosing.{moves, line_of_first, FirstAt, Takes, IsChosenAt};
+ghost use Rattle.machine.specs.walking.Sites.{IsAtSite, ReadyWith, site_among};
 ghost use Rattle.machine.specs.AtMachine.{at_machine};
-ghost use Rattle.machine.specs.walking.Histories.{execution, KeepsState};
+ghost use Rattle.machine.specs.walking.Histories.{tree_of, Holds};
 
 use crate::following::is_among;
 use crate::history::History;
+use address::Entry;
 use calculus::{Event, Refusal};
 use event_places::line_after;
+use rendezvous::ready_below;
 use sharing_check::Checked;
 use std::alloc::{AllocError, Global};
 use syntax::Items;
+use system::{Action, Command, System};
 
 /// What is answered to a step of a branch.
 #[derive(Drop)]
@@ -43,53 +48,62 @@ impl History {
         branch: u32,
         breaks: &[u64],
     ) -> Result<BranchReply, AllocError>
-        requires sound { Sound (execution system.now self.old) }
-        requires kept { KeepsState system.now self.old }
+        requires { Holds system.now self.old }
         ensures done { IfOk result (λ reply. StepsBranch (at_machine system.now self.old) branch breaks.now reply (at_machine system.now self.new)) }
         ensures unchanged { OnErr result (at_machine system.now self.new ≡ at_machine system.now self.old) }
-        ensures kept { KeepsState system.now self.new }
+        ensures holds { Holds system.now self.new }
     {
-        self.keep_state(alloc, system)?;
-        self.branch_from_state(alloc, system, branch, breaks)
-    }
-
-    /// Takes that event. The state after it is kept where that before it is.
-    fn branch_from_state(
-        &mut self,
-        alloc: Global,
-        system: &Checked,
-        branch: u32,
-        breaks: &[u64],
-    ) -> Result<BranchReply, AllocError>
-        requires sound { Sound (execution system.now self.old) }
-        requires kept { KeepsState system.now self.old }
-        ensures done { IfOk result (λ reply. StepsBranch (at_machine system.now self.old) branch breaks.now reply (at_machine system.now self.new)) }
-        ensures unchanged { OnErr result (at_machine system.now self.new ≡ at_machine system.now self.old) }
-        ensures kept { KeepsState system.now self.new }
-    {
-        let events = self.ready(alloc, system)?;
+        let events = self.ready_near(alloc, system, branch)?;
         match self.first_moving(system, events.as_slice(), branch, breaks) {
-            Some(place) => self.take_at(alloc, events, place),
+            Some(place) => self.take_ready(alloc, system, events, place),
             None => Ok(self.kept_back(system, events.as_slice(), branch)),
         }
     }
 
-    /// Takes the event at this place of the list, where the limits leave room for it.
-    fn take_at(
+    /// Events that are ready, in order, and all that act in the branch among them.
+    fn ready_near(
+        &self,
+        alloc: Global,
+        system: &Checked,
+        branch: u32,
+    ) -> Result<Items<Event>, AllocError>
+        requires { Holds system.now self.now }
+        ensures { IfOk result (λ events. ReadyWith (state_of_tree (tree_of self.now)) (acts_in (at_machine system.now self.now) branch) events) }
+    {
+        match site_of(system.system(), branch) {
+            Site::Child => self.ready_under(alloc, &[Entry::Branch(0), Entry::Branch(branch)]),
+            Site::Body => self.ready_under(alloc, &[Entry::Branch(0)]),
+            Site::Port(number) => self.ready_under(alloc, &[Entry::Branch(number)]),
+            Site::Unknown => self.ready_under(alloc, &[]),
+        }
+    }
+
+    /// The events that are allowed now and act at the place or below it, in order.
+    fn ready_under(&self, alloc: Global, place: &[Entry]) -> Result<Items<Event>, AllocError>
+        requires { Tidy (tree_view self.now.tree) }
+        ensures { IfOk result (λ events. ReadyBelow (state_of_tree (tree_of self.now)) place.now events) }
+    {
+        ready_below(alloc, &self.tree, &self.store, place)
+    }
+
+    /// Takes the event at this place of the list of those that are ready, where the limits leave room for it.
+    fn take_ready(
         &mut self,
         alloc: Global,
+        system: &Checked,
         events: Items<Event>,
         place: usize,
     ) -> Result<BranchReply, AllocError>
-        requires { place < length events }
-        ensures done { (system : Checked) (T : State) (e : Event) → Reaches (execution system self.old) T → slice_get events place ≡ Some e → Chosen T (choice_of e) e → IfOk result (λ reply. Takes (at_machine system self.old) e reply (at_machine system self.new)) }
-        ensures unchanged { (system : Checked) → OnErr result (at_machine system self.new ≡ at_machine system self.old) }
-        ensures kept { (system : Checked) → KeepsState system self.old → KeepsState system self.new }
+        requires holds { Holds system.now self.old }
+        requires chosen { IsChosenAt (state_of_tree (tree_of self.old)) events place }
+        ensures done { (e : Event) → slice_get events place ≡ Some e → IfOk result (λ reply. Takes (at_machine system.now self.old) e reply (at_machine system.now self.new)) }
+        ensures unchanged { OnErr result (at_machine system.now self.new ≡ at_machine system.now self.old) }
+        ensures holds { Holds system.now self.new }
     {
         let mut events = events.into_vec();
         match self.admitted(Some(events.swap_remove(place))) {
             Ok(event) => {
-                let entry = self.add(alloc, event)?;
+                let entry = self.add(alloc, system, event)?;
                 Ok(BranchReply::Stepped(entry.0, entry.1))
             }
             Err(why) => Ok(BranchReply::Refused(why)),
@@ -151,6 +165,50 @@ impl History {
             }
         }
         None
+    }
+}
+
+/// Where the events of branch k act: at `/0/k`, where it is a child of a body that is a parallel; at `/0`, where the body is none;
+/// at the place of a port; or at a place that is not known.
+#[derive(Clone, Copy)]
+pub(crate) enum Site {
+    Child,
+    Body,
+    Port(u32),
+    Unknown,
+}
+
+/// Where the events of the branch act.
+fn site_of(system: &System, branch: u32) -> Site
+    ensures { (a : Place) → is_branch branch (branch_at system.now a) ≡ true → IsAtSite branch result a }
+{
+    match parallel_of(&system.main) {
+        Some(children) => site_among(children.len(), branch, Site::Child),
+        None => site_among(1, branch, Site::Body),
+    }
+}
+
+/// The children of a command that is a parallel.
+fn parallel_of(command: &Command) -> Option<&Items<Command>>
+    ensures { option_copied result ≡ parallel_of command.now }
+{
+    match command.action.get() {
+        Action::Parallel(children) => Some(children),
+        _ => None,
+    }
+}
+
+/// The site of the first branches, so many, which are those of the body, else that of a port: these come behind, and the first
+/// of them lies at `/1`.
+fn site_among(count: usize, branch: u32, body: Site) -> Site
+    ensures { result ≡ site_among count branch body }
+{
+    if (branch as usize) < count {
+        return body;
+    }
+    match (branch - count as u32).checked_add(1) {
+        Some(number) => Site::Port(number),
+        None => Site::Unknown,
     }
 }
 

@@ -1,66 +1,10 @@
-// Who depends on an event, and who wrote a variable last.
-ghost use Rattle.std.specs.Prelude.{◌≡◌, ◌⊎◌, ◌↔◌, ℕ, [], ◌∷◌, ◌++◌, cond, Some, IsTrue, IfOk, MatchOption};
+// Who wrote a variable last, and whether a number is among some.
+ghost use Rattle.std.specs.Prelude.{◌≡◌, ◌⊎◌, Some, MatchOption};
 ghost use Rattle.system.specs.Expression.{is_in};
-ghost use Rattle.calculus.specs.Live.{Rising, ConsequencesList, NoWriter};
-ghost use Rattle.machine.specs.walking.Following.{Leads, DependsOnSome, WritesLast};
+ghost use Rattle.calculus.specs.Live.{NoWriter};
+ghost use Rattle.machine.specs.walking.Following.{WritesLast};
 
-use calculus::{Event, depends_directly, writes};
-use std::alloc::{AllocError, Global};
-
-/// The tickets of the live events that depend on the one of this ticket, ascending.
-pub(crate) fn followers(
-    alloc: Global,
-    live: &[(u64, Event)],
-    ticket: u64,
-) -> Result<Vec<u64>, AllocError>
-    ensures { (next : ℕ) → Rising 1 live.now next → IfOk result (λ tickets. ConsequencesList live.now ticket tickets.items) }
-{
-    let mut found = Vec::new(alloc);
-    for entry in live {
-        let is_one = follows(live, entry, ticket, found.as_slice());
-        add_if(is_one, entry.0, &mut found)?;
-    }
-    Ok(found)
-}
-
-/// Adds the ticket where it is one of those that are looked for.
-fn add_if(is_one: bool, ticket: u64, found: &mut Vec<u64>) -> Result<(), AllocError>
-    ensures { IfOk result (λ _. found.new.items ≡ cond is_one (found.old.items ++ ticket ∷ []) found.old.items) }
-{
-    if is_one {
-        found.push(ticket)?;
-    }
-    Ok(())
-}
-
-/// Whether the entry is the one of this ticket, or depends directly on one that was found.
-fn follows(live: &[(u64, Event)], entry: &(u64, Event), ticket: u64, found: &[u64]) -> bool
-    ensures { IsTrue result ↔ ((entry.now.0 ≡ ticket) ⊎ DependsOnSome entry.now.1 live.now found.now) }
-{
-    if entry.0 == ticket {
-        return true;
-    }
-    depends_on_some(&entry.1, live, found)
-}
-
-/// Whether the event depends directly on one of those with these tickets.
-fn depends_on_some(later: &Event, live: &[(u64, Event)], tickets: &[u64]) -> bool
-    ensures { IsTrue result ↔ DependsOnSome later.now live.now tickets.now }
-{
-    for entry in live {
-        if leads(later, entry, tickets) {
-            return true;
-        }
-    }
-    false
-}
-
-/// Whether the entry has one of these tickets, and the event depends directly on its event.
-fn leads(later: &Event, entry: &(u64, Event), tickets: &[u64]) -> bool
-    ensures { IsTrue result ↔ Leads later.now tickets.now entry.now }
-{
-    is_among(tickets, entry.0) && depends_directly(&entry.1, later)
-}
+use calculus::{Event, writes};
 
 /// Whether the number is among these.
 pub(crate) fn is_among(numbers: &[u64], number: u64) -> bool

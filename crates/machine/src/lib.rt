@@ -8,11 +8,8 @@ mod following;
 mod history;
 mod laws;
 mod machine;
-mod order;
-mod ready;
 mod replying;
 mod rolling;
-mod scan;
 mod stepping;
 mod undoing;
 

@@ -9,6 +9,7 @@ ghost use Rattle.event_places.specs.EventPlaces.{line_after, is_open_after};
 ghost use Rattle.machine.specs.Branching.{AnswersBranch};
 ghost use Rattle.machine.specs.AtMachine.{object};
 ghost use Rattle.machine.specs.Headline.{Headline};
+ghost use Rattle.machine.specs.walking.Histories.{KnowsUses};
 
 use crate::Breaks;
 use crate::branching::{BranchReply, or_refused};
@@ -16,18 +17,21 @@ use crate::history::History;
 use crate::replying::or_no_memory;
 use address::Address;
 use calculus::{Choice, Event, Reply};
+use channel_uses::ChannelUses;
 use event_places::{line_after, select_after};
+use process_tree::system_code;
 use sharing_check::Checked;
 use std::alloc::{AllocError, Global};
 use std::marker::Model;
 use syntax::Items;
 
-/// One execution of a system: its live events with their tickets, and the ticket of the next step. The state is what
-/// the live events lead to: a step keeps it, and where none is kept it is replayed.
+/// One execution of a system: its live events with their tickets, and the ticket of the next step. The tree and the values to
+/// which they lead are changed in place, by a step and by its undo; no event is ever replayed.
 #[derive(Drop)]
 pub struct Machine {
     alloc: Global,
     system: Checked,
+    uses: ChannelUses,
     history: History,
 }
 
@@ -40,28 +44,25 @@ impl Model for Machine {
 
     ghost coded = { Prim.hlevel (codes, whole.the_row.coded) };
 
-    ghost use Rattle.calculus.specs.Sound.{Sound};
-    ghost use Rattle.machine.specs.AtMachine.{at_machine, object};
-    ghost use Rattle.machine.specs.walking.Histories.{execution, KeepsState};
+    ghost use Rattle.machine.specs.AtMachine.{at_machine};
+    ghost use Rattle.machine.specs.walking.Histories.{Holds, KnowsUses};
 
     ghost view = { λ machine. at_machine machine.system machine.history };
 
-    ghost invariant = { λ machine. Sound (execution machine.system machine.history) × KeepsState machine.system machine.history };
+    ghost invariant = { λ machine. Holds machine.system machine.history × KnowsUses machine.system machine.uses };
 }
 
 impl Machine {
-    /// The execution before its first event. It takes no memory yet.
+    /// The execution before its first event.
     pub fn new(alloc: Global, checked: Checked) -> Result<Machine, AllocError>
         ensures { IfOk result (λ made. made ≡ record { checked = checked; live = []; next = 1 }) }
     {
-        let history = History {
-            live: Vec::new(alloc),
-            next: 1,
-            state: None,
-        };
+        let history = History::new(alloc, &checked)?;
+        let uses = uses_in(alloc, &checked)?;
         Ok(Machine {
             alloc,
             system: checked,
+            uses,
             history,
         })
     }
@@ -77,10 +78,7 @@ impl Machine {
     pub fn live_at(&self, place: u64) -> Option<(u64, &Event)>
         ensures { MatchOption result (slice_get self.now.live place ≡ None) (λ entry. slice_get self.now.live place ≡ Some (entry.0, entry.1.now)) }
     {
-        match self.history.live.get(place as usize) {
-            Some(entry) => Some((entry.0, &entry.1)),
-            None => None,
-        }
+        self.history.live.pair_at(place)
     }
 
     /// The ticket of the next step.
@@ -102,7 +100,10 @@ impl Machine {
         ensures answers { Answers (object self.old) (Command.Step choice.now) result (object self.new) }
         ensures system { self.new.checked ≡ self.old.checked }
     {
-        or_no_memory(self.history.step(self.alloc, &self.system, choice))
+        or_no_memory(
+            self.history
+                .step(self.alloc, &self.system, &self.uses, choice),
+        )
     }
 
     /// Takes the first ready event of the branch whose line has no breakpoint.
@@ -124,20 +125,20 @@ impl Machine {
         self.history.undo(ticket)
     }
 
-    /// Takes the event of this ticket back, and all live events that depend on it.
+    /// Takes the event of this ticket back, and all live events that depend on it. It takes no memory.
     pub fn roll(&mut self, ticket: u64) -> Reply
         ensures answers { Answers (object self.old) (Command.Roll ticket) result (object self.new) }
         ensures system { self.new.checked ≡ self.old.checked }
     {
-        or_no_memory(self.history.roll(self.alloc, ticket))
+        self.history.roll(ticket)
     }
 
-    /// Takes the last event that wrote the variable back, and all live events that depend on it.
+    /// Takes the last event that wrote the variable back, and all live events that depend on it. It takes no memory.
     pub fn roll_value(&mut self, variable: u32) -> Reply
         ensures answers { Answers (object self.old) (Command.RollValue variable) result (object self.new) }
         ensures system { self.new.checked ≡ self.old.checked }
     {
-        or_no_memory(self.history.roll_value(self.alloc, variable))
+        self.history.roll_value(variable)
     }
 
     /// Tells the last live event that wrote the variable. It takes no memory.
@@ -148,38 +149,39 @@ impl Machine {
     }
 
     /// Tells the live events that depend on the one of this ticket.
-    pub fn consequences(&self, ticket: u64) -> Reply
-        ensures { Answers (object self.now) (Command.Consequences ticket) result (object self.now) }
+    pub fn consequences(&mut self, ticket: u64) -> Reply
+        ensures answers { Answers (object self.old) (Command.Consequences ticket) result (object self.new) }
+        ensures same { self.new ≡ self.old }
     {
-        or_no_memory(self.history.tell_consequences(self.alloc, ticket))
+        or_no_memory(self.history.tell_consequences(ticket))
     }
 
     /// Tells the live events.
     pub fn live(&self) -> Reply
         ensures { Answers (object self.now) Command.Live result (object self.now) }
     {
-        or_no_memory(self.history.tell_live(self.alloc, &self.system))
+        or_no_memory(self.history.tell_live(self.alloc))
     }
 
-    /// Tells the value of the variable now.
+    /// Tells the value of the variable now. It takes no memory.
     pub fn value(&self, variable: u32) -> Reply
         ensures { Answers (object self.now) (Command.Value variable) result (object self.now) }
     {
-        or_no_memory(self.history.tell_value(self.alloc, &self.system, variable))
+        self.history.tell_value(variable)
     }
 
     /// Tells the events that may be taken now.
     pub fn tell_ready(&self) -> Reply
         ensures { Answers (object self.now) Command.Ready result (object self.now) }
     {
-        or_no_memory(self.history.tell_ready(self.alloc, &self.system))
+        or_no_memory(self.history.tell_ready(self.alloc))
     }
 
     /// The events that may be taken now, in order of acting address, then arm.
     pub fn ready(&self) -> Result<Items<Event>, AllocError>
         ensures { IfOk result (λ events. (T : State) × Reaches (object self.now) T × ReadyList T events) }
     {
-        self.history.ready(self.alloc, &self.system)
+        self.history.ready(self.alloc)
     }
 
     /// The line, from 1, of the command that has this place after the live events. None where no command has it.
@@ -195,4 +197,12 @@ impl Machine {
     {
         select_after(&self.system, self.history.live.as_slice(), place)
     }
+}
+
+/// Which commands of the system use which channel.
+fn uses_in(alloc: Global, system: &Checked) -> Result<ChannelUses, AllocError>
+    ensures { IfOk result (λ uses. KnowsUses system.now uses) }
+{
+    let code = system_code(alloc, system.system())?;
+    ChannelUses::new(alloc, &code)
 }

@@ -1,71 +1,91 @@
 // Taking an event back with all that depend on it, and the questions about them.
+ghost use Rattle.std.specs.Prelude.{◌≡◌, ℕ, IfOk, OnErr};
 ghost use Rattle.sharing_check.specs.declared.checked.Checked.{Checked};
-ghost use Rattle.std.specs.Prelude.{◌≡◌, ◌≤◌, ℕ, not, filter, vec_len, IfOk, OnErr};
-ghost use Rattle.system.specs.Expression.{is_in};
-ghost use Rattle.calculus.specs.Live.{LiveAt, LastWriter, ConsequencesList};
-ghost use Rattle.calculus.specs.Sound.{Sound};
-ghost use Rattle.calculus.specs.Does.{Does, TakesOut};
-ghost use Rattle.machine.specs.walking.Histories.{execution, KeepsState};
+ghost use Rattle.calculus.specs.Dependence.{Without};
+ghost use Rattle.calculus.specs.Live.{LiveAt, IsLive, DependsOn, NoDependent, WithoutTickets};
+ghost use Rattle.calculus.specs.Does.{Does};
+ghost use Rattle.machine.specs.walking.Histories.{execution, Holds};
+ghost use Rattle.machine.specs.walking.Marking.{MarksDependents};
 
-use crate::following::{followers, is_among, last_writer};
+use crate::following::last_writer;
 use crate::history::History;
-use crate::scan::place_of;
-use calculus::{Command, Event, Refusal, Reply};
-use std::alloc::{AllocError, Global};
+use calculus::{Command, Refusal, Reply};
+use std::alloc::AllocError;
 use syntax::Items;
 
 impl History {
-    /// Takes the event of this ticket out, and all live events that depend on it.
-    pub(crate) fn roll(&mut self, alloc: Global, ticket: u64) -> Result<Reply, AllocError>
-        ensures done { (system : Checked) → Sound (execution system self.old) → IfOk result (λ reply. Does (execution system self.old) (Command.Roll ticket) reply (execution system self.new)) }
-        ensures wanted { OnErr result ((e : Event) × LiveAt self.old.live.items ticket e) }
-        ensures unchanged { (system : Checked) → OnErr result (execution system self.new ≡ execution system self.old) }
-        ensures kept { (system : Checked) → KeepsState system self.old → KeepsState system self.new }
+    /// Takes the event of this ticket back, and all live events that depend on it.
+    pub(crate) fn roll(&mut self, ticket: u64) -> Reply
+        requires { (system : Checked) × Holds system self.old }
+        ensures answers { (system : Checked) → Does (execution system self.old) (Command.Roll ticket) result (execution system self.new) }
+        ensures holds { (system : Checked) → Holds system self.old → Holds system self.new }
     {
-        match place_of(self.live.as_slice(), ticket) {
-            Some(_) => self.roll_live(alloc, ticket),
-            None => Ok(Reply::Refused(Refusal::NoSuchEvent)),
+        match self.live.place_of(ticket) {
+            Some(_) => self.roll_live(ticket),
+            None => Reply::Refused(Refusal::NoSuchEvent),
         }
     }
 
-    /// Takes the live event of this ticket out, and all live events that depend on it.
-    fn roll_live(&mut self, alloc: Global, ticket: u64) -> Result<Reply, AllocError>
-        requires { (e : Event) × LiveAt self.old.live.items ticket e }
-        ensures done { (system : Checked) → Sound (execution system self.old) → IfOk result (λ reply. Does (execution system self.old) (Command.Roll ticket) reply (execution system self.new)) }
-        ensures unchanged { (system : Checked) → OnErr result (execution system self.new ≡ execution system self.old) }
-        ensures kept { (system : Checked) → KeepsState system self.old → KeepsState system self.new }
-    {
-        let tickets = followers(alloc, self.live.as_slice(), ticket)?;
-        Ok(Reply::Rolled(self.take_out(tickets.as_slice())))
-    }
-
-    /// Takes the events of these tickets out, and tells how many they are. Then no state is kept.
-    fn take_out(&mut self, tickets: &[u64]) -> u64
-        ensures taken { (system : Checked) (t : ℕ) → ConsequencesList self.old.live.items t tickets.now → TakesOut (execution system self.old) t result (execution system self.new) }
-        ensures kept { (system : Checked) → KeepsState system self.new }
+    /// Takes the live event of this ticket back, and all live events that depend on it.
+    fn roll_live(&mut self, ticket: u64) -> Reply
+        requires holds { (system : Checked) × Holds system self.old }
+        requires live { IsLive self.old.live.live ticket }
+        ensures answers { (system : Checked) → Does (execution system self.old) (Command.Roll ticket) result (execution system self.new) }
+        ensures holds { (system : Checked) → Holds system self.old → Holds system self.new }
     {
         let before = self.live.len();
-        keep_others(&mut self.live, tickets);
-        self.state = None;
-        (before - self.live.len()) as u64
+        self.live.mark_consequences(ticket);
+        self.take_marked();
+        Reply::Rolled((before - self.live.len()) as u64)
     }
 
-    /// Takes the last event that wrote the variable out, and all live events that depend on it.
-    pub(crate) fn roll_value(&mut self, alloc: Global, variable: u32) -> Result<Reply, AllocError>
-        ensures done { (system : Checked) → Sound (execution system self.old) → IfOk result (λ reply. Does (execution system self.old) (Command.RollValue variable) reply (execution system self.new)) }
-        ensures wanted { (system : Checked) → Sound (execution system self.old) → OnErr result ((t : ℕ) × LastWriter self.old.live.items variable t) }
-        ensures unchanged { (system : Checked) → OnErr result (execution system self.new ≡ execution system self.old) }
-        ensures kept { (system : Checked) → KeepsState system self.old → KeepsState system self.new }
+    /// Takes the marked events back, which are a live event and all that depend on it: the greatest ticket first, on which
+    /// none depends then.
+    fn take_marked(&mut self)
+        requires holds { (system : Checked) × Holds system self.old }
+        requires marked { (t : ℕ) × MarksDependents self.old.live t }
+        ensures taken { (t : ℕ) → MarksDependents self.old.live t → WithoutTickets (DependsOn self.old.live.live t) self.old.live.live self.new.live.live }
+        ensures next { self.new.next ≡ self.old.next }
+        ensures holds { (system : Checked) → Holds system self.old → Holds system self.new }
+    {
+        while let Some(ticket) = self.live.last_marked() {
+            self.take_one(ticket);
+        }
+    }
+
+    /// Takes the live event of this ticket back. No other live event depends on it.
+    fn take_one(&mut self, ticket: u64)
+        requires holds { (system : Checked) × Holds system self.old }
+        requires live { IsLive self.old.live.live ticket }
+        requires alone { NoDependent self.old.live.live ticket }
+        ensures live { WithoutTickets (λ t. t ≡ ticket) self.old.live.live self.new.live.live }
+        ensures marked { Without (λ t. t ≡ ticket) self.old.live.marked self.new.live.marked }
+        ensures next { self.new.next ≡ self.old.next }
+        ensures holds { (system : Checked) → Holds system self.old → Holds system self.new }
+    {
+        match self.live.place_of(ticket) {
+            Some(place) => {
+                self.take_back(ticket, place);
+            }
+            None => unreachable!(),
+        }
+    }
+
+    /// Takes the last event that wrote the variable back, and all live events that depend on it.
+    pub(crate) fn roll_value(&mut self, variable: u32) -> Reply
+        requires { (system : Checked) × Holds system self.old }
+        ensures answers { (system : Checked) → Does (execution system self.old) (Command.RollValue variable) result (execution system self.new) }
+        ensures holds { (system : Checked) → Holds system self.old → Holds system self.new }
     {
         match last_writer(self.live.as_slice(), variable) {
-            Some(ticket) => self.roll(alloc, ticket),
-            None => Ok(Reply::Refused(Refusal::NeverWritten)),
+            Some(ticket) => self.roll(ticket),
+            None => Reply::Refused(Refusal::NeverWritten),
         }
     }
 
     /// The last live event that wrote the variable.
     pub(crate) fn tell_blame(&self, variable: u32) -> Reply
-        ensures { (system : Checked) → Sound (execution system self.now) → Does (execution system self.now) (Command.Blame variable) result (execution system self.now) }
+        ensures { (system : Checked) → Holds system self.now → Does (execution system self.now) (Command.Blame variable) result (execution system self.now) }
     {
         match last_writer(self.live.as_slice(), variable) {
             Some(ticket) => Reply::Blamed(ticket),
@@ -73,31 +93,28 @@ impl History {
         }
     }
 
-    /// The tickets of the live events that depend on the one of this ticket.
-    pub(crate) fn tell_consequences(&self, alloc: Global, ticket: u64) -> Result<Reply, AllocError>
-        ensures done { (system : Checked) → Sound (execution system self.now) → IfOk result (λ reply. Does (execution system self.now) (Command.Consequences ticket) reply (execution system self.now)) }
-        ensures wanted { OnErr result ((e : Event) × LiveAt self.now.live.items ticket e) }
+    /// Tells the tickets of the live events that depend on the one of this ticket, which it marks.
+    pub(crate) fn tell_consequences(&mut self, ticket: u64) -> Result<Reply, AllocError>
+        ensures done { (system : Checked) → Holds system self.old → IfOk result (λ reply. Does (execution system self.old) (Command.Consequences ticket) reply (execution system self.old)) }
+        ensures wanted { OnErr result (IsLive self.old.live.live ticket) }
+        ensures same { (system : Checked) → execution system self.new ≡ execution system self.old }
+        ensures holds { (system : Checked) → Holds system self.old → Holds system self.new }
     {
-        match place_of(self.live.as_slice(), ticket) {
-            Some(_) => self.tell_followers(alloc, ticket),
+        match self.live.place_of(ticket) {
+            Some(_) => self.tell_dependents(ticket),
             None => Ok(Reply::Refused(Refusal::NoSuchEvent)),
         }
     }
 
-    /// The tickets of the live events that depend on the live event of this ticket.
-    fn tell_followers(&self, alloc: Global, ticket: u64) -> Result<Reply, AllocError>
-        requires { (e : Event) × LiveAt self.now.live.items ticket e }
-        ensures { (system : Checked) → Sound (execution system self.now) → IfOk result (λ reply. Does (execution system self.now) (Command.Consequences ticket) reply (execution system self.now)) }
+    /// Tells the tickets of the live events that depend on the live event of this ticket, which it marks.
+    fn tell_dependents(&mut self, ticket: u64) -> Result<Reply, AllocError>
+        requires { IsLive self.old.live.live ticket }
+        ensures done { (system : Checked) → Holds system self.old → IfOk result (λ reply. Does (execution system self.old) (Command.Consequences ticket) reply (execution system self.old)) }
+        ensures same { (system : Checked) → execution system self.new ≡ execution system self.old }
+        ensures holds { (system : Checked) → Holds system self.old → Holds system self.new }
     {
-        let tickets = followers(alloc, self.live.as_slice(), ticket)?;
+        self.live.mark_consequences(ticket);
+        let tickets = self.live.marked()?;
         Ok(Reply::Consequences(Items::from_vec(tickets)))
     }
-}
-
-/// Takes the entries of these tickets out.
-fn keep_others(live: &mut Vec<(u64, Event)>, tickets: &[u64])
-    ensures kept { live.new.items ≡ filter (λ entry. not (is_in entry.0 tickets.now)) live.old.items }
-    ensures bound { vec_len live.new ≤ vec_len live.old }
-{
-    live.retain(|entry| !is_among(tickets, entry.0));
 }

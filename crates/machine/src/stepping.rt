@@ -1,21 +1,23 @@
 // Taking one event.
-ghost use Rattle.std.specs.Prelude.{◌≡◌, ◌≤◌, ◌<◌, length, Some, IfOk, IfErr, OnOk, OnErr};
-ghost use Rattle.std.specs.Option.{IfSome};
+ghost use Rattle.std.specs.Prelude.{◌≡◌, ◌≤◌, ◌<◌, ◌∷◌, ◌++◌, [], ℕ, suc, length, vec_len, vec_capacity, IfOk, IfErr, OnOk, OnErr};
 ghost use Rattle.sharing_check.specs.declared.checked.Checked.{Checked};
-ghost use Rattle.calculus.specs.Steps.{State};
+ghost use Rattle.calculus.specs.Steps.{Allowed};
+ghost use Rattle.calculus.specs.Live.{LiveAt};
 ghost use Rattle.calculus.specs.Object.{Reaches, most_live, last_ticket, with_event};
-ghost use Rattle.calculus.specs.Left.{state_of};
 ghost use Rattle.calculus.specs.Ready.{ReadyList};
 ghost use Rattle.calculus.specs.Does.{Does};
-ghost use Rattle.calculus.specs.Sound.{Sound};
+ghost use Rattle.dependence.specs.Behind.{ComesBehind};
+ghost use Rattle.event_inverse.specs.Grown.{TreeAndStore, state_of_tree, applied};
+ghost use Rattle.event_inverse.specs.View.{inverse_view};
 ghost use Rattle.machine.specs.walking.Choosing.{NotTaken};
-ghost use Rattle.machine.specs.walking.Histories.{execution, KeepsState};
+ghost use Rattle.machine.specs.walking.Histories.{execution, tree_of, Holds, KnowsUses};
+ghost use Rattle.machine.specs.walking.Entering.{Entered, NotEntered};
 
 use crate::history::History;
-use crate::ready::{chosen, ready_events};
-use calculus::{
-    Choice, Command, Event, LAST_TICKET, MOST_LIVE_EVENTS, Plain, Refusal, Reply, replay_live,
-};
+use calculus::{Choice, Command, Event, LAST_TICKET, MOST_LIVE_EVENTS, Refusal, Reply};
+use channel_uses::ChannelUses;
+use event_inverse::{Inverse, Record, apply, invert};
+use rendezvous::{event_with, ready_events};
 use sharing_check::Checked;
 use std::alloc::{AllocError, Global};
 use syntax::Items;
@@ -26,50 +28,19 @@ impl History {
         &mut self,
         alloc: Global,
         system: &Checked,
+        uses: &ChannelUses,
         choice: &Choice,
     ) -> Result<Reply, AllocError>
-        requires sound { Sound (execution system.now self.old) }
-        requires kept { KeepsState system.now self.old }
+        requires holds { Holds system.now self.old }
+        requires uses { KnowsUses system.now uses.now }
         ensures done { IfOk result (λ reply. Does (execution system.now self.old) (Command.Step choice.now) reply (execution system.now self.new)) }
         ensures unchanged { OnErr result (execution system.now self.new ≡ execution system.now self.old) }
-        ensures kept { KeepsState system.now self.new }
+        ensures holds { Holds system.now self.new }
     {
-        self.keep_state(alloc, system)?;
-        self.step_from_state(alloc, system, choice)
-    }
-
-    /// Keeps the state to which the live events lead.
-    pub(crate) fn keep_state(&mut self, alloc: Global, system: &Checked) -> Result<(), AllocError>
-        requires sound { Sound (execution system.now self.old) }
-        requires kept { KeepsState system.now self.old }
-        ensures same { execution system.now self.new ≡ execution system.now self.old }
-        ensures kept { KeepsState system.now self.new }
-    {
-        if self.state.is_some() {
-            return Ok(());
-        }
-        let state = self.replayed(alloc, system)?;
-        self.state = Some(state);
-        Ok(())
-    }
-
-    /// Takes the event that the choice means. The state after it is kept where that before it is.
-    fn step_from_state(
-        &mut self,
-        alloc: Global,
-        system: &Checked,
-        choice: &Choice,
-    ) -> Result<Reply, AllocError>
-        requires sound { Sound (execution system.now self.old) }
-        requires kept { KeepsState system.now self.old }
-        ensures done { IfOk result (λ reply. Does (execution system.now self.old) (Command.Step choice.now) reply (execution system.now self.new)) }
-        ensures unchanged { OnErr result (execution system.now self.new ≡ execution system.now self.old) }
-        ensures kept { KeepsState system.now self.new }
-    {
-        let events = self.ready(alloc, system)?;
-        match self.admitted(chosen(events, choice)) {
+        let found = event_with(alloc, uses, &self.tree, &self.store, choice)?;
+        match self.admitted(found) {
             Ok(event) => {
-                let entry = self.add(alloc, event)?;
+                let entry = self.add(alloc, system, event)?;
                 Ok(Reply::Stepped(entry.0, entry.1))
             }
             Err(why) => Ok(Reply::Refused(why)),
@@ -78,8 +49,8 @@ impl History {
 
     /// The event, where there is one and the limits leave room for it; else why none is taken.
     pub(crate) fn admitted(&self, found: Option<Event>) -> Result<Event, Refusal>
-        ensures taken { IfOk result (λ event. (found ≡ Some event) × (length self.now.live.items < most_live) × (self.now.next ≤ last_ticket)) }
-        ensures refused { IfErr result (λ why. NotTaken found (length self.now.live.items) self.now.next why) }
+        ensures taken { IfOk result (λ event. (found ≡ Some event) × (length self.now.live.live < most_live) × (self.now.next ≤ last_ticket)) }
+        ensures refused { IfErr result (λ why. NotTaken found (length self.now.live.live) self.now.next why) }
     {
         let Some(event) = found else {
             return Err(Refusal::NotReady);
@@ -93,74 +64,71 @@ impl History {
         Ok(event)
     }
 
-    /// Adds the event under the next ticket, and keeps the state after it where that before it is kept.
-    pub(crate) fn add(&mut self, alloc: Global, event: Event) -> Result<(u64, Event), AllocError>
-        requires { self.old.next ≤ last_ticket }
+    /// Makes the event, and enters it under the next ticket. Room for its inverse is made first.
+    pub(crate) fn add(
+        &mut self,
+        alloc: Global,
+        system: &Checked,
+        event: Event,
+    ) -> Result<(u64, Event), AllocError>
+        requires holds { Holds system.now self.old }
+        requires allowed { Allowed (state_of_tree (tree_of self.old)) event }
+        requires few { length self.old.live.live < most_live }
+        requires unspent { self.old.next ≤ last_ticket }
         ensures done { IfOk result (λ entry. entry ≡ (self.old.next, event)) }
-        ensures added { (system : Checked) → OnOk result (execution system self.new ≡ with_event (execution system self.old) event) }
-        ensures unchanged { (system : Checked) → OnErr result (execution system self.new ≡ execution system self.old) }
-        ensures kept { (system : Checked) → KeepsState system self.old → KeepsState system self.new }
-    {
-        let state = self.state_after(alloc, &event)?;
-        let entry = self.enter(alloc, event)?;
-        self.state = state;
-        Ok(entry)
-    }
-
-    /// The state to which the live events and then this one lead, where that of the live events is kept.
-    fn state_after(&self, alloc: Global, event: &Event) -> Result<Option<Plain>, AllocError>
-        ensures { (system : Checked) → KeepsState system self.now → IfOk result (λ after. IfSome after (λ p. Reaches (with_event (execution system self.now) event.now) (state_of p))) }
-    {
-        match &self.state {
-            Some(state) => state.after(alloc, event),
-            None => Ok(None),
-        }
-    }
-
-    /// Enters the event under the next ticket. What is kept as the state stays as it was.
-    fn enter(&mut self, alloc: Global, event: Event) -> Result<(u64, Event), AllocError>
-        requires { self.old.next ≤ last_ticket }
-        ensures done { IfOk result (λ entry. entry ≡ (self.old.next, event)) }
-        ensures added { (system : Checked) → OnOk result (execution system self.new ≡ with_event (execution system self.old) event) }
-        ensures unchanged { (system : Checked) → OnErr result (execution system self.new ≡ execution system self.old) }
-        ensures state { self.new.state ≡ self.old.state }
+        ensures added { OnOk result (execution system.now self.new ≡ with_event (execution system.now self.old) event) }
+        ensures unchanged { OnErr result (execution system.now self.new ≡ execution system.now self.old) }
+        ensures holds { Holds system.now self.new }
     {
         let ticket = self.next;
         let answered = event.copy(alloc)?;
-        self.live.push((ticket, event))?;
-        self.next = ticket + 1;
+        self.inverses.reserve(1)?;
+        system.shares_well();
+        let record = apply(alloc, &mut self.tree, &mut self.store, event)?;
+        self.enter(record)?;
         Ok((ticket, answered))
     }
 
+    /// Enters the event that was made last under the next ticket. Without memory it is taken back.
+    fn enter(&mut self, made: Record) -> Result<(), AllocError>
+        requires last { (T : TreeAndStore) × (applied T made.event ≡ Some (tree_of self.old, inverse_view made.inverse)) }
+        requires above { (t : ℕ) (e : Event) → LiveAt self.old.live.live t e → t < self.old.next }
+        requires behind { ComesBehind self.old.live.live made.event }
+        requires unspent { self.old.next ≤ last_ticket }
+        requires room { vec_len self.old.inverses < vec_capacity self.old.inverses }
+        ensures entered { OnOk result (Entered self.old made self.new) }
+        ensures refused { OnErr result (NotEntered self.old made self.new) }
+    {
+        let Record { event, inverse } = made;
+        match self.live.add(self.next, event) {
+            Ok(()) => {
+                keep(&mut self.inverses, inverse);
+                self.next += 1;
+                Ok(())
+            }
+            Err(event) => {
+                invert(&mut self.tree, &mut self.store, Record { event, inverse });
+                Err(AllocError)
+            }
+        }
+    }
+
     /// The events that are allowed now, in order.
-    pub(crate) fn ready(&self, alloc: Global, system: &Checked) -> Result<Items<Event>, AllocError>
-        requires sound { Sound (execution system.now self.now) }
-        requires kept { KeepsState system.now self.now }
-        ensures { IfOk result (λ events. (T : State) × Reaches (execution system.now self.now) T × ReadyList T events) }
+    pub(crate) fn ready(&self, alloc: Global) -> Result<Items<Event>, AllocError>
+        ensures { (system : Checked) → Holds system self.now → IfOk result (λ events.
+            Reaches (execution system self.now) (state_of_tree (tree_of self.now)) × ReadyList (state_of_tree (tree_of self.now)) events) }
     {
-        match &self.state {
-            Some(state) => ready_events(alloc, state),
-            None => self.ready_replayed(alloc, system),
-        }
+        ready_events(alloc, &self.tree, &self.store)
     }
+}
 
-    /// The events that are allowed now, in order, in the state that a replay finds.
-    fn ready_replayed(&self, alloc: Global, system: &Checked) -> Result<Items<Event>, AllocError>
-        requires { Sound (execution system.now self.now) }
-        ensures { IfOk result (λ events. (T : State) × Reaches (execution system.now self.now) T × ReadyList T events) }
-    {
-        let state = self.replayed(alloc, system)?;
-        ready_events(alloc, &state)
-    }
-
-    /// The state to which the live events lead, by a replay.
-    pub(crate) fn replayed(&self, alloc: Global, system: &Checked) -> Result<Plain, AllocError>
-        requires { Sound (execution system.now self.now) }
-        ensures { IfOk result (λ state. Reaches (execution system.now self.now) (state_of state)) }
-    {
-        match replay_live(alloc, system, self.live.as_slice())? {
-            Some(state) => Ok(state),
-            None => unreachable!(),
-        }
+/// Puts the inverse behind the others, where there is room for it.
+fn keep(inverses: &mut Vec<Inverse>, inverse: Inverse)
+    requires { vec_len inverses.old < vec_capacity inverses.old }
+    ensures { inverses.new.items ≡ inverses.old.items ++ inverse ∷ [] }
+{
+    match inverses.push(inverse) {
+        Ok(()) => {}
+        Err(_) => unreachable!(),
     }
 }

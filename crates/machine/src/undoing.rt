@@ -1,40 +1,54 @@
 // Taking one event back.
+ghost use Rattle.std.specs.Prelude.{◌≡◌, Some, slice_get};
 ghost use Rattle.sharing_check.specs.declared.checked.Checked.{Checked};
-ghost use Rattle.calculus.specs.Sound.{Sound};
+ghost use Rattle.calculus.specs.Dependence.{Without};
+ghost use Rattle.calculus.specs.Live.{LiveAt, IsLive, NoDependent, WithoutTickets};
 ghost use Rattle.calculus.specs.Does.{Undoes};
-ghost use Rattle.machine.specs.walking.Dependents.{StandsAt};
-ghost use Rattle.machine.specs.walking.Histories.{execution, KeepsState};
+ghost use Rattle.machine.specs.walking.Histories.{execution, Holds};
 
 use crate::history::History;
-use crate::scan::{dependent_of, place_of};
-use calculus::{Refusal, Reply};
+use calculus::{Event, Refusal, Reply};
+use event_inverse::{Record, invert};
 
 impl History {
-    /// Takes the event of this ticket out where no other live event depends on it.
+    /// Takes the event of this ticket back where no other live event depends on it.
     pub(crate) fn undo(&mut self, ticket: u64) -> Reply
-        ensures answers { (system : Checked) → Sound (execution system self.old) → Undoes (execution system self.old) ticket result (execution system self.new) }
-        ensures kept { (system : Checked) → KeepsState system self.old → KeepsState system self.new }
+        requires { (system : Checked) × Holds system self.old }
+        ensures answers { (system : Checked) → Undoes (execution system self.old) ticket result (execution system self.new) }
+        ensures holds { (system : Checked) → Holds system self.old → Holds system self.new }
     {
-        match place_of(self.live.as_slice(), ticket) {
+        match self.live.place_of(ticket) {
             Some(place) => self.undo_at(ticket, place),
             None => Reply::Refused(Refusal::NoSuchEvent),
         }
     }
 
-    /// Takes the event of this ticket, which stands at this place, out where no other live event depends on it. Then no
-    /// state is kept: to find it takes memory, and an undo may take none.
+    /// Takes the event of this ticket, which stands at this place, back where no other live event depends on it.
     fn undo_at(&mut self, ticket: u64, place: usize) -> Reply
-        requires { StandsAt self.old.live.items ticket place }
-        ensures answers { (system : Checked) → Sound (execution system self.old) → Undoes (execution system self.old) ticket result (execution system self.new) }
-        ensures kept { (system : Checked) → KeepsState system self.old → KeepsState system self.new }
+        requires holds { (system : Checked) × Holds system self.old }
+        requires at { (e : Event) × (slice_get self.old.live.live place ≡ Some (ticket, e)) }
+        ensures answers { (system : Checked) → Undoes (execution system self.old) ticket result (execution system self.new) }
+        ensures holds { (system : Checked) → Holds system self.old → Holds system self.new }
     {
-        match dependent_of(self.live.as_slice(), place) {
+        match self.live.first_dependent(ticket) {
             Some(dependent) => Reply::Refused(Refusal::NeededBy(dependent)),
-            None => {
-                let (ticket, event) = self.live.remove(place);
-                self.state = None;
-                Reply::Undone(ticket, event)
-            }
+            None => Reply::Undone(ticket, self.take_back(ticket, place)),
         }
+    }
+
+    /// Takes the event of this ticket, which stands at this place, back. No other live event depends on it.
+    pub(crate) fn take_back(&mut self, ticket: u64, place: usize) -> Event
+        requires holds { (system : Checked) × Holds system self.old }
+        requires at { (e : Event) × (slice_get self.old.live.live place ≡ Some (ticket, e)) }
+        requires alone { NoDependent self.old.live.live ticket }
+        ensures event { LiveAt self.old.live.live ticket result }
+        ensures live { WithoutTickets (λ t. t ≡ ticket) self.old.live.live self.new.live.live }
+        ensures marked { Without (λ t. t ≡ ticket) self.old.live.marked self.new.live.marked }
+        ensures next { self.new.next ≡ self.old.next }
+        ensures holds { (system : Checked) → Holds system self.old → Holds system self.new }
+    {
+        let event = self.live.take(ticket);
+        let inverse = self.inverses.remove(place);
+        invert(&mut self.tree, &mut self.store, Record { event, inverse })
     }
 }

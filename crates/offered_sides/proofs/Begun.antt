@@ -83,7 +83,7 @@ past-begun s env (x ∷ xs) (c ∷ cs) (suc k) n l = past-begun s env xs cs k (n
 abbrev pub begun-row : List made.Proc → Row → Procs
 begun-row xs row = begun_of (map proc_view xs) (row_view row)
 
-row-is : (xs : List made.Proc) (row : Row) → begun_of (map proc_view xs) (row_of (map code_view row.codes)) ≡ begun-row xs row
+pub row-is : (xs : List made.Proc) (row : Row) → begun_of (map proc_view xs) (row_of (map code_view row.codes)) ≡ begun-row xs row
 row-is xs row = ap (begun_of (map proc_view xs)) (sym (row_codes row))
 
 pub row-still : (xs : List made.Proc) (row : Row) (n : ℕ) → n ≡ min (length xs) (length row.codes) → Still n (begun-row xs row)

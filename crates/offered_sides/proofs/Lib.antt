@@ -1,7 +1,10 @@
 pub mod Begun
+pub mod Endings
 pub mod Exactly
+pub mod GoingDown
 pub mod OneByOne
 pub mod Passing
+pub mod PlacedSides
 pub mod PlaceOrder
 pub mod Walked
 pub mod Walks

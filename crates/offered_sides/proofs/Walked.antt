@@ -134,7 +134,7 @@ module _ (s : Store) where
       subst (λ (l : List OfferedSide). InOrder NotBehind l) (sym (e ∙ ap (λ (x : Listing). x.sides) (walked p t []))) (in-place-order s (left [] p) (left-formed p []))
 
 -- below the root sides stand where they are
-below-root : (rs : List OfferedSide) → below [] rs ≡ rs
+pub below-root : (rs : List OfferedSide) → below [] rs ≡ rs
 below-root [] = refl
 below-root (r ∷ rs) = ap (λ l. r ∷ l) (below-root rs)
 

@@ -1,2 +1,4 @@
+pub mod At
 pub mod Listed
+pub mod Over
 pub mod Walk

@@ -1,5 +1,5 @@
 // Where a walk through a tree is, and what it has found.
-ghost use Rattle.std.specs.Prelude.{◌≡◌, [], ◌∷◌, ◌^◌, ◌≤◌, IfOk, OnOk, OnErr};
+ghost use Rattle.std.specs.Prelude.{◌≡◌, [], ◌∷◌, ◌^◌, ◌≤◌, length, IfOk, OnOk, OnErr};
 ghost use Rattle.system.specs.Translation.{expression_of, decision_of};
 ghost use Rattle.process_tree.specs.Left.{with_value};
 ghost use Rattle.process_tree.specs.walking.Received.{puts_value, puts_decision};
@@ -57,6 +57,13 @@ impl Around {
     {
         let Around { found, .. } = self;
         found
+    }
+
+    /// How many sides were found.
+    pub fn count(&self) -> usize
+        ensures { result ≡ length self.now.sides }
+    {
+        self.found.len()
     }
 
     /// Goes to the child of this number in a sequence. A number of 2^32 and more has no place: it takes more memory to get

@@ -93,7 +93,7 @@ fn list_phase(
 
 /// Lists what a loop offers. Whether it has ended.
 #[cycle(list)]
-fn list_loop(
+pub(crate) fn list_loop(
     alloc: Global,
     turns: &Turns,
     repeat: &Repeat,
@@ -141,7 +141,7 @@ fn list_turn(
 
 /// Lists what an `if` or `case` offers. Whether it is finished.
 #[cycle(list)]
-fn list_tested(
+pub(crate) fn list_tested(
     alloc: Global,
     tested: &Tested,
     decide: &Decide,
@@ -163,7 +163,7 @@ fn list_tested(
 
 /// Lists what arms offer that wait on their channels. Whether one has been closed.
 #[cycle(list)]
-fn list_gate(
+pub(crate) fn list_gate(
     alloc: Global,
     gate: &Gate,
     waiting: &Await,
@@ -311,7 +311,7 @@ fn list_branch(
 }
 
 /// The turn behind this one.
-fn next_turn(turn: u64) -> Result<u64, AllocError>
+pub(crate) fn next_turn(turn: u64) -> Result<u64, AllocError>
     ensures { IfOk result (λ next. next ≡ turn + 1) }
 {
     match turn.checked_add(1) {
@@ -321,7 +321,7 @@ fn next_turn(turn: u64) -> Result<u64, AllocError>
 }
 
 /// The number of the body of this turn of a loop.
-fn body_of_turn(turn: u64) -> Result<u64, AllocError>
+pub fn body_of_turn(turn: u64) -> Result<u64, AllocError>
     ensures { IfOk result (λ number. number ≡ 2 * turn + 1) }
 {
     Ok(u64::from(small(turn)?) * 2 + 1)

@@ -99,7 +99,7 @@ fn last_moved(begun: &[Proc], row: &Row) -> Option<usize>
 
 /// The number of the child from which on a sequence is at work: all before it are finished, where behind the first that is
 /// not finished none has made a move.
-pub(crate) fn first_at_work(begun: &[Proc], row: &Row) -> usize
+pub fn first_at_work(begun: &[Proc], row: &Row) -> usize
     ensures { result ≡ last_moved (begun_of (map proc_view begun.now) (row_view row.now)) }
 {
     match last_moved(begun, row) {

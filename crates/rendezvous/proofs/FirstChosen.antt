@@ -20,6 +20,7 @@ use Rattle.calculus.specs.declared.event.Choice.{Choice}
 use Rattle.calculus.proofs.Lists.{in-right, in-parts, every-in}
 use Rattle.calculus.proofs.ReadyLists.{sooner-asymmetric}
 use Rattle.rendezvous.specs.ReadyBelow.{Under, ReadyBelow}
+use Rattle.rendezvous.specs.walking.Acting.{ReadyWith}
 use Rattle.rendezvous.specs.walking.Choosing.{HasNone, FirstWith}
 use Rattle.rendezvous.specs.walking.Sorting.{sooner_by, is_sooner}
 use Rattle.rendezvous.proofs.Entries.{parts-at, got-at, item-at, take-next}
@@ -46,10 +47,18 @@ not-less : (e f : Event) → Sooner e f → choice_of e ≡ choice_of f → orde
 not-less e f h same less =
     sooner-asymmetric e f h (inr (sym (ap (λ (c : Choice). c.place) same), inr (sym (ap (λ (c : Choice). c.arm) same), less)))
 
-module _ (S : State) (c : Choice) (es : List Event) (ready : ReadyBelow S c.place es) where
+-- what is ready below the place of a choice has all events with the choice
+pub ready-with : (S : State) (c : Choice) (es : List Event) → ReadyBelow S c.place es → ReadyWith S c es
+ready-with S c es r = record {
+  sound = λ e i. ((r.exactly e).0 i).0;
+  complete = λ e a is. (r.exactly e).1 (a, acts-there c e is);
+  in_order = r.in_order;
+}
+
+module _ (S : State) (c : Choice) (es : List Event) (ready : ReadyWith S c es) where
   -- no event of the list has the choice
   chosen-none : HasNone c es → ChoiceAllowed S c → ⊥
-  chosen-none none p = none p.0 ((ready.exactly p.0).1 (p.1, acts-there c p.0 p.2)) p.2
+  chosen-none none p = none p.0 (ready.complete p.0 p.1 p.2) p.2
 
   -- the first event of the list with the choice
   chosen-first : (i : ℕ) (e : Event) → slice_get es i ≡ Some e → choice_of e ≡ c → HasNone c (take i es) → Chosen S c e
@@ -57,9 +66,9 @@ module _ (S : State) (c : Choice) (es : List Event) (ready : ReadyBelow S c.plac
       let parts : es ≡ take i es ++ e ∷ drop (suc i) es = parts-at es i e at in
       let here : In e es = subst (λ (k : List Event). In e k) (sym parts) (in-right e (take i es) (e ∷ drop (suc i) es) (inl refl)) in
       record {
-        allowed = ((ready.exactly e).0 here).0;
+        allowed = ready.sound e here;
         choice = same;
-        least = λ f a is less. elim (in-parts f (take i es) (e ∷ drop (suc i) es) (subst (λ (k : List Event). In f k) parts ((ready.exactly f).1 (a, acts-there c f is)))) [
+        least = λ f a is less. elim (in-parts f (take i es) (e ∷ drop (suc i) es) (subst (λ (k : List Event). In f k) parts (ready.complete f a is))) [
           | inl u ↦ none f u is
           | inr (inl u) ↦ not-itself (other e) (subst (λ (x : Event). order_of (other x) (other e) ≡ Less) u less)
           | inr (inr u) ↦
@@ -68,7 +77,7 @@ module _ (S : State) (c : Choice) (es : List Event) (ready : ReadyBelow S c.plac
       }
 
 -- the same, of the lists of the code
-pub chosen-here : (S : State) (c : Choice) (es items slice : List Event) (i : ℕ) (x : Event) → ReadyBelow S c.place es → items ≡ es → slice ≡ items →
+pub chosen-here : (S : State) (c : Choice) (es items slice : List Event) (i : ℕ) (x : Event) → ReadyWith S c es → items ≡ es → slice ≡ items →
     FirstWith c slice i → x ≡ get_or items i x → Chosen S c x
 chosen-here S c es items slice i x ready ei is first taken =
     let at : slice_get es i ≡ Some first.0 = ap (λ (k : List Event). slice_get k i) (sym (is ∙ ei)) ∙ first.1 in
@@ -76,7 +85,7 @@ chosen-here S c es items slice i x ready ei is first taken =
     subst (λ (e : Event). Chosen S c e) (sym one)
     (chosen-first S c es ready i first.0 at first.2 (subst (λ (k : List Event). HasNone c (take i k)) (is ∙ ei) first.3))
 
-pub chosen-nowhere : (S : State) (c : Choice) (es items slice : List Event) → ReadyBelow S c.place es → items ≡ es → slice ≡ items → HasNone c slice →
+pub chosen-nowhere : (S : State) (c : Choice) (es items slice : List Event) → ReadyWith S c es → items ≡ es → slice ≡ items → HasNone c slice →
     ChoiceAllowed S c → ⊥
 chosen-nowhere S c es items slice ready ei is none = chosen-none S c es ready (subst (λ (k : List Event). HasNone c k) (is ∙ ei) none)
 

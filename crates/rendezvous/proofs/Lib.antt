@@ -1,3 +1,4 @@
+pub mod ActedSides
 pub mod Entries
 pub mod FirstChosen
 pub mod FromSides

@@ -41,7 +41,7 @@ under-told : (p a : Place) → Under p a → is_under p a ≡ true
 under-told p a u = ap (is_under p) u.1 ∙ under-behind p u.0
 
 -- what there is, is in the list
-in-those-first : (o : Option Event) (e : Event) (rest : List Event) → o ≡ Some e → In e (those o rest)
+pub in-those-first : (o : Option Event) (e : Event) (rest : List Event) → o ≡ Some e → In e (those o rest)
 in-those-first None e rest h = cc
 in-those-first (Some f) e rest h = inl (let same : e ≡ f = cc in same)
 
@@ -49,12 +49,12 @@ in-those-rest : (o : Option Event) (e : Event) (rest : List Event) → In e rest
 in-those-rest None e rest h = h
 in-those-rest (Some f) e rest h = inr h
 
-those-in : (o : Option Event) (e : Event) (rest : List Event) → In e (those o rest) → (o ≡ Some e) ⊎ In e rest
+pub those-in : (o : Option Event) (e : Event) (rest : List Event) → In e (those o rest) → (o ≡ Some e) ⊎ In e rest
 those-in None e rest h = inr h
 those-in (Some f) e rest h = elim h [ inl u ↦ inl (ap (λ (x : Event). Some x) (sym u)) | inr u ↦ inr u ]
 
 -- the event of l with one of the list
-in-met : (l k : OfferedSide) (ks : List OfferedSide) (e : Event) → In k ks → met l.place l.side k.place k.side ≡ Some e → In e (met_with l ks)
+pub in-met : (l k : OfferedSide) (ks : List OfferedSide) (e : Event) → In k ks → met l.place l.side k.place k.side ≡ Some e → In e (met_with l ks)
 in-met l k [] e i h = absurd i
 in-met l k (o ∷ ks) e i h =
     elim i [
@@ -63,12 +63,12 @@ in-met l k (o ∷ ks) e i h =
     ]
 
 -- an event of l with one of the list
-record Met (l : OfferedSide) (ks : List OfferedSide) (e : Event) : Type 0 where
-  partner : OfferedSide
-  there : In partner ks
-  made : met l.place l.side partner.place partner.side ≡ Some e
+pub record Met (l : OfferedSide) (ks : List OfferedSide) (e : Event) : Type 0 where
+  pub partner : OfferedSide
+  pub there : In partner ks
+  pub made : met l.place l.side partner.place partner.side ≡ Some e
 
-met-in : (l : OfferedSide) (ks : List OfferedSide) (e : Event) → In e (met_with l ks) → Met l ks e
+pub met-in : (l : OfferedSide) (ks : List OfferedSide) (e : Event) → In e (met_with l ks) → Met l ks e
 met-in l [] e i = absurd i
 met-in l (k ∷ ks) e i =
     elim (those-in _ e (met_with l ks) i) [

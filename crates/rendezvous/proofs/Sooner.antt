@@ -26,6 +26,7 @@ use Rattle.std.specs.List.Sorted.{IsPermutation}
 use Rattle.std.proofs.lemmas.List.Sorted.{IsPermutation-sym, Contains-permutation}
 use Rattle.rendezvous.proofs.Entries.{parts-at, item-at}
 use Rattle.rendezvous.specs.ReadyBelow.{Under, ReadyBelow}
+use Rattle.rendezvous.specs.walking.Acting.{SortedOf}
 use Rattle.rendezvous.specs.walking.Sorting.{sooner_by, is_sooner, inserted}
 
 arms-true : (m n : ℕ) (q : Ordering) → cond (nat_lt m n) true (cond (m == n) (is_lt q) false) ≡ true → (m < n) ⊎ ((m ≡ n) × (is_lt q ≡ true))
@@ -131,26 +132,16 @@ put S e (f ∷ fs) w a all order = pick (is_sooner f e) refl (put S e fs w a (λ
     pick true is rest = put-behind e f fs (sooner-true f e is) order rest
     pick false is rest = same (same_event f e) refl is
 
--- e is allowed and acts below the place
-abbrev pub ActsBelow : State → Place → Event → Type 0
-ActsBelow S p e = Allowed S e × Under p (acting e)
-
 -- what is listed so far: the events are those that are left and those that are sorted
-pub record Sorting (S : State) (p : Place) (left sorted : List Event) : Type 0 where
-  pub sound : (e : Event) → In e left ⊎ In e sorted → ActsBelow S p e
-  pub complete : (e : Event) → ActsBelow S p e → In e left ⊎ In e sorted
+pub record Sorting (P : Event → Type 0) (left sorted : List Event) : Type 0 where
+  pub sound : (e : Event) → In e left ⊎ In e sorted → P e
+  pub complete : (e : Event) → P e → In e left ⊎ In e sorted
   pub in_order : InOrder Sooner sorted
 
-sorting-ends : (S : State) (p : Place) (sorted : List Event) → Sorting S p [] sorted → ReadyBelow S p sorted
-sorting-ends S p sorted s = record {
-  exactly = λ e. ((λ i. s.sound e (inr i)), (λ a. elim (s.complete e a) [ inl u ↦ absurd u | inr u ↦ u ]));
-  in_order = s.in_order;
-}
-
-sorting-more : (S : State) (p : Place) (left sorted : List Event) (e : Event) → WellFormed S.residual → Sorting S p (left ++ e ∷ []) sorted →
-    Sorting S p left (inserted e sorted)
-sorting-more S p left sorted e w s =
-    let more = put S e sorted w (s.sound e (inl (in-right e left (e ∷ []) (inl refl)))).0 (λ f i. (s.sound f (inr i)).0) s.in_order in
+sorting-more : (S : State) (P : Event → Type 0) (left sorted : List Event) (e : Event) → WellFormed S.residual → ((f : Event) → P f → Allowed S f) → Sorting P (left ++ e ∷ []) sorted →
+    Sorting P left (inserted e sorted)
+sorting-more S P left sorted e w allowed s =
+    let more = put S e sorted w (allowed e (s.sound e (inl (in-right e left (e ∷ []) (inl refl))))) (λ f i. allowed f (s.sound f (inr i))) s.in_order in
     record {
       sound = λ f i. elim i [
         | inl u ↦ s.sound f (inl (in-left f left (e ∷ []) u))
@@ -187,25 +178,35 @@ in-moved : (xs ys : List Event) (e : Event) → IsPermutation xs ys → In e xs 
 in-moved xs ys e moved i = contains-in ys e (Contains-permutation xs ys e moved (in-contains xs e i))
 
 -- the same, of the lists of the loop
-pub sorting-start : (S : State) (p : Place) (listed first left sorted : List Event) → ((e : Event) → In e listed ↔ ActsBelow S p e) → first ≡ listed →
-    IsPermutation first left → sorted ≡ [] → Sorting S p left sorted
-sorting-start S p listed first left sorted exactly ef moved es = record {
+pub sorting-start : (listed first left sorted : List Event) → first ≡ listed → IsPermutation first left → sorted ≡ [] → Sorting (λ e. In e listed) left sorted
+sorting-start listed first left sorted ef moved es = record {
   sound = λ e i. elim i [
-    | inl u ↦ (exactly e).0 (subst (λ (l : List Event). In e l) ef (in-moved left first e (IsPermutation-sym first left moved) u))
+    | inl u ↦ subst (λ (l : List Event). In e l) ef (in-moved left first e (IsPermutation-sym first left moved) u)
     | inr u ↦ absurd (subst (λ (l : List Event). In e l) es u)
   ];
-  complete = λ e a. inl (in-moved first left e moved (subst (λ (l : List Event). In e l) (sym ef) ((exactly e).1 a)));
+  complete = λ e a. inl (in-moved first left e moved (subst (λ (l : List Event). In e l) (sym ef) a));
   in_order = subst (λ (l : List Event). InOrder Sooner l) (sym es) tt;
 }
 
-pub sorting-step : (S : State) (p : Place) (left rest sorted new : List Event) (e : Event) → WellFormed S.residual → Sorting S p left sorted → left ≡ rest ++ e ∷ [] →
-    new ≡ inserted e sorted → Sorting S p rest new
-sorting-step S p left rest sorted new e w s el en =
-    subst (λ (k : List Event). Sorting S p rest k) (sym en) (sorting-more S p rest sorted e w (subst (λ (l : List Event). Sorting S p l sorted) el s))
+pub sorting-step : (S : State) (P : Event → Type 0) (left rest sorted new : List Event) (e : Event) → WellFormed S.residual → ((f : Event) → P f → Allowed S f) → Sorting P left sorted
+    → left ≡ rest ++ e ∷ [] → new ≡ inserted e sorted → Sorting P rest new
+sorting-step S P left rest sorted new e w allowed s el en =
+    subst (λ (k : List Event). Sorting P rest k) (sym en) (sorting-more S P rest sorted e w allowed (subst (λ (l : List Event). Sorting P l sorted) el s))
 
-pub sorting-stop : (S : State) (p : Place) (left sorted list : List Event) → Sorting S p left sorted → left ≡ [] → list ≡ sorted → ReadyBelow S p list
-sorting-stop S p left sorted list s el is =
-    subst (λ (k : List Event). ReadyBelow S p k) (sym is) (sorting-ends S p sorted (subst (λ (l : List Event). Sorting S p l sorted) el s))
+pub sorting-stop : (listed left sorted list : List Event) → Sorting (λ e. In e listed) left sorted → left ≡ [] → list ≡ sorted → SortedOf listed list
+sorting-stop listed left sorted list s el is =
+    let none = subst (λ (l : List Event). Sorting (λ e. In e listed) l sorted) el s in
+    subst (λ (k : List Event). SortedOf listed k) (sym is) (record {
+      same = λ e. ((λ i. none.sound e (inr i)), (λ a. elim (none.complete e a) [ inl u ↦ absurd u | inr u ↦ u ]));
+      in_order = none.in_order;
+    })
+
+-- the sorted events that act below a place
+pub sorted-below : (S : State) (p : Place) (listed sorted : List Event) → ((e : Event) → In e listed ↔ (Allowed S e × Under p (acting e))) → SortedOf listed sorted → ReadyBelow S p sorted
+sorted-below S p listed sorted exactly s = record {
+  exactly = λ e. ((λ i. (exactly e).0 ((s.same e).0 i)), (λ a. (s.same e).1 ((exactly e).1 a)));
+  in_order = s.in_order;
+}
 
 -- nothing is left
 pub left-none : (left : List Event) (n : ℕ) → n ≡ length left → n ≡ 0 → left ≡ []

@@ -1,3 +1,4 @@
+pub mod Acting
 pub mod Choosing
 pub mod Meeting
 pub mod Sorting

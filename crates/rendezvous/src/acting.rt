@@ -44,7 +44,7 @@ fn add_below(
 }
 
 /// Adds the events in which the side acts with one of the others.
-fn add_met(
+pub(crate) fn add_met(
     alloc: Global,
     one: &OfferedSide,
     others: &[OfferedSide],
@@ -60,7 +60,7 @@ fn add_met(
 }
 
 /// Adds the event, if there is one.
-fn add(made: Option<Event>, events: &mut Items<Event>) -> Result<(), AllocError>
+pub(crate) fn add(made: Option<Event>, events: &mut Items<Event>) -> Result<(), AllocError>
     ensures { OnOk result (events.new ≡ events.old ++ those made []) }
 {
     match made {

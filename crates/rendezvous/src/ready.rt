@@ -2,10 +2,14 @@
 ghost use Rattle.std.specs.Prelude.{◌≡◌, IfOk, IsTrue, MatchOption, Some, true, false, slice_get};
 ghost use Rattle.calculus.specs.InOrder.{InOrder};
 ghost use Rattle.calculus.specs.Ready.{Sooner, ChoiceAllowed, Chosen};
-ghost use Rattle.calculus.specs.Steps.{State};
+ghost use Rattle.calculus.specs.Steps.{State, Allowed};
+ghost use Rattle.calculus.specs.WellFormed.{WellFormed};
+ghost use Rattle.calculus.specs.declared.event.Event as any;
+ghost use Rattle.syntax.specs.Lists.{In};
 ghost use Rattle.calculus.specs.Tests.{same_event};
 ghost use Rattle.rendezvous.specs.ReadyBelow.{ReadyBelow};
 ghost use Rattle.offered_sides.specs.Sides.{OffersExactly};
+ghost use Rattle.rendezvous.specs.walking.Acting.{ReadyWith, SortedOf};
 ghost use Rattle.rendezvous.specs.walking.Choosing.{HasNone, FirstWith};
 ghost use Rattle.rendezvous.specs.walking.Sorting.{inserted};
 
@@ -26,10 +30,17 @@ pub fn ready_among(
 ) -> Result<Items<Event>, AllocError>
     ensures { (S : State) → OffersExactly S sides.now → IfOk result (λ events. ReadyBelow S place.now events) }
 {
-    let mut events = acted_below(alloc, place, sides, sides)?.into_vec();
-    events.sort_unstable_by(|one, other| latest_first(one, other));
+    in_order(alloc, acted_below(alloc, place, sides, sides)?)
+}
+
+/// The same events in the order of their acting addresses, then of their arms, then of their other addresses; each stands once.
+pub(crate) fn in_order(alloc: Global, events: Items<Event>) -> Result<Items<Event>, AllocError>
+    ensures { (S : State) → WellFormed S.residual → ((e : any.Event) → In e events → Allowed S e) → IfOk result (λ sorted. SortedOf events sorted) }
+{
+    let mut left = events.into_vec();
+    left.sort_unstable_by(|one, other| latest_first(one, other));
     let mut sorted = Vec::new(alloc);
-    while let Some(event) = events.pop() {
+    while let Some(event) = left.pop() {
         insert(&mut sorted, event)?;
     }
     Ok(Items::from_vec(sorted))
@@ -73,8 +84,8 @@ fn is_there(sorted: &[Event], place: usize, event: &Event) -> bool
 }
 
 /// The first of the events that has the choice.
-fn first_with(events: Items<Event>, choice: &Choice) -> Option<Event>
-    ensures { (S : State) → ReadyBelow S choice.now.place events → MatchOption result (ChoiceAllowed S choice.now → ⊥) (λ event. Chosen S choice.now event) }
+pub(crate) fn first_with(events: Items<Event>, choice: &Choice) -> Option<Event>
+    ensures { (S : State) → ReadyWith S choice.now events → MatchOption result (ChoiceAllowed S choice.now → ⊥) (λ event. Chosen S choice.now event) }
 {
     let mut events = events.into_vec();
     match place_with(events.as_slice(), choice) {

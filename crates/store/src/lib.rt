@@ -1,7 +1,7 @@
 //! The values of the variables of a system, changed in place.
 #![tactic(auto)]
 
-ghost use Rattle.std.specs.Prelude.{◌≡◌, ◌<◌, length, drop, map, slice_set, IfOk};
+ghost use Rattle.std.specs.Prelude.{◌≡◌, map, slice_set, IfOk};
 ghost use Rattle.system.specs.Expression as model;
 ghost use Rattle.system.specs.Translation.{opening_store};
 
@@ -33,12 +33,14 @@ impl Store {
         Ok(Store { values })
     }
 
-    /// The value of the variable of this number.
+    /// The value of the variable of this number; of no variable a zero of one bit.
     pub fn get(&self, variable: u32) -> Value
-        requires { variable < length self.now }
         ensures { result ≡ model.get self.now variable }
     {
-        self.values[variable as usize]
+        match self.values.get(variable as usize) {
+            Some(value) => *value,
+            None => Value::zero(1),
+        }
     }
 
     /// All values, by number.
@@ -48,9 +50,9 @@ impl Store {
         self.values.as_slice()
     }
 
-    /// Writes the value, cut or widened to the width of the variable, and gives back the one that stood there.
+    /// Writes the value, cut or widened to the width of the variable, and gives back the one that stood there. Where there is no
+    /// such variable nothing is written.
     pub fn put(&mut self, variable: u32, value: Value) -> Value
-        requires { variable < length self.old }
         ensures put { self.new ≡ model.put self.old variable value }
         ensures old { result ≡ model.get self.old variable }
         // What is given back and written as it is takes this back.
@@ -61,13 +63,13 @@ impl Store {
         old
     }
 
-    /// Writes the value as it is, which stood there before.
+    /// Writes the value as it is, which stood there before, if there is such a variable.
     pub fn put_back(&mut self, variable: u32, value: Value)
-        requires { variable < length self.old }
         ensures { self.new ≡ slice_set self.old variable value }
     {
-        let place = variable as usize;
-        self.values[place] = value;
+        if let Some(held) = self.values.get_mut(variable as usize) {
+            *held = value;
+        }
     }
 }
 

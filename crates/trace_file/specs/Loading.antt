@@ -75,11 +75,16 @@ Loads system read left result =
     (λ m. (text : List ℕ) × Consumes read left text × IsAtEnd left × IsLoaded system text m)
     (λ fault. LoadStops system read left fault)
 
--- a text was written, or a beginning of it, or there was no memory for it and nothing was written
+-- what of a text was written where there was no memory for it, or the writer failed: nothing, or a beginning
+abbrev pub SaveStops : List ℕ → List ℕ → Fault → Type 0
+SaveStops text given Fault.Memory = given ≡ []
+SaveStops text given Fault.WriteFailed = IsBeginning text given
+SaveStops text given _ = ⊥
+
+-- a text was written, or it was not
 abbrev pub Saves : List ℕ → Option (List ℕ) → Option (List ℕ) → Result (Unit {0}) Fault → Type 0
 Saves text wrote held result =
-    (given : List ℕ) × Appends wrote held given
-    × MatchResult result (λ _. given ≡ text) (λ fault. ((fault ≡ Fault.Memory) ⊎ (fault ≡ Fault.WriteFailed)) × IsBeginning text given)
+    (given : List ℕ) × Appends wrote held given × MatchResult result (λ _. given ≡ text) (λ fault. SaveStops text given fault)
 
 -- the failures of the reader behind this fault: one more at 41, and else as many as before
 abbrev pub fault_reads : Fault → ℕ → ℕ

@@ -5,6 +5,7 @@ mod fault;
 mod laws;
 mod line;
 mod loading;
+mod long;
 mod saving;
 
 pub use fault::Fault;

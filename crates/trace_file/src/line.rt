@@ -28,7 +28,7 @@ pub(crate) fn read_step(alloc: Global, text: &[u8]) -> Result<Option<(Choice, &[
 }
 
 /// The two fields of the first line of the text, and what is behind that line.
-fn fields(text: &[u8]) -> Option<(&[u8], &[u8], &[u8])>
+pub(crate) fn fields(text: &[u8]) -> Option<(&[u8], &[u8], &[u8])>
     ensures { MatchOption result (HasNoFields text.now) (λ f. AreFields text.now f.0.now f.1.now f.2.now) }
 {
     let (place, behind_place) = cut_at(behind_word(text)?, b' ')?;
@@ -59,7 +59,7 @@ pub(crate) fn cut_at(text: &[u8], byte: u8) -> Option<(&[u8], &[u8])>
 }
 
 /// The number of an arm.
-fn read_arm(text: &[u8]) -> Option<u32>
+pub(crate) fn read_arm(text: &[u8]) -> Option<u32>
     ensures { MatchOption result (IsNoArm text.now) (λ arm. IsArm arm text.now) }
 {
     narrow(read_number(text)?)

@@ -7,6 +7,7 @@ ghost use Rattle.trace_file.specs.walking.OneStep.{LineTaken, LineStops, Taken, 
 
 use crate::Fault;
 use crate::line::{cut_at, read_step};
+use crate::long::refuse_long;
 use calculus::{Choice, Refusal, Reply};
 use devices::{Counted, ReadFault, read_all};
 use machine::Machine;
@@ -115,6 +116,7 @@ fn take_line<'a>(
         (λ fault. LineStops machine.old rest.entry.now number fault) }
     ensures system { machine.new.checked ≡ machine.old.checked }
 {
+    refuse_long(machine, rest, number)?;
     let Some((choice, after)) = read_step(alloc, rest)? else {
         return Err(Fault::BadLine(number));
     };

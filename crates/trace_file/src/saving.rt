@@ -1,4 +1,4 @@
-ghost use Rattle.std.specs.Prelude.{◌≡◌, ◌++◌, ◌<◌, ◌^◌, OnOk, IfOk};
+ghost use Rattle.std.specs.Prelude.{Err, ◌≡◌, ◌++◌, ◌<◌, ◌^◌, OnOk, IfOk};
 ghost use Rattle.std.specs.Fmt.{decimal};
 ghost use Rattle.syntax.specs.Lists.{Every};
 ghost use Rattle.address.specs.Text.{entry_text, text_of};
@@ -17,8 +17,8 @@ use machine::Machine;
 use std::alloc::{AllocError, Global};
 use std::io::Write;
 
-/// Writes the trace of the live events. `Memory` comes before the first byte, and at `WriteFailed`, which comes exactly
-/// where the writer counts a failure, a beginning is out.
+/// Writes the trace of the live events. At `Memory` the writer was not asked for anything, and at `WriteFailed`, which comes
+/// exactly where the writer counts a failure, a beginning is out.
 pub fn save<W: Write>(
     alloc: Global,
     machine: &Machine,
@@ -27,6 +27,7 @@ pub fn save<W: Write>(
     ensures saves { Saves (trace_text (events machine.now.live)) (W.contents (device writer.old)) (W.contents (device writer.new)) result }
     ensures lines { OnOk result (Every (λ e. IsWritable (choice_of e)) (events machine.now.live)) }
     ensures failures { failures writer.new ≡ after_writing result (failures writer.old) }
+    ensures untouched { result ≡ Err Fault.Memory → writer.new ≡ writer.old }
 {
     let text = write_trace(alloc, machine)?;
     match write_out(writer, text.as_slice()) {

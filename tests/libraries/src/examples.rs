@@ -33,6 +33,15 @@ pub const BUFFER: Example = Example {
     stimulus: "i = 5 7",
 };
 
+/// Two one-place buffers in a row.
+pub const TWO_BUFFERS: Example = Example {
+    source: "procedure one (input i : 8 bits ; output o : 8 bits) is
+        variable x : 8 bits begin loop i -> x ; o <- x end end
+        procedure row (input a : 8 bits ; output b : 8 bits) is
+        channel c : 8 bits begin one (a, c) || one (c, b) end",
+    stimulus: "a = 5 7",
+};
+
 /// A value that is held until both branches have sent it.
 pub const FORK: Example = Example {
     source: "procedure p (input i : 8 bits ; output a, b : 8 bits) is
@@ -50,6 +59,18 @@ pub const ARBITER: Example = Example {
 /// Two branches, one of them with two steps.
 pub const BRANCHES: Example = Example {
     source: "procedure p is variable x, y : 8 bits begin x := 1 || [y := 2 ; y := 3] end",
+    stimulus: "",
+};
+
+/// The same in a loop, each branch with one step.
+pub const LOOP_OF_BRANCHES: Example = Example {
+    source: "procedure p is variable x, y : 8 bits begin loop x := 1 || y := 2 end end",
+    stimulus: "",
+};
+
+/// Two writes of one variable.
+pub const TWO_WRITES: Example = Example {
+    source: "procedure p is variable x : 8 bits begin x := 1 ; x := 2 end",
     stimulus: "",
 };
 

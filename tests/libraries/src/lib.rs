@@ -17,17 +17,23 @@ mod lists;
 #[cfg(test)]
 mod live_events;
 #[cfg(test)]
+mod numbered;
+#[cfg(test)]
 mod numbers;
 #[cfg(test)]
 mod one;
 #[cfg(test)]
 mod parsing;
 #[cfg(test)]
+mod rollbacks;
+#[cfg(test)]
 mod runs;
 #[cfg(test)]
 mod sessions;
 #[cfg(test)]
 mod sharing;
+#[cfg(test)]
+mod steps;
 #[cfg(test)]
 mod streams;
 #[cfg(test)]
@@ -36,6 +42,8 @@ mod systems;
 mod tokens;
 #[cfg(test)]
 mod told;
+#[cfg(test)]
+mod traces;
 #[cfg(test)]
 mod transcripts;
 #[cfg(test)]

@@ -16,17 +16,19 @@ from .scripts import long_script, script_for, script_of_breakpoints, twisted_scr
 from .sources import Style, any_style
 from .stimuli import ports_of, stimulus_for, twisted_stimulus
 from .threads import threads
+from .traces import trace_for, twisted_trace
 from .words import ANY_WORD
 
 
 @dataclass(frozen=True)
 class Case:
-    """A run of the program: check of a source, or debug of a source and a stimulus with a script."""
+    """A run of the program: check of a source, debug of a source and a stimulus with a script, or replay of a trace."""
 
     word: str
     source: bytes
     stimulus: bytes = b""
     script: bytes = b""
+    trace: bytes = b""
 
 
 def check(random: Random, words: list[str], plain: bool | None = None) -> Case:
@@ -146,6 +148,16 @@ def script_changed(random: Random) -> Case:
     return replace(case, script=twisted_script(random, case.script))
 
 
+def trace_run(random: Random) -> Case:
+    source, stimulus = threads(random) if random.random() < 0.5 else circuits(random)
+    return Case("replay", source, stimulus, trace=trace_for(random, source, stimulus))
+
+
+def trace_changed(random: Random) -> Case:
+    case = trace_run(random)
+    return replace(case, trace=twisted_trace(random, case.trace))
+
+
 def stimulus_changed(random: Random) -> Case:
     source, stimulus = threads(random) if random.random() < 0.5 else circuits(random)
     stimulus = twisted_stimulus(random, stimulus)
@@ -174,6 +186,8 @@ KINDS: dict[str, Callable[[Random], Case]] = {
     "breakpoints": breakpoints,
     "script-changed": script_changed,
     "stimulus-changed": stimulus_changed,
+    "trace-run": trace_run,
+    "trace-changed": trace_changed,
 }
 
 # Their cases are large, so they come at one seed of ten only, unless they are asked for.

@@ -27,10 +27,10 @@ SHOWN = 2000
 LINES = re.compile(rb"[^\n]*\n|[^\n]+")
 WORDS = re.compile(rb"\s*(?:\w+|[^\w\s]+)|\s+")
 BYTES = re.compile(rb".", re.DOTALL)
-# How a case is made smaller: first by large pieces, of the script before the rest.
+# How a case is made smaller: first by large pieces, of script and trace before the rest.
 PASSES = [
-    ("script", LINES), ("source", WORDS), ("stimulus", WORDS), ("script", WORDS),
-    ("source", BYTES), ("stimulus", BYTES), ("script", BYTES),
+    ("script", LINES), ("trace", LINES), ("source", WORDS), ("stimulus", WORDS), ("script", WORDS),
+    ("source", BYTES), ("stimulus", BYTES), ("script", BYTES), ("trace", BYTES),
 ]
 
 
@@ -63,8 +63,10 @@ class Comparison:
 
     def got(self, case: Case) -> Outcome | None:
         files = {"source.balsa": case.source}
-        if case.word == "debug":
+        if case.word != "check":
             files["stimulus"] = case.stimulus
+        if case.word == "replay":
+            files["trace"] = case.trace
         for name, content in files.items():
             (self.folder / name).write_bytes(content)
         try:
@@ -77,6 +79,8 @@ class Comparison:
     def wanted(self, case: Case) -> Outcome:
         if case.word == "check":
             return debugger.check(case.source)
+        if case.word == "replay":
+            return debugger.replay(case.source, case.stimulus, lambda: case.trace)
         return debugger.debug(case.source, case.stimulus, case.script)
 
     def difference(self, case: Case) -> Difference | None:
@@ -126,7 +130,7 @@ def report(comparison: Comparison, kind: str, seed: int, case: Case, found: Diff
     small = case if found.got is None else comparison.smaller(case, found.sort())
     found = comparison.difference(small) or found
     lines = [f"FAILED {kind}, seed {seed}: {case.word}"]
-    texts = {"source": small.source, "stimulus": small.stimulus, "script": small.script}
+    texts = {"source": small.source, "stimulus": small.stimulus, "script": small.script, "trace": small.trace}
     lines += [f"  {name}: {shown(text)}" for name, text in texts.items() if text]
     lines += ["  wanted", *outcome_lines(found.wanted), "  got", *outcome_lines(found.got)]
     print("\n".join(lines), flush=True)

@@ -106,8 +106,8 @@ class ScriptWriter:
         return f"rollvalue {self.name()}" if self.random.random() < 0.4 else f"roll {self.ticket()}"
 
     def tell(self) -> str:
-        word = self.random.choice(["live", "ready", "value", "value", "blame", "consequences"])
-        if word in ("live", "ready"):
+        word = self.random.choice(["live", "ready", "trace", "value", "value", "blame", "consequences"])
+        if word in ("live", "ready", "trace"):
             return word
         return f"{word} {self.ticket() if word == 'consequences' else self.name()}"
 
@@ -173,7 +173,7 @@ class ScriptWriter:
 
     def add_ends(self) -> None:
         """What stands at the end of a script, so that a state that is wrong shows."""
-        for line in ["live", "ready", "view", *(f"value {name}" for name in self.names)]:
+        for line in ["live", "ready", "view", "trace", *(f"value {name}" for name in self.names)]:
             self.add(line)
 
     def script(self) -> bytes:

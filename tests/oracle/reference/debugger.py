@@ -12,13 +12,17 @@ from .elaboration import System, elaborate
 from .faults import Number, Refused
 from .names_and_types import typed
 from .parser import Parser
-from .script import BadLine, answer
+from .script import BadLine, answer, live_lines
 from .sessions import Desk
 from .sharing import check_sharing
 from .stimulus import read_stimulus
 from .tokens import lines_of, tokens_of
+from .traces import load
 
-HELP = "program check FILE, or program debug FILE STIMULUS with a script on standard input"
+HELP = (
+    "program check FILE, program debug FILE STIMULUS with a script on standard input, "
+    "or program replay FILE STIMULUS TRACE"
+)
 DEEP_STACK = 1 << 29
 DEEP_CALLS = 1_000_000
 
@@ -68,20 +72,35 @@ def debug(source: bytes, stimulus: bytes, script: bytes) -> Outcome:
     return outcome(answers)
 
 
+def replay(source: bytes, stimulus: bytes, trace: Callable[[], bytes]) -> Outcome:
+    """The trace is read once source and stimulus are accepted."""
+    try:
+        return outcome(live_lines(load(accept(source, stimulus), trace())))
+    except Refused as refused:
+        return outcome([], refused.text())
+
+
+def content(name: str) -> bytes:
+    try:
+        with open(name, "rb") as file:
+            return file.read()
+    except OSError:
+        raise Refused(Number.READ_FAILED) from None
+
+
 def run(words: list[str], script: Callable[[], bytes]) -> Outcome:
-    """A run by its words. The files are read before anything else is done."""
+    """A run by its words. Source and stimulus are read before anything else is done."""
     if "--help" in words or "-h" in words:
         return outcome([HELP])
     words = words[:1] + words[2:] if words[1:2] == ["--"] else words
-    if (words[:1], len(words)) not in ((["check"], 2), (["debug"], 3)):
+    if (words[:1], len(words)) not in ((["check"], 2), (["debug"], 3), (["replay"], 4)):
         return Outcome(b"", HELP.encode() + b"\n", 2)
     try:
-        texts = []
-        for name in words[1:]:
-            with open(name, "rb") as file:
-                texts.append(file.read())
-    except OSError:
-        return outcome([], Refused(Number.READ_FAILED).text())
+        texts = [content(name) for name in words[1:3]]
+    except Refused as refused:
+        return outcome([], refused.text())
+    if words[0] == "replay":
+        return replay(*texts, lambda: content(words[3]))
     return check(*texts) if words[0] == "check" else debug(*texts, script())
 
 

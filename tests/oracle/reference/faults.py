@@ -29,6 +29,9 @@ class Number(IntEnum):
     NEVER_WRITTEN = 25
     BREAKS_FULL = 27
     NO_SUCH_LINE = 28
+    BAD_HEADER = 31
+    BAD_LINE = 32
+    NOT_A_STEP = 33
     READ_FAILED = 41
     WRITE_FAILED = 42
     BAD_STIMULUS = 51

@@ -5,11 +5,12 @@ from __future__ import annotations
 from collections.abc import Callable
 
 from .faults import Refused
-from .machine import Live
-from .places import read_address, text_of
+from .machine import Live, Machine
+from .places import read_address
 from .sessions import SESSIONS, Desk
 from .syntax import Variable
 from .tokens import plain_number
+from .traces import trace_of
 from .view import view
 
 
@@ -51,14 +52,16 @@ def undo(desk: Desk, field: bytes) -> list[str]:
     return [f"undone {shown(desk.machine.undo(long_number(field)))}"]
 
 
+def live_lines(machine: Machine) -> list[str]:
+    return [f"live {len(machine.live)}", *(f"  {shown(entry)}" for entry in machine.live)]
+
+
 def live(desk: Desk) -> list[str]:
-    entries = desk.machine.live
-    return [f"live {len(entries)}", *(f"  {shown(entry)}" for entry in entries)]
+    return live_lines(desk.machine)
 
 
 def trace(desk: Desk) -> list[str]:
-    events = [entry.event for entry in desk.machine.live]
-    return ["balsadbg trace 1", *(f"step {text_of(event.acting)} {event.arm}" for event in events)]
+    return trace_of(desk.machine)
 
 
 def value(desk: Desk, name: bytes) -> list[str]:

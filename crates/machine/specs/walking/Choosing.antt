@@ -1,11 +1,12 @@
 -- The event of a list that is taken, and why none is.
 -- No reader has to believe it: the proofs of `step` and `branch_step` tie it to `Steps` of `calculus` and to `StepsBranch` of `Branching.antt`.
 use Rattle.std.specs.Prelude.{◌≡◌, ◌<◌, ◌≤◌, ℕ, List, Option, Some, None, IsSome, take, slice_get, Bool, true, false, [], ◌∷◌, cond}
-use Rattle.syntax.specs.Lists.{In, Every}
+use Rattle.syntax.specs.Lists.{Every}
 use Rattle.calculus.specs.Choices.{choice_of}
+use Rattle.calculus.specs.Ready.{Chosen}
+use Rattle.calculus.specs.Steps.{State}
 use Rattle.calculus.specs.Object.{most_live, last_ticket}
 use Rattle.calculus.specs.declared.event.Event.{Event}
-use Rattle.calculus.specs.declared.event.Choice.{Choice}
 use Rattle.calculus.specs.declared.command.Refusal.{Refusal}
 use Rattle.calculus.specs.declared.command.Refusal.TheVariants.{NotReady, HistoryFull, Spent}
 use Rattle.calculus.specs.Does.{Steps, RefusesStep}
@@ -15,13 +16,9 @@ use Rattle.machine.specs.declared.branching.BranchReply.{BranchReply}
 use Rattle.machine.specs.declared.branching.BranchReply.TheVariants.{Stepped, Refused}
 use Rattle.machine.specs.Branching.{line_of, acts_in, is_free}
 
--- no event of the list has the choice
-abbrev pub HasNone : Choice → List Event → Type 0
-HasNone c es = (e : Event) → In e es → choice_of e ≡ c → ⊥
-
--- the event at place i has the choice, and none before it
-abbrev pub FirstWith : Choice → List Event → ℕ → Type 0
-FirstWith c es i = (e : Event) × (slice_get es i ≡ Some e) × (choice_of e ≡ c) × HasNone c (take i es)
+-- the event at place i of the list is the one that its choice means in S
+abbrev pub IsChosenAt : State → List Event → ℕ → Type 0
+IsChosenAt S es i = (e : Event) × (slice_get es i ≡ Some e) × Chosen S (choice_of e) e
 
 -- why no event is taken, with so many live and this ticket next: none was found, or a limit is reached
 abbrev pub NotTaken : Option Event → ℕ → ℕ → Refusal → Type 0

@@ -30,14 +30,15 @@ fresh_child_on-returns t c = λ at.
     c.in_ok-enter_child.ensures (c.in_ok-fresh_on.ensures at)
 
 pub fresh_in_turn_on-returns-then-not-starts_over : goal.fresh_in_turn_on-returns-then-not-starts_over
-fresh_in_turn_on-returns-then-not-starts_over t c = λ row.
+fresh_in_turn_on-returns-then-not-starts_over t c = λ ds row agree.
     let cs = row_of (map code_view c.args.codes.now) in
     let within : c.children.number < length c.args.codes.now = c.children-test.true in
-    let located = subst (LocatedCode c.args.table.now c.part_at-part.result) (code-at c.args.codes.now c.children.number c.index-codes-number.result within c.index-codes-number.is)
-    (c.part_at-part.ensures c.args.table.now cs row) in
+    let located = subst (LocatedCode c.args.table.now c.part_at-part.result)
+    (agree c.children.number c.children.invariant.1 ∙ code-at c.args.codes.now c.children.number c.index-codes-number.result within c.index-codes-number.is)
+    (c.part_at-part.ensures c.args.table.now ds row) in
     on_ok_weaker c.fresh_child_on.result (λ h.
     child-found c.args.channel c.args.values.now c.args.around.now c.children.around c.fresh_child_on.new.around (all_started cs) c.children.number c.args.from (started (code_view c.index-codes-number.result))
-    c.children.invariant.0 c.children.invariant.1 (fresh-at c.args.codes.now c.children.number c.index-codes-number.result within c.index-codes-number.is)
+    c.children.invariant.0 c.children.invariant.2 (fresh-at c.args.codes.now c.children.number c.index-codes-number.result within c.index-codes-number.is)
     (sym (c.starts_over.ensures c.args.values.now c.args.around.now.received) ∙ c.if-not-starts_over.true) h) (c.fresh_child_on.ensures located)
 
 pub fresh_in_turn_on-children-preserved : goal.fresh_in_turn_on-children-preserved
@@ -45,25 +46,26 @@ fresh_in_turn_on-children-preserved t c =
     let cs = row_of (map code_view c.args.codes.now) in
     let next : c.children.number + 1 ≡ suc c.children.number = omega arith in (
       c.children.invariant.0,
+      omega (arith, c.children.invariant.1),
       step-over c.args.values.now c.args.around.now.received (all_started cs) c.children.number (c.children.number + 1) (started (code_view c.index-codes-number.result))
           (fresh-at c.args.codes.now c.children.number c.index-codes-number.result c.children-test.true c.index-codes-number.is) next
           (sym (c.starts_over.ensures c.args.values.now c.args.around.now.received) ∙ c.if-not-starts_over.false)
-          ∙ c.children.invariant.1,
+          ∙ c.children.invariant.2,
     )
 
 pub fresh_in_turn_on-returns : goal.fresh_in_turn_on-returns
-fresh_in_turn_on-returns t c = λ row.
+fresh_in_turn_on-returns t c = λ ds row agree.
     none-added _ c.args.around.now c.children.around
     (ap (λ (l : Listing). on c.args.channel l.sides)
-    (sym c.children.invariant.1 ∙ fresh-past c.args.values.now c.args.around.now.received c.args.codes.now c.children.number 0 (omega arith))) c.children.invariant.0
+    (sym c.children.invariant.2 ∙ fresh-past c.args.values.now c.args.around.now.received c.args.codes.now c.children.number 0 (omega arith))) c.children.invariant.0
 
 pub fresh_on-returns-in-InTurn : goal.fresh_on-returns-in-InTurn
 fresh_on-returns-in-InTurn t c = λ at.
     let codes = c.as_slice-codes.ensures ∙ ap (λ (r : Row). r.codes) c.get-in-InTurn.ensures in
     on_ok_weaker c.fresh_in_turn_on.result (λ h. h ∙ ap (λ (l : Listing). added (on c.args.channel l.sides) c.args.around.now)
     (fresh-in-turn c.args.values.now c.args.around.now.received c.args.code.now c.in-InTurn.row c.as_slice-codes.result.now c.in-InTurn.is codes))
-    (c.fresh_in_turn_on.ensures (row-in-turn c.args.table.now c.args.part (code_view c.args.code.now) (row_of (map code_view c.as_slice-codes.result.now))
-    (is-in-turn c.args.code.now c.in-InTurn.row c.get-in-InTurn.result.now c.as_slice-codes.result.now c.in-InTurn.is c.get-in-InTurn.ensures c.as_slice-codes.ensures) at))
+    (c.fresh_in_turn_on.ensures (row_of (map code_view c.as_slice-codes.result.now)) (row-in-turn c.args.table.now c.args.part (code_view c.args.code.now) (row_of (map code_view c.as_slice-codes.result.now))
+    (is-in-turn c.args.code.now c.in-InTurn.row c.get-in-InTurn.result.now c.as_slice-codes.result.now c.in-InTurn.is c.get-in-InTurn.ensures c.as_slice-codes.ensures) at) (λ i l. refl))
 
 pub fresh_on-returns-in-Drain : goal.fresh_on-returns-in-Drain
 fresh_on-returns-in-Drain t c = λ at.

@@ -1,4 +1,4 @@
-use Rattle.std.proofs.Common.{◌≡◌, ◌-◌, length, map}
+use Rattle.std.proofs.Common.{◌≡◌, ◌≤◌, ◌-◌, length, map}
 use Rattle.process_tree.specs.Proc.{all_started}
 use Rattle.process_tree.specs.Translation.{row_of}
 use Rattle.process_tree.specs.View.{code_view}
@@ -22,6 +22,7 @@ abbrev pub invariant-fresh_in_turn_on-children : goal.invariant-fresh_in_turn_on
 invariant-fresh_in_turn_on-children l =
     let ps = all_started (row_of (map code_view l.codes)) in
     (l.around ≡ l.initial.around)
+    × (l.from ≤ l.number)
     × (listed_sequence l.values l.initial.around.received l.number 0 ps ≡ listed_sequence l.values l.initial.around.received l.from 0 ps)
 
 abbrev pub decreases-fresh_in_turn_on-children : goal.decreases-fresh_in_turn_on-children

@@ -1,5 +1,6 @@
+use Rattle.channel_uses.proofs.RunStems.{runs-keep-origin}
 use Rattle.channel_uses.proofs.Stems.{started-stems, moves-keep-origin}
 use Rattle.channel_uses.proofs.laws.moves_keep_origin.Goals as goal
 
 pub returns : goal.returns
-returns c = record { started = started-stems; moves = moves-keep-origin }
+returns c = record { started = started-stems; moves = moves-keep-origin; runs = runs-keep-origin }

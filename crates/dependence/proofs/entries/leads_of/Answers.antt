@@ -1,9 +1,10 @@
 use Rattle.std.proofs.Common.{◌≡◌, ◌∙◌, ◌↔◌, ◌≤◌, ℕ, List, length, sym, ap, subst, arith}
+use Rattle.std.specs.List.Sorted.{IsNonDecreasing}
 use Rattle.std.proofs.lemmas.Result.{IfOk-weaker}
 use Rattle.syntax.specs.Lists.{In}
 use Rattle.dependence.specs.walking.Sweeping.{StandWithin}
 use Rattle.dependence.specs.walking.Tables.{Topmost}
-use Rattle.dependence.proofs.Edges.{candidates-live}
+use Rattle.dependence.proofs.Edges.{candidates-live, candidates-alike}
 use Rattle.dependence.proofs.Sweeps.{few-falling, few-topmost}
 use Rattle.dependence.proofs.entries.leads_of.Goals as goal
 
@@ -18,10 +19,13 @@ returns-then-len-le1 c =
 pub span-low-requires : goal.span-low-requires
 span-low-requires c =
     let new = c.args.new.now in
-    let same : length c.as_slice.result.now ≡ length c.in_ok-found.found.items = ap length c.as_slice.ensures.value in
+    let sorted : List ℕ = c.ascending-sorted.result.items in
+    let same : length c.as_slice.result.now ≡ length sorted = ap length c.as_slice.ensures.value in
+    let size : length sorted ≡ length c.in_ok-found.found.items = c.ascending-sorted.ensures.length in
     record {
       rising = (new.ticket, c.requires.new.rising);
-      live = candidates-live new.live.now new.event.now c.as_slice.result.now c.in_ok-found.found.items c.as_slice.ensures.value c.in_ok-found.ensures;
+      live = candidates-live new.live.now new.event.now c.as_slice.result.now sorted c.as_slice.ensures.value
+          (candidates-alike new.live.now new.event.now c.in_ok-found.found.items sorted c.ascending-sorted.ensures.same c.in_ok-found.ensures);
       some = omega (arith, c.in_ok-found.found.ok);
     }
 
@@ -35,16 +39,18 @@ topmost-requires c =
       size = c.span-low.ensures.size;
       stand = subst (λ (k : List ℕ). StandWithin new.live.now k c.span-low.result.0 c.span-low.result.1) (c.as_slice.ensures.value ∙ sym c.as_slice-2.ensures.value)
           c.span-low.ensures.stand;
+      ascending = subst (λ (k : List ℕ). IsNonDecreasing k) (sym c.as_slice-2.ensures.value) c.ascending-sorted.ensures.ascending;
     }
 
 pub returns : goal.returns
 returns c =
     let new = c.args.new.now in
+    let sorted : List ℕ = c.ascending-sorted.result.items in
     record {
       falling = c.topmost.ensures.falling;
       topmost = IfOk-weaker c.topmost.result _ _ (λ kept tops. (
-        c.in_ok-found.found.items,
-        c.in_ok-found.ensures,
+        sorted,
+        candidates-alike new.live.now new.event.now c.in_ok-found.found.items sorted c.ascending-sorted.ensures.same c.in_ok-found.ensures,
         λ t. subst (λ (k : List ℕ). In t kept.items ↔ Topmost new.live.now k t) c.as_slice-2.ensures.value (tops t),
       )) c.topmost.ensures.topmost;
     }

@@ -1,5 +1,6 @@
 use Rattle.std.proofs.Common.{◌≡◌, ◌∙◌, ◌<◌, ◌-◌, ◌+◌, ◌↔◌, ℕ, suc, List, Bool, [], ◌∷◌, ◌++◌, cond, length, get_or, IsTrue, sym, ap, subst, arith}
 use Rattle.system.specs.Expression.{is_in}
+use Rattle.calculus.specs.InOrder.{InOrder}
 use Rattle.calculus.specs.declared.event.Event.{Event}
 use Rattle.syntax.specs.Lists.{In}
 use Rattle.dependence.specs.Followers.{ListsFollowers}
@@ -28,6 +29,13 @@ is_flagged-below-requires-clause-passed c = λ t i j on.
     let count : c.loop-place.place + length c.loop-place.flags.items ≡ c.args.high = c.loop-place.invariant.swept.count in
     let size : length c.as_slice.result.now ≡ length c.loop-place.flags.items = ap length c.as_slice.ensures.value in
     omega arith
+
+pub is_flagged-below-requires-clause-ascending : goal.is_flagged-below-requires-clause-ascending
+is_flagged-below-requires-clause-ascending c =
+    let p : ℕ = c.loop-place.place - 1 in
+    let less : p < length c.args.live.now = omega arith in
+    let here = linked-here c.args.live.now c.args.links.now p c.index-links-place.result c.requires.linked less in
+    subst (λ (k : List ℕ). InOrder ◌<◌ k) (sym c.as_slice-in-loop-place.ensures.value) here.followers.ascending
 
 pub loop-place-init : goal.loop-place-init
 loop-place-init c =

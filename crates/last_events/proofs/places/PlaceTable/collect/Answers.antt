@@ -1,9 +1,12 @@
 use Rattle.std.proofs.Common.{◌∙◌, ◌≤◌, ◌+◌, refl, sym, arith}
-use Rattle.last_events.proofs.PlaceLaws.{walked-none, walked-end, walked-stop, walked-ordered, walked-apart, falls-ordered, falls-apart, at-some, at-none, taken-length}
+use Rattle.last_events.proofs.PlaceLaws.{none-collected, walked-none, walked-end, walked-stop, walked-ordered, walked-apart, falls-ordered, falls-apart, at-some, at-none, taken-length}
 use Rattle.last_events.proofs.places.PlaceTable.collect.Goals as goal
 
 pub loop-seat-init : goal.loop-seat-init
 loop-seat-init c = record { walked = walked-none c.args.self.now c.args.first.now (c.args.parted + 1) _ c.args.found.now.items c.requires.orderly (omega (arith, c.requires.long)) refl }
+
+pub returns-then-first-parted : goal.returns-then-first-parted
+returns-then-first-parted c = none-collected c.args.self.now c.args.first.now (c.args.parted + 1) c.args.found.now.items c.if-first-parted.true
 
 pub slice_bounds-last_below-end : goal.slice_bounds-last_below-end
 slice_bounds-last_below-end c = taken-length c.loop-seat.end c.loop-seat.last.now c.loop-seat.invariant.walked.short

@@ -1,14 +1,30 @@
-use Rattle.std.proofs.Common.{refl}
-use Rattle.calculus.specs.Object.{with_event}
-use Rattle.machine.specs.walking.Histories.{execution}
-use Rattle.machine.proofs.KeptStates.{kept-same}
+use Rattle.std.proofs.Common.{◌∙◌, ap, ◌++◌, ◌∷◌, [], List}
+use Rattle.event_inverse.specs.View.{both_view}
+use Rattle.event_inverse.specs.declared.record.Inverse.{Inverse}
+use Rattle.machine.specs.walking.Histories.{tree_of}
+use Rattle.machine.proofs.Standing.{allowed-applies, below-next, allowed-behind, stands-more}
 use Rattle.machine.proofs.history.History.add.Goals as goal
 
-pub returns-in_err-entry-clause-kept : goal.returns-in_err-entry-clause-kept
-returns-in_err-entry-clause-kept c = λ system kept.
-    kept-same (execution system c.args.self.now) _ c.args.self.now.state _ (c.in_err-entry.ensures.unchanged system) c.in_err-entry.ensures.state kept
+pub apply-requires : goal.apply-requires
+apply-requires c = record { possible = allowed-applies (tree_of c.args.self.now) c.args.event c.requires.allowed }
 
-pub returns-clause-kept : goal.returns-clause-kept
-returns-clause-kept c = λ system kept.
-    kept-same (with_event (execution system c.args.self.now) c.args.event) _ c.in_ok-state.state c.in_ok-state.state (c.in_ok-entry.ensures.added system) refl
-    (c.in_ok-state.ensures system kept)
+pub enter-requires-clause-above : goal.enter-requires-clause-above
+enter-requires-clause-above c =
+    let h = c.args.self.now in
+    below-next c.args.system.now (tree_of h) h.live.live h.inverses.items h.next c.requires.holds
+
+pub enter-requires-clause-behind : goal.enter-requires-clause-behind
+enter-requires-clause-behind c =
+    let h = c.args.self.now in
+    allowed-behind c.args.system.now (tree_of h) h.live.live h.inverses.items h.next c.args.event c.in_ok-record.record.event c.shares_well.ensures
+    c.requires.holds c.requires.allowed c.in_ok-record.ensures.event
+
+pub returns-clause-holds : goal.returns-clause-holds
+returns-clause-holds c =
+    let h = c.args.self.now in
+    let h' = c.enter.new.self in
+    let entered = c.in_ok-enter.ensures.entered in
+    stands-more c.args.system.now (tree_of h) (both_view c.apply.new.tree c.apply.new.store) (tree_of h') h.live.live h'.live.live h.inverses.items h'.inverses.items
+    h.next h'.next c.args.event c.in_ok-record.record.event c.in_ok-record.record.inverse c.requires.holds c.requires.allowed c.requires.few c.requires.unspent
+    c.in_ok-record.ensures.made c.in_ok-record.ensures.event entered.tree entered.live
+    (entered.inverses ∙ ap (λ (l : List Inverse). l ++ c.in_ok-record.record.inverse ∷ []) c.in_ok-reserve.ensures.items) entered.next

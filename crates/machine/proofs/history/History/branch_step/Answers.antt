@@ -1,24 +1,56 @@
-use Rattle.std.proofs.Common.{◌≡◌, sym, subst}
-use Rattle.std.specs.Prelude.{IfOk, OnErr}
-use Rattle.calculus.specs.Sound.{Sound}
-use Rattle.machine.specs.AtMachine.{AtMachine, at_machine}
-use Rattle.machine.specs.Branching.{StepsBranch}
-use Rattle.machine.proofs.Branches.{at_machine-same}
+use Rattle.std.proofs.Common.{◌≡◌, List, false, subst}
+use Rattle.std.specs.Prelude.{MatchOption}
+use Rattle.std.proofs.lemmas.Result.{IfOk-weaker}
+use Rattle.syntax.specs.Lists.{Every}
+use Rattle.calculus.specs.declared.event.Event.{Event}
+use Rattle.event_inverse.specs.Grown.{state_of_tree}
+use Rattle.machine.specs.walking.Choosing.{FirstAt, Takes, moves, line_of_first}
+use Rattle.machine.specs.walking.Histories.{tree_of}
+use Rattle.machine.specs.AtMachine.{at_machine}
+use Rattle.machine.specs.Branching.{acts_in, in_branch, StepsBranch}
+use Rattle.machine.specs.declared.branching.BranchReply.{BranchReply}
+use Rattle.machine.proofs.Branches.{moving-with, taken-with, back-with}
+use Rattle.machine.proofs.Sites.{filter-same}
+use Rattle.machine.proofs.Standing.{stands-ready}
 use Rattle.machine.proofs.history.History.branch_step.Goals as goal
 
-pub branch_from_state-requires : goal.branch_from_state-requires
-branch_from_state-requires c = record {
-  sound = subst Sound (sym c.keep_state.ensures.same) c.requires.sound;
-  kept = c.keep_state.ensures.kept;
-}
+pub take_ready-requires : goal.take_ready-requires
+take_ready-requires c =
+    let h = at_machine c.args.system.now c.args.self.now in
+    let T = state_of_tree (tree_of c.args.self.now) in
+    let first : FirstAt (moves h c.args.branch c.args.breaks.now) c.in_ok-events.events c.in-Some.place =
+    subst (λ (k : List Event). FirstAt (moves h c.args.branch c.args.breaks.now) k c.in-Some.place) c.as_slice.ensures c.in-Some.ensures in
+    record {
+      holds = c.requires;
+      chosen = (
+        first.0,
+        first.1,
+        moving-with h c.args.branch c.args.breaks.now T c.in_ok-events.events c.in-Some.place c.in_ok-events.ensures first,
+      );
+    }
 
-pub returns-clause-done : goal.returns-clause-done
-returns-clause-done c =
-    subst
-    (λ (h : AtMachine). IfOk c.branch_from_state.result (λ reply. StepsBranch h c.args.branch c.args.breaks.now reply (at_machine c.args.system.now c.branch_from_state.new.self)))
-    (at_machine-same c.args.system.now c.args.self.now c.keep_state.new.self c.keep_state.ensures.same) c.branch_from_state.ensures.done
+pub returns-in-Some-clause-done : goal.returns-in-Some-clause-done
+returns-in-Some-clause-done c =
+    let h = at_machine c.args.system.now c.args.self.now in
+    let h' = at_machine c.args.system.now c.take_ready.new.self in
+    let T = state_of_tree (tree_of c.args.self.now) in
+    let all = stands-ready c.args.system.now (tree_of c.args.self.now) _ _ _ c.requires in
+    let first : FirstAt (moves h c.args.branch c.args.breaks.now) c.in_ok-events.events c.in-Some.place =
+    subst (λ (k : List Event). FirstAt (moves h c.args.branch c.args.breaks.now) k c.in-Some.place) c.as_slice.ensures c.in-Some.ensures in
+    IfOk-weaker c.take_ready.result (λ reply. Takes h first.0 reply h') (λ reply. StepsBranch h c.args.branch c.args.breaks.now reply h')
+    (λ reply takes.
+    taken-with h h' c.args.branch c.args.breaks.now T all.0 c.in_ok-events.events c.in-Some.place reply c.requires.run.runs all.1
+    (filter-same T (acts_in h c.args.branch) all.0 c.in_ok-events.events all.1 c.in_ok-events.ensures) first takes)
+    (c.take_ready.ensures.done first.0 first.1)
 
-pub returns-clause-unchanged : goal.returns-clause-unchanged
-returns-clause-unchanged c =
-    subst (λ (h : AtMachine). OnErr c.branch_from_state.result (at_machine c.args.system.now c.branch_from_state.new.self ≡ h))
-    (at_machine-same c.args.system.now c.args.self.now c.keep_state.new.self c.keep_state.ensures.same) c.branch_from_state.ensures.unchanged
+pub returns-in-None-clause-done : goal.returns-in-None-clause-done
+returns-in-None-clause-done c =
+    let h = at_machine c.args.system.now c.args.self.now in
+    let T = state_of_tree (tree_of c.args.self.now) in
+    let all = stands-ready c.args.system.now (tree_of c.args.self.now) _ _ _ c.requires in
+    back-with h c.args.branch c.args.breaks.now T all.0 c.in_ok-events.events c.kept_back.result c.requires.run.runs all.1
+    (filter-same T (acts_in h c.args.branch) all.0 c.in_ok-events.events all.1 c.in_ok-events.ensures)
+    (subst (λ (k : List Event). Every (λ e. moves h c.args.branch c.args.breaks.now e ≡ false) k) c.as_slice.ensures c.in-None.ensures)
+    (subst
+    (λ (k : List Event). MatchOption (line_of_first h (in_branch h c.args.branch k)) (c.kept_back.result ≡ BranchReply.Idle) (λ line. c.kept_back.result ≡ BranchReply.Stopped line))
+    c.as_slice-in-None.ensures c.kept_back.ensures)

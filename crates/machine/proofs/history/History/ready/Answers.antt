@@ -1,15 +1,14 @@
-use Rattle.machine.specs.walking.Histories.{execution}
-use Rattle.calculus.specs.Left.{state_of}
-use Rattle.machine.proofs.KeptStates.{kept-reaches}
-use Rattle.machine.proofs.Stepped.{state-formed, ready-of}
+use Rattle.std.proofs.lemmas.Result.{IfOk-weaker}
+use Rattle.calculus.specs.Object.{Reaches}
+use Rattle.calculus.specs.Ready.{ReadyList}
+use Rattle.event_inverse.specs.Grown.{state_of_tree}
+use Rattle.machine.specs.walking.Histories.{execution, tree_of}
+use Rattle.machine.proofs.Standing.{stands-tidy}
 use Rattle.machine.proofs.history.History.ready.Goals as goal
 
-pub ready_events-requires : goal.ready_events-requires
-ready_events-requires c =
-    state-formed (execution c.args.system.now c.args.self.now) (state_of c.in-Some.state) c.requires.sound
-    (kept-reaches c.args.system.now c.args.self.now c.in-Some.state c.requires.kept c.in-Some.is)
-
-pub returns-in-Some : goal.returns-in-Some
-returns-in-Some c =
-    ready-of (execution c.args.system.now c.args.self.now) c.in-Some.state c.ready_events.result
-    (kept-reaches c.args.system.now c.args.self.now c.in-Some.state c.requires.kept c.in-Some.is) c.ready_events.ensures
+pub returns : goal.returns
+returns c = λ system holds.
+    let h = c.args.self.now in
+    let T = state_of_tree (tree_of h) in
+    IfOk-weaker c.ready_events.result (λ events. ReadyList T events) (λ events. Reaches (execution system h) T × ReadyList T events)
+    (λ events listed. (holds.run.runs, listed)) (c.ready_events.ensures (stands-tidy system (tree_of h) h.live.live h.inverses.items h.next holds))

@@ -1,25 +1,37 @@
-use Rattle.std.proofs.Common.{◌≡◌, sym, subst}
-use Rattle.std.specs.Prelude.{IfOk, OnErr}
-use Rattle.calculus.specs.Object.{Object}
-use Rattle.calculus.specs.Does.{Does}
-use Rattle.calculus.specs.Sound.{Sound}
-use Rattle.calculus.specs.declared.command.Command.{Command}
-use Rattle.machine.specs.walking.Histories.{execution}
+use Rattle.std.proofs.Common.{refl}
+use Rattle.process_tree.specs.Translation.{system_code}
+use Rattle.event_inverse.specs.Grown.{state_of_tree}
+use Rattle.machine.specs.walking.Histories.{execution, tree_of}
+use Rattle.machine.proofs.Standing.{stands-stems, stands-tidy}
+use Rattle.machine.proofs.Stepped.{chosen-of, not-taken, step-done}
 use Rattle.machine.proofs.history.History.step.Goals as goal
 
-pub step_from_state-requires : goal.step_from_state-requires
-step_from_state-requires c = record {
-  sound = subst Sound (sym c.keep_state.ensures.same) c.requires.sound;
-  kept = c.keep_state.ensures.kept;
-}
+pub add-requires-clause-allowed : goal.add-requires-clause-allowed
+add-requires-clause-allowed c =
+    let h = c.args.self.now in
+    let found = c.in_ok-found.ensures (system_code c.args.system.now) c.requires.uses
+    (stands-stems c.args.system.now (tree_of h) h.live.live h.inverses.items h.next c.requires.holds)
+    (stands-tidy c.args.system.now (tree_of h) h.live.live h.inverses.items h.next c.requires.holds) in
+    (chosen-of (state_of_tree (tree_of h)) c.args.choice.now c.in_ok-found.found c.in-Ok.event found c.in-Ok.ensures.taken.0).allowed
 
-pub returns-clause-done : goal.returns-clause-done
-returns-clause-done c =
-    subst
-    (λ (o : Object). IfOk c.step_from_state.result (λ reply. Does o (Command.Step c.args.choice.now) reply (execution c.args.system.now c.step_from_state.new.self)))
-    c.keep_state.ensures.same c.step_from_state.ensures.done
+pub returns-in_ok-entry-in-Ok-clause-done : goal.returns-in_ok-entry-in-Ok-clause-done
+returns-in_ok-entry-in-Ok-clause-done c =
+    let h = c.args.self.now in
+    let T = state_of_tree (tree_of h) in
+    let found = c.in_ok-found.ensures (system_code c.args.system.now) c.requires.uses
+    (stands-stems c.args.system.now (tree_of h) h.live.live h.inverses.items h.next c.requires.holds)
+    (stands-tidy c.args.system.now (tree_of h) h.live.live h.inverses.items h.next c.requires.holds) in
+    step-done (execution c.args.system.now h) (execution c.args.system.now c.add.new.self) c.args.choice.now c.in-Ok.event T c.in_ok-entry-in-Ok.entry
+    c.requires.holds.run.runs (chosen-of T c.args.choice.now c.in_ok-found.found c.in-Ok.event found c.in-Ok.ensures.taken.0)
+    c.in-Ok.ensures.taken.1 c.in-Ok.ensures.taken.2 c.in_ok-entry-in-Ok.ensures.done c.in_ok-entry-in-Ok.ensures.added
 
-pub returns-clause-unchanged : goal.returns-clause-unchanged
-returns-clause-unchanged c =
-    subst (λ (o : Object). OnErr c.step_from_state.result (execution c.args.system.now c.step_from_state.new.self ≡ o))
-    c.keep_state.ensures.same c.step_from_state.ensures.unchanged
+pub returns-in-Err-clause-done : goal.returns-in-Err-clause-done
+returns-in-Err-clause-done c =
+    let h = c.args.self.now in
+    let found = c.in_ok-found.ensures (system_code c.args.system.now) c.requires.uses
+    (stands-stems c.args.system.now (tree_of h) h.live.live h.inverses.items h.next c.requires.holds)
+    (stands-tidy c.args.system.now (tree_of h) h.live.live h.inverses.items h.next c.requires.holds) in (
+      not-taken (execution c.args.system.now h) c.args.choice.now c.in_ok-found.found c.in-Err.why (state_of_tree (tree_of h)) c.requires.holds.run.runs
+          found c.in-Err.ensures.refused,
+      refl,
+    )

@@ -5,11 +5,11 @@ use Rattle.machine.proofs.Gathering.{last-is-last}
 use Rattle.machine.proofs.history.History.tell_blame.Goals as goal
 
 pub returns-in-Some : goal.returns-in-Some
-returns-in-Some c = λ system s. (
-  last-is-last c.args.self.now.live.items c.args.variable c.in-Some.ticket c.args.self.now.next s.rising
-      (subst (λ (l : Live). WritesLast l c.args.variable c.in-Some.ticket) c.as_slice.ensures.value c.in-Some.ensures),
+returns-in-Some c = λ system holds. (
+  last-is-last c.args.self.now.live.live c.args.variable c.in-Some.ticket c.args.self.now.next holds.sound.rising
+      (subst (λ (l : Live). WritesLast l c.args.variable c.in-Some.ticket) c.as_slice.ensures c.in-Some.ensures),
   refl,
 )
 
 pub returns-in-None : goal.returns-in-None
-returns-in-None c = λ system s. (subst (λ (l : Live). NoWriter l c.args.variable) c.as_slice.ensures.value c.in-None.ensures, refl)
+returns-in-None c = λ system holds. (subst (λ (l : Live). NoWriter l c.args.variable) c.as_slice.ensures c.in-None.ensures, refl)

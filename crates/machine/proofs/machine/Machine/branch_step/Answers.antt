@@ -1,7 +1,7 @@
 use Rattle.std.proofs.Common.{List, ℕ, subst}
 use Rattle.machine.specs.AtMachine.{AtMachine, at_machine}
 use Rattle.machine.specs.Branching.{AnswersBranch}
-use Rattle.machine.proofs.Branches.{branch-answers, answers-sound}
+use Rattle.machine.proofs.Branches.{branch-answers}
 use Rattle.machine.proofs.machine.Machine.branch_step.Goals as goal
 
 pub returns-clause-answers : goal.returns-clause-answers
@@ -13,11 +13,4 @@ returns-clause-answers c =
     c.branch_step.ensures.done c.branch_step.ensures.unchanged c.or_refused.ensures))
 
 pub invariant_of-self : goal.invariant_of-self
-invariant_of-self c =
-    let h = at_machine c.self.inside.system c.self.inside.history in
-    let h' = at_machine c.self.inside.system c.branch_step.new.self in (
-      answers-sound h h' c.args.branch c.lines.result.now c.or_refused.result c.self.invariant.0
-          (branch-answers h h' c.args.branch c.lines.result.now c.branch_step.result c.or_refused.result c.branch_step.ensures.done c.branch_step.ensures.unchanged
-          c.or_refused.ensures),
-      c.branch_step.ensures.kept,
-    )
+invariant_of-self c = (c.branch_step.ensures.holds, c.self.invariant.1)

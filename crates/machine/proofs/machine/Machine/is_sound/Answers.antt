@@ -5,4 +5,4 @@ use Rattle.machine.proofs.HeadlineLaws.{headline}
 use Rattle.machine.proofs.machine.Machine.is_sound.Goals as goal
 
 pub returns : goal.returns
-returns c = headline (object c.args.self.now) (subst (λ (h : AtMachine). Sound (object h)) c.self.view_is c.self.invariant.0)
+returns c = headline (object c.args.self.now) (subst (λ (h : AtMachine). Sound (object h)) c.self.view_is c.self.invariant.0.sound)

@@ -1,27 +1,17 @@
-use Rattle.std.proofs.Common.{subst}
+use Rattle.std.proofs.Common.{inl, subst}
 use Rattle.calculus.specs.Does.{Answers}
 use Rattle.calculus.specs.declared.command.Command.{Command}
-use Rattle.calculus.proofs.Effects.{stays-sound}
 use Rattle.machine.specs.AtMachine.{AtMachine, object}
 use Rattle.machine.specs.walking.Histories.{execution}
-use Rattle.machine.proofs.Stepped.{answers-of}
 use Rattle.machine.proofs.machine.Machine.roll_value.Goals as goal
+
+pub roll_value-requires : goal.roll_value-requires
+roll_value-requires c = (c.self.inside.system, c.self.invariant.0)
 
 pub returns-clause-answers : goal.returns-clause-answers
 returns-clause-answers c =
-    subst
-    (λ (h : AtMachine). Answers (object h) (Command.RollValue c.args.variable) c.or_no_memory.result (execution c.self.inside.system c.roll_value.new.self))
-    c.self.view_is
-    (answers-of (execution c.self.inside.system c.self.inside.history) (execution c.self.inside.system c.roll_value.new.self) (Command.RollValue c.args.variable)
-    c.roll_value.result c.or_no_memory.result (c.roll_value.ensures.done c.self.inside.system c.self.invariant.0) (c.roll_value.ensures.wanted c.self.inside.system c.self.invariant.0)
-    (c.roll_value.ensures.unchanged c.self.inside.system) c.or_no_memory.ensures)
+    subst (λ (h : AtMachine). Answers (object h) (Command.RollValue c.args.variable) c.roll_value.result (execution c.self.inside.system c.roll_value.new.self)) c.self.view_is
+    (inl (c.roll_value.ensures.answers c.self.inside.system))
 
 pub invariant_of-self : goal.invariant_of-self
-invariant_of-self c = (
-  stays-sound (execution c.self.inside.system c.self.inside.history) (Command.RollValue c.args.variable) c.or_no_memory.result
-      (execution c.self.inside.system c.roll_value.new.self) c.self.invariant.0
-      (answers-of (execution c.self.inside.system c.self.inside.history) (execution c.self.inside.system c.roll_value.new.self) (Command.RollValue c.args.variable)
-      c.roll_value.result c.or_no_memory.result (c.roll_value.ensures.done c.self.inside.system c.self.invariant.0) (c.roll_value.ensures.wanted c.self.inside.system c.self.invariant.0)
-      (c.roll_value.ensures.unchanged c.self.inside.system) c.or_no_memory.ensures),
-  c.roll_value.ensures.kept c.self.inside.system c.self.invariant.1,
-)
+invariant_of-self c = (c.roll_value.ensures.holds c.self.inside.system c.self.invariant.0, c.self.invariant.1)

@@ -1,6 +1,0 @@
-use Rattle.std.proofs.Common.{◌≡◌, drop}
-use Rattle.system.specs.Expression.{is_in}
-use Rattle.dependence.proofs.topmost.is_among.Given as goal
-
-abbrev pub invariant-loop-held : goal.invariant-loop-held
-invariant-loop-held l = is_in l.number (drop l.held-index l.numbers) ≡ is_in l.number l.numbers

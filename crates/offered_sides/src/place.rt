@@ -1,0 +1,39 @@
+// The first step of a place.
+ghost use Rattle.std.specs.Prelude.{◌≡◌, ℕ, ◌∷◌, MatchOption};
+ghost use Rattle.address.specs.declared.Entry.TheVariants.{Ordered as IsOrdered, Branch as IsBranch};
+ghost use Rattle.calculus.specs.Moves.{Place};
+
+use address::Entry;
+
+/// The number of the child or act of a sequence, and the place below it.
+pub(crate) fn ordered_step(place: &[Entry]) -> Option<(u32, &[Entry])>
+    ensures { MatchOption result ((n : ℕ) (a : Place) → place.now ≡ IsOrdered n ∷ a → ⊥) (λ step. place.now ≡ IsOrdered step.0 ∷ step.1.now) }
+{
+    let (first, below) = place.split_first()?;
+    match first {
+        Entry::Ordered(number) => Some((*number, below)),
+        Entry::Branch(_) => None,
+    }
+}
+
+/// The number of the branch of a parallel, and the place below it.
+pub(crate) fn branch_step(place: &[Entry]) -> Option<(u32, &[Entry])>
+    ensures { MatchOption result ((n : ℕ) (a : Place) → place.now ≡ IsBranch n ∷ a → ⊥) (λ step. place.now ≡ IsBranch step.0 ∷ step.1.now) }
+{
+    let (first, below) = place.split_first()?;
+    match first {
+        Entry::Ordered(_) => None,
+        Entry::Branch(number) => Some((*number, below)),
+    }
+}
+
+/// The place below the child of this number.
+pub(crate) fn below_child(place: &[Entry], number: u64) -> Option<&[Entry]>
+    ensures { MatchOption result ((a : Place) → place.now ≡ IsOrdered number ∷ a → ⊥) (λ below. place.now ≡ IsOrdered number ∷ below.now) }
+{
+    let (first, below) = ordered_step(place)?;
+    if u64::from(first) == number {
+        return Some(below);
+    }
+    None
+}
