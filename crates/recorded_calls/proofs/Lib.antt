@@ -1,0 +1,4 @@
+pub mod Beginnings
+pub mod Seating
+pub mod StepLaws
+pub mod Calling
