@@ -1,6 +1,7 @@
 -- The events in which listed sides act are those that are allowed.
 use Rattle.std.proofs.Common.{◌≡◌, ◌⊎◌, inl, inr, ◌==◌, List, [], ◌∷◌, ◌++◌, Bool, true, false, cond, Option, Some, None, refl, sym, ◌∙◌, ap, subst}
 use Rattle.std.proofs.lemmas.Bool.{eqb-true, eq-eqb, and_parts, and_from}
+use Rattle.std.proofs.lemmas.List.{append-nil}
 use Rattle.std.specs.Prelude.{◌↔◌}
 use Rattle.address.specs.declared.Entry.TheVariants.{Ordered, Branch}
 use Rattle.syntax.specs.Lists.{In}
@@ -15,6 +16,7 @@ use Rattle.rendezvous.specs.ReadyBelow.{Under}
 use Rattle.offered_sides.specs.Sides.{Offered, OffersExactly}
 use Rattle.rendezvous.specs.walking.Meeting.{solo, met, met_with, acted, is_under, acted_below}
 use Rattle.offered_sides.specs.declared.side.OfferedSide.{OfferedSide}
+use Rattle.offered_sides.specs.declared.side.Side.{Side}
 use Rattle.rendezvous.proofs.FromSides.{BySides, alone, meets, by_sides, sides_allowed, solo-acts, met-acts}
 
 -- the test of places
@@ -54,6 +56,14 @@ those-in None e rest h = inr h
 those-in (Some f) e rest h = elim h [ inl u ↦ inl (ap (λ (x : Event). Some x) (sym u)) | inr u ↦ inr u ]
 
 -- the event of l with one of the list
+-- nothing is met by a side that acts with no other
+none-met : (l : OfferedSide) (ks : List OfferedSide) → ((b a : Place) (y : Side) → met b l.side a y ≡ None) → met_with l ks ≡ []
+none-met l [] none = refl
+none-met l (k ∷ ks) none = ap (λ (o : Option Event). those o (met_with l ks)) (none l.place k.place k.side) ∙ none-met l ks none
+
+pub nothing-met : (l : OfferedSide) (ks : List OfferedSide) (es : List Event) → ((b a : Place) (y : Side) → met b l.side a y ≡ None) → es ≡ es ++ met_with l ks
+nothing-met l ks es none = sym (append-nil es) ∙ ap (λ (fs : List Event). es ++ fs) (sym (none-met l ks none))
+
 pub in-met : (l k : OfferedSide) (ks : List OfferedSide) (e : Event) → In k ks → met l.place l.side k.place k.side ≡ Some e → In e (met_with l ks)
 in-met l k [] e i h = absurd i
 in-met l k (o ∷ ks) e i h =

@@ -1,12 +1,14 @@
 // The events in which sides act.
-ghost use Rattle.std.specs.Prelude.{◌≡◌, ◌++◌, [], cond, IfOk, OnOk};
+ghost use Rattle.std.specs.Prelude.{◌≡◌, ◌++◌, [], false, None, cond, IfOk, OnOk};
+ghost use Rattle.calculus.specs.Moves.{Place};
 ghost use Rattle.calculus.specs.walking.AllowedEvents.{those};
+ghost use Rattle.offered_sides.specs.declared.side.Side as any_side;
 ghost use Rattle.rendezvous.specs.walking.Meeting as model;
 
 use crate::meeting::{met, solo};
 use address::Entry;
 use calculus::Event;
-use offered_sides::OfferedSide;
+use offered_sides::{OfferedSide, Side};
 use std::alloc::{AllocError, Global};
 use syntax::Items;
 
@@ -52,11 +54,28 @@ pub(crate) fn add_met(
 ) -> Result<(), AllocError>
     ensures { OnOk result (events.new ≡ events.old ++ model.met_with one.now others.now) }
 {
+    if !acts_with_another(&one.side) {
+        return Ok(());
+    }
     for other in others {
         let event = met(alloc, &one.place, &one.side, &other.place, &other.side)?;
         add(event, events)?;
     }
     Ok(())
+}
+
+/// Whether there are events of two sides in which such a side is the one that acts.
+fn acts_with_another(side: &Side) -> bool
+    ensures { result ≡ false → (b a : Place) (y : any_side.Side) → model.met b side.now a y ≡ None }
+{
+    match side {
+        Side::Receives(_, _) | Side::Opens(_, _) | Side::Closes(_) | Side::Syncs(_) => true,
+        Side::Assigns(_, _, _)
+        | Side::Tests(_, _)
+        | Side::Turns
+        | Side::Sends(_, _, _)
+        | Side::Releases(_) => false,
+    }
 }
 
 /// Adds the event, if there is one.
