@@ -1,8 +1,6 @@
 -- Beginnings of one list, and the calls of one pass in it.
-use Rattle.std.proofs.Common.{◌≡◌, ◌≢◌, ◌⊎◌, inl, inr, ℕ, zero, suc, ◌+◌, ◌≤◌, ◌<◌, List, [], ◌∷◌, ◌++◌, length, Bool, true, false, eqb, eq-eqb, ne_eqb, refl, ap, sym, ◌∙◌, subst, arith, append_assoc, append-nil, length-append}
+use Rattle.std.proofs.Common.{◌≡◌, ◌≢◌, ◌⊎◌, inl, inr, ℕ, ◌≤◌, List, [], ◌∷◌, ◌++◌, length, Bool, true, false, eqb, eq-eqb, ne_eqb, refl, ap, sym, ◌∙◌, arith, append_assoc, append-nil, length-append}
 use mathlib.Core.List.{IsPrefix}
-use mathlib.Core.Logic.{dite}
-use native.Mathlib.Decide.{ℕ_discrete}
 use Rattle.recorded_calls.specs.declared.entry.Entry.{Entry}
 use Rattle.recorded_calls.specs.History.{kept_if, calls_by}
 

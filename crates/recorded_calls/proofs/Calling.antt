@@ -1,19 +1,19 @@
 -- The steps at a seat whose view is known by an equation, and what the calls add up to.
-use Rattle.std.proofs.Common.{◌≡◌, ℕ, ◌+◌, ◌%◌, ◌^◌, ◌≤◌, ◌<◌, List, [], ◌∷◌, ◌++◌, length, refl, ap, sym, ◌∙◌, subst}
+use Rattle.std.proofs.Common.{◌≡◌, ℕ, ◌+◌, ◌%◌, ◌^◌, ◌≤◌, ◌<◌, List, [], ◌∷◌, ◌++◌, length, ap, sym, ◌∙◌, subst}
 use mathlib.Core.Option.{none}
 use mathlib.Core.List.{IsPrefix}
 use Rattle.atomic_table.specs.Table.{Me, step, Allows, Splits, Joins}
 use Rattle.atomic_table.specs.Seated.{TableId}
 use Rattle.recorded_calls.specs.declared.entry.Entry.{Entry}
 use Rattle.recorded_calls.specs.declared.view.View.{View}
-use Rattle.recorded_calls.specs.declared.view.View.TheVariants.{Nobody, Keeper, Speaker, Letter, Claim}
+use Rattle.recorded_calls.specs.declared.view.View.TheVariants.{Nobody, Letter, Claim}
 use Rattle.recorded_calls.specs.declared.view.Claimed.{Claimed}
 use Rattle.recorded_calls.specs.declared.board.Pass.{Pass}
 use Rattle.recorded_calls.specs.History.{calls_by, IsLegal}
 use Rattle.recorded_calls.specs.Kept.{Kept}
-use Rattle.recorded_calls.specs.Steps.{keeper_at, pass_at, one_more, newcomer_of, letter_of, reads, hears, Announces, Records, Adopts, Looks, Takes}
+use Rattle.recorded_calls.specs.Steps.{keeper_at, pass_at, one_more, newcomer_of, reads, hears, Announces, Records, Adopts, Looks, Takes}
 use Rattle.recorded_calls.specs.Seats.{seen_in, own_in, number_in, IsPassOf}
-use Rattle.recorded_calls.proofs.Beginnings.{prefix_trans, prefix_both, calls_prefix, calls_here}
+use Rattle.recorded_calls.proofs.Beginnings.{prefix_both, calls_prefix, calls_here}
 use Rattle.recorded_calls.proofs.StepLaws.{saying, hearing, makes, reads_letter, hears_claim, announces, records, adopts, looks, takes}
 
 module _ {O C R : Type 0} (performs : O → ℕ → C → R → O → Type 0) (opening : O) where

@@ -1,13 +1,13 @@
 -- Each step keeps the rule.
-use Rattle.std.proofs.Common.{◌≡◌, ◌≢◌, ◌⊎◌, inl, inr, ℕ, zero, suc, ◌+◌, ◌%◌, ◌^◌, ◌≤◌, ◌<◌, List, [], ◌∷◌, ◌++◌, length, set, refl, ap, sym, ◌∙◌, subst, ⊎_elim, arith, append-nil, length-append}
+use Rattle.std.proofs.Common.{◌≡◌, ◌≢◌, ◌⊎◌, inl, inr, ℕ, ◌+◌, ◌%◌, ◌^◌, ◌≤◌, ◌<◌, List, [], ◌∷◌, ◌++◌, length, set, refl, ap, sym, ◌∙◌, subst, ⊎_elim, arith, append-nil, length-append}
 use Rattle.std.specs.Prelude.{slice_index, slice_set}
-use mathlib.Core.Option.{Option, some, none, some-ne-none, some-injective}
+use mathlib.Core.Option.{Option, some, none, some-ne-none}
 use mathlib.Core.List.{IsPrefix}
 use mathlib.Core.Logic.{dite}
 use native.Mathlib.Decide.{ℕ_discrete}
 use lib.ListN.{get_elem?}
 use Rattle.atomic_table.proofs.Lists.{at_set, set_again, set_here, set_else, at_longer}
-use Rattle.atomic_table.specs.Table.{State, Me, Act, keeps, step, Allows, Splits, Joins, opening as at_opening}
+use Rattle.atomic_table.specs.Table.{State, keeps, step, Allows, Splits, Joins, opening as at_opening}
 use Rattle.recorded_calls.specs.declared.entry.Entry.{Entry}
 use Rattle.recorded_calls.specs.declared.view.View.{View}
 use Rattle.recorded_calls.specs.declared.view.View.TheVariants.{Nobody, Keeper, Speaker, Letter, Claim}
@@ -15,8 +15,8 @@ use Rattle.recorded_calls.specs.declared.view.Keeping.{Keeping}
 use Rattle.recorded_calls.specs.declared.view.Passing.{Passing}
 use Rattle.recorded_calls.specs.declared.view.Claimed.{Claimed}
 use Rattle.recorded_calls.specs.History.{calls_by, IsLegal}
-use Rattle.recorded_calls.specs.Kept.{Account, ClaimHolds, KeeperFits, SpeakerFits, Fits, Kept}
-use Rattle.recorded_calls.specs.Steps.{no_claim, keeper_at, pass_at, one_more, newcomer_of, letter_of, with_letter, reads, claim_of, with_claim, hears, announced, recorded, adopted, OwnAreAll, SawNoMore, Announces, Records, Adopts, LooksAt, Looks, Takes}
+use Rattle.recorded_calls.specs.Kept.{Account, SpeakerFits, Fits, Kept}
+use Rattle.recorded_calls.specs.Steps.{no_claim, keeper_at, pass_at, one_more, newcomer_of, letter_of, with_letter, claim_of, with_claim, Announces, Records, Adopts, Looks, Takes}
 use Rattle.recorded_calls.proofs.Beginnings.{prefix_same, prefix_trans, prefix_more, prefix_length, prefix_both, calls_prefix, calls_here, calls_else, changed, changed_here, changed_else, next_said}
 use Rattle.recorded_calls.proofs.Seating.{at_below, set_length, at_one, all_set, all_more}
 

@@ -2,6 +2,10 @@
 use Rattle.std.specs.Prelude.{◌≡◌, ℕ, List, [], ◌∷◌, Bool, true, false, ◌==◌}
 use Rattle.recorded_calls.specs.declared.entry.Entry.{Entry}
 
+-- a call of the pass of this number
+abbrev pub entry_of : {C R : Type 0} → ℕ → C → R → Entry C R
+entry_of n c r = record { pass = n; command = c; reply = r }
+
 -- the element first, where the test holds
 abbrev pub kept_if : {X : Type 0} → Bool → X → List X → List X
 kept_if true x xs = x ∷ xs

@@ -1,11 +1,11 @@
 -- What a contract says of a pass and of the keeper's seat.
-use Rattle.std.specs.Prelude.{◌≡◌, ℕ, List, [], ◌∷◌}
+use Rattle.std.specs.Prelude.{◌≡◌, ℕ, List, []}
 use Rattle.atomic_table.specs.Seated.{TableId}
 use Rattle.recorded_calls.specs.History.{calls_by}
 use Rattle.recorded_calls.specs.Steps.{keeper_at, pass_at}
 use Rattle.recorded_calls.specs.declared.entry.Entry.{Entry}
 use Rattle.recorded_calls.specs.declared.view.View.{View}
-use Rattle.recorded_calls.specs.declared.view.View.TheVariants.{Nobody, Keeper, Speaker, Letter, Claim}
+use Rattle.recorded_calls.specs.declared.view.View.TheVariants.{Keeper, Speaker}
 use Rattle.recorded_calls.specs.declared.board.Pass.{Pass}
 use Rattle.recorded_calls.specs.declared.board.Scribe.{Scribe}
 

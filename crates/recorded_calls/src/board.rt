@@ -2,7 +2,7 @@
 ghost use Rattle.std.specs.Prelude.{◌≡◌};
 
 use crate::plays::{Adopt, Announce, Claims, Look, Makes, Naming, Record, Take, Tells};
-use crate::{Entry, Recording, Sequential, View};
+use crate::{Recording, Sequential, View};
 use atomic_table::{Seat, Table};
 use std::alloc::{AllocError, Global};
 use std::marker::Brand;
@@ -29,7 +29,7 @@ pub struct Pass<O, C, R> {
 impl<O, C, R, P: Sequential<O, C, R>> Board<O, C, R, P> {
     ghost use Rattle.std.specs.Prelude.{◌^◌, ◌+◌, ◌<◌, [], ◌∷◌, ◌++◌, length, IfOk};
     ghost use mathlib.Core.List.{IsPrefix};
-    ghost use Rattle.recorded_calls.specs.History.{IsLegal};
+    ghost use Rattle.recorded_calls.specs.History.{IsLegal, entry_of};
     ghost use Rattle.recorded_calls.specs.declared.entry.Entry.{Entry};
     ghost use Rattle.recorded_calls.specs.Seats.{IsPassOf, IsScribeOf, seen, own, number, noted, made};
 
@@ -56,26 +56,26 @@ impl<O, C, R, P: Sequential<O, C, R>> Board<O, C, R, P> {
         }
     }
 
-    /// Records a call of the pass, which the object has answered from the state after the noted history.
+    /// Records a call of the pass: what it asked, and what the object has replied from the state after the noted history.
     pub fn record(
         &self,
         scribe: &mut Scribe<O, C, R>,
         pass: &mut Pass<O, C, R>,
-        entry: &Entry<C, R>,
+        command: &C,
+        reply: &R,
     )
         requires scribe { IsScribeOf self.now.table.shared.table_id self.now.table.shared.key scribe.old }
         requires pass { IsPassOf self.now.table.shared.table_id self.now.table.shared.key pass.old }
-        requires number { entry.now.pass ≡ number pass.old }
-        requires legal { IsLegal P.performs self.now.table.shared.key (noted scribe.old ++ entry.now ∷ []) }
+        requires legal { IsLegal P.performs self.now.table.shared.key (noted scribe.old ++ entry_of (number pass.old) command.now reply.now ∷ []) }
         requires room { length (noted scribe.old) < 2 ^ 63 }
         ensures scribe { IsScribeOf self.now.table.shared.table_id self.now.table.shared.key scribe.new × (made scribe.new ≡ made scribe.old) }
-        ensures noted { noted scribe.new ≡ noted scribe.old ++ entry.now ∷ [] }
+        ensures noted { noted scribe.new ≡ noted scribe.old ++ entry_of (number pass.old) command.now reply.now ∷ [] }
         ensures pass { IsPassOf self.now.table.shared.table_id self.now.table.shared.key pass.new × (number pass.new ≡ number pass.old) }
-        ensures seen { seen pass.new ≡ noted scribe.old ++ entry.now ∷ [] }
-        ensures own { own pass.new ≡ own pass.old ++ entry.now ∷ [] }
+        ensures seen { seen pass.new ≡ noted scribe.new }
+        ensures own { own pass.new ≡ own pass.old ++ entry_of (number pass.old) command.now reply.now ∷ [] }
         ensures before { IsPrefix (seen pass.old) (noted scribe.old) }
     {
-        self.record_named::<Brand>(scribe, pass, entry);
+        self.record_named::<Brand>(scribe, pass, command, reply);
     }
 
     // The same, with the entry by its name, from which the step that announces takes it.
@@ -83,7 +83,8 @@ impl<O, C, R, P: Sequential<O, C, R>> Board<O, C, R, P> {
         &self,
         scribe: &mut Scribe<O, C, R>,
         pass: &mut Pass<O, C, R>,
-        _entry: &Entry<C, R>,
+        _command: &C,
+        _reply: &R,
     )
         requires scribe { IsScribeOf self.now.table.shared.table_id self.now.table.shared.key scribe.old }
         requires pass { IsPassOf self.now.table.shared.table_id self.now.table.shared.key pass.old }

@@ -1,8 +1,8 @@
-use Rattle.std.proofs.Common.{rules, ◌≡◌, ◌+◌, ◌<◌, ◌≤◌, ℕ, List, [], ◌∷◌, ◌++◌, length, refl, ap, sym, ◌∙◌, subst, arith, append-nil}
-use Rattle.recorded_calls.specs.Seats.{IsPassOf, IsScribeOf, seen, own, number, noted, made, seen_in, own_in, number_in}
-use Rattle.recorded_calls.specs.Steps.{keeper_at, pass_at, letter_of, claim_of, reads, hears, announced, recorded, adopted, OwnAreAll, SawNoMore, LooksAt}
-use Rattle.recorded_calls.proofs.Calling.{makes_at, reads_at, hears_at, announces_at, records_at, adopts_at, looks_at, takes_at, calls_same, calls_recorded, is_pass}
-use Rattle.recorded_calls.proofs.StepLaws.{begins, tells, claims, saying, hearing}
+use Rattle.std.proofs.Common.{◌≡◌, [], ◌++◌, length, ap, sym, ◌∙◌, subst, arith}
+use Rattle.recorded_calls.specs.Seats.{seen, own, number, noted, made, number_in}
+use Rattle.recorded_calls.specs.Steps.{keeper_at, pass_at, letter_of, claim_of, reads, hears, announced, recorded, adopted, OwnAreAll, SawNoMore}
+use Rattle.recorded_calls.proofs.Calling.{reads_at, hears_at, announces_at, records_at, adopts_at, calls_recorded, is_pass}
+use Rattle.recorded_calls.proofs.StepLaws.{tells, claims, saying, hearing}
 use Rattle.recorded_calls.proofs.board.Board.record_named.Goals as goal
 
 pub split_seat-letter-requires : goal.split_seat-letter-requires

@@ -1,0 +1,15 @@
+-- One call more at the end of a history.
+use Rattle.std.proofs.Common.{◌≡◌, ℕ, ◌+◌, List, [], ◌∷◌, ◌++◌, length, refl, ap, ◌∙◌, subst, arith}
+use Rattle.std.proofs.lemmas.List.{length-append}
+use Rattle.recorded_calls.specs.History.{Replays, entry_of}
+use Rattle.recorded_calls.specs.declared.entry.Entry.{Entry}
+
+module _ {D C R : Type 0} (performs : D → ℕ → C → R → D → Type 0) where
+  -- what the object replies behind a history makes the history longer
+  pub replays_more : (s m t : D) (log : List (Entry C R)) (n : ℕ) (c : C) (r : R) → Replays performs s log m → performs m n c r t → Replays performs s (log ++ entry_of n c r ∷ []) t
+  replays_more s m t [] n c r is done = (t, subst (λ (x : D). performs x n c r t) is done, refl)
+  replays_more s m t (e ∷ log) n c r (u, first, rest) done = (u, first, replays_more u m t log n c r rest done)
+
+  -- and one longer
+  pub one_more : (calls : ℕ) (log longer : List (Entry C R)) (e : Entry C R) → calls ≡ length log → longer ≡ log ++ e ∷ [] → calls + 1 ≡ length longer
+  one_more calls log longer e counted is = let l = ap length is ∙ length-append log (e ∷ []) in omega arith

@@ -1,0 +1,5 @@
+pub mod Guards
+pub mod Keepers
+pub mod Lock
+pub mod Passes
+pub mod Sharing

@@ -1,0 +1,23 @@
+-- What a contract says of a pass.
+use Rattle.std.specs.Prelude.{ℕ, List}
+use Rattle.atomic_table.specs.Seated.{TableId}
+use Rattle.recorded_calls.specs.Seats as seats
+use Rattle.recorded_calls.specs.declared.entry.Entry.{Entry}
+use Rattle.locked_object.specs.declared.pass.Pass.{Pass}
+
+module _ {D C R : Type 0} where
+  -- the number of the pass
+  abbrev pub number : Pass D C R → ℕ
+  number p = p.number
+
+  -- the history that it has seen
+  abbrev pub seen : Pass D C R → List (Entry C R)
+  seen p = seats.seen p.seat
+
+  -- the calls that it has made
+  abbrev pub own : Pass D C R → List (Entry C R)
+  own p = seats.own p.seat
+
+  -- a pass between its calls, at the word of this table, with this opening
+  abbrev pub IsPassOf : TableId → D → Pass D C R → Type 0
+  IsPassOf table opening p = seats.IsPassOf table opening p.seat

@@ -1,0 +1,54 @@
+// The object under the lock, and the seat that notes the recorded history.
+use crate::{NotRecorded, Object, Pass, Replies};
+use recorded_calls::{Board, Scribe};
+
+/// The object, the number of recorded calls, and the seat that notes them.
+#[derive(Drop)]
+pub struct Keeper<D, C, R> {
+    pub(crate) object: D,
+    pub(crate) calls: u64,
+    pub(crate) scribe: Scribe<D, C, R>,
+}
+
+/// So many calls can be recorded.
+const MOST_CALLS: u64 = 1 << 63;
+
+impl<C, R, D: Object<C, R>> Keeper<D, C, R> {
+    ghost use Rattle.std.specs.Prelude.{◌≡◌, ◌++◌, ◌∷◌, ◌^◌, ◌≤◌, [], length, IfOk, OnOk, IfErr, OnErr};
+    ghost use mathlib.Core.List.{IsPrefix};
+    ghost use Rattle.recorded_calls.specs.History.{entry_of};
+    ghost use Rattle.locked_object.specs.Keepers.{IsKeeperOf, history, NotRecordedBy};
+    ghost use Rattle.locked_object.specs.Passes.{IsPassOf, number, seen, own};
+
+    /// Performs the command of a pass on the object, and records it with its reply.
+    pub fn perform(
+        &mut self,
+        board: &Board<D, C, R, Replies<D>>,
+        pass: &mut Pass<D, C, R>,
+        command: &C,
+    ) -> Result<R, NotRecorded<R>>
+        requires keeper { IsKeeperOf D.performs board.now.table.shared.table_id board.now.table.shared.key self.old }
+        requires pass { IsPassOf board.now.table.shared.table_id board.now.table.shared.key pass.old }
+        ensures keeper { IsKeeperOf D.performs board.now.table.shared.table_id board.now.table.shared.key self.new }
+        ensures pass { IsPassOf board.now.table.shared.table_id board.now.table.shared.key pass.new × (number pass.new ≡ number pass.old) }
+        ensures performed { IfOk result (λ reply. D.performs self.old.object (number pass.old) command.now reply self.new.object) }
+        ensures noted { IfOk result (λ reply. history self.new ≡ history self.old ++ entry_of (number pass.old) command.now reply ∷ []) }
+        ensures own { IfOk result (λ reply. own pass.new ≡ own pass.old ++ entry_of (number pass.old) command.now reply ∷ []) }
+        ensures seen { OnOk result (seen pass.new ≡ history self.new) }
+        ensures before { OnOk result (IsPrefix (seen pass.old) (history self.old)) }
+        ensures refused { IfErr result (NotRecordedBy D.refuses self.old (number pass.old) command.now) }
+        ensures same { OnErr result ((self.new ≡ self.old) × (pass.new ≡ pass.old)) }
+    {
+        if self.calls >= MOST_CALLS {
+            return Err(NotRecorded::Full);
+        }
+        match self.object.perform(pass.number, command) {
+            Ok(reply) => {
+                board.record(&mut self.scribe, &mut pass.seat, command, &reply);
+                self.calls += 1;
+                Ok(reply)
+            }
+            Err(reply) => Err(NotRecorded::Refused(reply)),
+        }
+    }
+}

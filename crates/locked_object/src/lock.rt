@@ -1,0 +1,36 @@
+// The lock: a perch on which the vault's only seat rests while nobody has it.
+use atomic_table::{PerchPlay, PerchRule};
+
+/// What one caller knows of the lock.
+pub enum Hold {
+    Free,
+    Held,
+}
+
+/// The rule: at most one caller has the lock, and none while the seat rests on it.
+pub struct OneHolder;
+
+impl PerchRule<Hold> for OneHolder {
+    ghost use Rattle.locked_object.specs.Lock.{OneHolds};
+    ghost use Rattle.locked_object.specs.declared.lock.Hold.TheVariants.{Held};
+
+    ghost holds = { OneHolds };
+
+    ghost first = { Held };
+}
+
+pub(crate) struct Locks;
+
+impl PerchPlay<Hold> for Locks {
+    ghost use Rattle.locked_object.specs.Lock.{Locked};
+
+    ghost then = { λ _ _ _. Locked };
+}
+
+pub(crate) struct Unlocks;
+
+impl PerchPlay<Hold> for Unlocks {
+    ghost use Rattle.locked_object.specs.Lock.{Unlocked};
+
+    ghost then = { λ _ _ _ found _. Unlocked found };
+}

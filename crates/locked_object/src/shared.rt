@@ -1,0 +1,227 @@
+// The object under its lock.
+ghost use Rattle.std.specs.Prelude.{◌≡◌, ◌≤◌, [], length, IfOk, OnOk, IfErr, OnErr};
+ghost use mathlib.Core.List.{IsPrefix};
+ghost use Rattle.recorded_calls.specs.History.{IsLegal};
+ghost use Rattle.recorded_calls.specs.Seats.{IsScribeOf, noted, made};
+ghost use Rattle.locked_object.specs.Guards.{TakesOut};
+ghost use Rattle.locked_object.specs.Keepers.{IsKeeperOf};
+ghost use Rattle.locked_object.specs.Passes.{IsPassOf, number, seen, own};
+ghost use Rattle.locked_object.specs.Sharing.{NewPasses, Recorded, Unrecorded};
+ghost use Rattle.locked_object.specs.declared.keeper.Keeper as any;
+ghost use Rattle.locked_object.specs.declared.lock.Hold.TheVariants.{Held};
+ghost use Rattle.locked_object.specs.declared.vault.Place.TheVariants.{Home};
+
+use crate::lock::{Hold, Locks, OneHolder, Unlocks};
+use crate::naming::Knowing;
+use crate::vault::{Gives, Guarded, Place, Takes};
+use crate::{Keeper, NotRecorded, Object, Pass, Replies};
+use atomic_table::{Mark, RuledPerch, Seat, Table};
+use recorded_calls::{Board, Scribe};
+use std::alloc::{AllocError, Global};
+use std::marker::Brand;
+use std::sync::Wait;
+use std::thread::yield_now;
+
+/// The keeper in its vault.
+type Vault<C, R, D> = Table<Keeper<D, C, R>, Place, Board<D, C, R, Replies<D>>, Guarded<D>, Global>;
+
+/// The vault's only seat.
+type Key<C, R, D> = Seat<Keeper<D, C, R>, Place>;
+
+/// An object under a lock, and the word of its recorded calls.
+#[derive(Drop)]
+pub struct Shared<C, R, D: Object<C, R>> {
+    board: Board<D, C, R, Replies<D>>,
+    vault: Vault<C, R, D>,
+    lock: RuledPerch<Keeper<D, C, R>, Place, Hold, OneHolder>,
+    pub ghost guards: { vault.shared.key ≡ board },
+    pub ghost one_keeper: { (vault.shared.table_id.words ≡ 1) × (vault.shared.table_id.slots ≡ 1) },
+    pub ghost rests: { (lock.table_id ≡ vault.shared.table_id) × (lock.view ≡ Home) },
+}
+
+impl<C, R, D: Object<C, R>> Shared<C, R, D> {
+    /// The object under a lock, and so many passes, at most 16, numbered from 0.
+    pub fn new(
+        alloc: Global,
+        object: D,
+        count: u32,
+    ) -> Result<(Shared<C, R, D>, Vec<Pass<D, C, R>>), AllocError>
+        requires { count ≤ 16 }
+        ensures opening { IfOk result (λ s. s.0.board.table.shared.key ≡ object) }
+        ensures passes { IfOk result (λ s. NewPasses s.0.board.table.shared.table_id s.0.board.table.shared.key count s.1.items) }
+    {
+        let (board, mut scribe) = Board::new(alloc, &object)?;
+        let passes = new_passes(alloc, &board, &mut scribe, count)?;
+        let keeper = Keeper {
+            object,
+            calls: 0,
+            scribe,
+        };
+        let (vault, seat) = vault_of(alloc, &board, keeper)?;
+        let (lock, mark) = RuledPerch::new(&seat, 0);
+        let shared = Shared { board, vault, lock };
+        shared.unlock(mark, seat);
+        Ok((shared, passes))
+    }
+
+    /// Performs the command of a pass under the lock, for which it may wait, and records it with its reply.
+    pub fn call<W: Wait>(
+        &self,
+        rt: &W,
+        pass: &mut Pass<D, C, R>,
+        command: &C,
+    ) -> Result<R, NotRecorded<R>>
+        requires { IsPassOf self.now.board.table.shared.table_id self.now.board.table.shared.key pass.old }
+        ensures pass { IsPassOf self.now.board.table.shared.table_id self.now.board.table.shared.key pass.new × (number pass.new ≡ number pass.old) }
+        ensures recorded { IfOk result (λ reply. Recorded pass.old command.now reply pass.new) }
+        ensures legal { OnOk result (IsLegal D.performs self.now.board.table.shared.key (seen pass.new)) }
+        ensures refused { IfErr result (Unrecorded D.performs D.refuses self.now.board.table.shared.key (number pass.old) command.now) }
+        ensures same { OnErr result (pass.new ≡ pass.old) }
+    {
+        let (mark, mut seat) = self.lock(rt);
+        let told = self.call_at(&mut seat, pass, command);
+        self.unlock(mark, seat);
+        told
+    }
+
+    /// The number of recorded calls, by one load; it waits for nobody. The pass has then seen the history of that length.
+    pub fn length(&self, pass: &mut Pass<D, C, R>) -> u64
+        requires { IsPassOf self.now.board.table.shared.table_id self.now.board.table.shared.key pass.old }
+        ensures pass { IsPassOf self.now.board.table.shared.table_id self.now.board.table.shared.key pass.new × (number pass.new ≡ number pass.old) × (own pass.new ≡ own pass.old) }
+        ensures length { length (seen pass.new) ≡ result }
+        ensures legal { IsLegal D.performs self.now.board.table.shared.key (seen pass.new) }
+        ensures before { IsPrefix (seen pass.old) (seen pass.new) }
+    {
+        self.board.length(&mut pass.seat)
+    }
+
+    /// Both passes have then seen one history, of the length that is answered; it waits for nobody.
+    pub fn meet(&self, one: &mut Pass<D, C, R>, other: &mut Pass<D, C, R>) -> u64
+        requires one { IsPassOf self.now.board.table.shared.table_id self.now.board.table.shared.key one.old }
+        requires other { IsPassOf self.now.board.table.shared.table_id self.now.board.table.shared.key other.old }
+        ensures one { IsPassOf self.now.board.table.shared.table_id self.now.board.table.shared.key one.new × (number one.new ≡ number one.old) × (own one.new ≡ own one.old) }
+        ensures other { IsPassOf self.now.board.table.shared.table_id self.now.board.table.shared.key other.new × (number other.new ≡ number other.old) × (own other.new ≡ own other.old) }
+        ensures same { seen one.new ≡ seen other.new }
+        ensures length { length (seen one.new) ≡ result }
+        ensures legal { IsLegal D.performs self.now.board.table.shared.key (seen one.new) }
+        ensures one_before { IsPrefix (seen one.old) (seen one.new) }
+        ensures other_before { IsPrefix (seen other.old) (seen other.new) }
+    {
+        self.board.meet(&mut one.seat, &mut other.seat)
+    }
+
+    /// The object, once no pass calls it any more.
+    pub fn finish(self) -> D {
+        let Shared {
+            board: _board,
+            vault,
+            lock: _lock,
+        } = self;
+        let mut closed = vault.close();
+        let keeper = closed.take(0);
+        closed.free();
+        let Keeper {
+            object,
+            calls: _,
+            scribe: _scribe,
+        } = keeper;
+        object
+    }
+
+    /// Waits until the vault's seat rests on the lock, and takes it.
+    fn lock<W: Wait>(&self, rt: &W) -> (Mark<Hold>, Key<C, R, D>)
+        ensures mark { (result.0.perch ≡ self.now.lock.name) × (result.0.view ≡ Held) }
+        ensures seat { (result.1.table_id ≡ self.now.vault.shared.table_id) × (result.1.me ≡ (Home, [])) }
+    {
+        for _ in rt.forever() {
+            let (_found, mark, seat) = self.lock.swap_new_mark::<Locks>(0);
+            if let Some(seat) = seat {
+                return (mark, seat);
+            }
+            yield_now();
+        }
+        unreachable!()
+    }
+
+    /// Lets the vault's seat rest on the lock again.
+    fn unlock(&self, mut mark: Mark<Hold>, seat: Key<C, R, D>)
+        requires mark { (mark.perch ≡ self.now.lock.name) × (mark.view ≡ Held) }
+        requires seat { (seat.table_id ≡ self.now.vault.shared.table_id) × (seat.me ≡ (Home, [])) }
+    {
+        match self.lock.give::<Unlocks>(&mut mark, seat, 0, 2) {
+            Ok(()) => {}
+            Err(_) => unreachable!(),
+        }
+    }
+
+    /// Performs and records the command under the lock.
+    fn call_at(
+        &self,
+        seat: &mut Key<C, R, D>,
+        pass: &mut Pass<D, C, R>,
+        command: &C,
+    ) -> Result<R, NotRecorded<R>>
+        requires seat { (seat.old.table_id ≡ self.now.vault.shared.table_id) × (seat.old.me ≡ (Home, [])) }
+        requires pass { IsPassOf self.now.board.table.shared.table_id self.now.board.table.shared.key pass.old }
+        ensures seat { (seat.new.table_id ≡ self.now.vault.shared.table_id) × (seat.new.me ≡ (Home, [])) }
+        ensures pass { IsPassOf self.now.board.table.shared.table_id self.now.board.table.shared.key pass.new × (number pass.new ≡ number pass.old) }
+        ensures recorded { IfOk result (λ reply. Recorded pass.old command.now reply pass.new) }
+        ensures legal { OnOk result (IsLegal D.performs self.now.board.table.shared.key (seen pass.new)) }
+        ensures refused { IfErr result (Unrecorded D.performs D.refuses self.now.board.table.shared.key (number pass.old) command.now) }
+        ensures same { OnErr result (pass.new ≡ pass.old) }
+    {
+        self.take::<Brand>(seat);
+        let keeper = seat.slot_mut(&self.vault.shared, 0);
+        let told = keeper.perform(&self.board, pass, command);
+        self.vault.shared.load::<Gives>(seat, 0);
+        told
+    }
+
+    /// Takes the keeper out of the vault.
+    fn take<J: Knowing<Keeper<D, C, R>>>(&self, seat: &mut Key<C, R, D>)
+        requires seat { (seat.old.table_id ≡ self.now.vault.shared.table_id) × (seat.old.me ≡ (Home, [])) }
+        requires known { (k : any.Keeper D C R) → IsKeeperOf D.performs self.now.board.table.shared.table_id self.now.board.table.shared.key k → J.known k }
+        ensures seat { seat.new.table_id ≡ seat.old.table_id }
+        ensures taken { TakesOut J.known seat.new.me }
+    {
+        self.vault.shared.load::<Takes<J>>(seat, 0);
+    }
+}
+
+/// The keeper in a vault, whose seat knows it at home.
+fn vault_of<C, R, D: Object<C, R>>(
+    alloc: Global,
+    board: &Board<D, C, R, Replies<D>>,
+    keeper: Keeper<D, C, R>,
+) -> Result<(Vault<C, R, D>, Key<C, R, D>), AllocError>
+    requires { IsKeeperOf D.performs board.now.table.shared.table_id board.now.table.shared.key keeper }
+    ensures vault { IfOk result (λ v. (v.0.shared.key ≡ board.now) × (v.0.shared.table_id.words ≡ 1) × (v.0.shared.table_id.slots ≡ 1)) }
+    ensures seat { IfOk result (λ v. (v.1.table_id ≡ v.0.shared.table_id) × (v.1.me ≡ (Home, []))) }
+{
+    let mut slots = Vec::with_capacity(alloc, 1)?;
+    slots.push_reserved(keeper);
+    match Table::new(alloc, &[0], slots, board) {
+        Ok(made) => Ok(made),
+        Err(_) => Err(AllocError),
+    }
+}
+
+/// So many passes, numbered from 0, which have seen nothing.
+fn new_passes<C, R, D: Object<C, R>>(
+    alloc: Global,
+    board: &Board<D, C, R, Replies<D>>,
+    scribe: &mut Scribe<D, C, R>,
+    count: u32,
+) -> Result<Vec<Pass<D, C, R>>, AllocError>
+    requires few { count ≤ 16 }
+    requires scribe { IsScribeOf board.now.table.shared.table_id board.now.table.shared.key scribe.old × (noted scribe.old ≡ []) × (made scribe.old ≡ 0) }
+    ensures scribe { IfOk result (λ _. IsScribeOf board.now.table.shared.table_id board.now.table.shared.key scribe.new × (noted scribe.new ≡ [])) }
+    ensures passes { IfOk result (λ passes. NewPasses board.now.table.shared.table_id board.now.table.shared.key count passes.items) }
+{
+    let mut passes = Vec::with_capacity(alloc, count as usize)?;
+    for number in 0..count {
+        let seat = board.newcomer(scribe);
+        passes.push_reserved(Pass { seat, number });
+    }
+    Ok(passes)
+}

@@ -1,0 +1,47 @@
+// The vault, from which whoever has the lock takes the keeper: a table of one slot under a rule that names the board.
+use crate::naming::Knowing;
+use crate::{Keeper, Object, Replies};
+use atomic_table::{Play, TableRule};
+use recorded_calls::Board;
+use std::marker::PhantomData;
+
+/// Where the keeper is, as the seat at the vault knows it.
+pub enum Place {
+    Home,
+    Away,
+}
+
+/// The rule: while the lock is free the keeper is at home, and its object is what the opening is after the recorded history.
+pub struct Guarded<D> {
+    object: PhantomData<D>,
+}
+
+impl<C, R, D: Object<C, R>> TableRule<Keeper<D, C, R>, Place, Board<D, C, R, Replies<D>>>
+    for Guarded<D> {
+    ghost use Rattle.locked_object.specs.Guards.{Guards};
+    ghost use Rattle.locked_object.specs.declared.vault.Place.TheVariants.{Home};
+
+    ghost holds = { λ board. Guards D.performs board.table.shared.table_id board.table.shared.key };
+
+    ghost first = { λ _. Home };
+}
+
+/// The keeper is taken out.
+pub(crate) struct Takes<J> {
+    name: PhantomData<J>,
+}
+
+impl<D, C, R, J: Knowing<Keeper<D, C, R>>> Play<Keeper<D, C, R>, Place> for Takes<J> {
+    ghost use Rattle.locked_object.specs.Guards.{TakesOut};
+
+    ghost then = { λ _ _ _. TakesOut J.known };
+}
+
+/// The keeper is put back.
+pub(crate) struct Gives;
+
+impl<D, C, R> Play<Keeper<D, C, R>, Place> for Gives {
+    ghost use Rattle.locked_object.specs.Guards.{PutsBack};
+
+    ghost then = { λ _ _ _. PutsBack };
+}
