@@ -1,0 +1,144 @@
+-- Workers before and after their turns, as lists.
+use Rattle.std.proofs.Common.{◌≡◌, ℕ, zero, suc, ◌+◌, ◌*◌, ◌<◌, ◌≤◌, Bool, List, [], ◌∷◌, ◌++◌, map, length, refl, ap, sym, ◌∙◌, subst, arith, mul-le-mul, mul-suc, mul-zero}
+use Rattle.std.specs.Prelude.{slice_index_or}
+use Rattle.atomic_table.specs.Seated.{TableId}
+use Rattle.crossbeam_queue.specs.Passes as queue
+use Rattle.std.proofs.lemmas.List.{map-append}
+use Rattle.recorded_calls.specs.declared.entry.Entry.{Entry}
+use Rattle.locked_object.specs.Passes.{IsPassOf}
+use Rattle.locked_object.specs.declared.pass.Pass.{Pass}
+use Rattle.branch_workers.specs.Dealt.{hand, total}
+use Rattle.branch_workers.specs.Runs.{steps_in, PassRan, PassesRan, WorkersRan, PassesFit}
+use Rattle.branch_workers.specs.walking.Workers.{WorkerRan, Ready, IsReady, AllReady, AllRan, CountsFew, IsCounted}
+use Rattle.branch_workers.specs.declared.worker.Worker.{Worker}
+use Rattle.branch_workers.proofs.Numbers.{total_end}
+use Rattle.branch_workers.proofs.Turns.{steps_few}
+
+module _ {D C R : Type 0} (table : TableId) (opening : D) where
+  -- each of the workers is ready
+  pub ready_at : (line : TableId) (ws : List (Worker D C R)) (i : ℕ) (d : Worker D C R) → AllReady table opening line ws → i < length ws → IsReady table opening line (slice_index_or ws i d)
+  ready_at line [] i d h less = absurd (omega arith)
+  ready_at line (w ∷ ws) zero d h less = h.0
+  ready_at line (w ∷ ws) (suc i) d h less = ready_at line ws i d h.1 (omega arith)
+
+  -- workers with passes of this table are ready
+  pub all_ready : (line : TableId) (ps : List (Pass D C R)) (ws : List (Worker D C R)) → PassesFit table opening ps → Ready line ps ws → AllReady table opening line ws
+  all_ready line [] [] fits h = tt
+  all_ready line [] (w ∷ ws) fits h = absurd h
+  all_ready line (p ∷ ps) [] fits h = absurd h
+  all_ready line (p ∷ ps) (w ∷ ws) fits h =
+      let one = h.0 in (
+        (
+          record { pass = subst (IsPassOf table opening) (sym one.0) fits.0; place = one.3; no_slot = one.4; empty = one.5 },
+          one.1,
+          one.2,
+        ),
+        all_ready line ps ws fits.1 h.1,
+      )
+
+  module _ (asks : ℕ → C) (steps : R → Bool) (count turns : ℕ) where
+    -- what holds at each place holds of the lists
+    pub all_ran : (vs ws : List (Worker D C R)) → length vs ≡ length ws
+        → ((i : ℕ) (d : Worker D C R) → i < length vs → WorkerRan table opening asks steps count turns (slice_index_or vs i d) (slice_index_or ws i d))
+        → AllRan table opening asks steps count turns vs ws
+    all_ran [] [] same each = tt
+    all_ran [] (w ∷ ws) same each = absurd (omega arith)
+    all_ran (v ∷ vs) [] same each = absurd (omega arith)
+    all_ran (v ∷ vs) (w ∷ ws) same each = (each 0 v (omega arith), all_ran vs ws (omega arith) (λ i d less. each (suc i) d (omega arith)))
+
+    -- the same workers
+    pub same_ran : (v u w x : Worker D C R) → v ≡ u → w ≡ x → WorkerRan table opening asks steps count turns v w → WorkerRan table opening asks steps count turns u x
+    same_ran v u w x one other ran = subst (WorkerRan table opening asks steps count turns u) other (subst (λ (y : Worker D C R). WorkerRan table opening asks steps count turns y w) one ran)
+
+module _ {C R : Type 0} (steps : R → Bool) where
+  -- there are no more steps than calls
+  total_few : (ls : List (List (Entry C R))) → total (steps_in steps) ls ≤ total length ls
+  total_few [] = omega arith
+  total_few (l ∷ ls) = let a = steps_few steps l in let b = total_few ls in omega arith
+
+module _ {D C R : Type 0} (table : TableId) (opening : D) (asks : ℕ → C) (steps : R → Bool) (count turns : ℕ) where
+  -- what the workers have done, of the passes that they were given
+  pub record Gathered (ps : List (Pass D C R)) (ws : List (Worker D C R)) : Type 0 where
+    pub added : List (List (Entry C R))
+    pub each : PassesRan table opening asks count turns ps (map (λ (w : Worker D C R). w.pass) ws) added
+    pub stepped : total (λ (w : Worker D C R). w.stepped) ws ≡ total (steps_in steps) added
+    pub lost : total length added + total (λ (w : Worker D C R). w.lost) ws ≡ turns * length ps
+
+  pub gathered : (line : TableId) (ps : List (Pass D C R)) (vs ws : List (Worker D C R)) → Ready line ps vs → AllRan table opening asks steps count turns vs ws → Gathered ps ws
+  gathered line [] [] [] h ran = record { added = []; each = tt; stepped = refl; lost = sym (mul-zero turns) }
+  gathered line [] [] (w ∷ ws) h ran = absurd ran
+  gathered line [] (v ∷ vs) ws h ran = absurd h
+  gathered line (p ∷ ps) [] ws h ran = absurd h
+  gathered line (p ∷ ps) (v ∷ vs) [] h ran = absurd ran
+  gathered line (p ∷ ps) (v ∷ vs) (w ∷ ws) h ran =
+      let one = h.0 in
+      let did = ran.0 in
+      let rest = gathered line ps vs ws h.1 ran.1 in
+      record {
+        added = did.added ∷ rest.added;
+        each = (subst (λ (q : Pass D C R). PassRan table opening asks count turns q w.pass did.added) one.0 did.ran, rest.each);
+        stepped = let a = did.stepped in let b = one.1 in let d = rest.stepped in omega arith;
+        lost = let a = did.rest_lost in let b = one.2 in let d = rest.lost in let m = mul-suc turns (length ps) in omega arith;
+      }
+
+  -- a worker a pass, afterwards too
+  pub ran_length : (line : TableId) (ps : List (Pass D C R)) (vs ws : List (Worker D C R)) → Ready line ps vs → AllRan table opening asks steps count turns vs ws → length ws ≡ length ps
+  ran_length line [] [] [] h ran = refl
+  ran_length line [] [] (w ∷ ws) h ran = absurd ran
+  ran_length line [] (v ∷ vs) ws h ran = absurd h
+  ran_length line (p ∷ ps) [] ws h ran = absurd h
+  ran_length line (p ∷ ps) (v ∷ vs) [] h ran = absurd ran
+  ran_length line (p ∷ ps) (v ∷ vs) (w ∷ ws) h ran = ap suc (ran_length line ps vs ws h.1 ran.1)
+
+  -- so many turns of so many workers are counted in 64 bits
+  pub counts_fit : (ps : List (Pass D C R)) (ws : List (Worker D C R)) → Gathered ps ws → turns ≤ 144115188075855872 → length ps ≤ 16 → CountsFew ws
+  counts_fit ps ws g few short =
+      let most = mul-le-mul few short in
+      let a = g.stepped in
+      let b = g.lost in
+      let d = total_few steps g.added in
+      (omega arith, omega arith)
+
+  -- the same of what was counted
+  pub workers_ran : (ps qs : List (Pass D C R)) (ws : List (Worker D C R)) (stepped lost : ℕ) → Gathered ps ws → IsCounted ws qs stepped lost
+      → WorkersRan table opening asks count turns steps ps qs stepped lost
+  workers_ran ps qs ws stepped lost g is =
+      record {
+        added = g.added;
+        each = subst (λ (l : List (Pass D C R)). PassesRan table opening asks count turns ps l g.added) (sym is.0) g.each;
+        counted = is.1 ∙ g.stepped;
+        rest_lost = ap (λ n. total length g.added + n) is.2 ∙ g.lost;
+      }
+
+module _ {D C R : Type 0} where
+  -- one worker more, for one pass more
+  pub ready_more : (line : TableId) (ps : List (Pass D C R)) (ws more : List (Worker D C R)) (p : Pass D C R) (w : Worker D C R) → Ready line ps ws → more ≡ ws ++ w ∷ []
+      → (w.pass ≡ p) × (w.stepped ≡ 0) × (w.lost ≡ 0) × (w.seat.table_id ≡ line) × (w.seat.me.1 ≡ []) × (queue.view w.seat ≡ hand []) → Ready line (ps ++ p ∷ []) more
+  ready_more line ps ws more p w h is one = subst (Ready line (ps ++ p ∷ [])) (sym is) (go ps ws h)
+    where
+      go : (qs : List (Pass D C R)) (vs : List (Worker D C R)) → Ready line qs vs → Ready line (qs ++ p ∷ []) (vs ++ w ∷ [])
+      go [] [] k = (one, tt)
+      go [] (v ∷ vs) k = absurd k
+      go (q ∷ qs) [] k = absurd k
+      go (q ∷ qs) (v ∷ vs) k = (k.0, go qs vs k.1)
+
+  -- a worker a pass
+  pub ready_length : (line : TableId) (ps : List (Pass D C R)) (ws : List (Worker D C R)) → Ready line ps ws → length ps ≡ length ws
+  ready_length line [] [] h = refl
+  ready_length line [] (w ∷ ws) h = absurd h
+  ready_length line (p ∷ ps) [] h = absurd h
+  ready_length line (p ∷ ps) (w ∷ ws) h = ap suc (ready_length line ps ws h.1)
+
+  -- one worker more is counted
+  pub counted_more : (ws : List (Worker D C R)) (ps more : List (Pass D C R)) (w : Worker D C R) (stepped lost : ℕ) → IsCounted ws ps stepped lost → more ≡ ps ++ w.pass ∷ []
+      → IsCounted (ws ++ w ∷ []) more (stepped + w.stepped) (lost + w.lost)
+  counted_more ws ps more w stepped lost h is = (
+    is ∙ ap (λ l. l ++ w.pass ∷ []) h.0 ∙ sym (map-append (λ (v : Worker D C R). v.pass) ws (w ∷ [])),
+    (let a = h.1 in let b = total_end (λ (v : Worker D C R). v.stepped) ws w in omega arith),
+    (let a = h.2 in let b = total_end (λ (v : Worker D C R). v.lost) ws w in omega arith),
+  )
+
+-- what is counted of some of these and of the next is no more than of all
+pub counts_within : {X : Type 0} (f : X → ℕ) (xs rest all : List X) (x : X) → xs ++ x ∷ rest ≡ all → total f xs + f x ≤ total f all
+counts_within f [] rest all x is = let a = ap (total f) is in omega arith
+counts_within f (y ∷ xs) rest all x is = let h = counts_within f xs rest (xs ++ x ∷ rest) x refl in let a = ap (total f) is in omega arith

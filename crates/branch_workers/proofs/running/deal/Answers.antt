@@ -1,0 +1,9 @@
+use Rattle.std.proofs.Common.{◌∙◌}
+use Rattle.branch_workers.proofs.Numbers.{deal_next}
+use Rattle.branch_workers.proofs.running.deal.Goals as goal
+
+pub loop-number-preserved : goal.loop-number-preserved
+loop-number-preserved g c = (
+  (c.put_back.ensures.fits.0 ∙ c.loop-number.invariant.0.0, c.put_back.ensures.fits.2 ∙ c.loop-number.invariant.0.1),
+  deal_next c.loop-number.number c.args.branches _ _ c.loop-number-test.true c.loop-number.invariant.1 c.put_back.ensures.given,
+)
