@@ -4,6 +4,7 @@ pub mod Counting
 pub mod Edges
 pub mod FollowerLaws
 pub mod Following
+pub mod LastWriters
 pub mod Linking
 pub mod ListPlaces
 pub mod Markings

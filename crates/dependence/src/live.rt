@@ -1,6 +1,6 @@
 ghost use Rattle.std.specs.Prelude.{◌≡◌, ◌<◌, ℕ, [], length, Some, None, slice_get, MatchOption, IfErr, IfOk, OnOk};
 ghost use Rattle.calculus.specs.Dependence.{Without};
-ghost use Rattle.calculus.specs.Live.{LiveAt, NoneAt, NoDependent, FirstDependent, ConsequencesList, WithoutTickets, IsLive};
+ghost use Rattle.calculus.specs.Live.{LiveAt, NoneAt, NoDependent, FirstDependent, ConsequencesList, WithoutTickets, IsLive, LastWriter, NoWriter};
 ghost use Rattle.dependence.specs.Behind.{ComesBehind};
 ghost use Rattle.dependence.specs.Followers.{ListsFollowers, CountsDirect};
 ghost use Rattle.dependence.specs.Shown.{with_newest, Greatest, IsSound};
@@ -10,7 +10,7 @@ use crate::links::Links;
 use crate::marks::{copy_marked, count_marked, last_marked, mark_dependents};
 use crate::places::place_of;
 use crate::tables::Tables;
-use crate::whole::{add_event, followers_of, least_dependent, take_event};
+use crate::whole::{add_event, followers_of, last_writer, least_dependent, take_event};
 use calculus::Event;
 use std::alloc::{AllocError, Global};
 use std::marker::Model;
@@ -105,6 +105,13 @@ impl Live {
         ensures { MatchOption result (NoDependent self.now.live ticket) (λ u. FirstDependent self.now.live ticket u) }
     {
         least_dependent(self.pairs.as_slice(), self.links.as_slice(), ticket)
+    }
+
+    /// The ticket of the last live event that writes the variable.
+    pub fn last_writer(&self, variable: u32) -> Option<u64>
+        ensures { MatchOption result (NoWriter self.now.live variable) (λ t. LastWriter self.now.live variable t) }
+    {
+        last_writer(self.pairs.as_slice(), &self.tables, variable)
     }
 
     /// How many live events depend directly on the live event of this ticket.

@@ -1,7 +1,7 @@
 // A `Live` and the plain list of its events.
 
 use crate::random::Random;
-use crate::scan::{dependents, direct, followers};
+use crate::scan::{dependents, direct, followers, last_writer};
 use crate::threads::Threads;
 use calculus::Event;
 use dependence::Live;
@@ -116,6 +116,11 @@ impl Session {
         self.expect(is_least, "first_dependent", ticket)?;
         let is_count = self.live.count(ticket) == directly.len() as u64;
         self.expect(is_count, "count", ticket)?;
+        let is_writer = match plain[place].1.written {
+            Some(variable) => self.live.last_writer(variable) == last_writer(plain, variable),
+            None => true,
+        };
+        self.expect(is_writer, "last_writer", ticket)?;
         let is_many = self.live.mark_consequences(ticket) == many;
         self.expect(is_many, "mark_consequences", ticket)?;
         let is_last = self.live.last_marked() == last;
