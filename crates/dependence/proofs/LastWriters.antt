@@ -1,17 +1,16 @@
 -- The last event that writes a variable: the last of all, or else the last in the table below its ticket.
-use Rattle.std.proofs.Common.{◌≡◌, inl, inr, ℕ, ◌-◌, ◌<◌, ◌≤◌, [], ◌∷◌, length, Option, Some, None, sym, ◌∙◌, ap, subst, arith}
+use Rattle.std.proofs.Common.{◌≡◌, inl, inr, ℕ, ◌-◌, ◌<◌, ◌≤◌, length, Option, Some, None, ap, subst, arith}
 use Rattle.std.specs.Prelude.{slice_get, MatchOption}
 use Rattle.std.proofs.lemmas.Bool.{cases_lt}
 use Rattle.std.proofs.lemmas.Option.{slice_get_within}
 use Rattle.last_events.specs.LastEvents.{Uses, LastUse}
-use Rattle.calculus.specs.Live.{Live, Rising, LiveAt, LastWriter, NoWriter}
+use Rattle.calculus.specs.Live.{Live, LiveAt, LastWriter, NoWriter}
 use Rattle.calculus.specs.declared.event.Event.{Event}
-use Rattle.calculus.proofs.Options.{none-some}
 use Rattle.calculus.proofs.Tickets.{rising-one}
 use Rattle.dependence.specs.declared.tables.Tables.{Tables}
 use Rattle.dependence.specs.walking.Tables.{IsRising}
 use Rattle.dependence.specs.walking.Tabled.{TablesOf}
-use Rattle.dependence.proofs.ListPlaces.{in-at, place-in, at-one, at-within}
+use Rattle.dependence.proofs.ListPlaces.{in-at, place-in, at-one}
 use Rattle.dependence.proofs.Standing.{place-rises}
 
 -- the entry at the last place has the greatest ticket
@@ -64,11 +63,3 @@ last-below l tables x t e found r held at other = pick found
           writes = at_v.2;
           last = λ u f i w. last.last u ((held.writers x u).1 (f, i, w)) (below u f i w);
         }
-
--- none writes it where there is none
-pub none-writes : (l : Live) (x : ℕ) → slice_get l (length l - 1) ≡ None → NoWriter l x
-none-writes [] x none = λ u f i w. i
-none-writes (y ∷ l) x none =
-    let less : length (y ∷ l) - 1 < length (y ∷ l) = omega arith in
-    let at = at-within (y ∷ l) (length (y ∷ l) - 1) less in
-    none-some at.0 (sym none ∙ at.1)

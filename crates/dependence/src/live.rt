@@ -4,12 +4,15 @@ ghost use Rattle.calculus.specs.Live.{LiveAt, NoneAt, NoDependent, FirstDependen
 ghost use Rattle.dependence.specs.Behind.{ComesBehind};
 ghost use Rattle.dependence.specs.Followers.{ListsFollowers, CountsDirect};
 ghost use Rattle.dependence.specs.Shown.{with_newest, Greatest, IsSound};
+ghost use Rattle.dependence.specs.Taking.{MarksAllDependents, OneMarkedAt, NoneMarkedAt, StaysBeside};
+ghost use Rattle.syntax.specs.Lists.{In};
 
 use crate::count::count_direct;
 use crate::links::Links;
-use crate::marks::{copy_marked, count_marked, last_marked, mark_dependents};
+use crate::marks::{copy_marked, count_marked, last_marked, mark_dependents, marked_at};
 use crate::places::place_of;
 use crate::tables::Tables;
+use crate::taking::{keep_unmarked, take_marked};
 use crate::whole::{add_event, followers_of, last_writer, least_dependent, take_event};
 use calculus::Event;
 use std::alloc::{AllocError, Global};
@@ -146,6 +149,13 @@ impl Live {
         last_marked(self.pairs.as_slice(), self.marks.as_slice())
     }
 
+    /// The live event at a place, counted from 0 in order of tickets, where it is marked.
+    pub fn marked_at(&self, place: usize) -> Option<&Event>
+        ensures { MatchOption result (NoneMarkedAt self.now.live self.now.marked place) (λ found. OneMarkedAt self.now.live self.now.marked place found.now) }
+    {
+        marked_at(self.pairs.as_slice(), self.marks.as_slice(), place)
+    }
+
     /// The tickets of the marked live events, ascending.
     pub fn marked(&self) -> Result<Vec<u64>, AllocError>
         ensures { IfOk result (λ tickets. tickets.items ≡ self.now.marked) }
@@ -187,6 +197,29 @@ impl Live {
             &mut self.marks,
             &mut self.tables,
             ticket,
+        )
+    }
+
+    /// Takes out what stands beside a marked event, of items that stand beside the live events at the same places.
+    pub fn keep_unmarked<T: Drop>(&self, items: &mut Vec<T>)
+        requires { length items.old.items ≡ length self.now.live }
+        ensures { StaysBeside (λ t. In t self.now.marked) self.now.live items.old.items items.new.items }
+    {
+        keep_unmarked(items, self.marks.as_slice());
+    }
+
+    /// Takes out the marked live events with their marks, where what depends on a marked one is marked. It takes as long as to go
+    /// through all of them once.
+    pub fn take_marked(&mut self)
+        requires { MarksAllDependents self.old }
+        ensures live { WithoutTickets (λ t. In t self.old.marked) self.old.live self.new.live }
+        ensures marked { self.new.marked ≡ [] }
+    {
+        take_marked(
+            &mut self.pairs,
+            &mut self.links,
+            &mut self.marks,
+            &mut self.tables,
         )
     }
 }

@@ -1,5 +1,5 @@
 use Rattle.std.proofs.Common.{refl, sym}
-use Rattle.dependence.proofs.LastWriters.{last-writes, last-below, none-writes}
+use Rattle.dependence.proofs.LastWriters.{last-writes, last-below}
 use Rattle.dependence.proofs.whole.last_writer.Goals as goal
 
 pub returns-then-writes : goal.returns-then-writes
