@@ -4,6 +4,8 @@ pub mod Counting
 pub mod Edges
 pub mod FollowerLaws
 pub mod Following
+pub mod Keeping
+pub mod LastWriters
 pub mod Linking
 pub mod ListPlaces
 pub mod Markings
@@ -12,4 +14,7 @@ pub mod Standing
 pub mod ShownStates
 pub mod Sweeps
 pub mod Tabling
+pub mod TakenMarked
+pub mod Thinning
+pub mod Unmarking
 pub mod Wholes

@@ -2,4 +2,5 @@ pub mod Behind
 pub mod Followers
 pub mod Laws
 pub mod Shown
+pub mod Taking
 pub mod walking

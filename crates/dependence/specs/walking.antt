@@ -3,4 +3,5 @@ pub mod Marking
 pub mod Sweeping
 pub mod Tabled
 pub mod Tables
+pub mod Unmarked
 pub mod Whole

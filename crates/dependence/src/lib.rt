@@ -12,6 +12,7 @@ mod marks;
 mod places;
 mod puts;
 mod tables;
+mod taking;
 mod topmost;
 mod whole;
 

@@ -1,16 +1,19 @@
 ghost use Rattle.std.specs.Prelude.{◌≡◌, ◌<◌, ℕ, [], length, Some, None, slice_get, MatchOption, IfErr, IfOk, OnOk};
 ghost use Rattle.calculus.specs.Dependence.{Without};
-ghost use Rattle.calculus.specs.Live.{LiveAt, NoneAt, NoDependent, FirstDependent, ConsequencesList, WithoutTickets, IsLive};
+ghost use Rattle.calculus.specs.Live.{LiveAt, NoneAt, NoDependent, FirstDependent, ConsequencesList, WithoutTickets, IsLive, LastWriter, NoWriter};
 ghost use Rattle.dependence.specs.Behind.{ComesBehind};
 ghost use Rattle.dependence.specs.Followers.{ListsFollowers, CountsDirect};
 ghost use Rattle.dependence.specs.Shown.{with_newest, Greatest, IsSound};
+ghost use Rattle.dependence.specs.Taking.{MarksAllDependents, OneMarkedAt, NoneMarkedAt, StaysBeside};
+ghost use Rattle.syntax.specs.Lists.{In};
 
 use crate::count::count_direct;
 use crate::links::Links;
-use crate::marks::{copy_marked, count_marked, last_marked, mark_dependents};
+use crate::marks::{copy_marked, count_marked, last_marked, mark_dependents, marked_at};
 use crate::places::place_of;
 use crate::tables::Tables;
-use crate::whole::{add_event, followers_of, least_dependent, take_event};
+use crate::taking::{keep_unmarked, take_marked};
+use crate::whole::{add_event, followers_of, last_writer, least_dependent, take_event};
 use calculus::Event;
 use std::alloc::{AllocError, Global};
 use std::marker::Model;
@@ -107,6 +110,13 @@ impl Live {
         least_dependent(self.pairs.as_slice(), self.links.as_slice(), ticket)
     }
 
+    /// The ticket of the last live event that writes the variable.
+    pub fn last_writer(&self, variable: u32) -> Option<u64>
+        ensures { MatchOption result (NoWriter self.now.live variable) (λ t. LastWriter self.now.live variable t) }
+    {
+        last_writer(self.pairs.as_slice(), &self.tables, variable)
+    }
+
     /// How many live events depend directly on the live event of this ticket.
     pub fn count(&self, ticket: u64) -> u64
         requires { IsLive self.now.live ticket }
@@ -137,6 +147,13 @@ impl Live {
         ensures { MatchOption result (self.now.marked ≡ []) (λ t. Greatest self.now.marked t) }
     {
         last_marked(self.pairs.as_slice(), self.marks.as_slice())
+    }
+
+    /// The live event at a place, counted from 0 in order of tickets, where it is marked.
+    pub fn marked_at(&self, place: usize) -> Option<&Event>
+        ensures { MatchOption result (NoneMarkedAt self.now.live self.now.marked place) (λ found. OneMarkedAt self.now.live self.now.marked place found.now) }
+    {
+        marked_at(self.pairs.as_slice(), self.marks.as_slice(), place)
     }
 
     /// The tickets of the marked live events, ascending.
@@ -180,6 +197,29 @@ impl Live {
             &mut self.marks,
             &mut self.tables,
             ticket,
+        )
+    }
+
+    /// Takes out what stands beside a marked event, of items that stand beside the live events at the same places.
+    pub fn keep_unmarked<T: Drop>(&self, items: &mut Vec<T>)
+        requires { length items.old.items ≡ length self.now.live }
+        ensures { StaysBeside (λ t. In t self.now.marked) self.now.live items.old.items items.new.items }
+    {
+        keep_unmarked(items, self.marks.as_slice());
+    }
+
+    /// Takes out the marked live events with their marks, where what depends on a marked one is marked. It takes as long as to go
+    /// through all of them once.
+    pub fn take_marked(&mut self)
+        requires { MarksAllDependents self.old }
+        ensures live { WithoutTickets (λ t. In t self.old.marked) self.old.live self.new.live }
+        ensures marked { self.new.marked ≡ [] }
+    {
+        take_marked(
+            &mut self.pairs,
+            &mut self.links,
+            &mut self.marks,
+            &mut self.tables,
         )
     }
 }

@@ -1,13 +1,15 @@
 // Marks on the events that depend on one.
 ghost use Rattle.std.specs.Prelude.{◌≡◌, ◌<◌, ◌⊎◌, ◌↔◌, ℕ, [], length, true, Some, slice_get, MatchOption, IfOk};
 ghost use Rattle.syntax.specs.Lists.{In};
+ghost use Rattle.system.specs.Expression.{is_in};
 ghost use Rattle.calculus.specs.Live.{ConsequencesList, IsLive};
 ghost use Rattle.dependence.specs.Shown.{tickets_marked, Greatest};
+ghost use Rattle.dependence.specs.Taking.{OneMarkedAt, NoneMarkedAt};
 ghost use Rattle.dependence.specs.walking.Tables.{IsRising, Linked};
 ghost use Rattle.dependence.specs.walking.Marking.{MarkedAt};
 
 use crate::links::Links;
-use crate::places::place_of_live;
+use crate::places::{place_of, place_of_live};
 use calculus::Event;
 use std::alloc::{AllocError, Global};
 
@@ -35,7 +37,7 @@ pub(crate) fn mark_dependents(
 }
 
 /// Takes all marks away.
-fn clear(marks: &mut [bool])
+pub(crate) fn clear(marks: &mut [bool])
     ensures { (i : ℕ) → slice_get marks.new i ≡ Some true → ⊥ }
 {
     for mark in marks.iter_mut() {
@@ -54,6 +56,34 @@ fn mark_all(live: &[(u64, Event)], marks: &mut [bool], tickets: &[u64])
         let place = place_of_live(live, *ticket);
         marks[place] = true;
     }
+}
+
+/// Whether the event of this ticket is live and marked.
+pub(crate) fn is_marked(live: &[(u64, Event)], marks: &[bool], ticket: u64) -> bool
+    requires rising { IsRising live.now }
+    requires size { length marks.now ≡ length live.now }
+    ensures { result ≡ is_in ticket (tickets_marked live.now marks.now) }
+{
+    match place_of(live, ticket) {
+        Some(place) => marks[place],
+        None => false,
+    }
+}
+
+/// The event at this place where it is marked.
+pub(crate) fn marked_at<'a>(
+    live: &'a [(u64, Event)],
+    marks: &[bool],
+    place: usize,
+) -> Option<&'a Event>
+    requires rising { IsRising live.now }
+    requires size { length marks.now ≡ length live.now }
+    ensures { MatchOption result (NoneMarkedAt live.now (tickets_marked live.now marks.now) place) (λ found. OneMarkedAt live.now (tickets_marked live.now marks.now) place found.now) }
+{
+    if place < marks.len() && marks[place] {
+        return Some(&live[place].1);
+    }
+    None
 }
 
 /// How many events are marked.

@@ -1,12 +1,12 @@
 // The tables as one: what is asked of them, an event more, an event less.
 ghost use Rattle.std.specs.Prelude.{◌≡◌, ◌<◌, ◌++◌, ◌∷◌, [], ℕ, MatchOption, IfErr, OnOk};
 ghost use Rattle.calculus.specs.Dependence.{Without};
-ghost use Rattle.calculus.specs.Live.{LiveAt, NoDependent, FirstDependent, WithoutTickets, IsLive};
+ghost use Rattle.calculus.specs.Live.{LiveAt, NoDependent, FirstDependent, WithoutTickets, IsLive, LastWriter, NoWriter};
 ghost use Rattle.dependence.specs.Behind.{ComesBehind};
 ghost use Rattle.dependence.specs.Followers.{ListsFollowers};
 ghost use Rattle.dependence.specs.Shown.{tickets_marked};
 ghost use Rattle.dependence.specs.walking.Tables.{IsRising, Linked};
-ghost use Rattle.dependence.specs.walking.Tabled.{IsTabled};
+ghost use Rattle.dependence.specs.walking.Tabled.{IsTabled, TablesOf};
 ghost use Rattle.dependence.specs.walking.Whole.{IsWhole};
 
 use crate::accesses::Newcomer;
@@ -14,7 +14,7 @@ use crate::entries::{leads_of, link_new, make_room, push_pair, take_out};
 use crate::links::Links;
 use crate::places::place_of_live;
 use crate::tables::Tables;
-use calculus::Event;
+use calculus::{Event, writes};
 use std::alloc::Global;
 
 /// The tickets of the followers of the live event of this ticket.
@@ -36,6 +36,22 @@ pub(crate) fn least_dependent(live: &[(u64, Event)], links: &[Links], ticket: u6
     ensures { MatchOption result (NoDependent live.now ticket) (λ u. FirstDependent live.now ticket u) }
 {
     followers_of(live, links, ticket).first().copied()
+}
+
+/// The ticket of the last live event that writes the variable. The last of all is looked at itself, since the table is asked
+/// below a ticket, and none may be above the greatest.
+pub(crate) fn last_writer(live: &[(u64, Event)], tables: &Tables, variable: u32) -> Option<u64>
+    requires rising { IsRising live.now }
+    requires tables { TablesOf live.now tables.now }
+    ensures { MatchOption result (NoWriter live.now variable) (λ t. LastWriter live.now variable t) }
+{
+    let Some(last) = live.last() else {
+        return None;
+    };
+    if writes(&last.1, variable) {
+        return Some(last.0);
+    }
+    tables.writers.last(variable, last.0)
 }
 
 /// Adds an event under a ticket that is greater than every live one. Without memory for it nothing has changed.

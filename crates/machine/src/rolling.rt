@@ -7,7 +7,6 @@ ghost use Rattle.calculus.specs.Does.{Does};
 ghost use Rattle.machine.specs.walking.Histories.{execution, Holds};
 ghost use Rattle.machine.specs.walking.Marking.{MarksDependents};
 
-use crate::following::last_writer;
 use crate::history::History;
 use calculus::{Command, Refusal, Reply};
 use std::alloc::AllocError;
@@ -77,7 +76,7 @@ impl History {
         ensures answers { (system : Checked) → Does (execution system self.old) (Command.RollValue variable) result (execution system self.new) }
         ensures holds { (system : Checked) → Holds system self.old → Holds system self.new }
     {
-        match last_writer(self.live.as_slice(), variable) {
+        match self.live.last_writer(variable) {
             Some(ticket) => self.roll(ticket),
             None => Reply::Refused(Refusal::NeverWritten),
         }
@@ -87,7 +86,7 @@ impl History {
     pub(crate) fn tell_blame(&self, variable: u32) -> Reply
         ensures { (system : Checked) → Holds system self.now → Does (execution system self.now) (Command.Blame variable) result (execution system self.now) }
     {
-        match last_writer(self.live.as_slice(), variable) {
+        match self.live.last_writer(variable) {
             Some(ticket) => Reply::Blamed(ticket),
             None => Reply::Refused(Refusal::NeverWritten),
         }

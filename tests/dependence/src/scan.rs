@@ -1,6 +1,6 @@
 // Who depends on whom, found by going through all live events.
 
-use calculus::{Event, depends_directly};
+use calculus::{Event, depends_directly, writes};
 use std::alloc::{AllocError, Global};
 
 /// For each live event, whether it depends on the one at the place or is it.
@@ -46,4 +46,15 @@ pub fn followers(
         }
     }
     Ok(found)
+}
+
+/// The ticket of the last event that writes the variable.
+pub fn last_writer(live: &[(u64, Event)], variable: u32) -> Option<u64> {
+    let mut last = None;
+    for entry in live {
+        if writes(&entry.1, variable) {
+            last = Some(entry.0);
+        }
+    }
+    last
 }

@@ -1,7 +1,7 @@
 // A `Live` and the plain list of its events.
 
 use crate::random::Random;
-use crate::scan::{dependents, direct, followers};
+use crate::scan::{dependents, direct, followers, last_writer};
 use crate::threads::Threads;
 use calculus::Event;
 use dependence::Live;
@@ -35,12 +35,12 @@ impl Session {
         })
     }
 
-    /// Adds an event, or takes one on which no other depends.
+    /// Adds an event, takes one on which no other depends, or takes one with all that depend on it.
     pub fn change(&mut self) -> io::Result<()> {
-        if self.random.below(3) == 0 && !self.plain.is_empty() {
-            self.take_one()
-        } else {
-            self.add_one()
+        match self.random.below(12) {
+            0 if !self.plain.is_empty() => self.roll_one(),
+            1..=3 if !self.plain.is_empty() => self.take_one(),
+            _ => self.add_one(),
         }
     }
 
@@ -67,6 +67,38 @@ impl Session {
         self.threads.retreat(&event);
         let taken = self.live.take(ticket);
         self.expect(taken.equals(&event), "take", ticket)
+    }
+
+    /// Takes an event at a random place, of a long list one of the last, and all that depend on it.
+    fn roll_one(&mut self) -> io::Result<()> {
+        let back = self.random.below(self.plain.len().min(40) as u64) as usize;
+        let chosen = self.plain.len() - 1 - back;
+        let ticket = self.plain[chosen].0;
+        let found = dependents(self.alloc, self.plain.as_slice(), chosen)?;
+        let mut beside = self.tickets()?;
+        self.live.mark_consequences(ticket);
+        self.live.keep_unmarked(&mut beside);
+        self.live.take_marked();
+        for place in (0..found.len()).rev() {
+            if found[place] {
+                let (_, event) = self.plain.remove(place);
+                self.threads.retreat(&event);
+            }
+        }
+        let left = self.tickets()?;
+        self.expect(beside.as_slice() == left.as_slice(), "keep_unmarked", ticket)?;
+        let shown = self.live.as_slice();
+        let is_left = shown.len() == left.len() && (0..left.len()).all(|k| shown[k].0 == left[k]);
+        self.expect(is_left, "take_marked", ticket)?;
+        self.expect(self.live.last_marked().is_none(), "take_marked", ticket)
+    }
+
+    fn tickets(&self) -> io::Result<Vec<u64>> {
+        let mut tickets = Vec::new(self.alloc);
+        for entry in &self.plain {
+            tickets.push(entry.0)?;
+        }
+        Ok(tickets)
     }
 
     /// Compares all answers.
@@ -116,6 +148,11 @@ impl Session {
         self.expect(is_least, "first_dependent", ticket)?;
         let is_count = self.live.count(ticket) == directly.len() as u64;
         self.expect(is_count, "count", ticket)?;
+        let is_writer = match plain[place].1.written {
+            Some(variable) => self.live.last_writer(variable) == last_writer(plain, variable),
+            None => true,
+        };
+        self.expect(is_writer, "last_writer", ticket)?;
         let is_many = self.live.mark_consequences(ticket) == many;
         self.expect(is_many, "mark_consequences", ticket)?;
         let is_last = self.live.last_marked() == last;

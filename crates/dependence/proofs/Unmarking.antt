@@ -1,0 +1,196 @@
+-- What is left of the live events, and of what stands beside them, without those that are marked.
+use Rattle.std.proofs.Common.{◌≡◌, inr, ℕ, zero, suc, ◌<◌, ◌≤◌, List, [], ◌∷◌, Bool, true, false, length, take, get_or, Some, refl, sym, ◌∙◌, ap, subst, arith}
+use Rattle.std.specs.Prelude.{slice_get}
+use Rattle.std.proofs.lemmas.Option.{slice_get_within, slice_get-get_or}
+use Rattle.syntax.specs.Lists.{In}
+use Rattle.system.specs.Expression.{is_in}
+use Rattle.calculus.specs.Dependence.{ended, stays, leaves}
+use Rattle.calculus.specs.Live.{Live, Rising, LiveAt, NoneAt, WithoutTickets}
+use Rattle.calculus.specs.declared.event.Event.{Event}
+use Rattle.calculus.proofs.Options.{none-some, some-injective}
+use Rattle.calculus.proofs.ReadTests.{is-in, in-is}
+use Rattle.calculus.proofs.Tickets.{rising-in, rising-lower}
+use Rattle.dependence.specs.Shown.{tickets_marked}
+use Rattle.dependence.specs.Taking.{OneMarkedAt, NoneMarkedAt, StaysBeside, done, keeps, drops}
+use Rattle.dependence.specs.walking.Tables.{IsRising}
+use Rattle.dependence.specs.walking.Unmarked.{unmarked}
+use Rattle.dependence.proofs.ListPlaces.{in-at, at-one}
+use Rattle.dependence.proofs.Linking.{one-place}
+use Rattle.dependence.proofs.Markings.{is-marked}
+
+-- the tickets rise still
+pub unmarked-rises : (low next : ℕ) (l : Live) (marks : List Bool) → Rising low l next → Rising low (unmarked marks l) next
+unmarked-rises low next l [] r = r
+unmarked-rises low next [] (m ∷ marks) r = r
+unmarked-rises low next (x ∷ l) (true ∷ marks) r =
+    let first : low ≤ x.0 = r.0 in
+    rising-lower low (suc x.0) next (unmarked marks l) (omega arith) (unmarked-rises (suc x.0) next l marks r.1)
+unmarked-rises low next (x ∷ l) (false ∷ marks) r = (r.0, unmarked-rises (suc x.0) next l marks r.1)
+
+-- lists of one length have one length still, and are no longer
+pub unmarked-even : {X Y : Type 0} (marks : List Bool) (xs : List X) (ys : List Y) → length xs ≡ length ys → length (unmarked marks xs) ≡ length (unmarked marks ys)
+unmarked-even [] xs ys h = h
+unmarked-even (m ∷ marks) [] [] h = refl
+unmarked-even (m ∷ marks) [] (y ∷ ys) h = absurd (omega arith)
+unmarked-even (m ∷ marks) (x ∷ xs) [] h = absurd (omega arith)
+unmarked-even (true ∷ marks) (x ∷ xs) (y ∷ ys) h = let rest : length xs ≡ length ys = omega arith in unmarked-even marks xs ys rest
+unmarked-even (false ∷ marks) (x ∷ xs) (y ∷ ys) h = let rest : length xs ≡ length ys = omega arith in ap suc (unmarked-even marks xs ys rest)
+
+pub unmarked-shorter : {X : Type 0} (marks : List Bool) (xs : List X) → length (unmarked marks xs) ≤ length xs
+unmarked-shorter [] xs = omega arith
+unmarked-shorter (m ∷ marks) [] = omega arith
+unmarked-shorter (true ∷ marks) (x ∷ xs) = let rest = unmarked-shorter marks xs in omega arith
+unmarked-shorter (false ∷ marks) (x ∷ xs) = let rest = unmarked-shorter marks xs in omega arith
+
+-- what stands at one place of two lists stood at one place, without a mark
+pub record StoodAt {X Y : Type 0} (marks : List Bool) (xs : List X) (ys : List Y) (x : X) (y : Y) : Type 0 where
+  pub place : ℕ
+  pub off : slice_get marks place ≡ Some false
+  pub one : slice_get xs place ≡ Some x
+  pub other : slice_get ys place ≡ Some y
+
+one-further : {X Y : Type 0} (m : Bool) (marks : List Bool) (u : X) (xs : List X) (v : Y) (ys : List Y) (x : X) (y : Y) → StoodAt marks xs ys x y →
+    StoodAt (m ∷ marks) (u ∷ xs) (v ∷ ys) x y
+one-further m marks u xs v ys x y h = record { place = suc h.place; off = h.off; one = h.one; other = h.other }
+
+pub stood-at : {X Y : Type 0} (marks : List Bool) (xs : List X) (ys : List Y) (i : ℕ) (x : X) (y : Y) → length marks ≡ length xs → length ys ≡ length xs →
+    slice_get (unmarked marks xs) i ≡ Some x → slice_get (unmarked marks ys) i ≡ Some y → StoodAt marks xs ys x y
+stood-at [] [] ys i x y a b p q = none-some x p
+stood-at [] (u ∷ xs) ys i x y a b p q = absurd (omega arith)
+stood-at (m ∷ marks) [] ys i x y a b p q = none-some x p
+stood-at (m ∷ marks) (u ∷ xs) [] i x y a b p q = none-some y q
+stood-at (true ∷ marks) (u ∷ xs) (v ∷ ys) i x y a b p q =
+    let size : length marks ≡ length xs = omega arith in
+    let even : length ys ≡ length xs = omega arith in
+    one-further true marks u xs v ys x y (stood-at marks xs ys i x y size even p q)
+stood-at (false ∷ marks) (u ∷ xs) (v ∷ ys) zero x y a b p q = record { place = zero; off = refl; one = p; other = q }
+stood-at (false ∷ marks) (u ∷ xs) (v ∷ ys) (suc i) x y a b p q =
+    let size : length marks ≡ length xs = omega arith in
+    let even : length ys ≡ length xs = omega arith in
+    one-further false marks u xs v ys x y (stood-at marks xs ys i x y size even p q)
+
+-- the marks tell of which tickets D holds
+pub record FlagsTell (D : ℕ → Type 0) (l : Live) (marks : List Bool) : Type 0 where
+  pub size : length marks ≡ length l
+  pub on : (i : ℕ) (x : ℕ × Event) → slice_get l i ≡ Some x → slice_get marks i ≡ Some true → D x.0
+  pub off : (i : ℕ) (x : ℕ × Event) → slice_get l i ≡ Some x → slice_get marks i ≡ Some false → D x.0 → ⊥
+
+tell-less : (D : ℕ → Type 0) (x : ℕ × Event) (l : Live) (m : Bool) (marks : List Bool) → FlagsTell D (x ∷ l) (m ∷ marks) → FlagsTell D l marks
+tell-less D x l m marks h =
+    let size : length (m ∷ marks) ≡ length (x ∷ l) = h.size in
+    record { size = omega arith; on = λ i y. h.on (suc i) y; off = λ i y. h.off (suc i) y }
+
+pub flags-tell : (next : ℕ) (l : Live) (marks : List Bool) → Rising 0 l next → length marks ≡ length l → FlagsTell (λ t. In t (tickets_marked l marks)) l marks
+flags-tell next l marks r size = record {
+  size = size;
+  on = λ i x at here. (is-marked l marks x.0).1 (i, (x.1, at), here);
+  off = λ i x at here inside.
+      let h = (is-marked l marks x.0).0 inside in
+      let one : h.0 ≡ i = one-place 0 next l x.0 h.1.0 x.1 h.0 i r h.1.1 at in
+      let both : true ≡ false = at-one marks i true false (subst (λ (k : ℕ). slice_get marks k ≡ Some true) one h.2) here in
+      cc;
+}
+
+-- without the marked ones
+pub unmarked-left : (D : ℕ → Type 0) (l : Live) (marks : List Bool) → FlagsTell D l marks → WithoutTickets D l (unmarked marks l)
+unmarked-left D [] [] h = ended
+unmarked-left D [] (m ∷ marks) h = ended
+unmarked-left D (x ∷ l) [] h = let size : length {A = Bool} [] ≡ length (x ∷ l) = h.size in absurd (omega arith)
+unmarked-left D (x ∷ l) (true ∷ marks) h = leaves (h.on zero x refl refl) (unmarked-left D l marks (tell-less D x l true marks h))
+unmarked-left D (x ∷ l) (false ∷ marks) h = stays (h.off zero x refl refl) (unmarked-left D l marks (tell-less D x l false marks h))
+
+pub unmarked-stays : {X : Type 0} (D : ℕ → Type 0) (l : Live) (marks : List Bool) (xs : List X) → FlagsTell D l marks → length xs ≡ length l → StaysBeside D l xs (unmarked marks xs)
+unmarked-stays D [] [] [] h even = done
+unmarked-stays D [] (m ∷ marks) [] h even = done
+unmarked-stays D [] marks (x ∷ xs) h even = absurd (omega arith)
+unmarked-stays D (e ∷ l) marks [] h even = absurd (omega arith)
+unmarked-stays D (e ∷ l) [] (x ∷ xs) h even = let size : length {A = Bool} [] ≡ length (e ∷ l) = h.size in absurd (omega arith)
+unmarked-stays D (e ∷ l) (true ∷ marks) (x ∷ xs) h even =
+    let rest : length xs ≡ length l = omega arith in
+    drops (h.on zero e refl refl) (unmarked-stays D l marks xs (tell-less D e l true marks h) rest)
+unmarked-stays D (e ∷ l) (false ∷ marks) (x ∷ xs) h even =
+    let rest : length xs ≡ length l = omega arith in
+    keeps (h.off zero e refl refl) (unmarked-stays D l marks xs (tell-less D e l false marks h) rest)
+
+-- no event of this ticket is there to leave
+none-leaves : (low next : ℕ) (l : Live) (t : ℕ) → Rising low l next → t < low → WithoutTickets (λ v. v ≡ t) l l
+none-leaves low next [] t r less = ended
+none-leaves low next (x ∷ l) t r less =
+    let first : low ≤ x.0 = r.0 in
+    stays (λ (is : x.0 ≡ t). omega arith) (none-leaves (suc x.0) next l t r.1 (omega arith))
+
+-- one more place is passed: its event leaves where it is marked
+pub passed-marked : (low next : ℕ) (l : Live) (marks : List Bool) (i t : ℕ) (e : Event) → Rising low l next → slice_get marks i ≡ Some true → slice_get l i ≡ Some (t, e) →
+    WithoutTickets (λ v. v ≡ t) (unmarked (take i marks) l) (unmarked (take (suc i) marks) l)
+passed-marked low next l [] i t e r on at = none-some true on
+passed-marked low next [] (m ∷ marks) i t e r on at = none-some (t, e) at
+passed-marked low next (x ∷ l) (false ∷ marks) zero t e r on at = cc
+passed-marked low next (x ∷ l) (true ∷ marks) zero t e r on at =
+    let is : x.0 ≡ t = ap (λ (y : ℕ × Event). y.0) (some-injective x (t, e) at) in
+    leaves is (none-leaves (suc x.0) next l t r.1 (omega arith))
+passed-marked low next (x ∷ l) (true ∷ marks) (suc i) t e r on at = passed-marked (suc x.0) next l marks i t e r.1 on at
+passed-marked low next (x ∷ l) (false ∷ marks) (suc i) t e r on at =
+    let above : suc x.0 ≤ t = (rising-in (suc x.0) next l t e r.1 (in-at l i (t, e) at)).0 in
+    stays (λ (is : x.0 ≡ t). omega arith) (passed-marked (suc x.0) next l marks i t e r.1 on at)
+
+-- and stays where it is not
+pub passed-unmarked : (l : Live) (marks : List Bool) (i : ℕ) → slice_get marks i ≡ Some false → unmarked (take (suc i) marks) l ≡ unmarked (take i marks) l
+passed-unmarked l [] i off = none-some false off
+passed-unmarked [] (m ∷ marks) zero off = refl
+passed-unmarked [] (m ∷ marks) (suc i) off = refl
+passed-unmarked (x ∷ l) (true ∷ marks) zero off = cc
+passed-unmarked (x ∷ l) (false ∷ marks) zero off = refl
+passed-unmarked (x ∷ l) (true ∷ marks) (suc i) off = passed-unmarked l marks i off
+passed-unmarked (x ∷ l) (false ∷ marks) (suc i) off = ap (λ (k : Live). x ∷ k) (passed-unmarked l marks i off)
+
+-- it is there until then
+pub there-yet : (l : Live) (marks : List Bool) (i t : ℕ) (e : Event) → slice_get l i ≡ Some (t, e) → LiveAt (unmarked (take i marks) l) t e
+there-yet l [] zero t e at = in-at l zero (t, e) at
+there-yet l [] (suc i) t e at = in-at l (suc i) (t, e) at
+there-yet [] (m ∷ marks) i t e at = none-some (t, e) at
+there-yet (x ∷ l) (m ∷ marks) zero t e at = in-at (x ∷ l) zero (t, e) at
+there-yet (x ∷ l) (true ∷ marks) (suc i) t e at = there-yet l marks i t e at
+there-yet (x ∷ l) (false ∷ marks) (suc i) t e at = inr (there-yet l marks i t e at)
+
+-- a mark tells whether the ticket is among the marked ones
+told-by : (b : Bool) (tickets : List ℕ) (t : ℕ) → (b ≡ true → In t tickets) → (b ≡ false → In t tickets → ⊥) → b ≡ is_in t tickets
+told-by true tickets t on off = sym (in-is t tickets (on refl))
+told-by false tickets t on off = pick (is_in t tickets) refl
+  where
+    pick : (b : Bool) → is_in t tickets ≡ b → false ≡ b
+    pick true is = absurd (off refl (is-in t tickets is))
+    pick false is = refl
+
+pub marked-test : (l : Live) (marks : List Bool) (t place : ℕ) (e : Event) → IsRising l → length marks ≡ length l → slice_get l place ≡ Some (t, e) →
+    get_or marks place false ≡ is_in t (tickets_marked l marks)
+marked-test l marks t place e r size at =
+    let tell = flags-tell r.0 l marks r.1 size in
+    let inside : place < length l = slice_get_within l place (t, e) at in
+    let read = slice_get-get_or marks place false (omega arith) in
+    told-by (get_or marks place false) (tickets_marked l marks) t (λ is. tell.on place (t, e) at (read ∙ ap (λ (b : Bool). Some b) is))
+    (λ is. tell.off place (t, e) at (read ∙ ap (λ (b : Bool). Some b) is))
+
+pub absent-test : (l : Live) (marks : List Bool) (t : ℕ) → NoneAt l t → false ≡ is_in t (tickets_marked l marks)
+absent-test l marks t none =
+    told-by false (tickets_marked l marks) t (λ is. cc) (λ is inside.
+    let h = (is-marked l marks t).0 inside in
+    none h.1.0 (in-at l h.0 (t, h.1.0) h.1.1))
+
+-- the event at a place is marked, or is not, or there is none
+pub marked-here : (l : Live) (marks : List Bool) (place : ℕ) (r : ℕ × Event) → length marks ≡ length l → place < length marks → get_or marks place false ≡ true →
+    OneMarkedAt l (tickets_marked l marks) place (get_or l place r).1
+marked-here l marks place r size less on =
+    let within : place < length l = omega arith in
+    let at = slice_get-get_or l place r within in (
+      (get_or l place r).0,
+      at,
+      (is-marked l marks (get_or l place r).0).1 (place, ((get_or l place r).1, at), slice_get-get_or marks place false less ∙ ap (λ (b : Bool). Some b) on),
+    )
+
+pub unmarked-here : (l : Live) (marks : List Bool) (place : ℕ) → IsRising l → length marks ≡ length l → place < length marks → get_or marks place false ≡ false →
+    NoneMarkedAt l (tickets_marked l marks) place
+unmarked-here l marks place r size less off_here e h =
+    (flags-tell r.0 l marks r.1 size).off place (h.0, e) h.1 (slice_get-get_or marks place false less ∙ ap (λ (b : Bool). Some b) off_here) h.2
+
+pub past-marks : (l : Live) (marks : List Bool) (place : ℕ) → length marks ≡ length l → length marks ≤ place → NoneMarkedAt l (tickets_marked l marks) place
+past-marks l marks place size past e h = let inside : place < length l = slice_get_within l place (h.0, e) h.1 in omega arith

@@ -1,0 +1,19 @@
+use Rattle.std.proofs.Common.{sym, subst}
+use Rattle.syntax.specs.Lists.{In}
+use Rattle.calculus.specs.Live.{WithoutTickets}
+use Rattle.dependence.specs.Shown.{Shown}
+use Rattle.dependence.specs.Taking.{HasDependents}
+use Rattle.dependence.proofs.live.Live.take_marked.Goals as goal
+
+pub take_marked-requires : goal.take_marked-requires
+take_marked-requires c = record {
+  whole = c.self.invariant.0;
+  tabled = c.self.invariant.1;
+  closed = subst (λ (s : Shown). HasDependents s.live s.marked) (sym c.self.view_is) c.requires;
+}
+
+pub returns : goal.returns
+returns c = record {
+  live = subst (λ (s : Shown). WithoutTickets (λ t. In t s.marked) s.live c.take_marked.new.pairs.items) c.self.view_is c.take_marked.ensures.live;
+  marked = c.take_marked.ensures.marked;
+}

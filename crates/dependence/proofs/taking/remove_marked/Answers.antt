@@ -1,0 +1,44 @@
+use Rattle.std.proofs.Common.{◌≡◌, ◌∙◌, ◌+◌, ◌<◌, ◌≤◌, ℕ, suc, List, Bool, length, take, true, false, Some, ap, sym, subst, arith}
+use Rattle.std.specs.Prelude.{slice_get}
+use Rattle.std.proofs.lemmas.Option.{slice_get-get_or}
+use Rattle.calculus.specs.Live.{Live}
+use Rattle.calculus.specs.declared.event.Event.{Event}
+use Rattle.dependence.specs.declared.tables.Tables.{Tables}
+use Rattle.dependence.specs.walking.Tabled.{IsTabled}
+use Rattle.dependence.specs.walking.Unmarked.{unmarked}
+use Rattle.dependence.proofs.ListPlaces.{take-all}
+use Rattle.dependence.proofs.Tabling.{tabled-taken}
+use Rattle.dependence.proofs.Unmarking.{unmarked-rises, passed-marked, passed-unmarked, there-yet}
+use Rattle.dependence.proofs.taking.remove_marked.Goals as goal
+use Rattle.dependence.proofs.taking.remove_marked.Goals.{then-marks-place, else-marks-place}
+
+pub loop-place-preserved : goal.loop-place-preserved
+loop-place-preserved c =
+    let l : Live = c.args.live.now in
+    let marks : List Bool = c.args.marks.now in
+    let i : ℕ = c.loop-place.place in
+    let r = c.requires.rising in
+    let more : suc i ≡ i + 1 = omega arith in
+    let inside : i < length l = c.loop-place-test.true in
+    let size : length marks ≡ length l = c.requires.size in
+    let within : i < length marks = omega arith in
+    let x : ℕ × Event = c.index-live-place.result in
+    let at : slice_get l i ≡ Some x = slice_get-get_or l i x inside ∙ ap (λ (y : ℕ × Event). Some y) (sym c.index-live-place.is) in
+    let read = slice_get-get_or marks i false within in
+    subst (λ (n : ℕ). IsTabled (unmarked (take n marks) l) c.if-marks-place.tables) more
+    (elim c.if-marks-place.branch [
+      | then-marks-place w ↦
+          let on : slice_get marks i ≡ Some true = read ∙ ap (λ (b : Bool). Some b) w.if-marks-place.true in
+          subst (λ (held : Tables). IsTabled (unmarked (take (suc i) marks) l) held) (sym w.tables-is)
+          (tabled-taken r.0 (unmarked (take i marks) l) (unmarked (take (suc i) marks) l) c.loop-place.tables w.remove.new.self x.0 x.1
+          (unmarked-rises 0 r.0 l (take i marks) r.1) (there-yet l marks i x.0 x.1 at) (passed-marked 0 r.0 l marks i x.0 x.1 r.1 on at) c.loop-place.invariant w.remove.ensures)
+      | else-marks-place w ↦
+          let off : slice_get marks i ≡ Some false = read ∙ ap (λ (b : Bool). Some b) w.if-marks-place.false in
+          subst (λ (held : Tables). IsTabled (unmarked (take (suc i) marks) l) held) (sym w.tables-is)
+          (subst (λ (k : Live). IsTabled k c.loop-place.tables) (sym (passed-unmarked l marks i off)) c.loop-place.invariant)
+    ])
+
+pub returns : goal.returns
+returns c =
+    let past : length c.args.marks.now ≤ c.loop-place.place = (let size = c.requires.size in let over = c.loop-place-test.false in omega arith) in
+    subst (λ (ms : List Bool). IsTabled (unmarked ms c.args.live.now) c.loop-place.tables) (take-all c.args.marks.now c.loop-place.place past) c.loop-place.invariant

@@ -1,0 +1,12 @@
+use Rattle.std.proofs.Common.{◌≡◌, ℕ, ◌<◌, true, Some}
+use Rattle.std.specs.Prelude.{slice_get}
+use Rattle.syntax.specs.Lists.{In}
+use Rattle.dependence.specs.Shown.{tickets_marked}
+use Rattle.dependence.specs.walking.Unmarked.{AllThinned, IsLoose}
+use Rattle.dependence.proofs.taking.unlink_marked.Given as goal
+
+abbrev pub invariant-loop-place : goal.invariant-loop-place
+invariant-loop-place l = record {
+  thinned : AllThinned (λ (t : ℕ). In t (tickets_marked l.live l.marks)) l.initial.links l.links;
+  loose : (j : ℕ) → j < l.place → slice_get l.marks j ≡ Some true → IsLoose l.live l.initial.links l.links j;
+}

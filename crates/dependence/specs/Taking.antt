@@ -1,0 +1,28 @@
+-- The marked events, taken out all at once.
+use Rattle.std.specs.Prelude.{◌≡◌, ℕ, List, [], ◌∷◌, Some, slice_get}
+use Rattle.syntax.specs.Lists.{In}
+use Rattle.calculus.specs.Live.{Live, LiveAt, DependsOn}
+use Rattle.calculus.specs.declared.event.Event.{Event}
+use Rattle.dependence.specs.Shown.{Shown}
+
+-- each live event that depends on one whose ticket is among these has its ticket among them
+abbrev pub HasDependents : Live → List ℕ → Type 0
+HasDependents l tickets = (t u : ℕ) (f : Event) → In t tickets → LiveAt l u f → DependsOn l t u → In u tickets
+
+-- each live event that depends on a marked one is marked
+abbrev pub MarksAllDependents : Shown → Type 0
+MarksAllDependents s = HasDependents s.live s.marked
+
+-- e is the live event at the place, and its ticket is among these
+abbrev pub OneMarkedAt : Live → List ℕ → ℕ → Event → Type 0
+OneMarkedAt l tickets place e = (t : ℕ) × (slice_get l place ≡ Some (t, e)) × In t tickets
+
+-- there is no such event
+abbrev pub NoneMarkedAt : Live → List ℕ → ℕ → Type 0
+NoneMarkedAt l tickets place = (e : Event) → OneMarkedAt l tickets place e → ⊥
+
+-- ys is what stays of xs, which stand beside the entries of l, without those beside an entry of whose ticket D holds
+pub data StaysBeside {X : Type 0} (D : ℕ → Type 0) : Live → List X → List X → Type 0 where
+  done : StaysBeside D [] [] []
+  keeps : {e : ℕ × Event} {l : Live} {x : X} {xs ys : List X} → (D e.0 → ⊥) → StaysBeside D l xs ys → StaysBeside D (e ∷ l) (x ∷ xs) (x ∷ ys)
+  drops : {e : ℕ × Event} {l : Live} {x : X} {xs ys : List X} → D e.0 → StaysBeside D l xs ys → StaysBeside D (e ∷ l) (x ∷ xs) ys

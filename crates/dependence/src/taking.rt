@@ -1,0 +1,142 @@
+// The marked events taken out all at once: each list is gone through once.
+ghost use Rattle.std.specs.Prelude.{◌≡◌, ◌<◌, ◌≤◌, ℕ, [], length, true, Some, slice_get};
+ghost use Rattle.syntax.specs.Lists.{In};
+ghost use Rattle.calculus.specs.InOrder.{InOrder};
+ghost use Rattle.calculus.specs.Live.{IsLive, WithoutTickets};
+ghost use Rattle.dependence.specs.declared.links.Links.{Links};
+ghost use Rattle.dependence.specs.Shown.{tickets_marked};
+ghost use Rattle.dependence.specs.Taking.{HasDependents};
+ghost use Rattle.dependence.specs.walking.Tables.{IsRising, Linked};
+ghost use Rattle.dependence.specs.walking.Tabled.{IsTabled};
+ghost use Rattle.dependence.specs.walking.Unmarked.{unmarked, Thinned, AllThinned, NotBehind, IsLoose};
+ghost use Rattle.dependence.specs.walking.Whole.{IsWhole};
+
+use crate::links::Links;
+use crate::marks::{clear, is_marked};
+use crate::places::{place_in, place_of_live};
+use crate::tables::Tables;
+use calculus::Event;
+
+/// Takes the marked events out with their marks. What depends on a marked one is marked.
+pub(crate) fn take_marked(
+    pairs: &mut Vec<(u64, Event)>,
+    links: &mut Vec<Links>,
+    marks: &mut Vec<bool>,
+    tables: &mut Tables,
+)
+    requires whole { IsWhole pairs.old.items links.old.items marks.old.items }
+    requires tabled { IsTabled pairs.old.items tables.old }
+    requires closed { HasDependents pairs.old.items (tickets_marked pairs.old.items marks.old.items) }
+    ensures whole { IsWhole pairs.new.items links.new.items marks.new.items }
+    ensures tabled { IsTabled pairs.new.items tables.new }
+    ensures live { WithoutTickets (λ t. In t (tickets_marked pairs.old.items marks.old.items)) pairs.old.items pairs.new.items }
+    ensures marked { tickets_marked pairs.new.items marks.new.items ≡ [] }
+{
+    remove_marked(pairs.as_slice(), marks.as_slice(), tables);
+    unlink_marked(pairs.as_slice(), links.as_mut_slice(), marks.as_slice());
+    keep_unmarked(pairs, marks.as_slice());
+    keep_unmarked(links, marks.as_slice());
+    keep_no_marks(marks, pairs.len());
+}
+
+/// Leaves so many marks, of which none is set.
+fn keep_no_marks(marks: &mut Vec<bool>, count: usize)
+    requires { count ≤ length marks.old.items }
+    ensures size { length marks.new.items ≡ count }
+    ensures none { (i : ℕ) → slice_get marks.new.items i ≡ Some true → ⊥ }
+{
+    marks.truncate(count);
+    clear(marks.as_mut_slice());
+}
+
+/// Takes the marked events out of the tables.
+fn remove_marked(live: &[(u64, Event)], marks: &[bool], tables: &mut Tables)
+    requires rising { IsRising live.now }
+    requires size { length marks.now ≡ length live.now }
+    requires tabled { IsTabled live.now tables.old }
+    ensures { IsTabled (unmarked marks.now live.now) tables.new }
+{
+    for (place, entry) in live.iter().enumerate() {
+        if marks[place] {
+            tables.remove(entry.0, &entry.1);
+        }
+    }
+}
+
+/// Takes the marked events out of the followers of those that they follow.
+fn unlink_marked(live: &[(u64, Event)], links: &mut [Links], marks: &[bool])
+    requires rising { IsRising live.now }
+    requires size { length marks.now ≡ length live.now }
+    requires linked { Linked live.now links.old }
+    ensures thinned { AllThinned (λ t. In t (tickets_marked live.now marks.now)) links.old links.new }
+    ensures loose { (place : ℕ) → slice_get marks.now place ≡ Some true → IsLoose live.now links.old links.new place }
+{
+    for place in 0..live.len() {
+        if marks[place] {
+            unlink_at(live, links, marks, place);
+        }
+    }
+}
+
+/// Takes the event at this place, which is marked, out of the followers of those that it follows, and other marked ones with it.
+fn unlink_at(live: &[(u64, Event)], links: &mut [Links], marks: &[bool], place: usize)
+    requires rising { IsRising live.now }
+    requires size { length marks.now ≡ length live.now }
+    requires long { length links.old ≡ length live.now }
+    requires ordered { (i : ℕ) (m : Links) → slice_get links.old i ≡ Some m → InOrder ◌<◌ m.followers.items }
+    requires live { (m : Links) (t : ℕ) → slice_get links.old place ≡ Some m → In t m.leads.items → IsLive live.now t }
+    requires marked { slice_get marks.now place ≡ Some true }
+    ensures thinned { AllThinned (λ t. In t (tickets_marked live.now marks.now)) links.old links.new }
+    ensures loose { IsLoose live.now links.old links.new place }
+{
+    let ticket = live[place].0;
+    for index in 0..links[place].leads.len() {
+        let lead = links[place].leads[index];
+        unlink_from(live, links, marks, lead, ticket);
+    }
+}
+
+/// Takes the ticket, which is marked, out of the followers of the live event `lead`, and other marked ones with it.
+fn unlink_from(live: &[(u64, Event)], links: &mut [Links], marks: &[bool], lead: u64, ticket: u64)
+    requires rising { IsRising live.now }
+    requires size { length marks.now ≡ length live.now }
+    requires long { length links.old ≡ length live.now }
+    requires ordered { (i : ℕ) (m : Links) → slice_get links.old i ≡ Some m → InOrder ◌<◌ m.followers.items }
+    requires live { IsLive live.now lead }
+    requires marked { In ticket (tickets_marked live.now marks.now) }
+    ensures thinned { AllThinned (λ t. In t (tickets_marked live.now marks.now)) links.old links.new }
+    ensures out { NotBehind live.now links.new ticket lead }
+{
+    let place = place_of_live(live, lead);
+    let links = &mut links[place];
+    thin(live, marks, &mut links.followers, ticket);
+}
+
+/// Takes the marked tickets out of these, which ascend, where this one is among them. Else they are out already.
+fn thin(live: &[(u64, Event)], marks: &[bool], tickets: &mut Vec<u64>, ticket: u64)
+    requires rising { IsRising live.now }
+    requires size { length marks.now ≡ length live.now }
+    requires ordered { InOrder ◌<◌ tickets.old.items }
+    requires marked { In ticket (tickets_marked live.now marks.now) }
+    ensures thinned { Thinned (λ t. In t (tickets_marked live.now marks.now)) tickets.old.items tickets.new.items }
+    ensures gone { In ticket tickets.new.items → ⊥ }
+{
+    if place_in(tickets.as_slice(), ticket).is_some() {
+        tickets.retain(|other| !is_marked(live, marks, *other));
+    }
+}
+
+/// Keeps the items at whose places no mark stands, in their order.
+pub(crate) fn keep_unmarked<T: Drop>(items: &mut Vec<T>, marks: &[bool])
+    requires { length marks.now ≡ length items.old.items }
+    ensures { items.new.items ≡ unmarked marks.now items.old.items }
+{
+    let mut kept = 0;
+    for (place, marked) in marks.iter().enumerate() {
+        if !*marked {
+            items.swap(kept, place);
+            kept += 1;
+        }
+    }
+    items.truncate(kept);
+}
