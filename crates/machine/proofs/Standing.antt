@@ -22,6 +22,7 @@ use Rattle.system.specs.Translation.{opening_store}
 use Rattle.process_tree.specs.Proc.{started}
 use Rattle.process_tree.specs.Tidy.{Tidy}
 use Rattle.channel_uses.specs.StemsFrom.{StemsFrom}
+use Rattle.channel_uses.specs.declared.table.ChannelUses.{ChannelUses}
 use Rattle.channel_uses.proofs.RunStems.{runs-keep-origin}
 use Rattle.process_tree.specs.Translation.{system_code}
 use Rattle.event_inverse.specs.Grown.{TreeAndStore, Taken, Records, StandFor, state_of_tree, opening_tree, applied}
@@ -34,7 +35,8 @@ use Rattle.event_inverse.proofs.Neighbours.{applies, reverts}
 use Rattle.event_inverse.proofs.TidyRuns.{runs-are-tidy}
 use Rattle.dependence.specs.Behind.{ComesBehind}
 use Rattle.dependence.proofs.RunOrder.{last-comes-behind}
-use Rattle.machine.specs.walking.Histories.{with_inverses, Stands}
+use Rattle.machine.specs.walking.Histories.{tree_of, with_inverses, Stands, Holds, KnowsUses, IsSearched}
+use Rattle.machine.specs.declared.history.History.{History}
 use Rattle.machine.proofs.Entries.{parts-at, item-at, within-at}
 use Rattle.machine.proofs.Withouts.{without-entry, one-left}
 
@@ -81,6 +83,15 @@ stands-tidy checked T l is n s = runs-are-tidy checked (events l) T (with_invers
 -- it stems from the command of the system
 pub stands-stems : (checked : Checked) (T : TreeAndStore) (l : Live) (is : List Inverse) (n : ℕ) → Stands checked T l is n → StemsFrom T.proc (system_code checked)
 stands-stems checked T l is n s = runs-keep-origin checked (events l) T (with_inverses (events l) is) s.run
+
+-- so its events are found by the uses of channels
+pub stands-searched : (checked : Checked) (h : History) (uses : ChannelUses) → Holds checked h → KnowsUses checked uses → IsSearched h uses
+stands-searched checked h uses s known = record {
+  code = system_code checked;
+  table = known;
+  stems = stands-stems checked (tree_of h) h.live.live h.inverses.items h.next s;
+  tidy = stands-tidy checked (tree_of h) h.live.live h.inverses.items h.next s;
+}
 
 -- there is a list of what is ready
 pub stands-ready : (checked : Checked) (T : TreeAndStore) (l : Live) (is : List Inverse) (n : ℕ) → Stands checked T l is n → (es : List Event) × ReadyList (state_of_tree T) es

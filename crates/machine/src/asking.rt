@@ -2,10 +2,11 @@
 ghost use Rattle.std.specs.Prelude.{◌≡◌, IfOk};
 ghost use Rattle.sharing_check.specs.declared.checked.Checked.{Checked};
 ghost use Rattle.calculus.specs.Does.{Does};
-ghost use Rattle.machine.specs.walking.Histories.{execution, Holds};
+ghost use Rattle.machine.specs.walking.Histories.{execution, Holds, KnowsUses};
 
 use crate::history::History;
 use calculus::{Command, Event, Refusal, Reply};
+use channel_uses::ChannelUses;
 use std::alloc::{AllocError, Global};
 use syntax::Items;
 
@@ -29,10 +30,10 @@ impl History {
     }
 
     /// The events that may be taken now.
-    pub(crate) fn tell_ready(&self, alloc: Global) -> Result<Reply, AllocError>
-        ensures { (system : Checked) → Holds system self.now → IfOk result (λ reply. Does (execution system self.now) Command.Ready reply (execution system self.now)) }
+    pub(crate) fn tell_ready(&self, alloc: Global, uses: &ChannelUses) -> Result<Reply, AllocError>
+        ensures { (system : Checked) → Holds system self.now → KnowsUses system uses.now → IfOk result (λ reply. Does (execution system self.now) Command.Ready reply (execution system self.now)) }
     {
-        let events = self.ready(alloc)?;
+        let events = self.ready(alloc, uses)?;
         Ok(Reply::Ready(events))
     }
 }

@@ -6,19 +6,18 @@ ghost use Rattle.system_places.specs.SystemBranches.{branch_at, parallel_of};
 ghost use Rattle.calculus.specs.Events.{acting};
 ghost use Rattle.calculus.specs.Moves.{Place};
 ghost use Rattle.event_inverse.specs.Grown.{state_of_tree};
-ghost use Rattle.process_tree.specs.Tidy.{Tidy};
-ghost use Rattle.process_tree.specs.View.{tree_view};
 ghost use Rattle.rendezvous.specs.ReadyBelow.{ReadyBelow};
 ghost use Rattle.machine.specs.Branching.{is_branch, acts_in, in_branch, is_free, StepsBranch};
 ghost use Rattle.machine.specs.walking.Choosing.{moves, line_of_first, FirstAt, Takes, IsChosenAt};
 ghost use Rattle.machine.specs.walking.Sites.{IsAtSite, ReadyWith, site_among};
 ghost use Rattle.machine.specs.AtMachine.{at_machine};
-ghost use Rattle.machine.specs.walking.Histories.{tree_of, Holds};
+ghost use Rattle.machine.specs.walking.Histories.{tree_of, Holds, KnowsUses, IsSearched};
 
 use crate::following::is_among;
 use crate::history::History;
 use address::Entry;
 use calculus::{Event, Refusal};
+use channel_uses::ChannelUses;
 use event_places::line_after;
 use rendezvous::ready_below;
 use sharing_check::Checked;
@@ -45,15 +44,17 @@ impl History {
         &mut self,
         alloc: Global,
         system: &Checked,
+        uses: &ChannelUses,
         branch: u32,
         breaks: &[u64],
     ) -> Result<BranchReply, AllocError>
-        requires { Holds system.now self.old }
+        requires holds { Holds system.now self.old }
+        requires uses { KnowsUses system.now uses.now }
         ensures done { IfOk result (λ reply. StepsBranch (at_machine system.now self.old) branch breaks.now reply (at_machine system.now self.new)) }
         ensures unchanged { OnErr result (at_machine system.now self.new ≡ at_machine system.now self.old) }
         ensures holds { Holds system.now self.new }
     {
-        let events = self.ready_near(alloc, system, branch)?;
+        let events = self.ready_near(alloc, system, uses, branch)?;
         match self.first_moving(system, events.as_slice(), branch, breaks) {
             Some(place) => self.take_ready(alloc, system, events, place),
             None => Ok(self.kept_back(system, events.as_slice(), branch)),
@@ -65,25 +66,34 @@ impl History {
         &self,
         alloc: Global,
         system: &Checked,
+        uses: &ChannelUses,
         branch: u32,
     ) -> Result<Items<Event>, AllocError>
-        requires { Holds system.now self.now }
+        requires holds { Holds system.now self.now }
+        requires uses { KnowsUses system.now uses.now }
         ensures { IfOk result (λ events. ReadyWith (state_of_tree (tree_of self.now)) (acts_in (at_machine system.now self.now) branch) events) }
     {
         match site_of(system.system(), branch) {
-            Site::Child => self.ready_under(alloc, &[Entry::Branch(0), Entry::Branch(branch)]),
-            Site::Body => self.ready_under(alloc, &[Entry::Branch(0)]),
-            Site::Port(number) => self.ready_under(alloc, &[Entry::Branch(number)]),
-            Site::Unknown => self.ready_under(alloc, &[]),
+            Site::Child => {
+                self.ready_under(alloc, uses, &[Entry::Branch(0), Entry::Branch(branch)])
+            }
+            Site::Body => self.ready_under(alloc, uses, &[Entry::Branch(0)]),
+            Site::Port(number) => self.ready_under(alloc, uses, &[Entry::Branch(number)]),
+            Site::Unknown => self.ready_under(alloc, uses, &[]),
         }
     }
 
     /// The events that are allowed now and act at the place or below it, in order.
-    fn ready_under(&self, alloc: Global, place: &[Entry]) -> Result<Items<Event>, AllocError>
-        requires { Tidy (tree_view self.now.tree) }
+    fn ready_under(
+        &self,
+        alloc: Global,
+        uses: &ChannelUses,
+        place: &[Entry],
+    ) -> Result<Items<Event>, AllocError>
+        requires { IsSearched self.now uses.now }
         ensures { IfOk result (λ events. ReadyBelow (state_of_tree (tree_of self.now)) place.now events) }
     {
-        ready_below(alloc, &self.tree, &self.store, place)
+        ready_below(alloc, uses, &self.tree, &self.store, place)
     }
 
     /// Takes the event at this place of the list of those that are ready, where the limits leave room for it.

@@ -112,8 +112,7 @@ impl Machine {
         ensures system { self.new.checked ≡ self.old.checked }
     {
         or_refused(
-            self.history
-                .branch_step(self.alloc, &self.system, branch, breaks.lines()),
+            self.history.branch_step(self.alloc, &self.system, &self.uses, branch, breaks.lines()),
         )
     }
 
@@ -174,14 +173,14 @@ impl Machine {
     pub fn tell_ready(&self) -> Reply
         ensures { Answers (object self.now) Command.Ready result (object self.now) }
     {
-        or_no_memory(self.history.tell_ready(self.alloc))
+        or_no_memory(self.history.tell_ready(self.alloc, &self.uses))
     }
 
     /// The events that may be taken now, in order of acting address, then arm.
     pub fn ready(&self) -> Result<Items<Event>, AllocError>
         ensures { IfOk result (λ events. (T : State) × Reaches (object self.now) T × ReadyList T events) }
     {
-        self.history.ready(self.alloc)
+        self.history.ready(self.alloc, &self.uses)
     }
 
     /// The line, from 1, of the command that has this place after the live events. None where no command has it.

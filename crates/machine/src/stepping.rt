@@ -114,11 +114,15 @@ impl History {
     }
 
     /// The events that are allowed now, in order.
-    pub(crate) fn ready(&self, alloc: Global) -> Result<Items<Event>, AllocError>
-        ensures { (system : Checked) → Holds system self.now → IfOk result (λ events.
+    pub(crate) fn ready(
+        &self,
+        alloc: Global,
+        uses: &ChannelUses,
+    ) -> Result<Items<Event>, AllocError>
+        ensures { (system : Checked) → Holds system self.now → KnowsUses system uses.now → IfOk result (λ events.
             Reaches (execution system self.now) (state_of_tree (tree_of self.now)) × ReadyList (state_of_tree (tree_of self.now)) events) }
     {
-        ready_events(alloc, &self.tree, &self.store)
+        ready_events(alloc, uses, &self.tree, &self.store)
     }
 }
 

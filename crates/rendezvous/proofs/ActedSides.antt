@@ -1,4 +1,4 @@
--- The events in which the sides at a place act, and the choice among them.
+-- The events in which sides act, the choice among them, and the list of them.
 use Rattle.std.proofs.Common.{◌≡◌, ◌⊎◌, inl, inr, ℕ, ◌==◌, List, [], ◌∷◌, ◌++◌, Bool, true, false, ◌&&◌, cond, Option, Some, None, refl, sym, ◌∙◌, ap, subst}
 use Rattle.std.proofs.lemmas.Bool.{eqb-true, eq-eqb, and_parts}
 use Rattle.std.specs.Prelude.{◌↔◌}
@@ -7,7 +7,7 @@ use Rattle.address.specs.Order.{order_of}
 use Rattle.syntax.specs.Lists.{In}
 use Rattle.calculus.specs.Moves.{Place}
 use Rattle.calculus.specs.Events.{acting}
-use Rattle.calculus.specs.Choices.{choice_of}
+use Rattle.calculus.specs.Ready.{ReadyList}
 use Rattle.calculus.specs.Steps.{State, Allowed}
 use Rattle.calculus.specs.WellFormed.{WellFormed}
 use Rattle.calculus.specs.walking.AllowedEvents.{those}
@@ -15,15 +15,17 @@ use Rattle.calculus.specs.declared.event.Choice.{Choice}
 use Rattle.calculus.specs.declared.event.Event.{Event}
 use Rattle.calculus.proofs.Lists.{in-left, in-right, in-parts}
 use Rattle.calculus.proofs.Options.{none-some, cond-some}
-use Rattle.offered_sides.specs.Sides.{Offered}
+use Rattle.offered_sides.specs.Sides.{Offered, OffersExactly}
 use Rattle.offered_sides.specs.declared.side.OfferedSide.{OfferedSide}
 use Rattle.offered_sides.specs.declared.side.Side.{Side}
 use Rattle.offered_sides.specs.declared.side.Side.TheVariants.{Assigns, Tests, Turns, Sends, Receives, Syncs, Opens, Releases, Closes}
 use Rattle.channel_uses.specs.OnChannel.{is_on}
+use Rattle.rendezvous.specs.ReadyBelow.{Under, ReadyBelow}
 use Rattle.rendezvous.specs.walking.Acting.{ActedBy, ActedByOne, ReadyWith, SortedOf}
+use Rattle.rendezvous.specs.walking.Below.{under}
 use Rattle.rendezvous.specs.walking.Meeting.{solo, met, met_with}
 use Rattle.rendezvous.proofs.FromSides.{BySides, alone, meets, by_sides, sides_allowed, solo-acts, met-acts}
-use Rattle.rendezvous.proofs.Listed.{in-those-first, those-in, in-met, met-in}
+use Rattle.rendezvous.proofs.Listed.{in-those-first, those-in, in-met, met-in, in-under}
 
 -- ---- a partner is on the channel on which the side looks
 pub receives-on : (x : Side) (c : ℕ) (v : Option ℕ) → x ≡ Receives c v → (b a : Place) (y : Side) (e : Event) → met b x a y ≡ Some e → is_on c y ≡ true
@@ -138,11 +140,11 @@ so-far-end S es rest all none h e = (
   ],
 )
 
--- ---- the choice among them
+-- ---- where exactly those of the sides act that pass a test
 -- they are allowed
-pub acted-allowed : (S : State) (a : Place) (found acting_sides : List OfferedSide) (es : List Event) → WellFormed S.residual → ((x : OfferedSide) → In x found ↔ (Offered S x × (x.place ≡ a))) → acting_sides ≡ found
+pub acted-allowed : (S : State) (Q : OfferedSide → Type 0) (found acting_sides : List OfferedSide) (es : List Event) → WellFormed S.residual → ((x : OfferedSide) → In x found ↔ (Offered S x × Q x)) → acting_sides ≡ found
     → ((e : Event) → In e es ↔ ActedByOne S acting_sides e) → (e : Event) → In e es → Allowed S e
-acted-allowed S a found acting_sides es w exactly same made e i =
+acted-allowed S Q found acting_sides es w exactly same made e i =
     let one = (made e).0 i in
     let offered = ((exactly one.0).0 (subst (λ (l : List OfferedSide). In one.0 l) same one.1)).0 in
     elim one.2 [
@@ -150,18 +152,71 @@ acted-allowed S a found acting_sides es w exactly same made e i =
       | inr u ↦ sides_allowed S w e (meets one.0 u.0 offered u.1 u.2)
     ]
 
--- and all of those with the choice are there
+-- all of those are there whose acting side passes it
+acted-all : (S : State) (Q : OfferedSide → Type 0) (found acting_sides : List OfferedSide) (es : List Event) → WellFormed S.residual → ((x : OfferedSide) → In x found ↔ (Offered S x × Q x)) → acting_sides ≡ found
+    → ((e : Event) → In e es ↔ ActedByOne S acting_sides e) → (e : Event) → Allowed S e → ((x : OfferedSide) → acting e ≡ x.place → Q x) → In e es
+acted-all S Q found acting_sides es w exactly same made e a passes = (made e).1 (acts (by_sides S e w a))
+  where
+    there : (x : OfferedSide) → Offered S x → acting e ≡ x.place → In x acting_sides
+    there x o is = subst (λ (l : List OfferedSide). In x l) (sym same) ((exactly x).1 (o, passes x is))
+
+    acts : BySides S e → ActedByOne S acting_sides e
+    acts (alone x o h) = (x, there x o (solo-acts x.place x.side e h), inl h)
+    acts (meets x y o q h) = (x, there x o (met-acts x.place x.side y.place y.side e h), inr (y, q, h))
+
+-- the place of the side that acts
+acted-there : (S : State) (Q : OfferedSide → Type 0) (found acting_sides : List OfferedSide) (es : List Event) → ((x : OfferedSide) → In x found ↔ (Offered S x × Q x)) → acting_sides ≡ found
+    → ((e : Event) → In e es ↔ ActedByOne S acting_sides e) → (e : Event) → In e es → (x : OfferedSide) × (acting e ≡ x.place) × Q x
+acted-there S Q found acting_sides es exactly same made e i =
+    let one = (made e).0 i in
+    let passes = ((exactly one.0).0 (subst (λ (l : List OfferedSide). In one.0 l) same one.1)).1 in (
+      one.0,
+      elim one.2 [
+        | inl u ↦ solo-acts one.0.place one.0.side e u
+        | inr u ↦ met-acts one.0.place one.0.side u.0.place u.0.side e u.2
+      ],
+      passes,
+    )
+
+-- ---- at the place of a choice, and below a place
 pub choice-ready : (S : State) (c : Choice) (found acting_sides : List OfferedSide) (es sorted : List Event) → WellFormed S.residual → ((x : OfferedSide) → In x found ↔ (Offered S x × (x.place ≡ c.place)))
     → acting_sides ≡ found → ((e : Event) → In e es ↔ ActedByOne S acting_sides e) → SortedOf es sorted → ReadyWith S c sorted
 choice-ready S c found acting_sides es sorted w exactly same made s = record {
-  sound = λ e i. acted-allowed S c.place found acting_sides es w exactly same made e ((s.same e).0 i);
-  complete = λ e a is. (s.same e).1 ((made e).1 (acts e is (by_sides S e w a)));
+  sound = λ e i. acted-allowed S (λ x. x.place ≡ c.place) found acting_sides es w exactly same made e ((s.same e).0 i);
+  complete = λ e a is.
+      (s.same e).1
+      (acted-all S (λ x. x.place ≡ c.place) found acting_sides es w exactly same made e a (λ x acts. sym acts ∙ ap (λ (d : Choice). d.place) is));
   in_order = s.in_order;
 }
-  where
-    there : (x : OfferedSide) → Offered S x → x.place ≡ c.place → In x acting_sides
-    there x o p = subst (λ (l : List OfferedSide). In x l) (sym same) ((exactly x).1 (o, p))
 
-    acts : (e : Event) → choice_of e ≡ c → BySides S e → ActedByOne S acting_sides e
-    acts e is (alone x o h) = (x, there x o (sym (solo-acts x.place x.side e h) ∙ ap (λ (d : Choice). d.place) is), inl h)
-    acts e is (meets x y o q h) = (x, there x o (sym (met-acts x.place x.side y.place y.side e h) ∙ ap (λ (d : Choice). d.place) is), inr (y, q, h))
+pub below-ready : (S : State) (p : Place) (found acting_sides : List OfferedSide) (es sorted : List Event) → WellFormed S.residual → ((x : OfferedSide) → In x found ↔ (Offered S x × Under p x.place))
+    → acting_sides ≡ found → ((e : Event) → In e es ↔ ActedByOne S acting_sides e) → SortedOf es sorted → ReadyBelow S p sorted
+below-ready S p found acting_sides es sorted w exactly same made s = record {
+  exactly = λ e. (
+    λ i.
+        let j = (s.same e).0 i in
+        let one = acted-there S (λ x. Under p x.place) found acting_sides es exactly same made e j in (
+          acted-allowed S (λ x. Under p x.place) found acting_sides es w exactly same made e j,
+          subst (λ (a : Place). Under p a) (sym one.1) one.2,
+        ),
+    λ h.
+        (s.same e).1
+        (acted-all S (λ x. Under p x.place) found acting_sides es w exactly same made e h.0 (λ x acts. subst (λ (a : Place). Under p a) acts h.1)),
+  );
+  in_order = s.in_order;
+}
+
+-- below the root is everywhere
+pub below-root : (S : State) (es : List Event) → ReadyBelow S [] es → ReadyList S es
+below-root S es r = record {
+  exactly = λ e. (λ i. ((r.exactly e).0 i).0, λ a. (r.exactly e).1 (a, (acting e, refl)));
+  in_order = r.in_order;
+}
+
+-- those of all sides that are below it
+pub below-exactly : (S : State) (p : Place) (all found : List OfferedSide) → OffersExactly S all → found ≡ under p all → (x : OfferedSide) → In x found ↔ (Offered S x × Under p x.place)
+below-exactly S p all found o is x =
+    let there = in-under p x all in (
+      λ i. let both = there.0 (subst (λ (l : List OfferedSide). In x l) is i) in ((o.exactly x).0 both.0, both.1),
+      λ h. subst (λ (l : List OfferedSide). In x l) (sym is) (there.1 ((o.exactly x).1 h.0, h.1)),
+    )

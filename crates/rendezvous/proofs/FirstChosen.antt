@@ -19,20 +19,10 @@ use Rattle.calculus.specs.declared.event.Event.{Event}
 use Rattle.calculus.specs.declared.event.Choice.{Choice}
 use Rattle.calculus.proofs.Lists.{in-right, in-parts, every-in}
 use Rattle.calculus.proofs.ReadyLists.{sooner-asymmetric}
-use Rattle.rendezvous.specs.ReadyBelow.{Under, ReadyBelow}
 use Rattle.rendezvous.specs.walking.Acting.{ReadyWith}
 use Rattle.rendezvous.specs.walking.Choosing.{HasNone, FirstWith}
 use Rattle.rendezvous.specs.walking.Sorting.{sooner_by, is_sooner}
 use Rattle.rendezvous.proofs.Entries.{parts-at, got-at, item-at, take-next}
-
--- a place is below itself
-under-itself : (a : Place) → Under a a
-under-itself [] = ([], refl)
-under-itself (x ∷ a) = let below = under-itself a in (below.0, ap (λ b. x ∷ b) below.1)
-
--- what has the choice acts below its place
-acts-there : (c : Choice) (e : Event) → choice_of e ≡ c → Under c.place (acting e)
-acts-there c e same = subst (λ (p : Place). Under p (acting e)) (ap (λ (d : Choice). d.place) same) (under-itself (acting e))
 
 not-itself : (a : Place) → order_of a a ≡ Less → ⊥
 not-itself a h = less-not-equal (sym h ∙ order-itself a)
@@ -46,14 +36,6 @@ order-after (x ∷ before) after e f order i = order-after before after e f orde
 not-less : (e f : Event) → Sooner e f → choice_of e ≡ choice_of f → order_of (other f) (other e) ≡ Less → ⊥
 not-less e f h same less =
     sooner-asymmetric e f h (inr (sym (ap (λ (c : Choice). c.place) same), inr (sym (ap (λ (c : Choice). c.arm) same), less)))
-
--- what is ready below the place of a choice has all events with the choice
-pub ready-with : (S : State) (c : Choice) (es : List Event) → ReadyBelow S c.place es → ReadyWith S c es
-ready-with S c es r = record {
-  sound = λ e i. ((r.exactly e).0 i).0;
-  complete = λ e a is. (r.exactly e).1 (a, acts-there c e is);
-  in_order = r.in_order;
-}
 
 module _ (S : State) (c : Choice) (es : List Event) (ready : ReadyWith S c es) where
   -- no event of the list has the choice

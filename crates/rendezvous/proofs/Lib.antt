@@ -2,7 +2,6 @@ pub mod ActedSides
 pub mod Entries
 pub mod FirstChosen
 pub mod FromSides
-pub mod FromTree
 pub mod Listed
 pub mod Partners
 pub mod Placed

@@ -2,7 +2,7 @@
 use Rattle.std.proofs.Common.{◌≡◌, ◌⊎◌, inl, inr, ℕ, suc, ◌==◌, ◌<◌, List, [], ◌∷◌, ◌++◌, Bool, true, false, cond, length, take, drop, refl, sym, ◌∙◌, ap, subst, arith}
 use Rattle.std.proofs.lemmas.Bool.{ltb-true}
 use Rattle.std.proofs.lemmas.Bool.Decides.{nat_tests}
-use Rattle.std.specs.Prelude.{nat_lt, ◌↔◌}
+use Rattle.std.specs.Prelude.{nat_lt}
 use Rattle.std.specs.Ordering.{is_lt}
 use Rattle.std.specs.declared.cmp.Ordering.{Ordering}
 use Rattle.std.specs.declared.cmp.Ordering.TheVariants.{Less, Equal, Greater}
@@ -25,7 +25,6 @@ use Rattle.std.specs.List.{Contains}
 use Rattle.std.specs.List.Sorted.{IsPermutation}
 use Rattle.std.proofs.lemmas.List.Sorted.{IsPermutation-sym, Contains-permutation}
 use Rattle.rendezvous.proofs.Entries.{parts-at, item-at}
-use Rattle.rendezvous.specs.ReadyBelow.{Under, ReadyBelow}
 use Rattle.rendezvous.specs.walking.Acting.{SortedOf}
 use Rattle.rendezvous.specs.walking.Sorting.{sooner_by, is_sooner, inserted}
 
@@ -200,13 +199,6 @@ sorting-stop listed left sorted list s el is =
       same = λ e. ((λ i. none.sound e (inr i)), (λ a. elim (none.complete e a) [ inl u ↦ absurd u | inr u ↦ u ]));
       in_order = none.in_order;
     })
-
--- the sorted events that act below a place
-pub sorted-below : (S : State) (p : Place) (listed sorted : List Event) → ((e : Event) → In e listed ↔ (Allowed S e × Under p (acting e))) → SortedOf listed sorted → ReadyBelow S p sorted
-sorted-below S p listed sorted exactly s = record {
-  exactly = λ e. ((λ i. (exactly e).0 ((s.same e).0 i)), (λ a. (s.same e).1 ((exactly e).1 a)));
-  in_order = s.in_order;
-}
 
 -- nothing is left
 pub left-none : (left : List Event) (n : ℕ) → n ≡ length left → n ≡ 0 → left ≡ []

@@ -1,52 +1,72 @@
 // The events in which sides act.
-ghost use Rattle.std.specs.Prelude.{◌≡◌, ◌++◌, [], false, None, cond, IfOk, OnOk};
+ghost use Rattle.std.specs.Prelude.{◌≡◌, ◌++◌, ◌⊎◌, ◌↔◌, [], true, Some, None, IfOk, OnOk, MatchOption};
+ghost use Rattle.syntax.specs.Lists.{In};
 ghost use Rattle.calculus.specs.Moves.{Place};
+ghost use Rattle.calculus.specs.declared.event.Event as any;
 ghost use Rattle.calculus.specs.walking.AllowedEvents.{those};
+ghost use Rattle.process_tree.specs.Code.{Code};
+ghost use Rattle.process_tree.specs.Tidy.{Tidy};
+ghost use Rattle.process_tree.specs.View.{tree_view};
+ghost use Rattle.offered_sides.specs.View.{state_of};
 ghost use Rattle.offered_sides.specs.declared.side.Side as any_side;
+ghost use Rattle.channel_uses.specs.OnChannel.{is_on};
+ghost use Rattle.channel_uses.specs.StemsFrom.{StemsFrom};
+ghost use Rattle.channel_uses.specs.Table.{IsTableOf};
+ghost use Rattle.rendezvous.specs.walking.Acting.{ActedBy, ActedByOne};
 ghost use Rattle.rendezvous.specs.walking.Meeting as model;
 
 use crate::meeting::{met, solo};
-use address::Entry;
 use calculus::Event;
+use channel_uses::ChannelUses;
 use offered_sides::{OfferedSide, Side};
+use process_tree::Tree;
 use std::alloc::{AllocError, Global};
+use store::Store;
 use syntax::Items;
 
-/// The events in which one of the sides below the place acts, alone or with one of the others.
-pub(crate) fn acted_below(
+/// The events in which one of these sides acts, alone or with another that the tree offers.
+pub(crate) fn acted_by(
     alloc: Global,
-    place: &[Entry],
-    sides: &[OfferedSide],
-    others: &[OfferedSide],
+    uses: &ChannelUses,
+    tree: &Tree,
+    store: &Store,
+    acting: &[OfferedSide],
 ) -> Result<Items<Event>, AllocError>
-    ensures { IfOk result (λ events. events ≡ model.acted_below place.now sides.now others.now) }
+    ensures { (code : Code) → IsTableOf code uses.now → StemsFrom (tree_view tree.now) code → Tidy (tree_view tree.now) →
+        IfOk result (λ events. (e : any.Event) → In e events ↔ ActedByOne (state_of tree.now store.now) acting.now e) }
 {
     let mut events = Items::new(alloc);
-    for one in sides {
-        add_below(alloc, place, one, others, &mut events)?;
+    for one in acting {
+        add_acted(alloc, uses, tree, store, one, &mut events)?;
     }
     Ok(events)
 }
 
-/// Adds the events in which the side acts, if it is below the place.
-fn add_below(
+/// Adds the events in which the side acts, alone or with another that the tree offers. It looks at those on its channel alone.
+fn add_acted(
     alloc: Global,
-    place: &[Entry],
+    uses: &ChannelUses,
+    tree: &Tree,
+    store: &Store,
     one: &OfferedSide,
-    others: &[OfferedSide],
     events: &mut Items<Event>,
 ) -> Result<(), AllocError>
-    ensures { OnOk result (events.new ≡ events.old ++ cond (model.is_under place.now one.now.place) (model.acted one.now others.now) []) }
+    ensures { (code : Code) → IsTableOf code uses.now → StemsFrom (tree_view tree.now) code → Tidy (tree_view tree.now) →
+        OnOk result ((e : any.Event) → In e events.new ↔ (In e events.old ⊎ ActedBy (state_of tree.now store.now) one.now e)) }
 {
-    if !is_under(place, one.place.entries()) {
-        return Ok(());
+    let alone = solo(alloc, &one.place, &one.side)?;
+    add(alone, events)?;
+    match channel_of(&one.side) {
+        Some(channel) => {
+            let others = uses.sides_on(alloc, tree, store, channel)?;
+            add_met(alloc, one, others.as_slice(), events)
+        }
+        None => Ok(()),
     }
-    add(solo(alloc, &one.place, &one.side)?, events)?;
-    add_met(alloc, one, others, events)
 }
 
 /// Adds the events in which the side acts with one of the others.
-pub(crate) fn add_met(
+fn add_met(
     alloc: Global,
     one: &OfferedSide,
     others: &[OfferedSide],
@@ -54,9 +74,6 @@ pub(crate) fn add_met(
 ) -> Result<(), AllocError>
     ensures { OnOk result (events.new ≡ events.old ++ model.met_with one.now others.now) }
 {
-    if !acts_with_another(&one.side) {
-        return Ok(());
-    }
     for other in others {
         let event = met(alloc, &one.place, &one.side, &other.place, &other.side)?;
         add(event, events)?;
@@ -64,22 +81,8 @@ pub(crate) fn add_met(
     Ok(())
 }
 
-/// Whether there are events of two sides in which such a side is the one that acts.
-fn acts_with_another(side: &Side) -> bool
-    ensures { result ≡ false → (b a : Place) (y : any_side.Side) → model.met b side.now a y ≡ None }
-{
-    match side {
-        Side::Receives(_, _) | Side::Opens(_, _) | Side::Closes(_) | Side::Syncs(_) => true,
-        Side::Assigns(_, _, _)
-        | Side::Tests(_, _)
-        | Side::Turns
-        | Side::Sends(_, _, _)
-        | Side::Releases(_) => false,
-    }
-}
-
 /// Adds the event, if there is one.
-pub(crate) fn add(made: Option<Event>, events: &mut Items<Event>) -> Result<(), AllocError>
+fn add(made: Option<Event>, events: &mut Items<Event>) -> Result<(), AllocError>
     ensures { OnOk result (events.new ≡ events.old ++ those made []) }
 {
     match made {
@@ -88,36 +91,20 @@ pub(crate) fn add(made: Option<Event>, events: &mut Items<Event>) -> Result<(), 
     }
 }
 
-/// Whether the second place is the first or below it.
-fn is_under(place: &[Entry], other: &[Entry]) -> bool
-    ensures { result ≡ model.is_under place.now other.now }
+/// The channel on which the side looks for another, if it acts with one.
+fn channel_of(side: &Side) -> Option<u32>
+    ensures { MatchOption result ((b a : Place) (y : any_side.Side) → model.met b side.now a y ≡ None)
+        (λ c. (b a : Place) (y : any_side.Side) (e : any.Event) → model.met b side.now a y ≡ Some e → is_on c y ≡ true) }
 {
-    let Some((first, rest)) = place.split_first() else {
-        return true;
-    };
-    let Some((second, other_rest)) = other.split_first() else {
-        return false;
-    };
-    match first {
-        Entry::Ordered(i) => match second {
-            Entry::Ordered(j) => {
-                if *i == *j {
-                    is_under(rest, other_rest)
-                } else {
-                    false
-                }
-            }
-            Entry::Branch(_) => false,
-        },
-        Entry::Branch(i) => match second {
-            Entry::Ordered(_) => false,
-            Entry::Branch(j) => {
-                if *i == *j {
-                    is_under(rest, other_rest)
-                } else {
-                    false
-                }
-            }
-        },
+    match side {
+        Side::Receives(channel, _) => Some(*channel),
+        Side::Opens(channel, _) => Some(*channel),
+        Side::Closes(channel) => Some(*channel),
+        Side::Syncs(channel) => Some(*channel),
+        Side::Assigns(_, _, _)
+        | Side::Tests(_, _)
+        | Side::Turns
+        | Side::Sends(_, _, _)
+        | Side::Releases(_) => None,
     }
 }

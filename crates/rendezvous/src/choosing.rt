@@ -1,26 +1,22 @@
 // The event that a choice means, found along its place and on the channels of the sides there.
-ghost use Rattle.std.specs.Prelude.{◌≡◌, ◌⊎◌, ◌↔◌, true, Some, None, IfOk, OnOk, MatchOption};
-ghost use Rattle.syntax.specs.Lists.{In};
-ghost use Rattle.calculus.specs.Moves.{Place};
+ghost use Rattle.std.specs.Prelude.{IfOk, MatchOption};
 ghost use Rattle.calculus.specs.Ready.{ChoiceAllowed, Chosen};
-ghost use Rattle.calculus.specs.declared.event.Event as any;
+ghost use Rattle.calculus.specs.Steps.{State};
 ghost use Rattle.process_tree.specs.Code.{Code};
 ghost use Rattle.process_tree.specs.Tidy.{Tidy};
 ghost use Rattle.process_tree.specs.View.{tree_view};
 ghost use Rattle.offered_sides.specs.View.{state_of};
-ghost use Rattle.offered_sides.specs.declared.side.Side as any_side;
-ghost use Rattle.channel_uses.specs.OnChannel.{is_on};
 ghost use Rattle.channel_uses.specs.StemsFrom.{StemsFrom};
 ghost use Rattle.channel_uses.specs.Table.{IsTableOf};
-ghost use Rattle.rendezvous.specs.walking.Acting.{ActedBy, ActedByOne};
-ghost use Rattle.rendezvous.specs.walking.Meeting as model;
+ghost use Rattle.rendezvous.specs.walking.Acting.{ReadyWith};
+ghost use Rattle.rendezvous.specs.walking.Choosing.{HasNone, FirstWith};
 
-use crate::acting::{add, add_met};
-use crate::meeting::solo;
-use crate::ready::{first_with, in_order};
+use crate::acting::acted_by;
+use crate::order::has_choice;
+use crate::ready::in_order;
 use calculus::{Choice, Event};
 use channel_uses::ChannelUses;
-use offered_sides::{OfferedSide, Side, sides_at};
+use offered_sides::sides_at;
 use process_tree::Tree;
 use std::alloc::{AllocError, Global};
 use store::Store;
@@ -47,61 +43,25 @@ pub fn event_with(
     Ok(first_with(events, choice))
 }
 
-/// The events in which one of these sides acts, alone or with another that the tree offers.
-fn acted_by(
-    alloc: Global,
-    uses: &ChannelUses,
-    tree: &Tree,
-    store: &Store,
-    acting: &[OfferedSide],
-) -> Result<Items<Event>, AllocError>
-    ensures { (code : Code) → IsTableOf code uses.now → StemsFrom (tree_view tree.now) code → Tidy (tree_view tree.now) →
-        IfOk result (λ events. (e : any.Event) → In e events ↔ ActedByOne (state_of tree.now store.now) acting.now e) }
+/// The first of the events that has the choice.
+fn first_with(events: Items<Event>, choice: &Choice) -> Option<Event>
+    ensures { (S : State) → ReadyWith S choice.now events → MatchOption result (ChoiceAllowed S choice.now → ⊥) (λ event. Chosen S choice.now event) }
 {
-    let mut events = Items::new(alloc);
-    for one in acting {
-        add_acted(alloc, uses, tree, store, one, &mut events)?;
+    let mut events = events.into_vec();
+    match place_with(events.as_slice(), choice) {
+        Some(place) => Some(events.swap_remove(place)),
+        None => None,
     }
-    Ok(events)
 }
 
-/// Adds the events in which the side acts, alone or with another that the tree offers.
-fn add_acted(
-    alloc: Global,
-    uses: &ChannelUses,
-    tree: &Tree,
-    store: &Store,
-    one: &OfferedSide,
-    events: &mut Items<Event>,
-) -> Result<(), AllocError>
-    ensures { (code : Code) → IsTableOf code uses.now → StemsFrom (tree_view tree.now) code → Tidy (tree_view tree.now) →
-        OnOk result ((e : any.Event) → In e events.new ↔ (In e events.old ⊎ ActedBy (state_of tree.now store.now) one.now e)) }
+/// Where the first event with this choice stands.
+fn place_with(events: &[Event], choice: &Choice) -> Option<usize>
+    ensures { MatchOption result (HasNone choice.now events.now) (λ i. FirstWith choice.now events.now i) }
 {
-    let alone = solo(alloc, &one.place, &one.side)?;
-    add(alone, events)?;
-    match channel_of(&one.side) {
-        Some(channel) => {
-            let others = uses.sides_on(alloc, tree, store, channel)?;
-            add_met(alloc, one, others.as_slice(), events)
+    for (i, event) in events.iter().enumerate() {
+        if has_choice(event, choice) {
+            return Some(i);
         }
-        None => Ok(()),
     }
-}
-
-/// The channel on which the side looks for another, if it acts with one.
-fn channel_of(side: &Side) -> Option<u32>
-    ensures { MatchOption result ((b a : Place) (y : any_side.Side) → model.met b side.now a y ≡ None)
-        (λ c. (b a : Place) (y : any_side.Side) (e : any.Event) → model.met b side.now a y ≡ Some e → is_on c y ≡ true) }
-{
-    match side {
-        Side::Receives(channel, _) => Some(*channel),
-        Side::Opens(channel, _) => Some(*channel),
-        Side::Closes(channel) => Some(*channel),
-        Side::Syncs(channel) => Some(*channel),
-        Side::Assigns(_, _, _)
-        | Side::Tests(_, _)
-        | Side::Turns
-        | Side::Sends(_, _, _)
-        | Side::Releases(_) => None,
-    }
+    None
 }

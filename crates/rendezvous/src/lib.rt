@@ -3,11 +3,9 @@
 
 mod acting;
 mod choosing;
-mod from_tree;
 mod meeting;
 mod order;
 mod ready;
 
 pub use choosing::event_with;
-pub use from_tree::{event_at, ready_below, ready_events};
-pub use ready::{chosen_among, ready_among};
+pub use ready::{ready_below, ready_events};

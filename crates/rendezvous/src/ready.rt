@@ -1,36 +1,114 @@
-// The events that may be taken, in order, and the one that a choice means.
-ghost use Rattle.std.specs.Prelude.{◌≡◌, IfOk, IsTrue, MatchOption, Some, true, false, slice_get};
+// The events that are allowed in the state of a tree, in order.
+ghost use Rattle.std.specs.Prelude.{◌≡◌, IfOk, IsTrue, Some, true, false, slice_get};
 ghost use Rattle.calculus.specs.InOrder.{InOrder};
-ghost use Rattle.calculus.specs.Ready.{Sooner, ChoiceAllowed, Chosen};
+ghost use Rattle.calculus.specs.Ready.{ReadyList, Sooner};
 ghost use Rattle.calculus.specs.Steps.{State, Allowed};
+ghost use Rattle.calculus.specs.Tests.{same_event};
 ghost use Rattle.calculus.specs.WellFormed.{WellFormed};
 ghost use Rattle.calculus.specs.declared.event.Event as any;
 ghost use Rattle.syntax.specs.Lists.{In};
-ghost use Rattle.calculus.specs.Tests.{same_event};
+ghost use Rattle.process_tree.specs.Code.{Code};
+ghost use Rattle.process_tree.specs.Tidy.{Tidy};
+ghost use Rattle.process_tree.specs.View.{tree_view};
+ghost use Rattle.offered_sides.specs.View.{state_of};
+ghost use Rattle.channel_uses.specs.StemsFrom.{StemsFrom};
+ghost use Rattle.channel_uses.specs.Table.{IsTableOf};
 ghost use Rattle.rendezvous.specs.ReadyBelow.{ReadyBelow};
-ghost use Rattle.offered_sides.specs.Sides.{OffersExactly};
-ghost use Rattle.rendezvous.specs.walking.Acting.{ReadyWith, SortedOf};
-ghost use Rattle.rendezvous.specs.walking.Choosing.{HasNone, FirstWith};
+ghost use Rattle.rendezvous.specs.walking.Acting.{SortedOf};
+ghost use Rattle.rendezvous.specs.walking.Below.{is_under, under};
 ghost use Rattle.rendezvous.specs.walking.Sorting.{inserted};
 
-use crate::acting::acted_below;
-use crate::order::{has_choice, latest_first, sooner_count};
+use crate::acting::acted_by;
+use crate::order::{latest_first, sooner_count};
 use address::Entry;
-use calculus::{Choice, Event};
-use offered_sides::OfferedSide;
+use calculus::Event;
+use channel_uses::ChannelUses;
+use offered_sides::{OfferedSide, sides_of};
+use process_tree::Tree;
 use std::alloc::{AllocError, Global};
+use store::Store;
 use syntax::Items;
 
-/// Of a state that offers exactly these sides the events that are allowed and act at the place or below it: in the order of
-/// their acting addresses, then of their arms, then of their other addresses.
-pub fn ready_among(
+/// Exactly the events that are allowed in the state of the tree and the store: in the order of their acting addresses, then
+/// of their arms, then of their other addresses. The tree is to be tidy and to stem from the command whose uses of channels
+/// these are.
+pub fn ready_events(
     alloc: Global,
-    sides: &[OfferedSide],
+    uses: &ChannelUses,
+    tree: &Tree,
+    store: &Store,
+) -> Result<Items<Event>, AllocError>
+    ensures { (code : Code) → IsTableOf code uses.now → StemsFrom (tree_view tree.now) code → Tidy (tree_view tree.now) →
+        IfOk result (λ events. ReadyList (state_of tree.now store.now) events) }
+{
+    ready_below(alloc, uses, tree, store, &[])
+}
+
+/// Those of them that act at the place or below it. For each side there it looks at those on its channel alone.
+pub fn ready_below(
+    alloc: Global,
+    uses: &ChannelUses,
+    tree: &Tree,
+    store: &Store,
     place: &[Entry],
 ) -> Result<Items<Event>, AllocError>
-    ensures { (S : State) → OffersExactly S sides.now → IfOk result (λ events. ReadyBelow S place.now events) }
+    ensures { (code : Code) → IsTableOf code uses.now → StemsFrom (tree_view tree.now) code → Tidy (tree_view tree.now) →
+        IfOk result (λ events. ReadyBelow (state_of tree.now store.now) place.now events) }
 {
-    in_order(alloc, acted_below(alloc, place, sides, sides)?)
+    let sides = sides_of(alloc, tree, store)?;
+    let acting = those_below(sides, place);
+    let made = acted_by(alloc, uses, tree, store, acting.as_slice())?;
+    in_order(alloc, made)
+}
+
+/// Those of the sides that are at the place or below it.
+fn those_below(sides: Items<OfferedSide>, place: &[Entry]) -> Items<OfferedSide>
+    ensures { result ≡ under place.now sides }
+{
+    let mut sides = sides.into_vec();
+    sides.retain(|side| is_below(side, place));
+    Items::from_vec(sides)
+}
+
+/// Whether the side is at the place or below it.
+fn is_below(side: &OfferedSide, place: &[Entry]) -> bool
+    ensures { result ≡ is_under place.now side.now.place }
+{
+    is_under(place, side.place.entries())
+}
+
+/// Whether the second place is the first or below it.
+fn is_under(place: &[Entry], other: &[Entry]) -> bool
+    ensures { result ≡ is_under place.now other.now }
+{
+    let Some((first, rest)) = place.split_first() else {
+        return true;
+    };
+    let Some((second, other_rest)) = other.split_first() else {
+        return false;
+    };
+    match first {
+        Entry::Ordered(i) => match second {
+            Entry::Ordered(j) => {
+                if *i == *j {
+                    is_under(rest, other_rest)
+                } else {
+                    false
+                }
+            }
+            Entry::Branch(_) => false,
+        },
+        Entry::Branch(i) => match second {
+            Entry::Ordered(_) => false,
+            Entry::Branch(j) => {
+                if *i == *j {
+                    is_under(rest, other_rest)
+                } else {
+                    false
+                }
+            }
+        },
+    }
 }
 
 /// The same events in the order of their acting addresses, then of their arms, then of their other addresses; each stands once.
@@ -44,20 +122,6 @@ pub(crate) fn in_order(alloc: Global, events: Items<Event>) -> Result<Items<Even
         insert(&mut sorted, event)?;
     }
     Ok(Items::from_vec(sorted))
-}
-
-/// Of a state that offers exactly these sides the event that the choice means: of those that are allowed and have the choice the
-/// one whose other address is the least. `None` where there is none.
-pub fn chosen_among(
-    alloc: Global,
-    sides: &[OfferedSide],
-    choice: &Choice,
-) -> Result<Option<Event>, AllocError>
-    ensures { (S : State) → OffersExactly S sides.now →
-        IfOk result (λ found. MatchOption found (ChoiceAllowed S choice.now → ⊥) (λ event. Chosen S choice.now event)) }
-{
-    let events = ready_among(alloc, sides, choice.place.entries())?;
-    Ok(first_with(events, choice))
 }
 
 /// Puts the event at its place, unless it is there.
@@ -81,27 +145,4 @@ fn is_there(sorted: &[Event], place: usize, event: &Event) -> bool
         Some(found) => found.equals(event),
         None => false,
     }
-}
-
-/// The first of the events that has the choice.
-pub(crate) fn first_with(events: Items<Event>, choice: &Choice) -> Option<Event>
-    ensures { (S : State) → ReadyWith S choice.now events → MatchOption result (ChoiceAllowed S choice.now → ⊥) (λ event. Chosen S choice.now event) }
-{
-    let mut events = events.into_vec();
-    match place_with(events.as_slice(), choice) {
-        Some(place) => Some(events.swap_remove(place)),
-        None => None,
-    }
-}
-
-/// Where the first event with this choice stands.
-fn place_with(events: &[Event], choice: &Choice) -> Option<usize>
-    ensures { MatchOption result (HasNone choice.now events.now) (λ i. FirstWith choice.now events.now i) }
-{
-    for (i, event) in events.iter().enumerate() {
-        if has_choice(event, choice) {
-            return Some(i);
-        }
-    }
-    None
 }

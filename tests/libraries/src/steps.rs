@@ -6,10 +6,11 @@ use crate::examples::*;
 use crate::numbered::numbers_of;
 use crate::told::*;
 use calculus::{Ask, Choice, Event};
+use channel_uses::ChannelUses;
 use event_inverse::{Record, apply, invert};
 use offered_sides::{Side, sides_of};
-use process_tree::{Code, Proc, Tree, Turns, code_of, start};
-use rendezvous::{event_at, ready_below, ready_events};
+use process_tree::{Code, Proc, Tree, Turns, code_of, start, system_code};
+use rendezvous::{event_with, ready_below, ready_events};
 use sharing_check::Checked;
 use std::alloc::{AllocError, Global};
 use std::process::Abort;
@@ -22,6 +23,7 @@ use value::Value;
 #[derive(Drop)]
 struct Run {
     checked: Checked,
+    uses: ChannelUses,
     tree: Tree,
     store: Store,
     records: Vec<Record>,
@@ -30,10 +32,13 @@ struct Run {
 /// The example before its first event.
 fn begun(alloc: Global, example: Example) -> Result<Run, Fail> {
     let checked = example.checked(alloc)?;
+    let code = system_code(alloc, checked.system())?;
+    let uses = ChannelUses::new(alloc, &code)?;
     let tree = Tree::new(alloc, checked.system())?;
     let store = Store::new(alloc, checked.system())?;
     Ok(Run {
         checked,
+        uses,
         tree,
         store,
         records: Vec::new(alloc),
@@ -73,7 +78,7 @@ fn undo(run: &mut Run, place: usize) -> Event {
 
 /// Whether these events are ready, in this order, and no others.
 fn are_ready(alloc: Global, run: &Run, told: &[Told]) -> Result<bool, Fail> {
-    let ready = ready_events(alloc, &run.tree, &run.store)?;
+    let ready = ready_events(alloc, &run.uses, &run.tree, &run.store)?;
     are_events(alloc, &ready, told)
 }
 
@@ -306,7 +311,8 @@ fn each_place_offers_its_side(rt: HostRuntime) -> Result<(), Fail> {
 /// Whether the choice means the event; `None` for a choice that means none.
 fn means(alloc: Global, run: &Run, at: &[u8], arm: u32, told: Option<Told>) -> Result<bool, Fail> {
     let place = place(alloc, at)?;
-    let found = event_at(alloc, &run.tree, &run.store, &Choice { place, arm })?;
+    let choice = Choice { place, arm };
+    let found = event_with(alloc, &run.uses, &run.tree, &run.store, &choice)?;
     Ok(match (found, told) {
         (Some(found), Some(told)) => found.equals(&event(alloc, told)?),
         (None, None) => true,
@@ -329,14 +335,15 @@ fn a_choice_means_an_event(rt: HostRuntime) -> Result<(), Fail> {
 
 #[test]
 fn a_branch_has_its_own_events(rt: HostRuntime) -> Result<(), Fail> {
-    let run = begun(rt.alloc(), BRANCHES)?;
+    let alloc = rt.alloc();
+    let run = begun(alloc, BRANCHES)?;
     let both = [assign(b"/0/0", 0, 1), assign(b"/0/1.0", 1, 2)];
     assert!(rt; are_ready(rt.alloc(), &run, &both)?);
     let second = place(rt.alloc(), b"/0/1")?;
-    let found = ready_below(rt.alloc(), &run.tree, &run.store, second.entries())?;
+    let found = ready_below(alloc, &run.uses, &run.tree, &run.store, second.entries())?;
     assert!(rt; are_events(rt.alloc(), &found, &both[1..])?);
     let third = place(rt.alloc(), b"/0/2")?;
-    let found = ready_below(rt.alloc(), &run.tree, &run.store, third.entries())?;
+    let found = ready_below(alloc, &run.uses, &run.tree, &run.store, third.entries())?;
     assert!(rt; are_events(rt.alloc(), &found, &[])?);
     Ok(())
 }

@@ -8,7 +8,7 @@ use calculus::{Choice, Event, Plain, depends_directly, replay};
 use channel_uses::ChannelUses;
 use event_inverse::{Record, apply, invert};
 use process_tree::{Tree, system_code};
-use rendezvous::{event_at, event_with, ready_below, ready_events};
+use rendezvous::{event_with, ready_below, ready_events};
 use sharing_check::Checked;
 use std::alloc::Global;
 use std::io;
@@ -69,7 +69,7 @@ impl Session {
 
     /// Makes one of the events that are ready, at random. Whether there was one.
     pub fn step(&mut self, random: &mut Random, rows: &mut Rows) -> io::Result<bool> {
-        let ready = ready_events(self.alloc, &self.tree, &self.store)?;
+        let ready = ready_events(self.alloc, &self.uses, &self.tree, &self.store)?;
         if ready.is_empty() {
             return Ok(false);
         }
@@ -127,7 +127,7 @@ impl Session {
 
     /// Makes an event and takes it back at once: tree and store are to be as they were.
     pub fn step_and_undo(&mut self, random: &mut Random) -> io::Result<()> {
-        let ready = ready_events(self.alloc, &self.tree, &self.store)?;
+        let ready = ready_events(self.alloc, &self.uses, &self.tree, &self.store)?;
         if ready.is_empty() {
             return Ok(());
         }
@@ -150,7 +150,7 @@ impl Session {
         };
         self.look_at_values(state)?;
         let expected = allowed(self.alloc, state)?;
-        let ready = ready_events(self.alloc, &self.tree, &self.store)?;
+        let ready = ready_events(self.alloc, &self.uses, &self.tree, &self.store)?;
         let is_same = are_equal(ready.as_slice(), expected.as_slice());
         self.expect(is_same, "ready_events")?;
         self.look_at_choices(random, expected.as_slice())?;
@@ -189,8 +189,6 @@ impl Session {
 
     fn look_at_choice(&self, choice: &Choice, expected: &[Event]) -> io::Result<()> {
         let same = first_with(expected, choice);
-        let found = event_at(self.alloc, &self.tree, &self.store, choice)?;
-        self.expect(is_that(&found, same), "event_at")?;
         let found = event_with(self.alloc, &self.uses, &self.tree, &self.store, choice)?;
         self.expect(is_that(&found, same), "event_with")
     }
@@ -204,7 +202,7 @@ impl Session {
         let entries = expected[chosen].acting_place().entries();
         let length = random.below(entries.len() as u64 + 1) as usize;
         let place = &entries[..length];
-        let listed = ready_below(self.alloc, &self.tree, &self.store, place)?;
+        let listed = ready_below(self.alloc, &self.uses, &self.tree, &self.store, place)?;
         let kept = below(self.alloc, place, expected)?;
         let is_same = are_equal(listed.as_slice(), kept.as_slice());
         self.expect(is_same, "ready_below")

@@ -7,10 +7,14 @@ use Rattle.calculus.specs.Live.{Live, events}
 use Rattle.calculus.specs.Object.{Object}
 use Rattle.calculus.specs.Sound.{Sound}
 use Rattle.calculus.specs.declared.event.Event.{Event}
+use Rattle.process_tree.specs.Code.{Code}
+use Rattle.process_tree.specs.Tidy.{Tidy}
 use Rattle.process_tree.specs.Translation.{system_code}
+use Rattle.process_tree.specs.View.{tree_view}
 use Rattle.event_inverse.specs.Grown.{TreeAndStore, Records, StandFor}
 use Rattle.event_inverse.specs.View.{both_view, inverse_view}
 use Rattle.event_inverse.specs.declared.record.Inverse.{Inverse}
+use Rattle.channel_uses.specs.StemsFrom.{StemsFrom}
 use Rattle.channel_uses.specs.Table.{IsTableOf}
 use Rattle.channel_uses.specs.declared.table.ChannelUses.{ChannelUses}
 use Rattle.machine.specs.AtMachine.{at_machine, object}
@@ -43,3 +47,10 @@ Holds checked h = Stands checked (tree_of h) h.live.live h.inverses.items h.next
 -- these are the uses of channels in the system
 abbrev pub KnowsUses : Checked → ChannelUses → Type 0
 KnowsUses checked uses = IsTableOf (system_code checked) uses
+
+-- the tree is one of runs, and stems from a command whose uses of channels these are
+pub record IsSearched (h : History) (uses : ChannelUses) : Type 0 where
+  pub code : Code
+  pub table : IsTableOf code uses
+  pub stems : StemsFrom (tree_view h.tree) code
+  pub tidy : Tidy (tree_view h.tree)

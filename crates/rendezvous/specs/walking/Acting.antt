@@ -1,5 +1,5 @@
 -- The events in which sides act that a state offers.
--- No reader has to believe it: the clause of `event_with` says what is chosen among them.
+-- No reader has to believe it: the clauses of `ready_below` and `event_with` say what is listed and what is chosen among them.
 use Rattle.std.specs.Prelude.{◌≡◌, ◌⊎◌, ◌↔◌, List, Some}
 use Rattle.syntax.specs.Lists.{In}
 use Rattle.calculus.specs.Choices.{choice_of}

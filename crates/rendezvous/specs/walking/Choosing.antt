@@ -1,5 +1,5 @@
 -- The first event of a list that has a choice.
--- No reader has to believe it: the proofs of `event_at` tie it to `Chosen` of `calculus`.
+-- No reader has to believe it: the proofs of `event_with` tie it to `Chosen` of `calculus`.
 use Rattle.std.specs.Prelude.{◌≡◌, ℕ, List, Some, take, slice_get}
 use Rattle.syntax.specs.Lists.{In}
 use Rattle.calculus.specs.Choices.{choice_of}

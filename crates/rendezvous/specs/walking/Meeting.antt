@@ -1,9 +1,8 @@
 -- The events that sides make, by the one that acts.
 -- No reader has to believe it: `proofs/FromSides.antt` ties it to `Allowed` of `calculus`.
-use Rattle.std.specs.Prelude.{ℕ, ◌==◌, ◌&&◌, Bool, true, false, List, [], ◌∷◌, ◌++◌, cond, Option, Some, None}
+use Rattle.std.specs.Prelude.{ℕ, ◌==◌, ◌&&◌, List, [], ◌∷◌, cond, Option, Some, None}
 use Rattle.std.specs.Ordering.{is_lt}
 use Rattle.address.specs.Order.{order_of}
-use Rattle.address.specs.declared.Entry.TheVariants.{Ordered, Branch}
 use Rattle.calculus.specs.Moves.{Place}
 use Rattle.calculus.specs.walking.AllowedEvents.{those}
 use Rattle.calculus.specs.declared.event.Event.{Event}
@@ -70,21 +69,3 @@ met b _ a y = None
 abbrev pub met_with : OfferedSide → List OfferedSide → List Event
 met_with l [] = []
 met_with l (k ∷ ks) = those (met l.place l.side k.place k.side) (met_with l ks)
-
--- and alone
-abbrev pub acted : OfferedSide → List OfferedSide → List Event
-acted l ks = those (solo l.place l.side) (met_with l ks)
-
--- whether the second place is the first or below it
-abbrev pub is_under : Place → Place → Bool
-is_under [] a = true
-is_under (x ∷ p) [] = false
-is_under (Ordered i ∷ p) (Ordered j ∷ a) = (i == j) && is_under p a
-is_under (Ordered i ∷ p) (Branch j ∷ a) = false
-is_under (Branch i ∷ p) (Ordered j ∷ a) = false
-is_under (Branch i ∷ p) (Branch j ∷ a) = (i == j) && is_under p a
-
--- the events in which one of these acts, below a place
-abbrev pub acted_below : Place → List OfferedSide → List OfferedSide → List Event
-acted_below p [] ks = []
-acted_below p (l ∷ ls) ks = cond (is_under p l.place) (acted l ks) [] ++ acted_below p ls ks

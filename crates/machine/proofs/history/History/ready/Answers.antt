@@ -3,12 +3,13 @@ use Rattle.calculus.specs.Object.{Reaches}
 use Rattle.calculus.specs.Ready.{ReadyList}
 use Rattle.event_inverse.specs.Grown.{state_of_tree}
 use Rattle.machine.specs.walking.Histories.{execution, tree_of}
-use Rattle.machine.proofs.Standing.{stands-tidy}
+use Rattle.machine.proofs.Standing.{stands-searched}
 use Rattle.machine.proofs.history.History.ready.Goals as goal
 
 pub returns : goal.returns
-returns c = λ system holds.
+returns c = λ system holds known.
     let h = c.args.self.now in
     let T = state_of_tree (tree_of h) in
+    let searched = stands-searched system h c.args.uses.now holds known in
     IfOk-weaker c.ready_events.result (λ events. ReadyList T events) (λ events. Reaches (execution system h) T × ReadyList T events)
-    (λ events listed. (holds.run.runs, listed)) (c.ready_events.ensures (stands-tidy system (tree_of h) h.live.live h.inverses.items h.next holds))
+    (λ events listed. (holds.run.runs, listed)) (c.ready_events.ensures searched.code searched.table searched.stems searched.tidy)

@@ -15,4 +15,4 @@ returns c =
     let T = state_of_tree (tree_of c.self.inside.history) in
     subst (λ (h : AtMachine). IfOk c.ready.result (λ events. (S : State) × Reaches (object h) S × ReadyList S events)) c.self.view_is
     (IfOk-weaker c.ready.result (λ events. Reaches o T × ReadyList T events) (λ events. (S : State) × Reaches o S × ReadyList S events)
-    (λ events both. (T, both.0, both.1)) (c.ready.ensures c.self.inside.system c.self.invariant.0))
+    (λ events both. (T, both.0, both.1)) (c.ready.ensures c.self.inside.system c.self.invariant.0 c.self.invariant.1))

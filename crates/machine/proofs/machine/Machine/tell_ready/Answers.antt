@@ -10,4 +10,4 @@ pub returns : goal.returns
 returns c =
     let o = execution c.self.inside.system c.self.inside.history in
     subst (λ (h : AtMachine). Answers (object h) Command.Ready c.or_no_memory.result (object h)) c.self.view_is
-    (answers-of o o Command.Ready c.tell_ready.result c.or_no_memory.result (c.tell_ready.ensures c.self.inside.system c.self.invariant.0) (on-error c.tell_ready.result tt) (on-error c.tell_ready.result refl) c.or_no_memory.ensures)
+    (answers-of o o Command.Ready c.tell_ready.result c.or_no_memory.result (c.tell_ready.ensures c.self.inside.system c.self.invariant.0 c.self.invariant.1) (on-error c.tell_ready.result tt) (on-error c.tell_ready.result refl) c.or_no_memory.ensures)

@@ -1,5 +1,5 @@
 use Rattle.rendezvous.proofs.ActedSides.{receives-on, opens-on, closes-on, syncs-on}
-use Rattle.rendezvous.proofs.choosing.channel_of.Goals as goal
+use Rattle.rendezvous.proofs.acting.channel_of.Goals as goal
 
 pub returns-in-Receives : goal.returns-in-Receives
 returns-in-Receives c = receives-on c.args.side.now c.in-Receives.channel _ c.in-Receives.is

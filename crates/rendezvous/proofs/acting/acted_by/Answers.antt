@@ -3,7 +3,7 @@ use Rattle.std.proofs.Common.{◌≡◌, ◌+◌, ◌<◌, ◌≤◌, ◌∷◌,
 use Rattle.std.proofs.lemmas.List.{drop_all, drop_more}
 use Rattle.offered_sides.specs.View.{state_of}
 use Rattle.rendezvous.proofs.ActedSides.{so-far-start, so-far-step, so-far-end}
-use Rattle.rendezvous.proofs.choosing.acted_by.Goals as goal
+use Rattle.rendezvous.proofs.acting.acted_by.Goals as goal
 
 pub loop-one-init : goal.loop-one-init
 loop-one-init c = λ code table stems tidy. so-far-start (state_of c.args.tree.now c.args.store.now) _ _ c.args.acting.now c.new-events.ensures refl

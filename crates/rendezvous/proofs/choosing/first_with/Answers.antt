@@ -1,5 +1,5 @@
 use Rattle.rendezvous.proofs.FirstChosen.{chosen-here, chosen-nowhere}
-use Rattle.rendezvous.proofs.ready.first_with.Goals as goal
+use Rattle.rendezvous.proofs.choosing.first_with.Goals as goal
 
 pub returns-in-Some : goal.returns-in-Some
 returns-in-Some c = λ S ready.

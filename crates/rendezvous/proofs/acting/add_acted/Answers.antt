@@ -2,7 +2,7 @@
 use Rattle.std.proofs.lemmas.Result.{on_ok_weaker}
 use Rattle.offered_sides.specs.View.{state_of}
 use Rattle.rendezvous.proofs.ActedSides.{acted-alone, acted-met}
-use Rattle.rendezvous.proofs.choosing.add_acted.Goals as goal
+use Rattle.rendezvous.proofs.acting.add_acted.Goals as goal
 
 pub returns-in-None : goal.returns-in-None
 returns-in-None c = λ code table stems tidy.

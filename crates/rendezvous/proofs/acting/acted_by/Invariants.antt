@@ -7,7 +7,7 @@ use Rattle.offered_sides.specs.View.{state_of}
 use Rattle.channel_uses.specs.StemsFrom.{StemsFrom}
 use Rattle.channel_uses.specs.Table.{IsTableOf}
 use Rattle.rendezvous.proofs.ActedSides.{SoFar}
-use Rattle.rendezvous.proofs.choosing.acted_by.Given as goal
+use Rattle.rendezvous.proofs.acting.acted_by.Given as goal
 
 abbrev pub invariant-loop-one : goal.invariant-loop-one
 invariant-loop-one l =
