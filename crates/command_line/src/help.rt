@@ -69,6 +69,9 @@ standard input, and each line is answered as soon as it is read:
                   a breakpoint, `!` for a select that could take several arms.
                   What the environment takes at an output port is on no line
 
+A line that is none of these ends the run, and its steps are lost (`trace` first
+keeps them): there are no comments, and no `quit`, which is Ctrl-D.
+
 A place is written like /0.1.0. /0 is the body of the last procedure, and /1,
 /2 and so on are the environment at its ports. Behind that, .N counts what comes
 one after the other, and /N the branches of ||, both from 0. A meeting is
@@ -94,7 +97,11 @@ Take the steps of a trace again, in its order, and list them with new tickets fr
 the line `balsadbg trace 1`, and for each step that is live a line `step PLACE ARM`.
 
 Example:
-  balsadbg replay examples/one.balsa examples/one.stimulus examples/one.trace";
+  balsadbg replay examples/one.balsa examples/one.stimulus examples/one.trace
+
+To go on from a trace, give its steps to `debug`, with more lines behind them:
+  (tail -n +2 examples/one.trace; echo 'value x') |
+    balsadbg debug examples/one.balsa examples/one.stimulus";
 
 /// What each refusal of a command means: with lines for a trace, for the files, for a stimulus and for a script.
 macro_rules! refusal_lines {

@@ -44,6 +44,17 @@ impl Desk {
         &self.machine
     }
 
+    /// The machine alone.
+    pub fn into_machine(self) -> Machine
+        ensures { result ≡ self.machine }
+    {
+        let Desk {
+            machine,
+            sessions: _sessions,
+        } = self;
+        machine
+    }
+
     /// The breakpoints of the session, 0 to 15.
     pub fn breaks(&self, session: u32) -> &Breaks
         requires { session < 16 }

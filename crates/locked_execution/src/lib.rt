@@ -3,10 +3,13 @@
 #![tactic(auto)]
 
 mod asked;
+mod calls;
 mod command;
 mod desk;
 mod laws;
+mod object;
 mod performing;
+mod shared;
 
 pub use asked::run_commands;
 pub use calculus::{Choice, Event, Kind, Refusal};
@@ -14,3 +17,4 @@ pub use command::{Command, Reply};
 pub use desk::Desk;
 pub use laws::{breakpoint_laws, execution_laws, reply_laws};
 pub use machine::{Breaks, Machine};
+pub use shared::{Pass, Shared};

@@ -1,0 +1,44 @@
+-- Calls of a shared execution.
+use Rattle.std.specs.Prelude.{◌≡◌, ◌⊎◌, ◌≤◌, ◌^◌, ℕ, List, length}
+use Rattle.atomic_table.specs.Seated.{TableId}
+use Rattle.calculus.specs.declared.command.Refusal.TheVariants.{Spent}
+use Rattle.recorded_calls.specs.History.{Replays}
+use Rattle.locked_object.specs.Passes as passes
+use Rattle.locked_object.specs.Passes.{number, seen}
+use Rattle.locked_object.specs.Sharing.{Recorded}
+use Rattle.locked_object.specs.declared.pass.Pass.{Pass}
+use Rattle.branch_workers.specs.Runs.{PassesFit}
+use Rattle.locked_execution.specs.AtDesk.{AtDesk}
+use Rattle.locked_execution.specs.Performs.{Performs}
+use Rattle.locked_execution.specs.Sharing.{History, Legal, WantsMemory}
+use Rattle.locked_execution.specs.declared.command.Command.{Command}
+use Rattle.locked_execution.specs.declared.command.Reply.{Reply}
+use Rattle.locked_execution.specs.declared.shared.Shared.{Shared}
+
+-- the desk before the first call
+abbrev pub opening : Shared → AtDesk
+opening s = s.object.board.table.shared.key
+
+-- where the number of recorded calls stands
+abbrev pub table : Shared → TableId
+table s = s.object.board.table.shared.table_id
+
+-- a pass of this execution
+abbrev pub IsPassOf : Shared → Pass AtDesk Command Reply → Type 0
+IsPassOf s p = passes.IsPassOf (table s) (opening s) p
+
+abbrev pub ArePassesOf : Shared → List (Pass AtDesk Command Reply) → Type 0
+ArePassesOf s ps = PassesFit (table s) (opening s) ps
+
+-- why a call was not recorded: after some legal history there is no memory for it, or there is no room for one call more
+abbrev pub NotRecorded : AtDesk → ℕ → Command → Reply → Type 0
+NotRecorded opening n command reply =
+    ((log : History) × (d : AtDesk) × Replays Performs opening log d × WantsMemory d n command reply)
+    ⊎ ((reply ≡ Reply.Refused Spent) × ((log : History) × Legal opening log × (2 ^ 63 ≤ length log)))
+
+-- a call is recorded, behind all that the pass had seen: the pass has then seen a legal history that ends with it; or it is not, and
+-- the pass is as it was
+abbrev pub Answered : AtDesk → Pass AtDesk Command Reply → Command → Reply → Pass AtDesk Command Reply → Type 0
+Answered opening before command reply after =
+    (Recorded before command reply after × Legal opening (seen after))
+    ⊎ (NotRecorded opening (number before) command reply × (after ≡ before))

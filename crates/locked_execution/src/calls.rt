@@ -1,0 +1,85 @@
+// The calls of several designers, each in a thread of its own.
+ghost use Rattle.std.specs.Prelude.{◌≡◌, ◌≤◌, ◌<◌, ◌^◌, length, IfOk, IfErr};
+ghost use mathlib.Core.List.{IsPrefix};
+ghost use Rattle.locked_object.specs.Passes.{number, seen, own};
+ghost use Rattle.locked_object.specs.Sharing.{NewPasses};
+ghost use Rattle.locked_execution.specs.AtDesk.{new_desk};
+ghost use Rattle.locked_execution.specs.Sharing.{Legal};
+ghost use Rattle.locked_execution.specs.Calls.{IsPassOf, Answered, opening, table};
+ghost use Rattle.system_places.specs.SystemBranches.{branch_count};
+
+use crate::{Command, Desk, Pass, Reply, Shared};
+use calculus::Refusal;
+use locked_object::NotRecorded;
+use machine::Machine;
+use std::alloc::{AllocError, Global};
+use std::sync::Wait;
+
+impl Shared {
+    /// The execution under a lock, without breakpoints, and so many passes, 1 to 16, numbered from 0.
+    pub fn new(
+        alloc: Global,
+        machine: Machine,
+        count: u32,
+    ) -> Result<(Shared, Vec<Pass>), AllocError>
+        requires { count ≤ 16 }
+        ensures opening { IfOk result (λ made. opening made.0 ≡ new_desk machine) }
+        ensures passes { IfOk result (λ made. NewPasses (table made.0) (opening made.0) count made.1.items) }
+    {
+        let branches = machine.checked().branches();
+        let (object, passes) = locked_object::Shared::new(alloc, Desk::new(machine), count)?;
+        Ok((Shared { object, branches }, passes))
+    }
+
+    /// How many branches the system has. It waits for nobody.
+    pub fn branches(&self) -> u32
+        ensures { result ≡ branch_count (opening self.now).machine.checked }
+    {
+        self.branches
+    }
+
+    /// Answers the command of a pass under the lock, for which it may wait. Want of memory, and 26 where 2^63 calls are
+    /// recorded, are not recorded; all else is.
+    pub fn call<W: Wait>(&self, rt: &W, pass: &mut Pass, command: &Command) -> Reply
+        requires { IsPassOf self.now pass.old }
+        ensures pass { IsPassOf self.now pass.new × (number pass.new ≡ number pass.old) }
+        ensures answered { Answered (opening self.now) pass.old command.now result pass.new }
+    {
+        match self.object.call(rt, pass, command) {
+            Ok(reply) => reply,
+            Err(NotRecorded::Refused(reply)) => reply,
+            Err(NotRecorded::Full) => Reply::Refused(Refusal::Spent),
+        }
+    }
+
+    /// The number of recorded calls. It waits for nobody and takes no memory. The pass has then seen the history of that length.
+    pub fn length(&self, pass: &mut Pass) -> u64
+        requires { IsPassOf self.now pass.old }
+        ensures pass { IsPassOf self.now pass.new × (number pass.new ≡ number pass.old) × (own pass.new ≡ own pass.old) }
+        ensures length { length (seen pass.new) ≡ result }
+        ensures legal { Legal (opening self.now) (seen pass.new) }
+        ensures before { IsPrefix (seen pass.old) (seen pass.new) }
+    {
+        self.object.length(pass)
+    }
+
+    /// Both passes have then seen one history, of the length that is answered. It waits for nobody and takes no memory.
+    pub fn meet(&self, one: &mut Pass, other: &mut Pass) -> u64
+        requires one { IsPassOf self.now one.old }
+        requires other { IsPassOf self.now other.old }
+        ensures one { IsPassOf self.now one.new × (number one.new ≡ number one.old) × (own one.new ≡ own one.old) }
+        ensures other { IsPassOf self.now other.new × (number other.new ≡ number other.old) × (own other.new ≡ own other.old) }
+        ensures same { seen one.new ≡ seen other.new }
+        ensures length { length (seen one.new) ≡ result }
+        ensures legal { Legal (opening self.now) (seen one.new) }
+        ensures one_before { IsPrefix (seen one.old) (seen one.new) }
+        ensures other_before { IsPrefix (seen other.old) (seen other.new) }
+    {
+        self.object.meet(one, other)
+    }
+
+    /// The execution, once no pass calls it any more.
+    pub fn finish(self) -> Machine {
+        self.object.finish().into_machine()
+    }
+}

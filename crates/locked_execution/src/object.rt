@@ -1,0 +1,52 @@
+// The desk as the object of one thread that several passes call under a lock.
+ghost use Rattle.std.specs.Prelude.{◌≡◌, MatchResult};
+ghost use Rattle.calculus.specs.declared.command.Refusal as refusal;
+ghost use Rattle.locked_execution.specs.declared.command.Reply as any;
+
+use crate::{Command, Desk, Reply};
+use branch_workers::Branched;
+use calculus::Refusal;
+use locked_object::Object;
+
+impl Object<Command, Reply> for Desk {
+    ghost use Rattle.locked_execution.specs.Performs.{Performs};
+    ghost use Rattle.locked_execution.specs.Sharing.{WantsMemory};
+
+    ghost performs = { Performs };
+
+    ghost refuses = { WantsMemory };
+
+    fn perform(&mut self, pass: u32, command: &Command) -> Result<Reply, Reply> {
+        unless_memory(Desk::perform(self, pass, command))
+    }
+}
+
+impl Branched<Command, Reply> for Desk {
+    ghost use Rattle.locked_execution.specs.declared.command.Command as commands;
+    ghost use Rattle.locked_execution.specs.Sharing.{is_step};
+
+    ghost asks = { λ k. commands.Command.Branch k };
+
+    ghost steps = { is_step };
+
+    fn ask(branch: u32) -> Command {
+        Command::Branch(branch)
+    }
+
+    fn is_step(reply: &Reply) -> bool {
+        match reply {
+            Reply::Stepped(_, _) => true,
+            _ => false,
+        }
+    }
+}
+
+/// The reply, as an error where there was no memory.
+fn unless_memory(reply: Reply) -> Result<Reply, Reply>
+    ensures { MatchResult result (λ r. (r ≡ reply) × (reply ≡ any.Reply.Refused refusal.Refusal.Memory → ⊥)) (λ r. (r ≡ reply) × (reply ≡ any.Reply.Refused refusal.Refusal.Memory)) }
+{
+    match reply {
+        Reply::Refused(Refusal::Memory) => Err(Reply::Refused(Refusal::Memory)),
+        told => Ok(told),
+    }
+}
