@@ -1,13 +1,14 @@
 // Events taken back by their records.
 ghost use Rattle.std.specs.Prelude.{◌≡◌, Some, IsSome};
 ghost use Rattle.event_inverse.specs.Laws.{UndoneBy, LastUndone};
-ghost use Rattle.event_inverse.specs.View.{both_view, record_view};
+ghost use Rattle.event_inverse.specs.View.{both_view, inverse_view, record_view};
 ghost use Rattle.event_inverse.specs.walking.Reverted.{reverted, written_back};
 
 use crate::moves::take_back;
-use crate::record::{Inverse, Record};
+use crate::record::{Inverse, Outs, Record};
 use calculus::Event;
 use process_tree::Tree;
+use std::mem;
 use store::Store;
 use value::Value;
 
@@ -19,11 +20,21 @@ pub fn invert(tree: &mut Tree, store: &mut Store, kept: Record) -> Event
     ensures undone { UndoneBy (both_view tree.old store.old) (record_view kept) (both_view tree.new store.new) }
     ensures made_last { LastUndone (both_view tree.old store.old) (record_view kept) (both_view tree.new store.new) }
 {
-    let Record { event, inverse } = kept;
-    let Inverse { outs, overwritten } = inverse;
-    take_back(tree, &event, outs);
-    write_back(store, event.written, overwritten);
+    let Record { event, mut inverse } = kept;
+    invert_by(tree, store, &event, &mut inverse);
     event
+}
+
+/// Takes an event back by its inverse, which stays where it is and is of no use any more. It takes no memory.
+pub fn invert_by(tree: &mut Tree, store: &mut Store, event: &Event, inverse: &mut Inverse)
+    requires possible { IsSome (reverted (both_view tree.old store.old) event.now (inverse_view inverse.old)) }
+    ensures back { reverted (both_view tree.old store.old) event.now (inverse_view inverse.old) ≡ Some (both_view tree.new store.new) }
+    ensures undone { UndoneBy (both_view tree.old store.old) (event.now, inverse_view inverse.old) (both_view tree.new store.new) }
+    ensures made_last { LastUndone (both_view tree.old store.old) (event.now, inverse_view inverse.old) (both_view tree.new store.new) }
+{
+    let outs = mem::replace(&mut inverse.outs, Outs::One(None));
+    take_back(tree, event, outs);
+    write_back(store, event.written, inverse.overwritten);
 }
 
 /// Puts back the value that was overwritten, if one was.

@@ -1,86 +1,168 @@
--- The marked events are taken back one after another, the greatest ticket first.
-use Rattle.std.proofs.Common.{◌≡◌, ◌↔◌, ℕ, ◌-◌, ◌<◌, ◌≤◌, List, [], length, refl, sym, subst, arith}
+-- The marked events are taken back on the tree, the last first, and then all out of the lists.
+use Rattle.std.proofs.Common.{◌≡◌, ◌↔◌, inl, inr, ℕ, suc, ◌+◌, ◌-◌, ◌<◌, ◌≤◌, List, [], ◌∷◌, ◌++◌, length, take, drop, Some, IsSome, refl, sym, ◌∙◌, ap, subst, arith, slice_get, append_assoc}
+use Rattle.std.specs.Prelude.{slice_set}
+use Rattle.std.proofs.lemmas.List.{take-set, drop-set-lt, take-append-drop, length-take-le, append-nil}
 use Rattle.syntax.specs.Lists.{In}
-use Rattle.calculus.specs.Dependence.{Without}
-use Rattle.calculus.specs.Live.{Live, LiveAt, IsLive, DependsOn, NoDependent, WithoutTickets, ConsequencesList}
+use Rattle.sharing_check.specs.declared.checked.Checked.{Checked}
+use Rattle.calculus.specs.Dependence.{ended, stays, leaves}
+use Rattle.calculus.specs.Live.{Live, LiveAt, DependsOn, NoDependent, WithoutTickets, ConsequencesList}
 use Rattle.calculus.specs.Object.{Object, with_live}
 use Rattle.calculus.specs.Does.{TakesOut}
 use Rattle.calculus.specs.declared.event.Event.{Event}
 use Rattle.calculus.proofs.DependsOnLaw.{depends-up}
+use Rattle.calculus.proofs.Lists.{in-right, in-parts}
+use Rattle.calculus.proofs.Tickets.{rising-in, rising-parts}
 use Rattle.calculus.proofs.UndoLaws.{without-live}
-use Rattle.dependence.specs.Shown.{Shown, Greatest}
-use Rattle.dependence.proofs.Following.{follows-on, follows-in, follows-without}
-use Rattle.machine.specs.walking.Marking.{MarksDependents}
-use Rattle.machine.proofs.Withouts.{left-in, in-left-over, not-longer, shorter, all-stay, left-alike, left-twice}
-
--- while the dependents of t are taken back from l: those that are left are marked, and the others are out
-pub record Rolling (l : Live) (t : ℕ) (s : Shown) : Type 0 where
-  pub marks : MarksDependents s t
-  pub from : (u : ℕ) → In u s.marked → DependsOn l t u
-  pub left : WithoutTickets (λ u. DependsOn l t u × (In u s.marked → ⊥)) l s.live
+use Rattle.dependence.specs.Shown.{Shown}
+use Rattle.dependence.specs.Taking.{MarksAllDependents, NoneMarkedAt, StaysBeside, done, keeps, drops}
+use Rattle.dependence.proofs.Following.{follows-on, follows-in}
+use Rattle.dependence.proofs.ListPlaces.{in-at, in-take, take-all, drop-all, set-here}
+use Rattle.event_inverse.specs.Grown.{TreeAndStore}
+use Rattle.event_inverse.specs.Laws.{UndoneBy}
+use Rattle.event_inverse.specs.View.{inverse_view}
+use Rattle.event_inverse.specs.declared.record.Inverse.{Inverse}
+use Rattle.event_inverse.specs.walking.Reverted.{reverted}
+use Rattle.machine.specs.walking.Histories.{Stands}
+use Rattle.machine.specs.walking.Marking.{MarksDependents, StandsFrom}
+use Rattle.machine.proofs.Entries.{take-next, drop-next, within-at}
+use Rattle.machine.proofs.Standing.{revert-here, less-split}
+use Rattle.machine.proofs.Withouts.{not-longer, without-entry, one-left, left-alike, one-beside}
 
 -- as they were marked
 pub marks-listed : (s : Shown) (l : Live) (t : ℕ) → s.live ≡ l → ConsequencesList l t s.marked → MarksDependents s t
 marks-listed s l t is all = subst (λ (k : Live). (u : ℕ) → In u s.marked ↔ ((f : Event) × LiveAt k u f × DependsOn k t u)) (sym is) all.exactly
 
-pub rolling-start : (s : Shown) (t : ℕ) → MarksDependents s t → Rolling s.live t s
-rolling-start s t marks = record {
-  marks = marks;
-  from = λ u i. ((marks u).0 i).2;
-  left = all-stay (λ u. DependsOn s.live t u × (In u s.marked → ⊥)) s.live (λ u f i d. d.1 ((marks u).1 (f, i, d.0)));
-}
+-- what depends on a marked one is marked
+pub marks-all : (s : Shown) (t : ℕ) → MarksDependents s t → MarksAllDependents s
+marks-all s t marks u v f i live follows = let at = (marks u).0 i in (marks v).1 (f, live, follows-on s.live t u v at.2 follows)
 
--- the greatest is live, and none depends on it
-pub greatest-live : (s : Shown) (t g : ℕ) → MarksDependents s t → Greatest s.marked g → IsLive s.live g
-greatest-live s t g marks top = let at = (marks g).0 top.inside in (at.0, at.1)
+in-drop : {X : Type 0} (l : List X) (i : ℕ) (x : X) → In x (drop i l) → In x l
+in-drop {X = X} l i x j = subst (λ (k : List X). In x k) (take-append-drop i l) (in-right x (take i l) (drop i l) j)
 
-pub greatest-alone : (s : Shown) (t g : ℕ) → MarksDependents s t → Greatest s.marked g → NoDependent s.live g
-greatest-alone s t g marks top u f i follows =
-    let at = (marks g).0 top.inside in
-    let low : u ≤ g = top.greatest u ((marks u).1 (f, i, follows-on s.live t g u at.2 follows)) in
-    let high : g ≤ u = depends-up s.live g u follows in
-    omega arith
-
--- without it
-pub rolling-next : (l : Live) (t g : ℕ) (s s' : Shown) → Rolling l t s → Greatest s.marked g → WithoutTickets (λ v. v ≡ g) s.live s'.live →
-    Without (λ (v : ℕ). v ≡ g) s.marked s'.marked → Rolling l t s'
-rolling-next l t g s s' r top live marked =
-    let alone : NoDependent s.live g = greatest-alone s t g r.marks top in
-    let both = without-live (λ (v : ℕ). v ≡ g) s.live s'.live live in
-    let of : (u : ℕ) → In u s'.marked → In u s.marked × (u ≡ g → ⊥) = λ u i. left-in (λ (v : ℕ). v ≡ g) s.marked s'.marked u marked i in
-    let to : (u : ℕ) → In u s.marked → (u ≡ g → ⊥) → In u s'.marked = λ u i other. in-left-over (λ (v : ℕ). v ≡ g) s.marked s'.marked u marked i other in
+-- none is taken back yet
+pub from-end : (checked : Checked) (place : ℕ) (T : TreeAndStore) (s : Shown) (is : List Inverse) (n : ℕ) → Stands checked T s.live is n → place ≡ length s.live →
+    StandsFrom checked place T s is n
+from-end checked place T s is n h at =
+    let even : length is ≡ length s.live = h.even in
+    let past : length s.live ≤ place = omega arith in
+    let over : length is ≤ place = omega arith in
     record {
-      marks = λ u. (
-        (λ i.
-            let old = of u i in
-            let at = (r.marks u).0 old.0 in (
-              at.0,
-              both.1 u at.0 at.1 old.1,
-              follows-without s.live s'.live g t u alone (λ v e j other. both.1 v e j other) old.1 at.2,
-            )),
-        (λ at.
-            let old = both.0 u at.0 at.1 in
-            to u ((r.marks u).1 (at.0, old.0, follows-in s'.live s.live t u (λ v e j. (both.0 v e j).0) at.2)) old.1),
-      );
-      from = λ u i. r.from u (of u i).0;
-      left =
-          left-twice (λ u. DependsOn l t u × (In u s.marked → ⊥)) (λ v. v ≡ g) (λ u. DependsOn l t u × (In u s'.marked → ⊥)) l s.live s'.live
-          (record {
-            first = λ u d. (d.0, λ i. d.1 (of u i).0);
-            second = λ u is. (subst (λ (v : ℕ). DependsOn l t v) (sym is) (r.from g top.inside), λ i. (of u i).1 is);
-            either = λ u out other d. out (d.0, λ i. d.1 (to u i other));
-          }) r.left live;
+      live = [];
+      others = [];
+      left = subst (λ (l : Live). WithoutTickets (λ t. In t s.marked) l []) (sym (drop-all s.live place past)) ended;
+      beside =
+          subst (λ (l : Live). StaysBeside (λ t. In t s.marked) l (drop place is) []) (sym (drop-all s.live place past))
+          (subst (λ (js : List Inverse). StaysBeside (λ t. In t s.marked) [] js []) (sym (drop-all is place over)) done);
+      stands =
+          subst (λ (l : Live). Stands checked T l (take place is ++ []) n) (sym (append-nil (take place s.live) ∙ take-all s.live place past))
+          (subst (λ (js : List Inverse). Stands checked T s.live js n) (sym (append-nil (take place is) ∙ take-all is place over)) h);
     }
 
--- there are less of them then
-pub rolling-falls : (s s' : Shown) (g : ℕ) → Greatest s.marked g → Without (λ (v : ℕ). v ≡ g) s.marked s'.marked → length s'.marked < length s.marked
-rolling-falls s s' g top marked = shorter (λ (v : ℕ). v ≡ g) s.marked s'.marked g marked top.inside refl
+-- one place less
+module _ (checked : Checked) (place : ℕ) (T : TreeAndStore) (s : Shown) (is : List Inverse) (n t : ℕ) (e : Event) (x : Inverse)
+    (h : StandsFrom checked (suc place) T s is n) (at : slice_get s.live place ≡ Some (t, e)) (beside : slice_get is place ≡ Some x) where
+  regrouped : {X : Type 0} (l : List X) (y : X) (k : List X) → slice_get l place ≡ Some y → take (suc place) l ++ k ≡ take place l ++ y ∷ k
+  regrouped {X = X} l y k there = ap (λ (m : List X). m ++ k) (take-next l place y there) ∙ append_assoc (take place l) (y ∷ []) k
 
--- none is marked any more
-pub rolling-stop : (l : Live) (t : ℕ) (s : Shown) → Rolling l t s → s.marked ≡ [] → WithoutTickets (DependsOn l t) l s.live
-rolling-stop l t s r none =
-    left-alike (λ u. DependsOn l t u × (In u s.marked → ⊥)) (DependsOn l t) l s.live (λ u d. d.0)
-    (λ u d. (d, λ i. subst (λ (ts : List ℕ). In u ts) none i)) r.left
+  -- the event and its inverse stand between those before them and those that are left behind them
+  parted : Stands checked T (take place s.live ++ (t, e) ∷ h.live) (take place is ++ x ∷ h.others) n
+  parted =
+      subst (λ (l : Live). Stands checked T l (take place is ++ x ∷ h.others) n) (regrouped s.live (t, e) h.live at)
+      (subst (λ (js : List Inverse). Stands checked T (take (suc place) s.live ++ h.live) js n) (regrouped is x h.others beside) h.stands)
+
+  -- an event without a mark stays
+  pub from-unmarked : NoneMarkedAt s.live s.marked place → StandsFrom checked place T s is n
+  from-unmarked none = record {
+    live = (t, e) ∷ h.live;
+    others = x ∷ h.others;
+    left =
+        subst (λ (l : Live). WithoutTickets (λ u. In u s.marked) l ((t, e) ∷ h.live)) (sym (drop-next s.live place (t, e) at))
+        (stays (λ (i : In t s.marked). none e (t, at, i)) h.left);
+    beside =
+        subst (λ (l : Live). StaysBeside (λ u. In u s.marked) l (drop place is) (x ∷ h.others)) (sym (drop-next s.live place (t, e) at))
+        (subst (λ (js : List Inverse). StaysBeside (λ u. In u s.marked) ((t, e) ∷ drop (suc place) s.live) js (x ∷ h.others)) (sym (drop-next is place x beside))
+        (keeps (λ (i : In t s.marked). none e (t, at, i)) h.beside));
+    stands = parted;
+  }
+
+  even-before : length (take place is) ≡ length (take place s.live)
+  even-before =
+      let inside : place < length s.live = within-at s.live place (t, e) at in
+      let within : place < length is = within-at is place x beside in
+      length-take-le place is (omega arith) ∙ sym (length-take-le place s.live (omega arith))
+
+  module _ (marks : MarksAllDependents s) (marked : In t s.marked) where
+    inside : (v : ℕ) (g : Event) → LiveAt (take place s.live ++ (t, e) ∷ h.live) v g → LiveAt s.live v g
+    inside v g i = elim (in-parts (v, g) (take place s.live) ((t, e) ∷ h.live) i) [
+      | inl a ↦ in-take s.live place (v, g) a
+      | inr (inl a) ↦ subst (λ (y : ℕ × Event). In y s.live) (sym a) (in-at s.live place (t, e) at)
+      | inr (inr a) ↦ in-drop s.live (suc place) (v, g) ((without-live (λ u. In u s.marked) (drop (suc place) s.live) h.live h.left).0 v g a).0
+    ]
+
+    -- of those that are left none depends on it
+    alone : NoDependent (take place s.live ++ (t, e) ∷ h.live) t
+    alone u f i follows =
+        let split = rising-parts 1 n (take place s.live) ((t, e) ∷ h.live) parted.sound.rising in
+        let high : split.0 ≤ t = split.2.0 in
+        elim (in-parts (u, f) (take place s.live) ((t, e) ∷ h.live) i) [
+          | inl a ↦
+              let low : u < split.0 = (rising-in 1 split.0 (take place s.live) u f split.1 a).1 in
+              let up : t ≤ u = depends-up (take place s.live ++ (t, e) ∷ h.live) t u follows in
+              absurd (omega arith)
+          | inr (inl a) ↦ ap (λ (y : ℕ × Event). y.0) a
+          | inr (inr a) ↦
+              let old = (without-live (λ v. In v s.marked) (drop (suc place) s.live) h.live h.left).0 u f a in
+              absurd (old.1 (marks t u f marked (in-drop s.live (suc place) (u, f) old.0)
+              (follows-in (take place s.live ++ (t, e) ∷ h.live) s.live t u inside follows)))
+        ]
+
+    -- so its inverse takes it back
+    pub can-go : IsSome (reverted T e (inverse_view x))
+    can-go = revert-here checked T n t e x (take place s.live) h.live (take place is) h.others parted even-before alone
+
+    -- a marked event is gone
+    pub from-marked : (U : TreeAndStore) (y : Inverse) → UndoneBy T (e, inverse_view x) U → StandsFrom checked place U s (slice_set is place y) n
+    from-marked U y undone =
+        let within : place < length is = within-at is place x beside in
+        let more : place < suc place = omega arith in
+        let rest : drop place (slice_set is place y) ≡ y ∷ drop (suc place) is =
+        drop-next (slice_set is place y) place y (set-here is place y within) ∙ ap (λ (js : List Inverse). y ∷ js) (drop-set-lt (suc place) is place y more) in
+        record {
+          live = h.live;
+          others = h.others;
+          left = subst (λ (l : Live). WithoutTickets (λ u. In u s.marked) l h.live) (sym (drop-next s.live place (t, e) at)) (leaves marked h.left);
+          beside =
+              subst (λ (l : Live). StaysBeside (λ u. In u s.marked) l (drop place (slice_set is place y)) h.others) (sym (drop-next s.live place (t, e) at))
+              (subst (λ (js : List Inverse). StaysBeside (λ u. In u s.marked) ((t, e) ∷ drop (suc place) s.live) js h.others) (sym rest) (drops marked h.beside));
+          stands =
+              subst (λ (js : List Inverse). Stands checked U (take place s.live ++ h.live) (js ++ h.others) n) (sym (take-set is place y))
+              (less-split checked T U (take place s.live ++ (t, e) ∷ h.live) (take place s.live ++ h.live) (take place is ++ x ∷ h.others) (take place is ++ h.others) n t e x parted
+              (record {
+                before = take place s.live;
+                after = h.live;
+                earlier = take place is;
+                behind = h.others;
+                live = refl;
+                left = refl;
+                inverses = refl;
+                others = refl;
+                even = even-before;
+              }) alone
+              (without-entry 1 n (take place s.live) h.live t e parted.sound.rising)
+              (in-right (t, e) (take place s.live) ((t, e) ∷ h.live) (inl refl)) undone);
+        }
+
+-- then the lists are those of the others
+pub all-taken : (checked : Checked) (T : TreeAndStore) (s : Shown) (is js : List Inverse) (n : ℕ) (k : Live) → StandsFrom checked 0 T s is n →
+    StaysBeside (λ t. In t s.marked) s.live is js → WithoutTickets (λ t. In t s.marked) s.live k → Stands checked T k js n
+all-taken checked T s is js n k h beside left =
+    subst (λ (l : Live). Stands checked T l js n) (one-left (λ t. In t s.marked) s.live h.live k h.left left)
+    (subst (λ (os : List Inverse). Stands checked T h.live os n) (one-beside (λ t. In t s.marked) s.live is h.others js h.beside beside) h.stands)
+
+-- they are those that do not depend on the event
+pub dependents-out : (s : Shown) (t : ℕ) (k : Live) → MarksDependents s t → WithoutTickets (λ u. In u s.marked) s.live k → WithoutTickets (DependsOn s.live t) s.live k
+dependents-out s t k marks left =
+    left-alike (λ u. In u s.marked) (DependsOn s.live t) s.live k (λ u f i inside. ((marks u).0 inside).2) (λ u f i follows. (marks u).1 (f, i, follows)) left
 
 -- what a rollback answers and leaves
 pub takes-out : (o o' : Object) (t n before after : ℕ) (l k : Live) → l ≡ o.live → before ≡ length o.live → after ≡ length k → n ≡ before - after →

@@ -1,14 +1,15 @@
 // Taking an event back with all that depend on it, and the questions about them.
-ghost use Rattle.std.specs.Prelude.{◌≡◌, ℕ, IfOk, OnErr};
+ghost use Rattle.std.specs.Prelude.{◌≡◌, ℕ, length, IfOk, OnErr};
 ghost use Rattle.sharing_check.specs.declared.checked.Checked.{Checked};
-ghost use Rattle.calculus.specs.Dependence.{Without};
-ghost use Rattle.calculus.specs.Live.{LiveAt, IsLive, DependsOn, NoDependent, WithoutTickets};
+ghost use Rattle.calculus.specs.Live.{IsLive, DependsOn, WithoutTickets};
 ghost use Rattle.calculus.specs.Does.{Does};
 ghost use Rattle.machine.specs.walking.Histories.{execution, Holds};
-ghost use Rattle.machine.specs.walking.Marking.{MarksDependents};
+ghost use Rattle.dependence.specs.Taking.{MarksAllDependents};
+ghost use Rattle.machine.specs.walking.Marking.{MarksDependents, HoldsFrom};
 
 use crate::history::History;
 use calculus::{Command, Refusal, Reply};
+use event_inverse::invert_by;
 use std::alloc::AllocError;
 use syntax::Items;
 
@@ -38,8 +39,8 @@ impl History {
         Reply::Rolled((before - self.live.len()) as u64)
     }
 
-    /// Takes the marked events back, which are a live event and all that depend on it: the greatest ticket first, on which
-    /// none depends then.
+    /// Takes the marked events back, which are a live event and all that depend on it: first on the tree and in the store, and
+    /// then out of the lists. Each list is gone through once.
     fn take_marked(&mut self)
         requires holds { (system : Checked) × Holds system self.old }
         requires marked { (t : ℕ) × MarksDependents self.old.live t }
@@ -47,26 +48,28 @@ impl History {
         ensures next { self.new.next ≡ self.old.next }
         ensures holds { (system : Checked) → Holds system self.old → Holds system self.new }
     {
-        while let Some(ticket) = self.live.last_marked() {
-            self.take_one(ticket);
-        }
+        self.revert_marked();
+        self.live.keep_unmarked(&mut self.inverses);
+        self.live.take_marked();
     }
 
-    /// Takes the live event of this ticket back. No other live event depends on it.
-    fn take_one(&mut self, ticket: u64)
+    /// Takes the marked events back on the tree and in the store, the last first, on which none depends then. They stay in the
+    /// lists.
+    fn revert_marked(&mut self)
         requires holds { (system : Checked) × Holds system self.old }
-        requires live { IsLive self.old.live.live ticket }
-        requires alone { NoDependent self.old.live.live ticket }
-        ensures live { WithoutTickets (λ t. t ≡ ticket) self.old.live.live self.new.live.live }
-        ensures marked { Without (λ t. t ≡ ticket) self.old.live.marked self.new.live.marked }
+        requires marked { MarksAllDependents self.old.live }
+        ensures live { self.new.live ≡ self.old.live }
         ensures next { self.new.next ≡ self.old.next }
-        ensures holds { (system : Checked) → Holds system self.old → Holds system self.new }
+        ensures even { length self.new.inverses.items ≡ length self.old.inverses.items }
+        ensures holds { (system : Checked) → Holds system self.old → HoldsFrom system 0 self.new }
     {
-        match self.live.place_of(ticket) {
-            Some(place) => {
-                self.take_back(ticket, place);
+        let mut place = self.live.len();
+        while place > 0 {
+            place -= 1;
+            if let Some(event) = self.live.marked_at(place) {
+                let inverse = &mut self.inverses[place];
+                invert_by(&mut self.tree, &mut self.store, event, inverse);
             }
-            None => unreachable!(),
         }
     }
 

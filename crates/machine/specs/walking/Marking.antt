@@ -1,11 +1,29 @@
--- The live events that are marked, as a rollback takes them back one after another.
+-- The live events that are marked, as a rollback takes them back: all on the tree and in the store, and then all out of the lists.
 -- No reader has to believe it: the proof of `roll` ties it to `TakesOut` of `calculus`.
-use Rattle.std.specs.Prelude.{◌↔◌, ℕ}
+use Rattle.std.specs.Prelude.{◌↔◌, ℕ, ◌++◌, List, take, drop}
 use Rattle.syntax.specs.Lists.{In}
-use Rattle.calculus.specs.Live.{LiveAt, DependsOn}
+use Rattle.sharing_check.specs.declared.checked.Checked.{Checked}
+use Rattle.calculus.specs.Live.{Live, LiveAt, DependsOn, WithoutTickets}
 use Rattle.calculus.specs.declared.event.Event.{Event}
 use Rattle.dependence.specs.Shown.{Shown}
+use Rattle.dependence.specs.Taking.{StaysBeside}
+use Rattle.event_inverse.specs.Grown.{TreeAndStore}
+use Rattle.event_inverse.specs.declared.record.Inverse.{Inverse}
+use Rattle.machine.specs.walking.Histories.{tree_of, Stands}
+use Rattle.machine.specs.declared.history.History.{History}
 
 -- exactly the live events that depend on that of ticket t are marked
 abbrev pub MarksDependents : Shown → ℕ → Type 0
 MarksDependents s t = (u : ℕ) → In u s.marked ↔ ((f : Event) × LiveAt s.live u f × DependsOn s.live t u)
+
+-- T and the inverses stand for the live events without those that are marked at the place and behind it
+pub record StandsFrom (checked : Checked) (place : ℕ) (T : TreeAndStore) (s : Shown) (inverses : List Inverse) (next : ℕ) : Type 0 where
+  pub live : Live
+  pub others : List Inverse
+  pub left : WithoutTickets (λ t. In t s.marked) (drop place s.live) live
+  pub beside : StaysBeside (λ t. In t s.marked) (drop place s.live) (drop place inverses) others
+  pub stands : Stands checked T (take place s.live ++ live) (take place inverses ++ others) next
+
+-- so it is in a history
+abbrev pub HoldsFrom : Checked → ℕ → History → Type 0
+HoldsFrom checked place h = StandsFrom checked place (tree_of h) h.live h.inverses.items h.next

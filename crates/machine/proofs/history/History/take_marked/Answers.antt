@@ -1,39 +1,29 @@
-use Rattle.std.proofs.Common.{◌∙◌, refl}
-use Rattle.machine.proofs.Marked.{rolling-start, greatest-live, greatest-alone, rolling-next, rolling-falls, rolling-stop}
+use Rattle.std.proofs.Common.{◌∙◌, length, sym, ap, subst}
+use Rattle.syntax.specs.Lists.{In}
+use Rattle.calculus.specs.Live.{WithoutTickets}
+use Rattle.dependence.specs.Shown.{Shown}
+use Rattle.dependence.specs.Taking.{MarksAllDependents}
+use Rattle.machine.specs.walking.Histories.{tree_of}
+use Rattle.machine.proofs.Marked.{marks-all, all-taken, dependents-out}
 use Rattle.machine.proofs.history.History.take_marked.Goals as goal
 
-pub loop-ticket-init : goal.loop-ticket-init
-loop-ticket-init c = record {
-  some = c.requires.holds;
-  holds = λ system holds. holds;
-  rolling = λ t marks. rolling-start c.args.self.now.live t marks;
-  next = refl;
-}
+pub revert_marked-requires-clause-marked : goal.revert_marked-requires-clause-marked
+revert_marked-requires-clause-marked c = marks-all c.args.self.now.live c.requires.marked.0 c.requires.marked.1
 
-pub take_one-requires-clause-live : goal.take_one-requires-clause-live
-take_one-requires-clause-live c =
-    let r = c.loop-ticket.invariant.rolling c.requires.marked.0 c.requires.marked.1 in
-    greatest-live c.loop-ticket.self.live c.requires.marked.0 c.in-Some.ticket r.marks c.in-Some.ensures
+pub keep_unmarked-requires : goal.keep_unmarked-requires
+keep_unmarked-requires c = c.revert_marked.ensures.even ∙ c.requires.holds.1.even ∙ sym (ap (λ (s : Shown). length s.live) c.revert_marked.ensures.live)
 
-pub take_one-requires-clause-alone : goal.take_one-requires-clause-alone
-take_one-requires-clause-alone c =
-    let r = c.loop-ticket.invariant.rolling c.requires.marked.0 c.requires.marked.1 in
-    greatest-alone c.loop-ticket.self.live c.requires.marked.0 c.in-Some.ticket r.marks c.in-Some.ensures
-
-pub loop-ticket-smaller : goal.loop-ticket-smaller
-loop-ticket-smaller c = rolling-falls c.loop-ticket.self.live c.take_one.new.self.live c.in-Some.ticket c.in-Some.ensures c.take_one.ensures.marked
-
-pub loop-ticket-preserved : goal.loop-ticket-preserved
-loop-ticket-preserved c =
-    let i = c.loop-ticket.invariant in
-    record {
-      some = (i.some.0, c.take_one.ensures.holds i.some.0 i.some.1);
-      holds = λ system holds. c.take_one.ensures.holds system (i.holds system holds);
-      rolling = λ t marks.
-          rolling-next c.args.self.now.live.live t c.in-Some.ticket c.loop-ticket.self.live c.take_one.new.self.live (i.rolling t marks) c.in-Some.ensures
-          c.take_one.ensures.live c.take_one.ensures.marked;
-      next = c.take_one.ensures.next ∙ i.next;
-    }
+pub take_marked-requires : goal.take_marked-requires
+take_marked-requires c =
+    subst (λ (s : Shown). MarksAllDependents s) (sym c.revert_marked.ensures.live) (marks-all c.args.self.now.live c.requires.marked.0 c.requires.marked.1)
 
 pub returns-clause-taken : goal.returns-clause-taken
-returns-clause-taken c = λ t marks. rolling-stop c.args.self.now.live.live t c.loop-ticket.self.live (c.loop-ticket.invariant.rolling t marks) c.in_default.ensures
+returns-clause-taken c = λ t marks.
+    dependents-out c.args.self.now.live t c.take_marked.new.self.live marks
+    (subst (λ (s : Shown). WithoutTickets (λ u. In u s.marked) s.live c.take_marked.new.self.live) c.revert_marked.ensures.live c.take_marked.ensures.live)
+
+pub returns-clause-holds : goal.returns-clause-holds
+returns-clause-holds c = λ system holds.
+    let h = c.revert_marked.new.self in
+    all-taken system (tree_of h) h.live h.inverses.items c.keep_unmarked.new.items.items h.next c.take_marked.new.self.live (c.revert_marked.ensures.holds system holds)
+    c.keep_unmarked.ensures c.take_marked.ensures.live

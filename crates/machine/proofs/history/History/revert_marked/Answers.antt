@@ -1,0 +1,106 @@
+use Rattle.std.proofs.Common.{◌≡◌, ◌∙◌, ℕ, suc, ◌-◌, ◌<◌, ◌≤◌, length, Some, refl, sym, ap, subst, arith, slice_get, length-set}
+use Rattle.std.proofs.lemmas.Option.{slice_get-get_or}
+use Rattle.sharing_check.specs.declared.checked.Checked.{Checked}
+use Rattle.dependence.specs.Shown.{Shown}
+use Rattle.dependence.specs.Taking.{MarksAllDependents}
+use Rattle.dependence.proofs.ListPlaces.{at-within}
+use Rattle.event_inverse.specs.View.{both_view}
+use Rattle.event_inverse.specs.declared.record.Inverse.{Inverse}
+use Rattle.machine.specs.walking.Histories.{tree_of}
+use Rattle.machine.specs.walking.Marking.{StandsFrom}
+use Rattle.machine.proofs.Marked.{from-end, from-unmarked, can-go, from-marked}
+use Rattle.machine.proofs.history.History.revert_marked.Goals as goal
+
+pub loop-place-init : goal.loop-place-init
+loop-place-init c =
+    let h = c.args.self.now in
+    let len = c.len-place.ensures in
+    record {
+      range = omega arith;
+      same = refl;
+      next = refl;
+      even = refl;
+      some = (c.requires.holds.0, from-end c.requires.holds.0 c.len-place.result (tree_of h) h.live h.inverses.items h.next c.requires.holds.1 len);
+      holds = λ system held. from-end system c.len-place.result (tree_of h) h.live h.inverses.items h.next held len;
+    }
+
+pub invert_by-requires : goal.invert_by-requires
+invert_by-requires c =
+    let h = c.loop-place.self in
+    let inv = c.loop-place.invariant in
+    let q : ℕ = c.loop-place.place - 1 in
+    let test : 0 < c.loop-place.place = c.loop-place-test.true in
+    let back : c.loop-place.place ≡ suc q = omega arith in
+    let range : c.loop-place.place ≤ length h.live.live = inv.range in
+    let sizes : length h.live.live ≡ length c.args.self.now.live.live = ap (λ (s : Shown). length s.live) inv.same in
+    let even : length h.inverses.items ≡ length c.args.self.now.inverses.items = inv.even in
+    let whole : length c.args.self.now.inverses.items ≡ length c.args.self.now.live.live = c.requires.holds.1.even in
+    let inside : q < length h.live.live = omega arith in
+    let within : q < length h.inverses.items = omega arith in
+    let one = c.in-Some.ensures in
+    let x : Inverse = c.index_mut-inverse.result.now in
+    let beside : slice_get h.inverses.items q ≡ Some x =
+    slice_get-get_or h.inverses.items q x within ∙ ap (λ (y : Inverse). Some y) (sym c.index_mut-inverse.ensures.value) in
+    let marks : MarksAllDependents h.live = subst (λ (s : Shown). MarksAllDependents s) (sym inv.same) c.requires.marked in
+    let from = subst (λ (k : ℕ). StandsFrom inv.some.0 k (tree_of h) h.live h.inverses.items h.next) back inv.some.1 in
+    record {
+      possible = can-go inv.some.0 q (tree_of h) h.live h.inverses.items h.next one.0 c.in-Some.event.now x from one.1 beside marks one.2;
+    }
+
+pub loop-place-preserved-in-Some : goal.loop-place-preserved-in-Some
+loop-place-preserved-in-Some c =
+    let h = c.loop-place.self in
+    let inv = c.loop-place.invariant in
+    let q : ℕ = c.loop-place.place - 1 in
+    let test : 0 < c.loop-place.place = c.loop-place-test.true in
+    let back : c.loop-place.place ≡ suc q = omega arith in
+    let range : c.loop-place.place ≤ length h.live.live = inv.range in
+    let sizes : length h.live.live ≡ length c.args.self.now.live.live = ap (λ (s : Shown). length s.live) inv.same in
+    let even : length h.inverses.items ≡ length c.args.self.now.inverses.items = inv.even in
+    let whole : length c.args.self.now.inverses.items ≡ length c.args.self.now.live.live = c.requires.holds.1.even in
+    let inside : q < length h.live.live = omega arith in
+    let within : q < length h.inverses.items = omega arith in
+    let one = c.in-Some.ensures in
+    let x : Inverse = c.index_mut-inverse.result.now in
+    let beside : slice_get h.inverses.items q ≡ Some x =
+    slice_get-get_or h.inverses.items q x within ∙ ap (λ (y : Inverse). Some y) (sym c.index_mut-inverse.ensures.value) in
+    let marks : MarksAllDependents h.live = subst (λ (s : Shown). MarksAllDependents s) (sym inv.same) c.requires.marked in
+    let next = λ (system : Checked) (from : StandsFrom system c.loop-place.place (tree_of h) h.live h.inverses.items h.next).
+    from-marked system q (tree_of h) h.live h.inverses.items h.next one.0 c.in-Some.event.now x
+    (subst (λ (k : ℕ). StandsFrom system k (tree_of h) h.live h.inverses.items h.next) back from) one.1 beside marks one.2
+    (both_view c.invert_by.new.tree c.invert_by.new.store) c.invert_by.new.inverse c.invert_by.ensures.undone in
+    record {
+      range = omega arith;
+      same = inv.same;
+      next = inv.next;
+      even = length-set h.inverses.items q c.invert_by.new.inverse ∙ even;
+      some = (inv.some.0, next inv.some.0 inv.some.1);
+      holds = λ system held. next system (inv.holds system held);
+    }
+
+pub loop-place-preserved : goal.loop-place-preserved
+loop-place-preserved c =
+    let h = c.loop-place.self in
+    let inv = c.loop-place.invariant in
+    let q : ℕ = c.loop-place.place - 1 in
+    let test : 0 < c.loop-place.place = c.loop-place-test.true in
+    let back : c.loop-place.place ≡ suc q = omega arith in
+    let range : c.loop-place.place ≤ length h.live.live = inv.range in
+    let sizes : length h.live.live ≡ length c.args.self.now.live.live = ap (λ (s : Shown). length s.live) inv.same in
+    let even : length h.inverses.items ≡ length c.args.self.now.inverses.items = inv.even in
+    let whole : length c.args.self.now.inverses.items ≡ length c.args.self.now.live.live = c.requires.holds.1.even in
+    let inside : q < length h.live.live = omega arith in
+    let within : q < length h.inverses.items = omega arith in
+    let at = at-within h.live.live q inside in
+    let x = at-within h.inverses.items q within in
+    let next = λ (system : Checked) (from : StandsFrom system c.loop-place.place (tree_of h) h.live h.inverses.items h.next).
+    from-unmarked system q (tree_of h) h.live h.inverses.items h.next at.0.0 at.0.1 x.0
+    (subst (λ (k : ℕ). StandsFrom system k (tree_of h) h.live h.inverses.items h.next) back from) at.1 x.1 c.in_default.ensures in
+    record {
+      range = omega arith;
+      same = inv.same;
+      next = inv.next;
+      even = even;
+      some = (inv.some.0, next inv.some.0 inv.some.1);
+      holds = λ system held. next system (inv.holds system held);
+    }

@@ -1,0 +1,18 @@
+use Rattle.std.proofs.Common.{◌≡◌, ◌≤◌, length}
+use Rattle.sharing_check.specs.declared.checked.Checked.{Checked}
+use Rattle.machine.specs.walking.Histories.{Holds}
+use Rattle.machine.specs.walking.Marking.{HoldsFrom}
+use Rattle.machine.proofs.history.History.revert_marked.Given as goal
+
+abbrev pub invariant-loop-place : goal.invariant-loop-place
+invariant-loop-place l = record {
+  range : l.place ≤ length l.self.live.live;
+  same : l.self.live ≡ l.initial.self.live;
+  next : l.self.next ≡ l.initial.self.next;
+  even : length l.self.inverses.items ≡ length l.initial.self.inverses.items;
+  some : (system : Checked) × HoldsFrom system l.place l.self;
+  holds : (system : Checked) → Holds system l.initial.self → HoldsFrom system l.place l.self;
+}
+
+abbrev pub decreases-loop-place : goal.decreases-loop-place
+decreases-loop-place l = l.place
