@@ -25,6 +25,8 @@ mod one;
 #[cfg(test)]
 mod parsing;
 #[cfg(test)]
+mod passes;
+#[cfg(test)]
 mod rollbacks;
 #[cfg(test)]
 mod runs;
@@ -52,3 +54,5 @@ mod trees;
 mod values;
 #[cfg(test)]
 mod views;
+#[cfg(test)]
+mod workers;
