@@ -1,8 +1,8 @@
 -- Lists of commands that sessions ask, one more at a time.
-use Rattle.std.proofs.Common.{◌≡◌, ℕ, ◌+◌, ◌<◌, ◌≤◌, List, [], ◌∷◌, ◌++◌, length, take, get_or, refl, sym, ap, subst}
-use Rattle.syntax.specs.Lists.{Every}
+use Rattle.std.proofs.Common.{◌≡◌, inl, inr, ℕ, zero, suc, ◌+◌, ◌<◌, ◌≤◌, List, [], ◌∷◌, ◌++◌, length, take, get_or, refl, sym, ap, subst, arith}
+use Rattle.syntax.specs.Lists.{In, Every}
 use Rattle.calculus.proofs.Lists.{every-in}
-use Rattle.machine.proofs.Gathering.{take-more, take-all, in-item}
+use Rattle.machine.proofs.Gathering.{take-more, take-all}
 use Rattle.locked_execution.specs.AtDesk.{AtDesk}
 use Rattle.locked_execution.specs.Answered.{Answered}
 use Rattle.locked_execution.specs.Performs.{Answers}
@@ -34,6 +34,12 @@ answered-more d m d' xs i x replies after reply less is before now e =
 
 pub answered-all : (d d' : AtDesk) (xs : List (ℕ × Command)) (i : ℕ) (replies : List Reply) → length xs ≤ i → Answered d (take i xs) replies d' → Answered d xs replies d'
 answered-all d d' xs i replies past h = subst (λ (ys : List (ℕ × Command)). Answered d ys replies d') (take-all xs i past) h
+
+-- the element of a loop is one of the list
+in-item : {X : Type 0} (l : List X) (i : ℕ) (x : X) → i < length l → x ≡ get_or l i x → In x l
+in-item [] i x less is = absurd (omega arith)
+in-item (y ∷ l) zero x less is = inl is
+in-item (y ∷ l) (suc i) x less is = inr (in-item l i x (omega arith) is)
 
 -- each session is one of the sixteen
 pub session-within : (xs : List (ℕ × Command)) (i : ℕ) (x : ℕ × Command) → Every (λ (y : ℕ × Command). y.0 < 16) xs → i < length xs → x ≡ get_or xs i x → x.0 < 16
