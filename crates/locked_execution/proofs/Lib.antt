@@ -1,8 +1,13 @@
 pub mod AskedLists
 pub mod BranchReplies
 pub mod BridgeLaws
+pub mod Crossing
+pub mod ExpressionCrossing
 pub mod FrameLaws
 pub mod LineLaws
+pub mod MachineCrossing
 pub mod OneReplies
 pub mod SomeReplies
+pub mod SystemCrossing
+pub mod TreeCrossing
 pub mod Unchanged

@@ -1,19 +1,24 @@
 // The calls of several designers, each in a thread of its own.
 ghost use Rattle.std.specs.Prelude.{◌≡◌, ◌≤◌, ◌<◌, ◌^◌, length, IfOk, IfErr};
 ghost use mathlib.Core.List.{IsPrefix};
+ghost use Rattle.branch_workers.specs.Runs.{WorkersRan};
 ghost use Rattle.locked_object.specs.Passes.{number, seen, own};
 ghost use Rattle.locked_object.specs.Sharing.{NewPasses};
 ghost use Rattle.locked_execution.specs.AtDesk.{new_desk};
-ghost use Rattle.locked_execution.specs.Sharing.{Legal};
-ghost use Rattle.locked_execution.specs.Calls.{IsPassOf, Answered, opening, table};
+ghost use Rattle.locked_execution.specs.Performs.{Performs};
+ghost use Rattle.locked_execution.specs.Sharing.{Legal, is_step};
+ghost use Rattle.locked_execution.specs.Calls.{IsPassOf, ArePassesOf, Answered, opening, table};
+ghost use Rattle.locked_execution.specs.declared.command.Command as any;
 ghost use Rattle.system_places.specs.SystemBranches.{branch_count};
 
 use crate::{Command, Desk, Pass, Reply, Shared};
+use branch_workers::{Gate, Ran, run_workers};
 use calculus::Refusal;
 use locked_object::NotRecorded;
 use machine::Machine;
 use std::alloc::{AllocError, Global};
 use std::sync::Wait;
+use std::thread::Threads;
 
 impl Shared {
     /// The execution under a lock, without breakpoints, and so many passes, 1 to 16, numbered from 0.
@@ -76,6 +81,26 @@ impl Shared {
         ensures other_before { IsPrefix (seen other.old) (seen other.new) }
     {
         self.object.meet(one, other)
+    }
+
+    /// Runs a worker for each pass, each in a thread of its own, for so many turns: a turn steps a branch. It tells the passes in
+    /// their order, how many turns were steps, and how many were lost: their call was not recorded. Without memory the passes come
+    /// back as they were.
+    pub fn run_workers<W: Threads + Wait + Sync, G: Gate + Sync>(
+        &self,
+        rt: &W,
+        alloc: Global,
+        passes: Vec<Pass>,
+        gate: &G,
+        turns: u64,
+    ) -> Result<Ran<Desk, Command, Reply>, (Vec<Pass>, AllocError)>
+        requires passes { ArePassesOf self.now passes.items }
+        requires few { length passes.items ≤ 16 }
+        requires turns { turns ≤ 2 ^ 57 }
+        ensures ran { IfOk result (λ ran. WorkersRan (table self.now) (opening self.now) any.Command.Branch (branch_count (opening self.now).machine.checked) turns is_step passes.items ran.passes.items ran.stepped ran.lost) }
+        ensures refused { IfErr result (λ back. back.0.items ≡ passes.items) }
+    {
+        run_workers(rt, alloc, &self.object, self.branches, passes, gate, turns)
     }
 
     /// The execution, once no pass calls it any more.

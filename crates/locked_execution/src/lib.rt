@@ -12,6 +12,7 @@ mod performing;
 mod shared;
 
 pub use asked::run_commands;
+pub use branch_workers::{Gate, Ran};
 pub use calculus::{Choice, Event, Kind, Refusal};
 pub use command::{Command, Reply};
 pub use desk::Desk;

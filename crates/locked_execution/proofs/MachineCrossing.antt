@@ -1,0 +1,37 @@
+-- A machine may cross threads.
+use denote.Param.Send.{IsSend, IsSync}
+use Rattle.locked_execution.proofs.ExpressionCrossing.{basics}
+use Rattle.locked_execution.proofs.SystemCrossing.{checked_send, checked_sync, tree_field_send, tree_field_sync, inverse_send, inverse_sync}
+use Rattle.std.proofs.MapsCrossing as crossingMaps
+use Rattle.channel_uses.proofs.part.Part.TheLaws.TheKnot as partKnot
+use Rattle.dependence.proofs.live.Live.TheSendSync as liveSend
+use Rattle.store.proofs.Store.TheSendSync as storeSend
+use Rattle.channel_uses.specs.contracts.ChannelUses as uses
+use Rattle.machine.specs.contracts.machine.Machine as machine
+use Rattle.last_events.proofs.uses.UseTable.TheSendSync as useTableCrosses
+use Rattle.std.below.std_collections.proofs.btree.node.Node.TheSendSync as nodeCrosses
+use Rattle.std.below.std_collections.proofs.btree.node.root.Root.TheSendSync as rootCrosses
+use Rattle.std.below.std_collections.proofs.btree.tree.Tree.TheSendSync as treeCrosses
+use Rattle.std.proofs.alloc.Global.TheSendSync as globalCrosses
+use Rattle.std.proofs.collections.BTreeMap.TheSendSync as bTreeMapCrosses
+use Rattle.std.proofs.collections.BTreeSet.TheSendSync as bTreeSetCrosses
+use Rattle.std.proofs.option.Option.TheSendSync as optionCrosses
+use Rattle.std.proofs.rt.Memory.TheSendSync as memoryCrosses
+use Rattle.std.proofs.vec.Vec.TheSendSync as vec
+use Rattle.syntax.proofs.items.Items.TheSendSync as itemsCrosses
+
+pub ruleset trees = (optionCrosses.the_field_send, optionCrosses.the_field_sync, optionCrosses.the_send, optionCrosses.the_sync, memoryCrosses.the_field_send, memoryCrosses.the_field_sync, memoryCrosses.the_send, memoryCrosses.the_sync, useTableCrosses.the_field_send, useTableCrosses.the_field_sync, useTableCrosses.the_send, useTableCrosses.the_sync, itemsCrosses.the_send, itemsCrosses.the_sync, vec.the_send, vec.the_sync, nodeCrosses.the_send, nodeCrosses.the_sync, rootCrosses.the_field_send, rootCrosses.the_field_sync, rootCrosses.the_send, rootCrosses.the_sync, treeCrosses.the_field_send, treeCrosses.the_field_sync, treeCrosses.the_send, treeCrosses.the_sync, bTreeMapCrosses.the_send, bTreeMapCrosses.the_sync, bTreeSetCrosses.the_send, bTreeSetCrosses.the_sync, globalCrosses.the_field_send, globalCrosses.the_field_sync, globalCrosses.the_send, globalCrosses.the_sync, crossingMaps.crosses)
+
+pub ruleset lives = (vec.the_send, vec.the_sync, globalCrosses.the_field_send, globalCrosses.the_send, globalCrosses.the_field_sync, globalCrosses.the_sync, liveSend.the_send, liveSend.the_sync, storeSend.the_send, storeSend.the_sync)
+
+pub uses_field_send : IsSend (uses.the_field).row
+uses_field_send = search (partKnot.crosses, trees, basics) depth 60 fits 20000
+
+pub uses_field_sync : IsSync (uses.the_field).row
+uses_field_sync = search (partKnot.crosses, trees, basics) depth 60 fits 20000
+
+pub machine_send : IsSend machine.the_row
+machine_send = search (checked_send, uses_field_send, tree_field_send, inverse_send, lives, basics) depth 60 fits 20000
+
+pub machine_sync : IsSync machine.the_row
+machine_sync = search (checked_sync, uses_field_sync, tree_field_sync, inverse_sync, lives, basics) depth 60 fits 20000
