@@ -1,5 +1,5 @@
 -- The variables and channels of a system as they are made.
-use Rattle.std.specs.Prelude.{ℕ, List, [], ◌∷◌, ◌++◌, false, length}
+use Rattle.std.specs.Prelude.{ℕ, List, [], ◌∷◌, ◌++◌, Bool, true, false, length}
 use Rattle.typed.specs.declared.tree.Local.{Local}
 use Rattle.typed.specs.declared.tree.LocalKind.{LocalKind}
 use Rattle.typed.specs.declared.tree.LocalKind.TheVariants as local
@@ -29,20 +29,22 @@ abbrev pub with_channel : Made → List ℕ → ChannelKind → ℕ → Made
 with_channel made name k declared =
     record made { channels = made.channels ++ record { name = name; kind = k; declared = declared } ∷ [] }
 
--- one variable more
-abbrev pub with_variable : Made → List ℕ → ℕ → Made
-with_variable made name width =
-    record made { variables = made.variables ++ record { name = name; width = width; shared = false } ∷ [] }
+-- one variable more, and whether any branches may use it
+abbrev pub with_variable : Made → List ℕ → ℕ → Bool → Made
+with_variable made name width shared =
+    record made { variables = made.variables ++ record { name = name; width = width; shared = shared } ∷ [] }
 
 -- the number that a local gets
 abbrev pub number_for : Made → LocalKind → ℕ
 number_for made (local.Variable width) = capped_number (length made.variables)
+number_for made (local.SharedVariable width) = capped_number (length made.variables)
 number_for made (local.Channel width) = capped_number (length made.channels)
 number_for made local.Sync = capped_number (length made.channels)
 
 -- what is made with a local of this name
 abbrev pub with_local : Made → List ℕ → ℕ → LocalKind → Made
-with_local made name declared (local.Variable width) = with_variable made name width
+with_local made name declared (local.Variable width) = with_variable made name width false
+with_local made name declared (local.SharedVariable width) = with_variable made name width true
 with_local made name declared (local.Channel width) = with_channel made name (kind.Data width) declared
 with_local made name declared local.Sync = with_channel made name kind.Sync declared
 

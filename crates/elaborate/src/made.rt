@@ -8,6 +8,7 @@ use std::alloc::{AllocError, Global};
 use syntax::Items;
 use system::{Channel, ChannelKind, Prefix, QualifiedName, Variable};
 use typed::{Local, LocalKind, Port, PortKind};
+use value::Width;
 
 /// What is made so far.
 #[derive(Drop)]
@@ -69,21 +70,33 @@ impl Made {
         Ok(number)
     }
 
+    /// Makes a variable, and answers its number.
+    fn variable(
+        &mut self,
+        name: QualifiedName,
+        width: Width,
+        shared: bool,
+    ) -> Result<u32, AllocError>
+        ensures number { IfOk result (λ number. number ≡ capped_number (length self.old.variables)) }
+        ensures made { OnOk result (self.new ≡ making.with_variable self.old name width shared) }
+    {
+        let number = capped_number(self.variables.len());
+        self.variables.push(Variable {
+            name,
+            width,
+            shared,
+        })?;
+        Ok(number)
+    }
+
     /// Makes the variable or channel of a local, and answers its number.
     fn local(&mut self, name: QualifiedName, local: &Local) -> Result<u32, AllocError>
         ensures number { IfOk result (λ number. number ≡ making.number_for self.old local.now.kind) }
         ensures made { OnOk result (self.new ≡ making.with_local self.old name local.now.declared local.now.kind) }
     {
         match local.kind {
-            LocalKind::Variable(width) => {
-                let number = capped_number(self.variables.len());
-                self.variables.push(Variable {
-                    name,
-                    width,
-                    shared: false,
-                })?;
-                Ok(number)
-            }
+            LocalKind::Variable(width) => self.variable(name, width, false),
+            LocalKind::SharedVariable(width) => self.variable(name, width, true),
             LocalKind::Channel(width) => {
                 self.channel(name, ChannelKind::Data(width), local.declared)
             }

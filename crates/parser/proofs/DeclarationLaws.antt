@@ -66,6 +66,13 @@ variables_full : Full r.variables r.variables g.variables g.variables (kind.Vari
 unfolding r.variables g.variables same_kind
 variables_full = declared (bind_full (take_full _ _ refl refl) (λ _. bind_full names_full (λ names. bind_full type_behind_full (λ type. pure_full _) refl) refl) refl) refl refl
 
+shared_variables_full : Full r.shared_variables r.shared_variables g.shared_variables g.shared_variables (kind.SharedWord ∷ []) false []
+unfolding r.shared_variables g.shared_variables same_kind
+shared_variables_full =
+    declared
+    (bind_full (take_full _ _ refl refl) (λ _. bind_full (take_full _ _ refl refl) (λ _. bind_full names_full (λ names. bind_full type_behind_full (λ type. pure_full _) refl) refl) refl) refl)
+    refl refl
+
 channels_full : Full r.channels r.channels g.channels g.channels (kind.ChannelWord ∷ []) false []
 unfolding r.channels g.channels same_kind
 channels_full = declared (bind_full (take_full _ _ refl refl) (λ _. bind_full names_full (λ names. bind_full type_behind_full (λ type. pure_full _) refl) refl) refl) refl refl
@@ -74,9 +81,12 @@ syncs_full : Full r.syncs r.syncs g.syncs g.syncs (kind.SyncWord ∷ []) false (
 unfolding r.syncs g.syncs same_kind
 syncs_full = declared (bind_full (take_full _ _ refl refl) (λ _. bind_full names_full (λ names. pure_full _) refl) refl) refl refl
 
-local_full : Full r.local_of r.local_of g.local_of g.local_of (kind.VariableWord ∷ kind.ChannelWord ∷ kind.SyncWord ∷ []) false (kind.Comma ∷ [])
+local_full : Full r.local_of r.local_of g.local_of g.local_of (kind.VariableWord ∷ kind.SharedWord ∷ kind.ChannelWord ∷ kind.SyncWord ∷ []) false (kind.Comma ∷ [])
 unfolding r.local_of g.local_of same_kind
-local_full = declared (branch_full _ variables_full.laws (branch_full _ channels_full.laws syncs_full refl refl) refl refl) refl refl
+local_full =
+    declared
+    (branch_full _ variables_full.laws (branch_full _ shared_variables_full.laws (branch_full _ channels_full.laws syncs_full refl refl) refl refl) refl refl)
+    refl refl
 
 -- ---- procedures
 

@@ -484,6 +484,15 @@ variables = do
   type ← type_behind
   pure (record { names = declared; kind = local.Variable type })
 
+-- "shared" "variable" names ":" type
+unfoldable pub shared_variables : Rule Local
+shared_variables = do
+  take (kind.SharedWord ∷ [])
+  take (kind.VariableWord ∷ [])
+  declared ← names
+  type ← type_behind
+  pure (record { names = declared; kind = local.SharedVariable type })
+
 -- "channel" names ":" type
 unfoldable pub channels : Rule Local
 channels = do
@@ -500,7 +509,7 @@ syncs = do
   pure (record { names = declared; kind = local.Sync })
 
 unfoldable pub local_of : Rule Local
-local_of = either variables (either channels syncs)
+local_of = either variables (either shared_variables (either channels syncs))
 
 -- "begin" command "end"
 unfoldable pub block : ℕ → Rule Command

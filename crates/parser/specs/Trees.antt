@@ -8,7 +8,6 @@ use Rattle.syntax.specs.declared.name.Identifier.{Identifier}
 use Rattle.syntax.specs.declared.expression.Width.{Width}
 use Rattle.syntax.specs.declared.expression.Operator.{Operator}
 use Rattle.syntax.specs.declared.expression.Operator.TheVariants as operator
-use Rattle.syntax.specs.declared.expression.TypeName.{TypeName}
 use Rattle.syntax.specs.declared.expression.Expression.{Expression, roll-Expression, out-Expression}
 use Rattle.syntax.specs.declared.expression.Shape.{Shape}
 use Rattle.syntax.specs.declared.expression.Shape.TheVariants as shape

@@ -161,6 +161,7 @@ impl Declared for Local {
     fn typed(word: Kind, names: Items<Identifier>, given: TypeName) -> Local {
         let kind = match word {
             Kind::VariableWord => LocalKind::Variable(given),
+            Kind::SharedWord => LocalKind::SharedVariable(given),
             _ => LocalKind::Channel(given),
         };
         Local { names, kind }
@@ -172,6 +173,18 @@ impl Declared for Local {
             kind: LocalKind::Sync,
         }
     }
+}
+
+/// `shared variable names : type`
+#[tactic(auto, unfolding(crate::specs::walking::Reading::shared_variables, crate::specs::walking::Readers::bind, crate::specs::walking::Readers::pure))]
+fn shared_variables(cursor: &mut Cursor<'_>) -> Result<Local, Halt>
+    ensures { Reads (reading.shared_variables (place cursor.old)) result (place cursor.new) }
+{
+    cursor.take(Kind::SharedWord)?;
+    cursor.take(Kind::VariableWord)?;
+    let names = names(cursor)?;
+    let given = type_behind(cursor)?;
+    Ok(Local::typed(Kind::SharedWord, names, given))
 }
 
 #[derive(Drop)]
@@ -188,6 +201,8 @@ impl Rule for LocalRule {
     fn read(&self, cursor: &mut Cursor<'_>) -> Result<Local, Halt> {
         if cursor.sees(Kind::VariableWord) {
             typed(cursor, Kind::VariableWord)
+        } else if cursor.sees(Kind::SharedWord) {
+            shared_variables(cursor)
         } else if cursor.sees(Kind::ChannelWord) {
             typed(cursor, Kind::ChannelWord)
         } else {
@@ -197,7 +212,12 @@ impl Rule for LocalRule {
 }
 
 /// What begins a declaration of locals.
-const LOCAL_WORDS: [Kind; 3] = [Kind::VariableWord, Kind::ChannelWord, Kind::SyncWord];
+const LOCAL_WORDS: [Kind; 4] = [
+    Kind::VariableWord,
+    Kind::SharedWord,
+    Kind::ChannelWord,
+    Kind::SyncWord,
+];
 
 /// `begin command end`
 #[tactic(auto, unfolding(crate::specs::walking::Reading::block, crate::specs::walking::Reading::command, crate::specs::walking::Readers::bind, crate::specs::walking::Readers::pure))]

@@ -60,6 +60,8 @@ pub struct Local {
 #[derive(Drop)]
 pub enum LocalKind {
     Variable(TypeName),
+    /// a variable that any branches of a parallel may read and write
+    SharedVariable(TypeName),
     Channel(TypeName),
     Sync,
 }

@@ -85,6 +85,8 @@ pub struct Local {
 pub enum LocalKind {
     /// a variable of this width
     Variable(Width),
+    /// a variable of this width that any branches of a parallel may read and write
+    SharedVariable(Width),
     /// a channel for values of this width
     Channel(Width),
     /// a channel for handshakes without data

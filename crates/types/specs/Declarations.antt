@@ -52,6 +52,7 @@ port_kind names port_of.Sync = port.Sync
 
 abbrev pub local_kind : VisibleNames → tree_local_kind.LocalKind → LocalKind
 local_kind names (local_of.Variable type) = local.Variable (type_width_or_one names type)
+local_kind names (local_of.SharedVariable type) = local.SharedVariable (type_width_or_one names type)
 local_kind names (local_of.Channel type) = local.Channel (type_width_or_one names type)
 local_kind names local_of.Sync = local.Sync
 
@@ -69,6 +70,7 @@ port_type names port_of.Sync = Ok tt
 
 abbrev pub local_type : VisibleNames → tree_local_kind.LocalKind → Verdict (Unit {0})
 local_type names (local_of.Variable type) = demanded (type_width names [] type)
+local_type names (local_of.SharedVariable type) = demanded (type_width names [] type)
 local_type names (local_of.Channel type) = demanded (type_width names [] type)
 local_type names local_of.Sync = Ok tt
 

@@ -77,5 +77,6 @@ port_meaning p port.Sync = meaning.SyncPort p
 -- the local at a place of its procedure
 abbrev pub local_meaning : ℕ → LocalKind → Meaning
 local_meaning l (local.Variable w) = meaning.Variable l w
+local_meaning l (local.SharedVariable w) = meaning.Variable l w
 local_meaning l (local.Channel w) = meaning.Channel l w
 local_meaning l local.Sync = meaning.Sync l

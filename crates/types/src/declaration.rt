@@ -292,6 +292,9 @@ fn local_kind(names: &Names, kind: &syntax::LocalKind) -> LocalKind
         syntax::LocalKind::Variable(type_name) => {
             LocalKind::Variable(type_width_or_one(names, type_name))
         }
+        syntax::LocalKind::SharedVariable(type_name) => {
+            LocalKind::SharedVariable(type_width_or_one(names, type_name))
+        }
         syntax::LocalKind::Channel(type_name) => {
             LocalKind::Channel(type_width_or_one(names, type_name))
         }
@@ -393,9 +396,9 @@ fn local_type(names: &Names, kind: &syntax::LocalKind) -> Verdict<()>
     ensures { result ≡ spec.local_type (entries names.now) kind.now }
 {
     match kind {
-        syntax::LocalKind::Variable(type_name) | syntax::LocalKind::Channel(type_name) => {
-            demanded(&type_width(names, &[], type_name))
-        }
+        syntax::LocalKind::Variable(type_name)
+        | syntax::LocalKind::SharedVariable(type_name)
+        | syntax::LocalKind::Channel(type_name) => demanded(&type_width(names, &[], type_name)),
         syntax::LocalKind::Sync => Ok(()),
     }
 }

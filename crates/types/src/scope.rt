@@ -50,7 +50,9 @@ impl Meaning {
         ensures { result ≡ names.local_meaning local kind }
     {
         match kind {
-            LocalKind::Variable(width) => Meaning::Variable(local, width),
+            LocalKind::Variable(width) | LocalKind::SharedVariable(width) => {
+                Meaning::Variable(local, width)
+            }
             LocalKind::Channel(width) => Meaning::Channel(local, width),
             LocalKind::Sync => Meaning::Sync(local),
         }

@@ -32,6 +32,7 @@ typed_port _ = λ names given. record { names = names; kind = port.Output given 
 
 abbrev pub typed_local : Kind → List Identifier → TypeName → Local
 typed_local kind.VariableWord = λ names given. record { names = names; kind = local.Variable given }
+typed_local kind.SharedWord = λ names given. record { names = names; kind = local.SharedVariable given }
 typed_local _ = λ names given. record { names = names; kind = local.Channel given }
 
 -- what names alone declare

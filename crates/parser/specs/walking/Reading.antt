@@ -493,6 +493,15 @@ ports = branch (kind.LeftParenthesis ∷ []) port_list (pure [])
 unfoldable pub variables : Reader Local
 variables = typed kind.VariableWord (typed_local kind.VariableWord)
 
+-- "shared" "variable" names ":" type
+unfoldable pub shared_variables : Reader Local
+shared_variables = do
+  take (kind.SharedWord ∷ [])
+  take (kind.VariableWord ∷ [])
+  declared ← names
+  type ← type_behind
+  pure (typed_local kind.SharedWord declared type)
+
 -- "channel" names ":" type
 unfoldable pub channels : Reader Local
 channels = typed kind.ChannelWord (typed_local kind.ChannelWord)
@@ -502,7 +511,8 @@ unfoldable pub syncs : Reader Local
 syncs = synced synced_local
 
 unfoldable pub local_of : Reader Local
-local_of = branch (kind.VariableWord ∷ []) variables (branch (kind.ChannelWord ∷ []) channels syncs)
+local_of =
+    branch (kind.VariableWord ∷ []) variables (branch (kind.SharedWord ∷ []) shared_variables (branch (kind.ChannelWord ∷ []) channels syncs))
 
 -- "begin" command "end"
 unfoldable pub block : ℕ → Reader Command
@@ -517,7 +527,7 @@ unfoldable pub procedure_of : ℕ → Identifier → Reader Procedure
 procedure_of depth name = do
   declared_ports ← ports
   take (kind.IsWord ∷ [])
-  declared_locals ← several (kind.VariableWord ∷ kind.ChannelWord ∷ kind.SyncWord ∷ []) local_of []
+  declared_locals ← several (kind.VariableWord ∷ kind.SharedWord ∷ kind.ChannelWord ∷ kind.SyncWord ∷ []) local_of []
   held ← block depth
   pure (record { name = name; ports = declared_ports; locals = declared_locals; body = held })
 
