@@ -14,7 +14,7 @@ Said = dict[str, list[str]]
 """The commands of each party, by its name, in order."""
 
 COUNTER = "3 bits"
-COUNT = f"procedure count is variable k : {COUNTER} begin k := (k + 1 as {COUNTER}) end "
+COUNT = f"variable k : {COUNTER} begin k := (k + 1 as {COUNTER}) end "
 CELLS = {
     "cell": "procedure cell (input i : {0} ; output o : {0}) is variable x : {0} begin loop i -> x ; o <- x end end ",
     "pass": "procedure pass (input i : {0} ; output o : {0}) is begin loop i -> then o <- i end end end ",
@@ -52,6 +52,7 @@ class CircuitWriter:
         self.random = random
         self.width = random.choice([1, 2, 3, 8, 8, 64])
         self.only_read = ["g0"] if random.random() < 0.3 else []
+        self.shared = ["h0", "h1"][: random.choice([0, 0, 0, 1, 2])]
         self.channels: set[str] = set()
         self.syncs: set[str] = set()
         self.ports: dict[str, str] = {}
@@ -70,7 +71,7 @@ class CircuitWriter:
 
     def expression(self, party: Party) -> str:
         """An expression of the common width."""
-        names = party.variables + party.received * 2 + self.only_read
+        names = party.variables + party.received * 2 + self.only_read + self.shared * 2
         left, right = self.random.choice(names), self.random.choice(names)
         match self.random.randrange(6):
             case 0:
@@ -83,12 +84,16 @@ class CircuitWriter:
                 return f"not {left}"
         return f"{left} {self.random.choice(['-', 'and', 'or', 'xor'])} {right}"
 
+    def variable(self, party: Party) -> str:
+        """One that the party may read and write."""
+        return self.random.choice(party.variables + self.shared)
+
     def guard(self, party: Party) -> str:
         signs = ["<", ">", "=", "/=", "<=", ">="]
-        return f"({self.expression(party)}) {self.random.choice(signs)} {self.random.choice(party.variables)}"
+        return f"({self.expression(party)}) {self.random.choice(signs)} {self.variable(party)}"
 
     def assignment(self, party: Party) -> str:
-        return f"{self.random.choice(party.variables)} := {self.expression(party)}"
+        return f"{self.variable(party)} := {self.expression(party)}"
 
     def some_alone(self, party: Party) -> list[str]:
         count = self.random.choice([0, 1, 1, 2])
@@ -155,7 +160,7 @@ class CircuitWriter:
         name = self.port(party, kind)
         if name in party.inside:
             return {}
-        forms = {"input": f"{name} -> {self.random.choice(party.variables)}",
+        forms = {"input": f"{name} -> {self.variable(party)}",
                  "output": f"{name} <- {self.expression(party)}", "sync": f"sync {name}"}
         return {party.name: [forms[kind]]}
 
@@ -165,8 +170,8 @@ class CircuitWriter:
             name = self.sync(sender, receiver)
             return {sender.name: [f"sync {name}"], receiver.name: [f"sync {name}"]}
         name, behind = self.channel(sender, receiver)
-        variable = self.random.choice(receiver.variables)
-        return {sender.name: [f"{name} <- {self.expression(sender)}"], receiver.name: [f"{behind} -> {variable}"]}
+        received = f"{behind} -> {self.variable(receiver)}"
+        return {sender.name: [f"{name} <- {self.expression(sender)}"], receiver.name: [received]}
 
     def inner_first(self, parties: list[Party]) -> list[Party]:
         """In any order, but mostly one first that is inside an arm."""
@@ -211,7 +216,7 @@ class CircuitWriter:
                 commands = self.some_alone(receiver) + self.told(receiver, listeners)
             written.append(f"{name} then {sequence(commands)}")
         for listener in listeners[:1]:
-            heard = f"{self.channel(receiver, listener)[1]} -> {self.random.choice(listener.variables)}"
+            heard = f"{self.channel(receiver, listener)[1]} -> {self.variable(listener)}"
             said[listener.name] += [heard] * len(arms)
         word = "arbitrate" if len(arms) == 2 and self.chance(0.5) else "select"
         self.random.shuffle(written)
@@ -242,14 +247,14 @@ class CircuitWriter:
         bodies = [sequence(self.some_alone(party) + self.told(party, others)) for _ in range(count)]
         has_else = others or self.chance(0.6)
         last = f" else {sequence(self.some_alone(party) + self.told(party, others))} end" if has_else else " end"
-        heard = [f"{self.channel(party, one)[1]} -> {self.random.choice(one.variables)}" for one in others]
+        heard = [f"{self.channel(party, one)[1]} -> {self.variable(one)}" for one in others]
         if self.chance(0.5):
             arms = " | ".join(f"{self.guard(party)} then {body}" for body in bodies)
             text = f"if {arms}{last}"
         else:
             labels = self.random.sample(range(2 ** min(self.width, 2)), min(count, 2 ** min(self.width, 2)))
             arms = " | ".join(f"{label} then {body}" for label, body in zip(labels, bodies))
-            text = f"case {self.random.choice(party.variables)} of {arms}{last}"
+            text = f"case {self.variable(party)} of {arms}{last}"
         return {party.name: [text], **{one.name: heard for one in others}}
 
     def counted(self, parties: list[Party], depth: int) -> Said:
@@ -303,7 +308,8 @@ class CircuitWriter:
         return f"({' ; '.join(declared)}) " if declared else ""
 
     def locals_of(self, party: Party) -> str:
-        declared = f"variable {', '.join(self.variables[party.name])} : {self.width} bits "
+        shared = "shared " * self.chance(0.1)
+        declared = f"{shared}variable {', '.join(self.variables[party.name])} : {self.width} bits "
         return declared + (f"variable {', '.join(sorted(party.counters))} : {COUNTER} " if party.counters else "")
 
     def branches(self) -> tuple[str, str, list[str]]:
@@ -311,7 +317,8 @@ class CircuitWriter:
         procedures, declared, branches = "", "", []
         for party, commands in zip(self.parties, self.commands().values()):
             body, own = sequence(commands), self.locals_of(party)
-            if "g0" not in body and self.chance(0.4):
+            of_root = self.only_read + self.shared
+            if not any(name in body for name in of_root) and self.chance(0.4):
                 text, call = self.procedure(party, body, own)
                 procedures, branches = procedures + text, [*branches, call]
             else:
@@ -322,7 +329,7 @@ class CircuitWriter:
     def description(self) -> str:
         procedures, declared, branches = self.branches()
         before = [text.format(f"{self.width} bits") for name, text in CELLS.items() if name in self.cells.values()]
-        before += [COUNT] + [UNREACHED] * self.chance(0.3)
+        before += ["procedure count is " + "shared " * self.chance(0.3) + COUNT] + [UNREACHED] * self.chance(0.3)
         self.random.shuffle(branches)
         body = " || ".join(branches)
         if self.chance(0.2):
@@ -330,6 +337,7 @@ class CircuitWriter:
         declared += f"channel {', '.join(sorted(self.channels))} : {self.width} bits " if self.channels else ""
         declared += f"sync {', '.join(sorted(self.syncs))} " if self.syncs else ""
         declared += f"variable {', '.join(self.only_read)} : {self.width} bits " if self.only_read else ""
+        declared += f"shared variable {', '.join(self.shared)} : {self.width} bits " if self.shared else ""
         head = f"procedure root {self.declared_ports(self.ports)}is {declared}"
         return "".join(before) + procedures + head + f"begin {body} end"
 

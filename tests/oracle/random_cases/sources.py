@@ -17,7 +17,7 @@ WIDTH_SETS = [[1, 2], [2, 3], [8], [1, 8], [3, 63, 64], [64], [4, 4, 8]]
 
 @dataclass
 class Rights:
-    """What a branch may use without breaking the sharing rule."""
+    """What a branch may use without breaking the sharing rule. A shared variable is any branch's."""
 
     write: set[str] = field(default_factory=set)
     read: set[str] = field(default_factory=set)
@@ -31,6 +31,7 @@ class Declared:
     name: str
     kind: str
     width: int
+    shared: bool = False
 
 
 @dataclass
@@ -132,7 +133,8 @@ class Writer:
     def declaration(self, kinds: list[str], counts: list[int]) -> list[Declared]:
         """Writes ports or locals of one kind."""
         kind = self.random.choice(kinds + ["sync"])
-        self.write(kind)
+        shared = kind == "variable" and self.chance(0.25) or self.wildly()
+        self.write(*["shared"] * shared, kind)
         names: list[str] = []
         for number in range(self.random.choice(counts)):
             names.append(self.fresh(self.visible() | set(self.scope) | set(names)))
@@ -141,7 +143,7 @@ class Writer:
         if kind != "sync":
             self.write(":")
         width = 0 if kind == "sync" else self.type()
-        declared = [Declared(name, kind, width) for name in names]
+        declared = [Declared(name, kind, width, shared) for name in names]
         for one in declared:
             self.scope.setdefault(one.name, one)
         return declared
@@ -182,11 +184,12 @@ class Writer:
         branches = [Rights() for _ in range(count)]
         for name in sorted(rights.read | rights.write):
             owner = self.random.choice(branches)
-            alone = name in rights.write and self.chance(0.85)
+            shared = name in self.scope and self.scope[name].shared
+            alone = not shared and name in rights.write and self.chance(0.85)
             for branch in [owner] if alone else branches:
                 branch.read.add(name)
-            if alone:
-                owner.write.add(name)
+            for branch in [owner] * alone + branches * (shared and name in rights.write):
+                branch.write.add(name)
         for name in sorted(rights.send):
             self.random.choice(branches).send.add(name)
         for name in sorted(rights.receive):

@@ -39,6 +39,7 @@ class ThreadWriter:
             for number in range(count)
         ]
         self.only_read = ["g0", "g1"] if random.random() < 0.3 else []
+        self.shared = ["h0", "h1"][: random.choice([0, 0, 0, 1, 2])]
         self.channels: set[str] = set()
         self.ports: dict[str, str] = {}
         self.feeds: dict[str, list[int]] = {}
@@ -48,7 +49,7 @@ class ThreadWriter:
 
     def expression(self, thread: Thread) -> str:
         """An expression of the common width."""
-        names = thread.variables + self.only_read
+        names = thread.variables + self.only_read + self.shared * 2
         left, right = self.random.choice(names), self.random.choice(names)
         match self.random.randrange(6):
             case 0:
@@ -63,13 +64,17 @@ class ThreadWriter:
                 return f"not {left}"
         return f"({left} {self.random.choice(['<', '>', '=', '/=', '<=', '>='])} {right} as {self.width} bits)"
 
+    def variable(self, thread: Thread) -> str:
+        """One that the thread may read and write."""
+        return self.random.choice(thread.variables + self.shared)
+
     # Commands of the threads
 
     def fill(self) -> None:
         for _ in range(self.random.choice([4, 8, 15, 25])):
             chance, thread = self.random.random(), self.random.choice(self.threads)
             if chance < 0.35:
-                thread.commands.append(f"{self.random.choice(thread.variables)} := {self.expression(thread)}")
+                thread.commands.append(f"{self.variable(thread)} := {self.expression(thread)}")
             elif chance < 0.7 and len(self.threads) > 1:
                 self.transfer(thread)
             elif chance < 0.85:
@@ -86,12 +91,12 @@ class ThreadWriter:
         sender.channels[channel] = "output"
         receiver.channels[channel] = "input"
         sender.commands.append(f"{channel} <- {self.expression(sender)}")
-        receiver.commands.append(f"{channel} -> {self.random.choice(receiver.variables)}")
+        receiver.commands.append(f"{channel} -> {self.variable(receiver)}")
 
     def receive_from_port(self, thread: Thread) -> None:
         port = f"i{thread.number}"
         thread.channels[port] = self.ports[port] = "input"
-        thread.commands.append(f"{port} -> {self.random.choice(thread.variables)}")
+        thread.commands.append(f"{port} -> {self.variable(thread)}")
         fed = self.feeds.setdefault(port, [])
         if self.random.random() < 0.95:
             fed.append(self.some_value())
@@ -123,7 +128,7 @@ class ThreadWriter:
     def add_thread(self, thread: Thread, parts: Parts) -> None:
         """The thread as a branch of the root, or as a procedure that it calls, or one that calls that."""
         body = self.grouped(thread.commands)
-        if any(name in body for name in self.only_read) or self.random.random() < 0.6:
+        if any(name in body for name in self.only_read + self.shared) or self.random.random() < 0.6:
             parts.variables += thread.variables
             parts.branches.append("[" + body + "]")
             return
@@ -162,6 +167,7 @@ class ThreadWriter:
         declared = f"channel {', '.join(sorted(self.channels))} : {parts.type_name} " if self.channels else ""
         if parts.variables + self.only_read:
             declared += f"variable {', '.join(parts.variables + self.only_read)} : {parts.type_name} "
+        declared += f"shared variable {', '.join(self.shared)} : {parts.type_name} " if self.shared else ""
         root = f"procedure root {declared_ports(self.ports, parts.type_name)}is {declared}begin {body} end"
         return parts.types + parts.procedures + root
 

@@ -9,8 +9,8 @@ from .faults import Number, Refused
 from .names_and_types import ElementEntry, Port, TypedDescription, TypedProcedure, TypeEntry, least_width
 from .stimulus import Given, by_port
 from .syntax import (
-    Assign, Binary, BitsType, Call, Case, Cast, Channel, ChannelArm, Choose, Command, Expression, GuardedArm, If,
-    LabelledArm, Literal, Loop, Name, NamedType, Not, Numeral, Parallel, Parentheses, Receive, Received, Send,
+    Assign, Binary, BitsType, Call, Case, Cast, Channel, ChannelArm, Choose, Command, Declaration, Expression, GuardedArm,
+    If, LabelledArm, Literal, Loop, Name, NamedType, Not, Numeral, Parallel, Parentheses, Receive, Received, Send,
     Sequence, Sync, Use, Variable, While, children_of, expressions_of, operands_of,
 )
 
@@ -92,7 +92,7 @@ class Scope:
         for group in procedure.procedure.locals:
             for name in group.names:
                 entry = procedure.scope[name.text]
-                self.names[name.text] = elaboration.new_local(before + name.text, entry.kind, entry.width, name.offset)
+                self.names[name.text] = elaboration.new_local(before + name.text, group, entry.width, name.offset)
 
     def command(self, command: Command) -> Command:
         """The command of the system, on its own line; of a call the body, on the lines of the procedure."""
@@ -187,10 +187,10 @@ class Elaboration:
         self.channels.append(channel)
         return channel
 
-    def new_local(self, name: str, kind: str, width: int | None, offset: int) -> Local:
-        if kind != "variable":
-            return self.new_channel(name, kind, width, offset)
-        variable = Variable(len(self.variables), name, width or 0)
+    def new_local(self, name: str, group: Declaration, width: int | None, offset: int) -> Local:
+        if group.kind != "variable":
+            return self.new_channel(name, group.kind, width, offset)
+        variable = Variable(len(self.variables), name, width or 0, group.shared)
         self.variables.append(variable)
         return variable
 

@@ -129,12 +129,19 @@ class Parser:
             self.take(")")
         self.take("is")
         locals_ = []
-        while self.stands("variable", "channel", "sync"):
-            locals_.append(self.declaration("variable", "channel"))
+        while self.stands("shared", "variable", "channel", "sync"):
+            locals_.append(self.local())
         self.take("begin")
         body = self.command()
         self.take("end")
         return Procedure(name, tuple(ports), tuple(locals_), body)
+
+    def local(self) -> Declaration:
+        if self.accept("shared"):
+            if not self.stands("variable"):
+                self.fail()
+            return replace(self.declaration("variable"), shared=True)
+        return self.declaration("variable", "channel")
 
     def declaration(self, *kinds: str) -> Declaration:
         """Names with a type, of one of these kinds, or syncs."""

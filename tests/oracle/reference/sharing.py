@@ -14,7 +14,7 @@ from .syntax import (
 
 @dataclass(frozen=True)
 class Access:
-    """A use of a variable, by the number of the variable."""
+    """A use of a variable that is not shared, by the number of the variable."""
 
     variable: int
     writes: bool
@@ -33,10 +33,10 @@ class VariableRule:
         self.racing: list[int] = []
 
     def accesses(self, command: Command) -> list[Access]:
-        """All uses of variables in a command."""
-        found = [Access(use.variable.number, True, use.offset) for use in written_by(command)]
-        for expression in expressions_of(command):
-            found += [Access(use.variable.number, False, use.offset) for use in uses_in(expression)]
+        """All uses of variables in a command. A shared variable may be used anywhere."""
+        uses = [(use, True) for use in written_by(command)]
+        uses += [(use, False) for expression in expressions_of(command) for use in uses_in(expression)]
+        found = [Access(use.variable.number, writes, use.offset) for use, writes in uses if not use.variable.shared]
         branches = [self.accesses(child) for child in children_of(command)]
         if isinstance(command, Parallel):
             self.compare(branches)

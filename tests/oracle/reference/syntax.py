@@ -23,6 +23,7 @@ class Variable:
     number: int
     name: str
     width: int
+    shared: bool = False
 
 
 @dataclass(frozen=True, eq=False)
@@ -254,11 +255,12 @@ class Enumeration:
 @dataclass(frozen=True)
 class Declaration:
     """Ports or locals that are declared together. The kind is input, output, sync, variable or channel; a sync has no
-    type."""
+    type, and of the others only variables are shared."""
 
     kind: str
     names: tuple[Name, ...]
     type: Type | None
+    shared: bool = False
 
 
 @dataclass(frozen=True)
