@@ -31,7 +31,7 @@ use syntax::Items;
 use value::Value;
 
 /// Exactly the sides that the tree offers at this place over the values of the store, where the tree is tidy, as each is that
-/// stands for a run. It goes down along the place, and looks at nothing beside what is below it.
+/// stands for a run. It looks for those at the place and below it.
 pub fn sides_at(
     alloc: Global,
     tree: &Tree,
@@ -45,8 +45,8 @@ pub fn sides_at(
     Ok(those_at(sides, place))
 }
 
-/// Exactly the sides that the tree offers at this place and below it over the values of the store, where the tree is tidy, found
-/// in the same way.
+/// Exactly the sides that the tree offers at this place and below it over the values of the store, where the tree is tidy. It
+/// goes down along the place, and into no branch beside it but to see whether what comes first is finished.
 pub fn sides_below(
     alloc: Global,
     tree: &Tree,
