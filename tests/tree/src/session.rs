@@ -193,17 +193,13 @@ impl Session {
         self.expect(is_that(&found, same), "event_with")
     }
 
-    /// Compares the list of a part of the tree: around the place where an event acts, or around the other place of one.
+    /// Compares the list of a part of the tree.
     fn look_below(&self, random: &mut Random, expected: &[Event]) -> io::Result<()> {
         if expected.is_empty() {
             return Ok(());
         }
         let chosen = random.below(expected.len() as u64) as usize;
-        let event = &expected[chosen];
-        let entries = match random.below(2) {
-            0 => event.acting_place().entries(),
-            _ => event.first.entries(),
-        };
+        let entries = expected[chosen].acting_place().entries();
         let length = random.below(entries.len() as u64 + 1) as usize;
         let place = &entries[..length];
         let listed = ready_below(self.alloc, &self.uses, &self.tree, &self.store, place)?;
