@@ -20,7 +20,8 @@ use Rattle.calculus.specs.declared.event.Choice.{Choice}
 use Rattle.calculus.proofs.Lists.{every-in, in-parts, in-right}
 use Rattle.calculus.proofs.ReadyLists.{sooner-asymmetric}
 use Rattle.calculus.proofs.SortedLists.{same-elements}
-use Rattle.rendezvous.specs.ReadyBelow.{Under, ReadyBelow}
+use Rattle.offered_sides.specs.Sides.{Under}
+use Rattle.rendezvous.specs.ReadyBelow.{ReadyBelow}
 use Rattle.machine.specs.Branching.{is_branch}
 use Rattle.machine.specs.walking.Sites.{IsAtSite, ReadyWith, site_among}
 use Rattle.machine.specs.declared.branching.Site.{Site}

@@ -25,12 +25,12 @@ use Rattle.process_tree.specs.declared.proc.Tested as made_tested
 use Rattle.process_tree.specs.declared.proc.Tested.{Tested}
 use Rattle.process_tree.specs.declared.proc.Turns as made_turns
 use Rattle.process_tree.specs.declared.proc.Turns.{Turns}
-use Rattle.offered_sides.specs.walking.At.{at}
+use Rattle.offered_sides.specs.walking.At.{under}
 use Rattle.offered_sides.specs.walking.Listed.{behind, Listing, nothing, at_work, one_after, listed, listed_sequence, listed_parallel}
 use Rattle.offered_sides.specs.walking.Over.{AllOver, HasOver, HasNoneOver, IsReached}
 use Rattle.offered_sides.proofs.Begun.{begun-row, row-is, row-at}
 use Rattle.offered_sides.proofs.OneByOne.{step-here, step-over, fresh-at}
-use Rattle.offered_sides.proofs.PlacedSides.{at-later, at-number, past-all}
+use Rattle.offered_sides.proofs.PlacedSides.{under-later, under-number, past-all}
 
 -- ---- the forms
 once-over : (s : Store) (env : Received) (o : Once) (b : Bool) → b ≡ (listed s env (once o b)).over
@@ -210,22 +210,22 @@ pub came-more : (i j : ℕ) (ps : Procs) → j ≡ suc i → HasOver ps i → Ca
 came-more i j ps e h before s env = step-over s env ps i j h.child h.is e (h.over s env) ∙ before s env
 
 -- it is in an earlier child
-pub not-come : (i j : ℕ) (ps : Procs) → i < j → HasNoneOver ps i → CameTo i ps → (s : Store) (env : Received) (a : Place) → at (Ordered j ∷ a) (listed_sequence s env (last_moved ps) 0 ps).sides ≡ []
-not-come i j ps l h before s env a = ap (λ (x : Listing). at (Ordered j ∷ a) x.sides) (sym (before s env)) ∙ pick (proc_at ps i) refl
+pub not-come : (i j : ℕ) (ps : Procs) → i < j → HasNoneOver ps i → CameTo i ps → (s : Store) (env : Received) (a : Place) → under (Ordered j ∷ a) (listed_sequence s env (last_moved ps) 0 ps).sides ≡ []
+not-come i j ps l h before s env a = ap (λ (x : Listing). under (Ordered j ∷ a) x.sides) (sym (before s env)) ∙ pick (proc_at ps i) refl
   where
-    pick : (o : Option Proc) → proc_at ps i ≡ o → at (Ordered j ∷ a) (listed_sequence s env i 0 ps).sides ≡ []
-    pick None e = ap (λ (x : Listing). at (Ordered j ∷ a) x.sides) (past-all s env ps i 0 e)
+    pick : (o : Option Proc) → proc_at ps i ≡ o → under (Ordered j ∷ a) (listed_sequence s env i 0 ps).sides ≡ []
+    pick None e = ap (λ (x : Listing). under (Ordered j ∷ a) x.sides) (past-all s env ps i 0 e)
     pick (Some p) e =
-        ap (λ (x : Listing). at (Ordered j ∷ a) x.sides) (step-here s env ps i p e (h p e s env)) ∙ at-number j i a (listed s env p).sides (λ same. omega (arith, l, same))
+        ap (λ (x : Listing). under (Ordered j ∷ a) x.sides) (step-here s env ps i p e (h p e s env)) ∙ under-number j i a (listed s env p).sides (λ same. omega (arith, l, same))
 
 -- one that has gone past it
-pub gone-past : (j : ℕ) (ps : Procs) → j < last_moved ps → (s : Store) (env : Received) (a : Place) → at (Ordered j ∷ a) (listed_sequence s env (last_moved ps) 0 ps).sides ≡ []
-gone-past j ps l s env a = at-later s env ps (last_moved ps) 0 j a (omega (arith, l))
+pub gone-past : (j : ℕ) (ps : Procs) → j < last_moved ps → (s : Store) (env : Received) (a : Place) → under (Ordered j ∷ a) (listed_sequence s env (last_moved ps) 0 ps).sides ≡ []
+gone-past j ps l s env a = under-later s env ps (last_moved ps) 0 j a (omega (arith, l))
 
 pub is-come : (i j : ℕ) (ps : Procs) (b : Bool) → b ≡ true → i ≡ j → CameTo i ps → IsReached b j ps
 is-come i j ps b t e h = record { reached = λ u. subst (λ k. CameTo k ps) e h; elsewhere = λ f. absurd (true≢false (sym t ∙ f)) }
 
-pub is-elsewhere : (j : ℕ) (ps : Procs) (b : Bool) → b ≡ false → ((s : Store) (env : Received) (a : Place) → at (Ordered j ∷ a) (listed_sequence s env (last_moved ps) 0 ps).sides ≡ [])
+pub is-elsewhere : (j : ℕ) (ps : Procs) (b : Bool) → b ≡ false → ((s : Store) (env : Received) (a : Place) → under (Ordered j ∷ a) (listed_sequence s env (last_moved ps) 0 ps).sides ≡ [])
     → IsReached b j ps
 is-elsewhere j ps b f h = record { reached = λ t. absurd (true≢false (sym t ∙ f)); elsewhere = λ u. h }
 

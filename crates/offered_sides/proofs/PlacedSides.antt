@@ -1,8 +1,8 @@
--- The sides at one place: what a walk down along it finds is what all that is listed has there.
-use Rattle.std.proofs.Common.{◌≡◌, ℕ, zero, suc, ◌+◌, ◌*◌, ◌<◌, List, [], ◌∷◌, ◌++◌, Bool, true, false, ◌&&◌, cond, Option, Some, None, refl, sym, ap, ap₂, ◌∙◌, subst, eqb-true, eq-eqb, ne_eqb, arith, ◌↔◌, inl, inr}
+-- The sides at one place and below it: what a walk down along it finds is what all that is listed has there.
+use Rattle.std.proofs.Common.{◌≡◌, ℕ, zero, suc, ◌+◌, ◌*◌, ◌<◌, List, [], ◌∷◌, ◌++◌, length, Bool, true, false, ◌&&◌, cond, Option, Some, None, refl, sym, ap, ap₂, ◌∙◌, subst, eqb-true, eq-eqb, ne_eqb, arith, ◌↔◌, inl, inr}
 use Rattle.std.proofs.lemmas.Bool.{and_parts, and_from}
 use Rattle.std.specs.List.{filter}
-use Rattle.std.proofs.lemmas.List.{append_assoc}
+use Rattle.std.proofs.lemmas.List.{append_assoc, append-nil}
 use Rattle.address.specs.declared.Entry.{Entry}
 use Rattle.address.specs.declared.Entry.TheVariants.{Ordered, Branch}
 use Rattle.syntax.specs.Lists.{In}
@@ -12,7 +12,8 @@ use Rattle.calculus.proofs.Options.{none-some, some-injective}
 use Rattle.process_tree.specs.Children.{proc_at}
 use Rattle.process_tree.specs.Left.{Received}
 use Rattle.process_tree.specs.Proc.{Proc, Procs, no_procs, proc}
-use Rattle.offered_sides.specs.walking.At.{same_entry, same_place, at, SameAt}
+use Rattle.offered_sides.specs.Sides.{Under}
+use Rattle.offered_sides.specs.walking.At.{same_entry, same_place, at, is_under, under, SameBelow}
 use Rattle.offered_sides.specs.walking.Listed.{side_at, behind, again_at, Listing, nothing, at_work, one_after, listed, listed_sequence, listed_parallel}
 use Rattle.offered_sides.specs.walking.Walk.{Walk, below, added, down}
 use Rattle.offered_sides.specs.declared.side.OfferedSide.{OfferedSide}
@@ -42,10 +43,29 @@ pub place-itself : (a : Place) → same_place a a ≡ true
 place-itself [] = refl
 place-itself (x ∷ a) = and_from (same_entry x x) (same_place a a) (entry-itself x) (place-itself a)
 
+-- a place is that one or below it
+pub under-true : (a b : Place) → is_under a b ≡ true → Under a b
+under-true [] b h = (b, refl)
+under-true (x ∷ a) [] h = cc
+under-true (x ∷ a) (y ∷ b) h =
+    let both = and_parts (same_entry x y) (is_under a b) h in
+    let rest = under-true a b both.1 in
+    (rest.0, ap₂ (λ (z : Entry) (c : Place). z ∷ c) (sym (entry-true x y both.0)) rest.1)
+
 -- below a place
-same-below : (p a b : Place) → same_place (p ++ a) (p ++ b) ≡ same_place a b
+same-below : (p a b : Place) → is_under (p ++ a) (p ++ b) ≡ is_under a b
 same-below [] a b = refl
-same-below (x ∷ p) a b = ap (λ c. c && same_place (p ++ a) (p ++ b)) (entry-itself x) ∙ same-below p a b
+same-below (x ∷ p) a b = ap (λ c. c && is_under (p ++ a) (p ++ b)) (entry-itself x) ∙ same-below p a b
+
+under-behind : (a rest : Place) → is_under a (a ++ rest) ≡ true
+under-behind [] rest = refl
+under-behind (x ∷ a) rest = and_from (same_entry x x) (is_under a (a ++ rest)) (entry-itself x) (under-behind a rest)
+
+pub under-told : (a b : Place) → Under a b → is_under a b ≡ true
+under-told a b u = ap (is_under a) u.1 ∙ under-behind a u.0
+
+pub under-itself : (a : Place) → Under a a
+under-itself a = under-true a a (subst (λ (b : Place). is_under a b ≡ true) (append-nil a) (under-behind a []))
 
 -- the test of the code
 pub told-same : (a b : Place) (t : Bool) → (t ≡ true) ↔ (a ≡ b) → t ≡ same_place a b
@@ -57,52 +77,54 @@ told-same a b t h = pick t (same_place a b) refl h.0 h.1
     pick true false e f g = sym (place-itself a) ∙ ap (same_place a) (f refl) ∙ e
     pick false true e f g = g (place-true a b e)
 
--- ---- sides at a place
+-- ---- sides at a place and below it
 both-cond : (b : Bool) (r : OfferedSide) (xs ys : List OfferedSide) → cond b (r ∷ xs) xs ++ ys ≡ cond b (r ∷ (xs ++ ys)) (xs ++ ys)
 both-cond true r xs ys = refl
 both-cond false r xs ys = refl
 
-pub at-both : (a : Place) (xs ys : List OfferedSide) → at a (xs ++ ys) ≡ at a xs ++ at a ys
-at-both a [] ys = refl
-at-both a (r ∷ xs) ys = ap (λ l. cond (same_place a r.place) (r ∷ l) l) (at-both a xs ys) ∙ sym (both-cond (same_place a r.place) r (at a xs) (at a ys))
+pub under-both : (a : Place) (xs ys : List OfferedSide) → under a (xs ++ ys) ≡ under a xs ++ under a ys
+under-both a [] ys = refl
+under-both a (r ∷ xs) ys = ap (λ l. cond (is_under a r.place) (r ∷ l) l) (under-both a xs ys) ∙ sym (both-cond (is_under a r.place) r (under a xs) (under a ys))
 
 below-cond : (p : Place) (b : Bool) (r : OfferedSide) (rs : List OfferedSide) → below p (cond b (r ∷ rs) rs) ≡ cond b (side_at (p ++ r.place) r.side ∷ below p rs) (below p rs)
 below-cond p true r rs = refl
 below-cond p false r rs = refl
 
-at-below : (p a : Place) (rs : List OfferedSide) → at (p ++ a) (below p rs) ≡ below p (at a rs)
-at-below p a [] = refl
-at-below p a (r ∷ rs) =
-    ap₂ (λ b l. cond b (side_at (p ++ r.place) r.side ∷ l) l) (same-below p a r.place) (at-below p a rs) ∙ sym (below-cond p (same_place a r.place) r (at a rs))
+under-below : (p a : Place) (rs : List OfferedSide) → under (p ++ a) (below p rs) ≡ below p (under a rs)
+under-below p a [] = refl
+under-below p a (r ∷ rs) =
+    ap₂ (λ b l. cond b (side_at (p ++ r.place) r.side ∷ l) l) (same-below p a r.place) (under-below p a rs) ∙ sym (below-cond p (is_under a r.place) r (under a rs))
 
 -- a list that has the same at the place
-pub same-added : (a : Place) (L M : List OfferedSide) (w : Walk) → at a L ≡ at a M → SameAt w.place a (added L w) (added M w)
+pub same-added : (a : Place) (L M : List OfferedSide) (w : Walk) → under a L ≡ under a M → SameBelow w.place a (added L w) (added M w)
 same-added a L M w e =
-    at-both (w.place ++ a) w.sides (below w.place L)
-    ∙ ap (λ l. at (w.place ++ a) w.sides ++ l) (at-below w.place a L ∙ ap (below w.place) e ∙ sym (at-below w.place a M))
-    ∙ sym (at-both (w.place ++ a) w.sides (below w.place M))
+    under-both (w.place ++ a) w.sides (below w.place L)
+    ∙ ap (λ l. under (w.place ++ a) w.sides ++ l) (under-below w.place a L ∙ ap (below w.place) e ∙ sym (under-below w.place a M))
+    ∙ sym (under-both (w.place ++ a) w.sides (below w.place M))
 
-pub same-to : (a : Place) (L M : List OfferedSide) (w v : Walk) → SameAt w.place a v (added L w) → at a L ≡ at a M → SameAt w.place a v (added M w)
+pub same-to : (a : Place) (L M : List OfferedSide) (w v : Walk) → SameBelow w.place a v (added L w) → under a L ≡ under a M → SameBelow w.place a v (added M w)
 same-to a L M w v h e = h ∙ same-added a L M w e
 
 -- one that has nothing there
-pub same-none : (a : Place) (M : List OfferedSide) (w : Walk) → at a M ≡ [] → SameAt w.place a w (added M w)
-same-none a M w e = subst (λ (v : Walk). SameAt w.place a v (added M w)) (added-none w) (same-added a [] M w (sym e))
+pub same-none : (a : Place) (M : List OfferedSide) (w : Walk) → under a M ≡ [] → SameBelow w.place a w (added M w)
+same-none a M w e = subst (λ (v : Walk). SameBelow w.place a v (added M w)) (added-none w) (same-added a [] M w (sym e))
 
 -- one entry further down
-pub same-down : (x : Entry) (a : Place) (rs : List OfferedSide) (w u v : Walk) → u ≡ down x w → SameAt u.place a v (added rs u) → SameAt w.place (x ∷ a) v (added (behind x rs) w)
+pub same-down : (x : Entry) (a : Place) (rs : List OfferedSide) (w u v : Walk) → u ≡ down x w → SameBelow u.place a v (added rs u) → SameBelow w.place (x ∷ a) v (added (behind x rs) w)
 same-down x a rs w u v e h =
-    let here : SameAt (w.place ++ x ∷ []) a v (added rs (down x w)) = subst (λ (z : Walk). SameAt z.place a v (added rs z)) e h in
+    let here : SameBelow (w.place ++ x ∷ []) a v (added rs (down x w)) = subst (λ (z : Walk). SameBelow z.place a v (added rs z)) e h in
     let deep : (w.place ++ x ∷ []) ++ a ≡ w.place ++ x ∷ a = append_assoc w.place (x ∷ []) a in
-    ap (λ (b : Place). at b v.sides) (sym deep) ∙ here ∙ ap₂ (λ (b : Place) l. at b (w.sides ++ l)) deep (below-behind w.place x rs)
+    ap (λ (b : Place). under b v.sides) (sym deep) ∙ here ∙ ap₂ (λ (b : Place) l. under b (w.sides ++ l)) deep (below-behind w.place x rs)
 
 -- nothing behind another entry is at the place
-pub at-other : (a : Place) (x : Entry) (rs : List OfferedSide) → ((b : Place) → a ≡ x ∷ b → ⊥) → at a (behind x rs) ≡ []
-at-other a x [] h = refl
-at-other a x (r ∷ rs) h = pick (same_place a (x ∷ r.place)) refl (at-other a x rs h)
+pub under-other : (a : Place) (x : Entry) (rs : List OfferedSide) → 0 < length a → ((b : Place) → a ≡ x ∷ b → ⊥) → under a (behind x rs) ≡ []
+under-other [] x rs l h = absurd (omega (arith, l))
+under-other (y ∷ a) x [] l h = refl
+under-other (y ∷ a) x (r ∷ rs) l h = pick (same_entry y x) refl (under-other (y ∷ a) x rs l h)
   where
-    pick : (b : Bool) → same_place a (x ∷ r.place) ≡ b → at a (behind x rs) ≡ [] → cond b (side_at (x ∷ r.place) r.side ∷ at a (behind x rs)) (at a (behind x rs)) ≡ []
-    pick true e k = absurd (h r.place (place-true a (x ∷ r.place) e))
+    pick : (b : Bool) → same_entry y x ≡ b → under (y ∷ a) (behind x rs) ≡ []
+        → cond (b && is_under a r.place) (side_at (x ∷ r.place) r.side ∷ under (y ∷ a) (behind x rs)) (under (y ∷ a) (behind x rs)) ≡ []
+    pick true e k = absurd (h a (ap (λ (z : Entry). z ∷ a) (entry-true y x e)))
     pick false e k = k
 
 -- nor at another number
@@ -112,61 +134,54 @@ ordered-same i j a b e = cc
 branch-same : (i j : ℕ) (a b : Place) → ◌≡◌ {A = Place} (Branch i ∷ a) (Branch j ∷ b) → i ≡ j
 branch-same i j a b e = cc
 
-pub at-number : (i j : ℕ) (a : Place) (rs : List OfferedSide) → (i ≡ j → ⊥) → at (Ordered i ∷ a) (behind (Ordered j) rs) ≡ []
-at-number i j a rs h = at-other (Ordered i ∷ a) (Ordered j) rs (λ b e. h (ordered-same i j a b e))
+pub under-number : (i j : ℕ) (a : Place) (rs : List OfferedSide) → (i ≡ j → ⊥) → under (Ordered i ∷ a) (behind (Ordered j) rs) ≡ []
+under-number i j a rs h = under-other (Ordered i ∷ a) (Ordered j) rs (omega arith) (λ b e. h (ordered-same i j a b e))
 
-at-branch-number : (i j : ℕ) (a : Place) (rs : List OfferedSide) → (i ≡ j → ⊥) → at (Branch i ∷ a) (behind (Branch j) rs) ≡ []
-at-branch-number i j a rs h = at-other (Branch i ∷ a) (Branch j) rs (λ b e. h (branch-same i j a b e))
+under-branch-number : (i j : ℕ) (a : Place) (rs : List OfferedSide) → (i ≡ j → ⊥) → under (Branch i ∷ a) (behind (Branch j) rs) ≡ []
+under-branch-number i j a rs h = under-other (Branch i ∷ a) (Branch j) rs (omega arith) (λ b e. h (branch-same i j a b e))
 
 -- a loop before a turn offers nothing in a body
-pub at-again : (s : Store) (n i : ℕ) (g : Option Expression) (a : Place) → (i ≡ 2 * n → ⊥) → at (Ordered i ∷ a) (again_at s n g) ≡ []
-at-again s n i None a h = ap (λ b. cond (b && same_place a []) (again_at s n None) []) (ne_eqb i (2 * n) h)
-at-again s n i (Some e) a h = ap (λ b. cond (b && same_place a []) (again_at s n (Some e)) []) (ne_eqb i (2 * n) h)
+pub under-again : (s : Store) (n i : ℕ) (g : Option Expression) (a : Place) → (i ≡ 2 * n → ⊥) → under (Ordered i ∷ a) (again_at s n g) ≡ []
+under-again s n i None a h = ap (λ b. cond (b && is_under a []) (again_at s n None) []) (ne_eqb i (2 * n) h)
+under-again s n i (Some e) a h = ap (λ b. cond (b && is_under a []) (again_at s n (Some e)) []) (ne_eqb i (2 * n) h)
 
 -- ---- a child, and what comes after it
 -- in the child
-pub at-child : (i : ℕ) (x rest : Listing) (a : Place) → (x.over ≡ true → x.sides ≡ []) → at (Ordered i ∷ a) rest.sides ≡ []
-    → at (Ordered i ∷ a) (behind (Ordered i) x.sides) ≡ at (Ordered i ∷ a) (one_after i x rest).sides
-at-child i x rest a h k = pick x.over h
+pub under-child : (i : ℕ) (x rest : Listing) (a : Place) → (x.over ≡ true → x.sides ≡ []) → under (Ordered i ∷ a) rest.sides ≡ []
+    → under (Ordered i ∷ a) (behind (Ordered i) x.sides) ≡ under (Ordered i ∷ a) (one_after i x rest).sides
+under-child i x rest a h k = pick x.over h
   where
-    pick : (b : Bool) → (b ≡ true → x.sides ≡ []) → at (Ordered i ∷ a) (behind (Ordered i) x.sides) ≡ at (Ordered i ∷ a) (cond b rest (at_work (behind (Ordered i) x.sides))).sides
-    pick true h = ap (λ l. at (Ordered i ∷ a) (behind (Ordered i) l)) (h refl) ∙ sym k
+    pick : (b : Bool) → (b ≡ true → x.sides ≡ []) → under (Ordered i ∷ a) (behind (Ordered i) x.sides) ≡ under (Ordered i ∷ a) (cond b rest (at_work (behind (Ordered i) x.sides))).sides
+    pick true h = ap (λ l. under (Ordered i ∷ a) (behind (Ordered i) l)) (h refl) ∙ sym k
     pick false h = refl
 
 -- elsewhere nothing while it is not over
-pub at-open : (i : ℕ) (x rest : Listing) (a : Place) (b : Bool) → ((c : Place) → a ≡ Ordered i ∷ c → ⊥) → b ≡ x.over → b ≡ false → at a (one_after i x rest).sides ≡ []
-at-open i x rest a b h e f = ap (λ o. at a (cond o rest (at_work (behind (Ordered i) x.sides))).sides) (sym e ∙ f) ∙ at-other a (Ordered i) x.sides h
+pub under-open : (i : ℕ) (x rest : Listing) (a : Place) (b : Bool) → 0 < length a → ((c : Place) → a ≡ Ordered i ∷ c → ⊥) → b ≡ x.over → b ≡ false → under a (one_after i x rest).sides ≡ []
+under-open i x rest a b l h e f = ap (λ o. under a (cond o rest (at_work (behind (Ordered i) x.sides))).sides) (sym e ∙ f) ∙ under-other a (Ordered i) x.sides l h
 
--- nor where nothing comes after it
-pub at-last : (i : ℕ) (x : Listing) (a : Place) → ((c : Place) → a ≡ Ordered i ∷ c → ⊥) → at a (one_after i x nothing).sides ≡ []
-at-last i x a h = pick x.over
-  where
-    pick : (o : Bool) → at a (cond o nothing (at_work (behind (Ordered i) x.sides))).sides ≡ []
-    pick true = refl
-    pick false = at-other a (Ordered i) x.sides h
-
-pub none-after : (i n : ℕ) (a : Place) (x rest : Listing) → (i ≡ n → ⊥) → at (Ordered i ∷ a) rest.sides ≡ [] → at (Ordered i ∷ a) (one_after n x rest).sides ≡ []
+-- nothing behind another number is there, where nothing is there after it
+pub none-after : (i n : ℕ) (a : Place) (x rest : Listing) → (i ≡ n → ⊥) → under (Ordered i ∷ a) rest.sides ≡ [] → under (Ordered i ∷ a) (one_after n x rest).sides ≡ []
 none-after i n a x rest h k = pick x.over
   where
-    pick : (o : Bool) → at (Ordered i ∷ a) (cond o rest (at_work (behind (Ordered n) x.sides))).sides ≡ []
+    pick : (o : Bool) → under (Ordered i ∷ a) (cond o rest (at_work (behind (Ordered n) x.sides))).sides ≡ []
     pick true = k
-    pick false = at-number i n a x.sides h
+    pick false = under-number i n a x.sides h
 
 -- ---- sequences
 -- later children are not at the place
-pub at-later : (s : Store) (env : Received) (ps : Procs) (k n i : ℕ) (a : Place) → i < n + k → at (Ordered i ∷ a) (listed_sequence s env k n ps).sides ≡ []
-at-later s env no_procs zero n i a l = refl
-at-later s env no_procs (suc k) n i a l = refl
-at-later s env (proc p ps) zero n i a l =
-    none-after i n a (listed s env p) (listed_sequence s env zero (n + 1) ps) (λ e. omega (arith, l, e)) (at-later s env ps zero (n + 1) i a (omega (arith, l)))
-at-later s env (proc p ps) (suc k) n i a l = at-later s env ps k (n + 1) i a (omega (arith, l))
+pub under-later : (s : Store) (env : Received) (ps : Procs) (k n i : ℕ) (a : Place) → i < n + k → under (Ordered i ∷ a) (listed_sequence s env k n ps).sides ≡ []
+under-later s env no_procs zero n i a l = refl
+under-later s env no_procs (suc k) n i a l = refl
+under-later s env (proc p ps) zero n i a l =
+    none-after i n a (listed s env p) (listed_sequence s env zero (n + 1) ps) (λ e. omega (arith, l, e)) (under-later s env ps zero (n + 1) i a (omega (arith, l)))
+under-later s env (proc p ps) (suc k) n i a l = under-later s env ps k (n + 1) i a (omega (arith, l))
 
 -- the child to which a sequence has come
-pub at-come : (s : Store) (env : Received) (ps : Procs) (i : ℕ) (p : Proc) (a : Place) → proc_at ps i ≡ Some p
-    → at (Ordered i ∷ a) (behind (Ordered i) (listed s env p).sides) ≡ at (Ordered i ∷ a) (listed_sequence s env i 0 ps).sides
-at-come s env ps i p a h =
-    at-child i (listed s env p) (listed_sequence s env (suc i) 0 ps) a (over-nothing s env p) (at-later s env ps (suc i) 0 i a (omega arith))
-    ∙ ap (λ (l : Listing). at (Ordered i ∷ a) l.sides) (sym (listed-step s env ps i 0 i p h (omega arith)))
+pub under-come : (s : Store) (env : Received) (ps : Procs) (i : ℕ) (p : Proc) (a : Place) → proc_at ps i ≡ Some p
+    → under (Ordered i ∷ a) (behind (Ordered i) (listed s env p).sides) ≡ under (Ordered i ∷ a) (listed_sequence s env i 0 ps).sides
+under-come s env ps i p a h =
+    under-child i (listed s env p) (listed_sequence s env (suc i) 0 ps) a (over-nothing s env p) (under-later s env ps (suc i) 0 i a (omega arith))
+    ∙ ap (λ (l : Listing). under (Ordered i ∷ a) l.sides) (sym (listed-step s env ps i 0 i p h (omega arith)))
 
 -- where there is no such child
 pub past-all : (s : Store) (env : Received) (ps : Procs) (k n : ℕ) → proc_at ps k ≡ None → listed_sequence s env k n ps ≡ nothing
@@ -176,59 +191,59 @@ past-all s env (proc p ps) zero n h = none-some p (sym h)
 past-all s env (proc p ps) (suc k) n h = past-all s env ps k (n + 1) h
 
 -- no child is at the place
-pub at-no-child : (s : Store) (env : Received) (ps : Procs) (k n : ℕ) (a : Place) → ((i : ℕ) (b : Place) → a ≡ Ordered i ∷ b → ⊥) → at a (listed_sequence s env k n ps).sides ≡ []
-at-no-child s env no_procs zero n a h = refl
-at-no-child s env no_procs (suc k) n a h = refl
-at-no-child s env (proc p ps) zero n a h = pick (listed s env p).over (at-no-child s env ps zero (n + 1) a h)
+pub under-no-child : (s : Store) (env : Received) (ps : Procs) (k n : ℕ) (a : Place) → 0 < length a → ((i : ℕ) (b : Place) → a ≡ Ordered i ∷ b → ⊥) → under a (listed_sequence s env k n ps).sides ≡ []
+under-no-child s env no_procs zero n a l h = refl
+under-no-child s env no_procs (suc k) n a l h = refl
+under-no-child s env (proc p ps) zero n a l h = pick (listed s env p).over (under-no-child s env ps zero (n + 1) a l h)
   where
-    pick : (o : Bool) → at a (listed_sequence s env zero (n + 1) ps).sides ≡ [] → at a (cond o (listed_sequence s env zero (n + 1) ps) (at_work (behind (Ordered n) (listed s env p).sides))).sides ≡ []
+    pick : (o : Bool) → under a (listed_sequence s env zero (n + 1) ps).sides ≡ [] → under a (cond o (listed_sequence s env zero (n + 1) ps) (at_work (behind (Ordered n) (listed s env p).sides))).sides ≡ []
     pick true k = k
-    pick false k = at-other a (Ordered n) (listed s env p).sides (h n)
-at-no-child s env (proc p ps) (suc k) n a h = at-no-child s env ps k (n + 1) a h
+    pick false k = under-other a (Ordered n) (listed s env p).sides l (h n)
+under-no-child s env (proc p ps) (suc k) n a l h = under-no-child s env ps k (n + 1) a l h
 
 -- ---- parallels
-lesser-branch : (s : Store) (env : Received) (ps : Procs) (n m : ℕ) (a : Place) → m < n → at (Branch m ∷ a) (listed_parallel s env n ps).sides ≡ []
+lesser-branch : (s : Store) (env : Received) (ps : Procs) (n m : ℕ) (a : Place) → m < n → under (Branch m ∷ a) (listed_parallel s env n ps).sides ≡ []
 lesser-branch s env no_procs n m a l = refl
 lesser-branch s env (proc p ps) n m a l =
-    at-both (Branch m ∷ a) (behind (Branch n) (listed s env p).sides) (listed_parallel s env (n + 1) ps).sides
-    ∙ ap₂ (λ (xs ys : List OfferedSide). xs ++ ys) (at-branch-number m n a (listed s env p).sides (λ e. omega (arith, l, e))) (lesser-branch s env ps (n + 1) m a (omega (arith, l)))
+    under-both (Branch m ∷ a) (behind (Branch n) (listed s env p).sides) (listed_parallel s env (n + 1) ps).sides
+    ∙ ap₂ (λ (xs ys : List OfferedSide). xs ++ ys) (under-branch-number m n a (listed s env p).sides (λ e. omega (arith, l, e))) (lesser-branch s env ps (n + 1) m a (omega (arith, l)))
 
 append-none : (xs : List OfferedSide) → xs ++ [] ≡ xs
 append-none [] = refl
 append-none (x ∷ xs) = ap (λ l. x ∷ l) (append-none xs)
 
 -- the branch of the place
-pub at-branch : (s : Store) (env : Received) (ps : Procs) (k n m : ℕ) (p : Proc) (a : Place) → proc_at ps k ≡ Some p → m ≡ n + k
-    → at (Branch m ∷ a) (behind (Branch m) (listed s env p).sides) ≡ at (Branch m ∷ a) (listed_parallel s env n ps).sides
-at-branch s env no_procs k n m p a h e = none-some p h
-at-branch s env (proc q ps) zero n m p a h e =
+pub under-branch : (s : Store) (env : Received) (ps : Procs) (k n m : ℕ) (p : Proc) (a : Place) → proc_at ps k ≡ Some p → m ≡ n + k
+    → under (Branch m ∷ a) (behind (Branch m) (listed s env p).sides) ≡ under (Branch m ∷ a) (listed_parallel s env n ps).sides
+under-branch s env no_procs k n m p a h e = none-some p h
+under-branch s env (proc q ps) zero n m p a h e =
     let here : n ≡ m = omega (arith, e) in
     sym (
-    at-both (Branch m ∷ a) (behind (Branch n) (listed s env q).sides) (listed_parallel s env (n + 1) ps).sides
-    ∙ ap₂ (λ (xs ys : List OfferedSide). xs ++ ys) (ap₂ (λ j (x : Proc). at (Branch m ∷ a) (behind (Branch j) (listed s env x).sides)) here (some-injective q p h))
+    under-both (Branch m ∷ a) (behind (Branch n) (listed s env q).sides) (listed_parallel s env (n + 1) ps).sides
+    ∙ ap₂ (λ (xs ys : List OfferedSide). xs ++ ys) (ap₂ (λ j (x : Proc). under (Branch m ∷ a) (behind (Branch j) (listed s env x).sides)) here (some-injective q p h))
     (lesser-branch s env ps (n + 1) m a (omega (arith, e)))
-    ∙ append-none (at (Branch m ∷ a) (behind (Branch m) (listed s env p).sides))
+    ∙ append-none (under (Branch m ∷ a) (behind (Branch m) (listed s env p).sides))
     )
-at-branch s env (proc q ps) (suc k) n m p a h e =
-    at-branch s env ps k (n + 1) m p a h (omega (arith, e))
+under-branch s env (proc q ps) (suc k) n m p a h e =
+    under-branch s env ps k (n + 1) m p a h (omega (arith, e))
     ∙ sym (
-    at-both (Branch m ∷ a) (behind (Branch n) (listed s env q).sides) (listed_parallel s env (n + 1) ps).sides
-    ∙ ap (λ (l : List OfferedSide). l ++ at (Branch m ∷ a) (listed_parallel s env (n + 1) ps).sides) (at-branch-number m n a (listed s env q).sides (λ i. omega (arith, e, i)))
+    under-both (Branch m ∷ a) (behind (Branch n) (listed s env q).sides) (listed_parallel s env (n + 1) ps).sides
+    ∙ ap (λ (l : List OfferedSide). l ++ under (Branch m ∷ a) (listed_parallel s env (n + 1) ps).sides) (under-branch-number m n a (listed s env q).sides (λ i. omega (arith, e, i)))
     )
 
 -- where there is none
-pub at-no-branch : (s : Store) (env : Received) (ps : Procs) (k n m : ℕ) (a : Place) → proc_at ps k ≡ None → m ≡ n + k → at (Branch m ∷ a) (listed_parallel s env n ps).sides ≡ []
-at-no-branch s env no_procs k n m a h e = refl
-at-no-branch s env (proc q ps) zero n m a h e = none-some q (sym h)
-at-no-branch s env (proc q ps) (suc k) n m a h e =
-    at-both (Branch m ∷ a) (behind (Branch n) (listed s env q).sides) (listed_parallel s env (n + 1) ps).sides
-    ∙ ap₂ (λ (xs ys : List OfferedSide). xs ++ ys) (at-branch-number m n a (listed s env q).sides (λ i. omega (arith, e, i))) (at-no-branch s env ps k (n + 1) m a h (omega (arith, e)))
+pub under-no-branch : (s : Store) (env : Received) (ps : Procs) (k n m : ℕ) (a : Place) → proc_at ps k ≡ None → m ≡ n + k → under (Branch m ∷ a) (listed_parallel s env n ps).sides ≡ []
+under-no-branch s env no_procs k n m a h e = refl
+under-no-branch s env (proc q ps) zero n m a h e = none-some q (sym h)
+under-no-branch s env (proc q ps) (suc k) n m a h e =
+    under-both (Branch m ∷ a) (behind (Branch n) (listed s env q).sides) (listed_parallel s env (n + 1) ps).sides
+    ∙ ap₂ (λ (xs ys : List OfferedSide). xs ++ ys) (under-branch-number m n a (listed s env q).sides (λ i. omega (arith, e, i))) (under-no-branch s env ps k (n + 1) m a h (omega (arith, e)))
 
-pub at-not-branch : (s : Store) (env : Received) (ps : Procs) (n : ℕ) (a : Place) → ((i : ℕ) (b : Place) → a ≡ Branch i ∷ b → ⊥) → at a (listed_parallel s env n ps).sides ≡ []
-at-not-branch s env no_procs n a h = refl
-at-not-branch s env (proc p ps) n a h =
-    at-both a (behind (Branch n) (listed s env p).sides) (listed_parallel s env (n + 1) ps).sides
-    ∙ ap₂ (λ (xs ys : List OfferedSide). xs ++ ys) (at-other a (Branch n) (listed s env p).sides (h n)) (at-not-branch s env ps (n + 1) a h)
+pub under-not-branch : (s : Store) (env : Received) (ps : Procs) (n : ℕ) (a : Place) → 0 < length a → ((i : ℕ) (b : Place) → a ≡ Branch i ∷ b → ⊥) → under a (listed_parallel s env n ps).sides ≡ []
+under-not-branch s env no_procs n a l h = refl
+under-not-branch s env (proc p ps) n a l h =
+    under-both a (behind (Branch n) (listed s env p).sides) (listed_parallel s env (n + 1) ps).sides
+    ∙ ap₂ (λ (xs ys : List OfferedSide). xs ++ ys) (under-other a (Branch n) (listed s env p).sides l (h n)) (under-not-branch s env ps (n + 1) a l h)
 
 -- ---- what is at a place
 found-at : (a : Place) (x : OfferedSide) (rs : List OfferedSide) → In x (at a rs) → In x rs × (x.place ≡ a)
@@ -260,3 +275,33 @@ in-at a x rs = (found-at a x rs, λ h. kept-at a x rs h.0 h.1)
 pub at-filter : (a : Place) (rs : List OfferedSide) → filter (λ (r : OfferedSide). same_place a r.place) rs ≡ at a rs
 at-filter a [] = refl
 at-filter a (r ∷ rs) = ap (λ l. cond (same_place a r.place) (r ∷ l) l) (at-filter a rs)
+
+-- ---- what is at a place and below it
+found-under : (a : Place) (x : OfferedSide) (rs : List OfferedSide) → In x (under a rs) → In x rs × Under a x.place
+found-under a x [] i = absurd i
+found-under a x (r ∷ rs) i = pick (is_under a r.place) refl (found-under a x rs) i
+  where
+    pick : (b : Bool) → is_under a r.place ≡ b → (In x (under a rs) → In x rs × Under a x.place) → In x (cond b (r ∷ under a rs) (under a rs)) → In x (r ∷ rs) × Under a x.place
+    pick true e later j = elim j [
+      | inl u ↦ (inl u, subst (λ (y : OfferedSide). Under a y.place) (sym u) (under-true a r.place e))
+      | inr u ↦ let rest = later u in (inr rest.0, rest.1)
+    ]
+    pick false e later j = let rest = later j in (inr rest.0, rest.1)
+
+kept-under : (a : Place) (x : OfferedSide) (rs : List OfferedSide) → In x rs → Under a x.place → In x (under a rs)
+kept-under a x [] i h = absurd i
+kept-under a x (r ∷ rs) i h = pick (is_under a r.place) refl (λ u. kept-under a x rs u h) i
+  where
+    pick : (b : Bool) → is_under a r.place ≡ b → (In x rs → In x (under a rs)) → In x (r ∷ rs) → In x (cond b (r ∷ under a rs) (under a rs))
+    pick true e later j = elim j [ inl u ↦ inl u | inr u ↦ inr (later u) ]
+    pick false e later j = elim j [
+      | inl u ↦ let told : is_under a r.place ≡ true = ap (λ (y : OfferedSide). is_under a y.place) (sym u) ∙ under-told a x.place h in cc
+      | inr u ↦ later u
+    ]
+
+pub in-under : (a : Place) (x : OfferedSide) (rs : List OfferedSide) → In x (under a rs) ↔ (In x rs × Under a x.place)
+in-under a x rs = (found-under a x rs, λ h. kept-under a x rs h.0 h.1)
+
+pub under-filter : (a : Place) (rs : List OfferedSide) → filter (λ (r : OfferedSide). is_under a r.place) rs ≡ under a rs
+under-filter a [] = refl
+under-filter a (r ∷ rs) = ap (λ l. cond (is_under a r.place) (r ∷ l) l) (under-filter a rs)

@@ -1,11 +1,11 @@
 -- What a place of a state offers, with its values: one side of an event.
-use Rattle.std.specs.Prelude.{◌≡◌, ◌↔◌, List}
+use Rattle.std.specs.Prelude.{◌≡◌, ◌↔◌, List, ◌++◌}
 use Rattle.std.specs.declared.cmp.Ordering.TheVariants.{Greater}
 use Rattle.address.specs.Order.{order_of}
 use Rattle.system.specs.Expression.{Store, variables, decision_variables, decide, ascending}
 use Rattle.syntax.specs.Lists.{In}
 use Rattle.system.specs.Residual.{Residual}
-use Rattle.calculus.specs.Moves.{Move, Local, assigns, tests, turns, sends, receives, syncs, opens, releases, closes}
+use Rattle.calculus.specs.Moves.{Place, Move, Local, assigns, tests, turns, sends, receives, syncs, opens, releases, closes}
 use Rattle.calculus.specs.Events.{sent}
 use Rattle.calculus.specs.Steps.{State}
 use Rattle.calculus.specs.WellFormed.{WellFormed}
@@ -37,6 +37,10 @@ pub record Offered (S : State) (x : OfferedSide) : Type 0 where
   pub possible : Local S.residual x.place move after
   pub decided : Decided S.store move
   pub shown : x.side ≡ side_of S.store move
+
+-- the place a is p or below it
+abbrev pub Under : Place → Place → Type 0
+Under p a = (rest : Place) × (a ≡ p ++ rest)
 
 -- the place of x is not behind that of y in the order of addresses
 abbrev pub NotBehind : OfferedSide → OfferedSide → Type 0

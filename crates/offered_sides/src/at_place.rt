@@ -1,5 +1,5 @@
-// The walk to one place of a tree.
-ghost use Rattle.std.specs.Prelude.{◌≡◌, ◌↔◌, ℕ, ◌∷◌, List, map, IfOk, OnOk};
+// The sides at one place of a tree, and those below it: the walk to the place.
+ghost use Rattle.std.specs.Prelude.{◌≡◌, ◌<◌, ◌↔◌, ℕ, ◌∷◌, List, length, map, IfOk, OnOk};
 ghost use Rattle.syntax.specs.Lists.{In};
 ghost use Rattle.process_tree.specs.Code as model_code;
 ghost use Rattle.process_tree.specs.Left.{with_value};
@@ -9,10 +9,10 @@ ghost use Rattle.process_tree.specs.Tidy.{Tidy};
 ghost use Rattle.process_tree.specs.Translation.{row_of};
 ghost use Rattle.process_tree.specs.View.{code_view, proc_view, procs_of, begun_of, row_view, repeat_view, decide_view, await_view, tree_view, turn_of, opened_of};
 ghost use Rattle.process_tree.specs.walking.Parts.{turns_view, tested_view, gate_view};
-ghost use Rattle.offered_sides.specs.Sides.{Offered};
+ghost use Rattle.offered_sides.specs.Sides.{Offered, Under};
 ghost use Rattle.offered_sides.specs.View.{state_of};
 ghost use Rattle.offered_sides.specs.declared.side.OfferedSide as any;
-ghost use Rattle.offered_sides.specs.walking.At.{SameAt, at, same_place};
+ghost use Rattle.offered_sides.specs.walking.At.{SameBelow, at, same_place, under, is_under};
 ghost use Rattle.offered_sides.specs.walking.Listed.{behind, listed, listed_parallel, listed_sequence};
 ghost use Rattle.offered_sides.specs.walking.Walk.{added, lists, lists_at};
 
@@ -21,7 +21,7 @@ use crate::fresh::list_fresh;
 use crate::leaves::{list_again, list_close};
 use crate::listing::{body_of_turn, list, list_gate, list_loop, list_tested, next_turn};
 use crate::over::{first_start_over, is_over, is_reached};
-use crate::place::{below_child, branch_step, ordered_step};
+use crate::place::{below_child, branch_step, is_under, ordered_step};
 use crate::side::OfferedSide;
 use address::{Address, Entry};
 use process_tree::{Await, Code, Decide, Gate, Proc, Repeat, Row, Tested, Tree, Turns};
@@ -31,7 +31,7 @@ use syntax::Items;
 use value::Value;
 
 /// Exactly the sides that the tree offers at this place over the values of the store, where the tree is tidy, as each is that
-/// stands for a run. It goes down along the place alone.
+/// stands for a run. It looks for those at the place and below it.
 pub fn sides_at(
     alloc: Global,
     tree: &Tree,
@@ -41,15 +41,24 @@ pub fn sides_at(
     ensures { Tidy (tree_view tree.now) →
         IfOk result (λ sides. (x : any.OfferedSide) → In x sides ↔ (Offered (state_of tree.now store.now) x × (x.place ≡ place.now))) }
 {
+    let sides = sides_below(alloc, tree, store, place.entries())?;
+    Ok(those_at(sides, place))
+}
+
+/// Exactly the sides that the tree offers at this place and below it over the values of the store, where the tree is tidy. It
+/// goes down along the place, and into no branch beside it but to see whether what comes first is finished.
+pub fn sides_below(
+    alloc: Global,
+    tree: &Tree,
+    store: &Store,
+    place: &[Entry],
+) -> Result<Items<OfferedSide>, AllocError>
+    ensures { Tidy (tree_view tree.now) →
+        IfOk result (λ sides. (x : any.OfferedSide) → In x sides ↔ (Offered (state_of tree.now store.now) x × Under place.now x.place)) }
+{
     let mut around = Around::new(alloc);
-    list_down(
-        alloc,
-        tree.root(),
-        place.entries(),
-        store.as_slice(),
-        &mut around,
-    )?;
-    Ok(those_at(around.into_found(), place))
+    list_down(alloc, tree.root(), place, store.as_slice(), &mut around)?;
+    Ok(those_below(around.into_found(), place))
 }
 
 /// Those of the sides that are at the place.
@@ -68,7 +77,23 @@ fn is_at(side: &OfferedSide, place: &Address) -> bool
     place.equals(&side.place)
 }
 
-/// Goes down along the place, and lists what the process offers where it ends: at the place, and perhaps beside it.
+/// Those of the sides that are at the place or below it.
+fn those_below(sides: Items<OfferedSide>, place: &[Entry]) -> Items<OfferedSide>
+    ensures { result ≡ under place.now sides }
+{
+    let mut sides = sides.into_vec();
+    sides.retain(|side| is_below(side, place));
+    Items::from_vec(sides)
+}
+
+/// Whether the side is at the place or below it.
+fn is_below(side: &OfferedSide, place: &[Entry]) -> bool
+    ensures { result ≡ is_under place.now side.now.place }
+{
+    is_under(place, side.place.entries())
+}
+
+/// Goes down along the place, and lists what the process offers where it ends: at the place and below it, and perhaps beside it.
 #[cycle(list_down)]
 fn list_down(
     alloc: Global,
@@ -77,8 +102,12 @@ fn list_down(
     values: &[Value],
     around: &mut Around,
 ) -> Result<(), AllocError>
-    ensures { OnOk result (SameAt around.old.place place.now around.new (lists values.now (proc_view proc.now) around.old)) }
+    ensures { OnOk result (SameBelow around.old.place place.now around.new (lists values.now (proc_view proc.now) around.old)) }
 {
+    if place.is_empty() {
+        list(alloc, proc, values, around)?;
+        return Ok(());
+    }
     match proc {
         Proc::Loop(repeat, turns) => loop_down(alloc, turns, repeat.get(), place, values, around),
         Proc::Test(decide, tested) => test_down(alloc, tested, decide.get(), place, values, around),
@@ -104,7 +133,8 @@ fn loop_down(
     values: &[Value],
     around: &mut Around,
 ) -> Result<(), AllocError>
-    ensures { OnOk result (SameAt around.old.place place.now around.new (lists values.now (turns_view turns.now (repeat_view repeat.now).0 (repeat_view repeat.now).1) around.old)) }
+    requires { 0 < length place.now }
+    ensures { OnOk result (SameBelow around.old.place place.now around.new (lists values.now (turns_view turns.now (repeat_view repeat.now).0 (repeat_view repeat.now).1) around.old)) }
 {
     match turns {
         Turns::Turn(turn, over, body) => {
@@ -129,7 +159,8 @@ fn turn_down(
     values: &[Value],
     around: &mut Around,
 ) -> Result<(), AllocError>
-    ensures { OnOk result (SameAt around.old.place place.now around.new (lists values.now (turn_of over (repeat_view repeat.now).0 (repeat_view repeat.now).1 turn (proc_view body.now)) around.old)) }
+    requires { 0 < length place.now }
+    ensures { OnOk result (SameBelow around.old.place place.now around.new (lists values.now (turn_of over (repeat_view repeat.now).0 (repeat_view repeat.now).1 turn (proc_view body.now)) around.old)) }
 {
     if over {
         return Ok(());
@@ -155,7 +186,8 @@ fn test_down(
     values: &[Value],
     around: &mut Around,
 ) -> Result<(), AllocError>
-    ensures { OnOk result (SameAt around.old.place place.now around.new (lists values.now (tested_view tested.now (decide_view decide.now).0 (decide_view decide.now).1) around.old)) }
+    requires { 0 < length place.now }
+    ensures { OnOk result (SameBelow around.old.place place.now around.new (lists values.now (tested_view tested.now (decide_view decide.now).0 (decide_view decide.now).1) around.old)) }
 {
     match tested {
         Tested::Took(_, body) => match below_child(place, 1) {
@@ -179,7 +211,8 @@ fn arms_down(
     values: &[Value],
     around: &mut Around,
 ) -> Result<(), AllocError>
-    ensures { OnOk result (SameAt around.old.place place.now around.new (lists values.now (gate_view gate.now (await_view waiting.now).0 (await_view waiting.now).1) around.old)) }
+    requires { 0 < length place.now }
+    ensures { OnOk result (SameBelow around.old.place place.now around.new (lists values.now (gate_view gate.now (await_view waiting.now).0 (await_view waiting.now).1) around.old)) }
 {
     match gate {
         Gate::Opened(channel, value, over, body) => {
@@ -204,7 +237,8 @@ fn opened_down(
     values: &[Value],
     around: &mut Around,
 ) -> Result<(), AllocError>
-    ensures { (ds : List ℕ) (cs : model_code.Codes) → OnOk result (SameAt around.old.place place.now around.new (lists values.now (opened_of over ds cs channel value (proc_view body.now)) around.old)) }
+    requires { 0 < length place.now }
+    ensures { (ds : List ℕ) (cs : model_code.Codes) → OnOk result (SameBelow around.old.place place.now around.new (lists values.now (opened_of over ds cs channel value (proc_view body.now)) around.old)) }
 {
     if over {
         return Ok(());
@@ -229,7 +263,8 @@ fn sequence_down(
     values: &[Value],
     around: &mut Around,
 ) -> Result<(), AllocError>
-    ensures { OnOk result (SameAt around.old.place place.now around.new (lists values.now (model.sequence (begun_of (map proc_view begun.now) (row_view row.now))) around.old)) }
+    requires { 0 < length place.now }
+    ensures { OnOk result (SameBelow around.old.place place.now around.new (lists values.now (model.sequence (begun_of (map proc_view begun.now) (row_view row.now))) around.old)) }
 {
     let Some((number, below)) = ordered_step(place) else {
         return Ok(());
@@ -257,7 +292,7 @@ fn child_down(
     values: &[Value],
     around: &mut Around,
 ) -> Result<(), AllocError>
-    ensures { OnOk result (SameAt around.old.place (Entry.Ordered number ∷ place.now) around.new (lists_at (Entry.Ordered number) values.now (proc_view child.now) around.old)) }
+    ensures { OnOk result (SameBelow around.old.place (Entry.Ordered number ∷ place.now) around.new (lists_at (Entry.Ordered number) values.now (proc_view child.now) around.old)) }
 {
     around.enter_child(number)?;
     list_down(alloc, child, place, values, around)
@@ -272,7 +307,8 @@ fn parallel_down(
     values: &[Value],
     around: &mut Around,
 ) -> Result<(), AllocError>
-    ensures { OnOk result (SameAt around.old.place place.now around.new (lists values.now (model.parallel (procs_of (map proc_view procs.now))) around.old)) }
+    requires { 0 < length place.now }
+    ensures { OnOk result (SameBelow around.old.place place.now around.new (lists values.now (model.parallel (procs_of (map proc_view procs.now))) around.old)) }
 {
     let Some((number, below)) = branch_step(place) else {
         return Ok(());
@@ -294,8 +330,12 @@ fn fresh_down(
     values: &[Value],
     around: &mut Around,
 ) -> Result<(), AllocError>
-    ensures { OnOk result (SameAt around.old.place place.now around.new (lists values.now (started (code_view code.now)) around.old)) }
+    ensures { OnOk result (SameBelow around.old.place place.now around.new (lists values.now (started (code_view code.now)) around.old)) }
 {
+    if place.is_empty() {
+        list_fresh(alloc, code, values, around)?;
+        return Ok(());
+    }
     match code {
         Code::InTurn(row) => {
             let codes = row.get().codes.as_slice();
@@ -321,7 +361,8 @@ fn fresh_in_turn_down(
     values: &[Value],
     around: &mut Around,
 ) -> Result<(), AllocError>
-    ensures { OnOk result (SameAt around.old.place place.now around.new (added (listed_sequence values.now around.old.received 0 0 (all_started (row_of (map code_view codes.now)))).sides around.old)) }
+    requires { 0 < length place.now }
+    ensures { OnOk result (SameBelow around.old.place place.now around.new (added (listed_sequence values.now around.old.received 0 0 (all_started (row_of (map code_view codes.now)))).sides around.old)) }
 {
     let Some((number, below)) = ordered_step(place) else {
         return Ok(());
@@ -346,7 +387,7 @@ fn fresh_child_down(
     values: &[Value],
     around: &mut Around,
 ) -> Result<(), AllocError>
-    ensures { OnOk result (SameAt around.old.place (Entry.Ordered number ∷ place.now) around.new (lists_at (Entry.Ordered number) values.now (started (code_view code.now)) around.old)) }
+    ensures { OnOk result (SameBelow around.old.place (Entry.Ordered number ∷ place.now) around.new (lists_at (Entry.Ordered number) values.now (started (code_view code.now)) around.old)) }
 {
     around.enter_child(number)?;
     fresh_down(alloc, code, place, values, around)
@@ -361,7 +402,8 @@ fn fresh_side_by_side_down(
     values: &[Value],
     around: &mut Around,
 ) -> Result<(), AllocError>
-    ensures { OnOk result (SameAt around.old.place place.now around.new (added (listed_parallel values.now around.old.received 0 (all_started (row_of (map code_view codes.now)))).sides around.old)) }
+    requires { 0 < length place.now }
+    ensures { OnOk result (SameBelow around.old.place place.now around.new (added (listed_parallel values.now around.old.received 0 (all_started (row_of (map code_view codes.now)))).sides around.old)) }
 {
     let Some((number, below)) = branch_step(place) else {
         return Ok(());

@@ -13,7 +13,7 @@ mod side;
 mod sides;
 
 pub use around::{Around, Arrived};
-pub use at_place::sides_at;
+pub use at_place::{sides_at, sides_below};
 pub use fresh::list_fresh;
 pub use leaves::{
     list_again, list_arms, list_close, list_drain, list_held, list_once, list_sender, list_test,

@@ -1,7 +1,8 @@
-// The first step of a place.
+// The first step of a place, and what is below one.
 ghost use Rattle.std.specs.Prelude.{◌≡◌, ℕ, ◌∷◌, MatchOption};
 ghost use Rattle.address.specs.declared.Entry.TheVariants.{Ordered as IsOrdered, Branch as IsBranch};
 ghost use Rattle.calculus.specs.Moves.{Place};
+ghost use Rattle.offered_sides.specs.walking.At.{is_under, same_entry};
 
 use address::Entry;
 
@@ -36,4 +37,37 @@ pub(crate) fn below_child(place: &[Entry], number: u64) -> Option<&[Entry]>
         return Some(below);
     }
     None
+}
+
+/// Whether the second place is the first or below it.
+pub(crate) fn is_under(place: &[Entry], other: &[Entry]) -> bool
+    ensures { result ≡ is_under place.now other.now }
+{
+    let Some((first, rest)) = place.split_first() else {
+        return true;
+    };
+    let Some((second, other_rest)) = other.split_first() else {
+        return false;
+    };
+    if is_same(*first, *second) {
+        is_under(rest, other_rest)
+    } else {
+        false
+    }
+}
+
+/// Whether the entries are the same.
+fn is_same(one: Entry, other: Entry) -> bool
+    ensures { result ≡ same_entry one other }
+{
+    match one {
+        Entry::Ordered(i) => match other {
+            Entry::Ordered(j) => i == j,
+            Entry::Branch(_) => false,
+        },
+        Entry::Branch(i) => match other {
+            Entry::Ordered(_) => false,
+            Entry::Branch(j) => i == j,
+        },
+    }
 }

@@ -15,17 +15,16 @@ use Rattle.calculus.specs.declared.event.Choice.{Choice}
 use Rattle.calculus.specs.declared.event.Event.{Event}
 use Rattle.calculus.proofs.Lists.{in-left, in-right, in-parts}
 use Rattle.calculus.proofs.Options.{none-some, cond-some}
-use Rattle.offered_sides.specs.Sides.{Offered, OffersExactly}
+use Rattle.offered_sides.specs.Sides.{Offered, Under}
 use Rattle.offered_sides.specs.declared.side.OfferedSide.{OfferedSide}
 use Rattle.offered_sides.specs.declared.side.Side.{Side}
 use Rattle.offered_sides.specs.declared.side.Side.TheVariants.{Assigns, Tests, Turns, Sends, Receives, Syncs, Opens, Releases, Closes}
 use Rattle.channel_uses.specs.OnChannel.{is_on}
-use Rattle.rendezvous.specs.ReadyBelow.{Under, ReadyBelow}
+use Rattle.rendezvous.specs.ReadyBelow.{ReadyBelow}
 use Rattle.rendezvous.specs.walking.Acting.{ActedBy, ActedByOne, ReadyWith, SortedOf}
-use Rattle.rendezvous.specs.walking.Below.{under}
 use Rattle.rendezvous.specs.walking.Meeting.{solo, met, met_with}
 use Rattle.rendezvous.proofs.FromSides.{BySides, alone, meets, by_sides, sides_allowed, solo-acts, met-acts}
-use Rattle.rendezvous.proofs.Listed.{in-those-first, those-in, in-met, met-in, in-under}
+use Rattle.rendezvous.proofs.Listed.{in-those-first, those-in, in-met, met-in}
 
 -- ---- a partner is on the channel on which the side looks
 pub receives-on : (x : Side) (c : ℕ) (v : Option ℕ) → x ≡ Receives c v → (b a : Place) (y : Side) (e : Event) → met b x a y ≡ Some e → is_on c y ≡ true
@@ -212,11 +211,3 @@ below-root S es r = record {
   exactly = λ e. (λ i. ((r.exactly e).0 i).0, λ a. (r.exactly e).1 (a, (acting e, refl)));
   in_order = r.in_order;
 }
-
--- those of all sides that are below it
-pub below-exactly : (S : State) (p : Place) (all found : List OfferedSide) → OffersExactly S all → found ≡ under p all → (x : OfferedSide) → In x found ↔ (Offered S x × Under p x.place)
-below-exactly S p all found o is x =
-    let there = in-under p x all in (
-      λ i. let both = there.0 (subst (λ (l : List OfferedSide). In x l) is i) in ((o.exactly x).0 both.0, both.1),
-      λ h. subst (λ (l : List OfferedSide). In x l) (sym is) (there.1 ((o.exactly x).1 h.0, h.1)),
-    )

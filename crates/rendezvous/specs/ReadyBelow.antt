@@ -1,5 +1,5 @@
 -- The events that are allowed in a state and act below a place.
-use Rattle.std.specs.Prelude.{◌≡◌, ◌↔◌, List, ◌++◌}
+use Rattle.std.specs.Prelude.{◌↔◌, List}
 use Rattle.syntax.specs.Lists.{In}
 use Rattle.calculus.specs.Moves.{Place}
 use Rattle.calculus.specs.Events.{acting}
@@ -7,10 +7,7 @@ use Rattle.calculus.specs.Steps.{State, Allowed}
 use Rattle.calculus.specs.InOrder.{InOrder}
 use Rattle.calculus.specs.Ready.{Sooner}
 use Rattle.calculus.specs.declared.event.Event.{Event}
-
--- the place is p or below it
-abbrev pub Under : Place → Place → Type 0
-Under p a = (rest : Place) × (a ≡ p ++ rest)
+use Rattle.offered_sides.specs.Sides.{Under}
 
 -- exactly the events that are allowed in S and act below the place, in order
 pub record ReadyBelow (S : State) (p : Place) (es : List Event) : Type 0 where

@@ -1,5 +1,4 @@
 pub mod Acting
-pub mod Below
 pub mod Choosing
 pub mod Meeting
 pub mod Sorting

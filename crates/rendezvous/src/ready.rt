@@ -15,7 +15,6 @@ ghost use Rattle.channel_uses.specs.StemsFrom.{StemsFrom};
 ghost use Rattle.channel_uses.specs.Table.{IsTableOf};
 ghost use Rattle.rendezvous.specs.ReadyBelow.{ReadyBelow};
 ghost use Rattle.rendezvous.specs.walking.Acting.{SortedOf};
-ghost use Rattle.rendezvous.specs.walking.Below.{is_under, under};
 ghost use Rattle.rendezvous.specs.walking.Sorting.{inserted};
 
 use crate::acting::acted_by;
@@ -23,7 +22,7 @@ use crate::order::{latest_first, sooner_count};
 use address::Entry;
 use calculus::Event;
 use channel_uses::ChannelUses;
-use offered_sides::{OfferedSide, sides_of};
+use offered_sides::sides_below;
 use process_tree::Tree;
 use std::alloc::{AllocError, Global};
 use store::Store;
@@ -44,7 +43,8 @@ pub fn ready_events(
     ready_below(alloc, uses, tree, store, &[])
 }
 
-/// Those of them that act at the place or below it. For each side there it looks at those on its channel alone.
+/// Those of them that act at the place or below it. It goes down along the place, and for each side that is found there looks at
+/// those on its channel alone.
 pub fn ready_below(
     alloc: Global,
     uses: &ChannelUses,
@@ -55,60 +55,9 @@ pub fn ready_below(
     ensures { (code : Code) → IsTableOf code uses.now → StemsFrom (tree_view tree.now) code → Tidy (tree_view tree.now) →
         IfOk result (λ events. ReadyBelow (state_of tree.now store.now) place.now events) }
 {
-    let sides = sides_of(alloc, tree, store)?;
-    let acting = those_below(sides, place);
+    let acting = sides_below(alloc, tree, store, place)?;
     let made = acted_by(alloc, uses, tree, store, acting.as_slice())?;
     in_order(alloc, made)
-}
-
-/// Those of the sides that are at the place or below it.
-fn those_below(sides: Items<OfferedSide>, place: &[Entry]) -> Items<OfferedSide>
-    ensures { result ≡ under place.now sides }
-{
-    let mut sides = sides.into_vec();
-    sides.retain(|side| is_below(side, place));
-    Items::from_vec(sides)
-}
-
-/// Whether the side is at the place or below it.
-fn is_below(side: &OfferedSide, place: &[Entry]) -> bool
-    ensures { result ≡ is_under place.now side.now.place }
-{
-    is_under(place, side.place.entries())
-}
-
-/// Whether the second place is the first or below it.
-fn is_under(place: &[Entry], other: &[Entry]) -> bool
-    ensures { result ≡ is_under place.now other.now }
-{
-    let Some((first, rest)) = place.split_first() else {
-        return true;
-    };
-    let Some((second, other_rest)) = other.split_first() else {
-        return false;
-    };
-    match first {
-        Entry::Ordered(i) => match second {
-            Entry::Ordered(j) => {
-                if *i == *j {
-                    is_under(rest, other_rest)
-                } else {
-                    false
-                }
-            }
-            Entry::Branch(_) => false,
-        },
-        Entry::Branch(i) => match second {
-            Entry::Ordered(_) => false,
-            Entry::Branch(j) => {
-                if *i == *j {
-                    is_under(rest, other_rest)
-                } else {
-                    false
-                }
-            }
-        },
-    }
 }
 
 /// The same events in the order of their acting addresses, then of their arms, then of their other addresses; each stands once.

@@ -62,6 +62,17 @@ pub const BRANCHES: Example = Example {
     stimulus: "",
 };
 
+/// A branch that receives, deep inside it, from the branches on both sides of it and from the environment.
+pub const CROSSING: Example = Example {
+    source: "procedure p (input i : 8 bits) is
+        channel a, b : 8 bits variable x, y, z, t : 8 bits begin
+            a <- 1
+            || [continue ; [a -> x || [continue ; b -> y] || i -> z]]
+            || [continue ; [b <- 2 || t := 4]]
+        end",
+    stimulus: "i = 5",
+};
+
 /// The same in a loop, each branch with one step.
 pub const LOOP_OF_BRANCHES: Example = Example {
     source: "procedure p is variable x, y : 8 bits begin loop x := 1 || y := 2 end end",

@@ -82,6 +82,13 @@ fn are_ready(alloc: Global, run: &Run, told: &[Told]) -> Result<bool, Fail> {
     are_events(alloc, &ready, told)
 }
 
+/// Whether these events are ready at the place and below it, in this order, and no others.
+fn are_ready_below(alloc: Global, run: &Run, at: &[u8], told: &[Told]) -> Result<bool, Fail> {
+    let place = place(alloc, at)?;
+    let found = ready_below(alloc, &run.uses, &run.tree, &run.store, place.entries())?;
+    are_events(alloc, &found, told)
+}
+
 fn are_events(alloc: Global, found: &Items<Event>, told: &[Told]) -> Result<bool, Fail> {
     for (event, same) in found.as_slice().iter().zip(events(alloc, told)?.as_slice()) {
         if !event.equals(same) {
@@ -339,12 +346,48 @@ fn a_branch_has_its_own_events(rt: HostRuntime) -> Result<(), Fail> {
     let run = begun(alloc, BRANCHES)?;
     let both = [assign(b"/0/0", 0, 1), assign(b"/0/1.0", 1, 2)];
     assert!(rt; are_ready(rt.alloc(), &run, &both)?);
-    let second = place(rt.alloc(), b"/0/1")?;
-    let found = ready_below(alloc, &run.uses, &run.tree, &run.store, second.entries())?;
-    assert!(rt; are_events(rt.alloc(), &found, &both[1..])?);
-    let third = place(rt.alloc(), b"/0/2")?;
-    let found = ready_below(alloc, &run.uses, &run.tree, &run.store, third.entries())?;
-    assert!(rt; are_events(rt.alloc(), &found, &[])?);
+    assert!(rt; are_ready_below(alloc, &run, b"/0/1", &both[1..])?);
+    assert!(rt; are_ready_below(alloc, &run, b"/0/2", &[])?);
+    Ok(())
+}
+
+/// The events of a branch are those in which a side of it acts, with whatever branch; a sender acts in none.
+#[test]
+fn a_branch_meets_the_others_from_deep_inside(rt: HostRuntime) -> Result<(), Fail> {
+    let alloc = rt.alloc();
+    let all = [
+        into(meet(b"/0/0.0", b"/0/1.1/0", 1, 1), 0),
+        into(meet(b"/0/2.1/0.0", b"/0/1.1/1.1", 2, 2), 1),
+        into(meet(b"/1.0.0", b"/0/1.1/2", 0, 5), 2),
+        assign(b"/0/2.1/1", 3, 4),
+    ];
+    let mut run = begun(alloc, CROSSING)?;
+    assert!(rt; are_ready(alloc, &run, &all)?);
+    for whole in [b"".as_slice(), b"/0"] {
+        assert!(rt; are_ready_below(alloc, &run, whole, &all)?);
+    }
+    for branch in [b"/0/1".as_slice(), b"/0/1.1"] {
+        assert!(rt; are_ready_below(alloc, &run, branch, &all[..3])?);
+    }
+    for deep in [b"/0/1.1/1".as_slice(), b"/0/1.1/1.1"] {
+        assert!(rt; are_ready_below(alloc, &run, deep, &all[1..2])?);
+    }
+    assert!(rt; are_ready_below(alloc, &run, b"/0/2", &all[3..])?);
+    for other in [
+        b"/0/0".as_slice(),
+        b"/1",
+        b"/0/1.0",
+        b"/0/1.1/1.0",
+        b"/0/1.1/3",
+        b"/0/1.1/1.1.0",
+    ] {
+        assert!(rt; are_ready_below(alloc, &run, other, &[])?);
+    }
+    make(&rt, alloc, &mut run, event(alloc, all[1])?)?;
+    assert!(rt; are_ready_below(alloc, &run, b"/0/1", &[all[0], all[2]])?);
+    assert!(rt; are_ready_below(alloc, &run, b"/0/1.1/1", &[])?);
+    undo(&mut run, 0);
+    assert!(rt; are_ready_below(alloc, &run, b"/0/1.1/1", &all[1..2])?);
     Ok(())
 }
 

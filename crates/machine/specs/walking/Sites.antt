@@ -8,7 +8,7 @@ use Rattle.calculus.specs.Moves.{Place}
 use Rattle.calculus.specs.Ready.{Sooner}
 use Rattle.calculus.specs.Steps.{State, Allowed}
 use Rattle.calculus.specs.declared.event.Event.{Event}
-use Rattle.rendezvous.specs.ReadyBelow.{Under}
+use Rattle.offered_sides.specs.Sides.{Under}
 use Rattle.machine.specs.declared.branching.Site.{Site}
 use Rattle.machine.specs.declared.branching.Site.TheVariants.{Child, Body, Port, Unknown}
 

@@ -1,5 +1,5 @@
--- The sides at one place, and walks that go down to it.
--- No reader has to believe it: the clause of `sides_at` says what is found at a place.
+-- The sides at one place and below it, and walks that go down to it.
+-- No reader has to believe it: the clauses of `sides_at` and `sides_below` say what is found there.
 use Rattle.std.specs.Prelude.{◌≡◌, ◌==◌, ◌&&◌, Bool, true, false, cond, List, [], ◌∷◌, ◌++◌}
 use Rattle.address.specs.declared.Entry.{Entry}
 use Rattle.address.specs.declared.Entry.TheVariants.{Ordered, Branch}
@@ -26,6 +26,17 @@ abbrev pub at : Place → List OfferedSide → List OfferedSide
 at a [] = []
 at a (r ∷ rs) = cond (same_place a r.place) (r ∷ at a rs) (at a rs)
 
--- at the place below that of a walk two walks have found the same
-abbrev pub SameAt : Place → Place → Walk → Walk → Type 0
-SameAt p a v w = at (p ++ a) v.sides ≡ at (p ++ a) w.sides
+-- whether the second place is the first or below it
+abbrev pub is_under : Place → Place → Bool
+is_under [] b = true
+is_under (x ∷ a) [] = false
+is_under (x ∷ a) (y ∷ b) = same_entry x y && is_under a b
+
+-- those of the sides at this place and below it
+abbrev pub under : Place → List OfferedSide → List OfferedSide
+under a [] = []
+under a (r ∷ rs) = cond (is_under a r.place) (r ∷ under a rs) (under a rs)
+
+-- at the place below that of a walk, and below it, two walks have found the same
+abbrev pub SameBelow : Place → Place → Walk → Walk → Type 0
+SameBelow p a v w = under (p ++ a) v.sides ≡ under (p ++ a) w.sides

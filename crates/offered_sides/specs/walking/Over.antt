@@ -8,7 +8,7 @@ use Rattle.process_tree.specs.Children.{proc_at}
 use Rattle.process_tree.specs.Left.{Received}
 use Rattle.process_tree.specs.Proc.{Proc, Procs}
 use Rattle.process_tree.specs.Tidy.{last_moved}
-use Rattle.offered_sides.specs.walking.At.{at}
+use Rattle.offered_sides.specs.walking.At.{under}
 use Rattle.offered_sides.specs.walking.Listed.{listed, listed_sequence, listed_parallel}
 
 -- whether all of the processes are finished
@@ -28,4 +28,4 @@ HasNoneOver ps i = (p : Proc) → proc_at ps i ≡ Some p → (s : Store) (env :
 -- a sequence has come to the child of this number; or it offers nothing there
 pub record IsReached (b : Bool) (i : ℕ) (ps : Procs) : Type 0 where
   pub reached : b ≡ true → (s : Store) (env : Received) → listed_sequence s env i 0 ps ≡ listed_sequence s env (last_moved ps) 0 ps
-  pub elsewhere : b ≡ false → (s : Store) (env : Received) (a : Place) → at (Ordered i ∷ a) (listed_sequence s env (last_moved ps) 0 ps).sides ≡ []
+  pub elsewhere : b ≡ false → (s : Store) (env : Received) (a : Place) → under (Ordered i ∷ a) (listed_sequence s env (last_moved ps) 0 ps).sides ≡ []

@@ -6,7 +6,7 @@ use Rattle.process_tree.specs.Proc.{started, all_started}
 use Rattle.process_tree.specs.Translation.{row_of}
 use Rattle.process_tree.specs.View.{code_view}
 use Rattle.process_tree.specs.declared.code.Row.{Row}
-use Rattle.offered_sides.specs.walking.At.{at}
+use Rattle.offered_sides.specs.walking.At.{under}
 use Rattle.offered_sides.specs.walking.Listed.{Listing, listed_sequence}
 use Rattle.offered_sides.specs.walking.Walk.{added}
 use Rattle.offered_sides.proofs.OneByOne.{none-last, fresh-at}
@@ -22,13 +22,13 @@ fresh_child_down-returns t c =
 
 pub fresh_down-returns-in-InTurn : goal.fresh_down-returns-in-InTurn
 fresh_down-returns-in-InTurn t c =
-    on_ok_weaker c.fresh_in_turn_down.result (λ h. h ∙ ap (λ (l : Listing). at (c.args.around.now.place ++ c.args.place.now) (added l.sides c.args.around.now).sides)
+    on_ok_weaker c.fresh_in_turn_down.result (λ h. h ∙ ap (λ (l : Listing). under (c.args.around.now.place ++ c.args.place.now) (added l.sides c.args.around.now).sides)
     (fresh-in-turn c.args.values.now c.args.around.now.received c.args.code.now c.in-InTurn.row c.as_slice-codes.result.now c.in-InTurn.is
     (c.as_slice-codes.ensures ∙ ap (λ (r : Row). r.codes) c.get.ensures))) c.fresh_in_turn_down.ensures
 
 pub fresh_in_turn_down-returns-in_default : goal.fresh_in_turn_down-returns-in_default
 fresh_in_turn_down-returns-in_default t c =
-    sequence-beside c.args.values.now (all_started (row_of (map code_view c.args.codes.now))) 0 c.args.around.now c.args.place.now c.in_default.ensures
+    sequence-beside c.args.values.now (all_started (row_of (map code_view c.args.codes.now))) 0 c.args.around.now c.args.place.now c.requires c.in_default.ensures
 
 pub fresh_in_turn_down-returns-then-child-codes : goal.fresh_in_turn_down-returns-then-child-codes
 fresh_in_turn_down-returns-then-child-codes t c =
@@ -40,7 +40,7 @@ fresh_in_turn_down-returns-then-not-first_start_over t c =
     let is : c.first_start_over.result ≡ false = first_of (cc, search rules) in
     let ps = all_started (row_of (map code_view c.args.codes.now)) in
     sequence-elsewhere c.args.values.now ps 0 c.in-Some.number c.args.around.now c.args.place.now c.in-Some.below.now
-    (ap (λ k. at (Ordered c.in-Some.number ∷ c.in-Some.below.now) (listed_sequence c.args.values.now c.args.around.now.received k 0 ps).sides) (sym (none-last (row_of (map code_view c.args.codes.now))))
+    (ap (λ k. under (Ordered c.in-Some.number ∷ c.in-Some.below.now) (listed_sequence c.args.values.now c.args.around.now.received k 0 ps).sides) (sym (none-last (row_of (map code_view c.args.codes.now))))
     ∙ c.first_start_over.ensures.elsewhere is c.args.values.now c.args.around.now.received c.in-Some.below.now) c.in-Some.ensures
 
 pub fresh_in_turn_down-returns : goal.fresh_in_turn_down-returns
@@ -53,7 +53,7 @@ fresh_in_turn_down-returns t c =
     (fresh-at c.args.codes.now c.in-Some.number c.index-codes-child.result (omega arith) c.index-codes-child.is) c.in-Some.ensures h) c.fresh_child_down.ensures
 
 pub fresh_side_by_side_down-returns-in_default : goal.fresh_side_by_side_down-returns-in_default
-fresh_side_by_side_down-returns-in_default t c = parallel-beside c.args.values.now (all_started (row_of (map code_view c.args.codes.now))) c.args.around.now c.args.place.now c.in_default.ensures
+fresh_side_by_side_down-returns-in_default t c = parallel-beside c.args.values.now (all_started (row_of (map code_view c.args.codes.now))) c.args.around.now c.args.place.now c.requires c.in_default.ensures
 
 pub fresh_side_by_side_down-returns-then-branch-codes : goal.fresh_side_by_side_down-returns-then-branch-codes
 fresh_side_by_side_down-returns-then-branch-codes t c =

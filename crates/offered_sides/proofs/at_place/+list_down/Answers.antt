@@ -22,11 +22,11 @@ opened_down-returns-in-Some t c = λ ds cs.
 
 pub opened_down-returns : goal.opened_down-returns
 opened_down-returns t c = λ ds cs.
-    arm-outside c.args.values.now c.args.around.now ds cs c.args.channel c.args.value (proc_view c.args.body.now) c.args.over c.is_over.result c.args.place.now c.if-over.false c.in_default.ensures
+    arm-outside c.args.values.now c.args.around.now ds cs c.args.channel c.args.value (proc_view c.args.body.now) c.args.over c.is_over.result c.args.place.now c.requires c.if-over.false c.in_default.ensures
     (c.is_over.ensures.walked c.args.values.now _) c.if-is_over.false
 
 pub parallel_down-returns-in_default : goal.parallel_down-returns-in_default
-parallel_down-returns-in_default t c = parallel-beside c.args.values.now (procs_of (map proc_view c.args.procs.now)) c.args.around.now c.args.place.now c.in_default.ensures
+parallel_down-returns-in_default t c = parallel-beside c.args.values.now (procs_of (map proc_view c.args.procs.now)) c.args.around.now c.args.place.now c.requires c.in_default.ensures
 
 pub parallel_down-returns-then-branch-procs : goal.parallel_down-returns-then-branch-procs
 parallel_down-returns-then-branch-procs t c =
@@ -41,7 +41,7 @@ parallel_down-returns t c =
 
 pub sequence_down-returns-in_default : goal.sequence_down-returns-in_default
 sequence_down-returns-in_default t c =
-    sequence-beside c.args.values.now (begun-row c.args.begun.now c.args.row.now) (last_moved (begun-row c.args.begun.now c.args.row.now)) c.args.around.now c.args.place.now c.in_default.ensures
+    sequence-beside c.args.values.now (begun-row c.args.begun.now c.args.row.now) (last_moved (begun-row c.args.begun.now c.args.row.now)) c.args.around.now c.args.place.now c.requires c.in_default.ensures
 
 pub sequence_down-returns-then-not-is_reached : goal.sequence_down-returns-then-not-is_reached
 sequence_down-returns-then-not-is_reached t c =
@@ -83,7 +83,7 @@ test_down-returns-in-Some t c =
 
 pub test_down-returns-in-None : goal.test_down-returns-in-None
 test_down-returns-in-None t c =
-    took-outside c.args.values.now (decide_view c.args.decide.now).0 (decide_view c.args.decide.now).1 _ c.args.tested.now c.in-Took.body c.args.around.now c.args.place.now c.in-Took.is c.in-None.ensures
+    took-outside c.args.values.now (decide_view c.args.decide.now).0 (decide_view c.args.decide.now).1 _ c.args.tested.now c.in-Took.body c.args.around.now c.args.place.now c.in-Took.is c.requires c.in-None.ensures
 
 pub turn_down-returns-in-Some : goal.turn_down-returns-in-Some
 turn_down-returns-in-Some t c =
@@ -93,4 +93,4 @@ turn_down-returns-in-Some t c =
 pub turn_down-returns : goal.turn_down-returns
 turn_down-returns t c =
     turn-outside c.args.values.now c.args.around.now c.args.place.now c.in_ok-number.number c.args.turn (repeat_view c.args.repeat.now).0 (repeat_view c.args.repeat.now).1 (proc_view c.args.body.now) c.args.over
-    c.is_over.result c.if-over.false c.in_ok-number.ensures c.in_default.ensures (c.is_over.ensures.walked c.args.values.now c.args.around.now.received) c.if-is_over.false
+    c.is_over.result c.requires c.if-over.false c.in_ok-number.ensures c.in_default.ensures (c.is_over.ensures.walked c.args.values.now c.args.around.now.received) c.if-is_over.false

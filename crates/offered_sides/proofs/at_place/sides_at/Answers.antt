@@ -1,8 +1,7 @@
-use Rattle.process_tree.specs.View.{proc_view, tree_view}
+use Rattle.offered_sides.specs.View.{state_of}
 use Rattle.offered_sides.proofs.GoingDown.{offered-at}
 use Rattle.offered_sides.proofs.at_place.sides_at.Goals as goal
 
 pub returns : goal.returns
 returns c = λ t.
-    offered-at c.args.store.now c.as_slice.result.now (tree_view c.args.tree.now) (proc_view c.root.result.now) c.new-around.result c.list_down.new.around c.args.place.now c.entries.result.now
-    c.into_found.result c.those_at.result t c.new-around.ensures c.in_ok-list_down.ensures c.as_slice.ensures c.root.ensures c.entries.ensures c.into_found.ensures c.those_at.ensures
+    offered-at (state_of c.args.tree.now c.args.store.now) c.args.place.now c.entries.result.now c.in_ok-sides.sides c.those_at.result (c.in_ok-sides.ensures t) c.entries.ensures c.those_at.ensures

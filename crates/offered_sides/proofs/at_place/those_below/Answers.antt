@@ -1,9 +1,9 @@
 use Rattle.std.proofs.Common.{rules, ap, ◌∙◌}
 use Rattle.std.proofs.lemmas.Fn.{filter_same}
+use Rattle.offered_sides.specs.walking.At.{is_under, under}
 use Rattle.offered_sides.specs.declared.side.OfferedSide.{OfferedSide}
-use Rattle.rendezvous.specs.walking.Below.{is_under, under}
-use Rattle.rendezvous.proofs.Listed.{under-filter}
-use Rattle.rendezvous.proofs.ready.those_below.Goals as goal
+use Rattle.offered_sides.proofs.PlacedSides.{under-filter}
+use Rattle.offered_sides.proofs.at_place.those_below.Goals as goal
 
 pub returns : goal.returns
 returns c =
