@@ -1,23 +1,20 @@
 -- Going back, for the commands of sessions.
-use Rattle.std.proofs.Common.{◌≡◌, ◌↔◌, inl, inr, ℕ, List, [], ◌∷◌, map, refl, sym, ap, subst, ◌∙◌}
-use Rattle.sharing_check.specs.Rule.{SharesWell}
+use Rattle.std.proofs.Common.{◌≡◌, ◌↔◌, inl, ℕ, List, [], ◌∷◌, map, refl, sym, ap, subst, ◌∙◌}
 use Rattle.calculus.specs.Answered as calculus
 use Rattle.calculus.specs.BackAndForth.{back_and_forth, back_and_forth_replies}
 use Rattle.calculus.specs.Does.{Does}
 use Rattle.calculus.specs.Live.{events}
 use Rattle.calculus.specs.Object.{Object, Reaches}
 use Rattle.calculus.specs.Sound.{Sound}
-use Rattle.calculus.specs.Steps.{State, opening}
+use Rattle.calculus.specs.Steps.{opening}
 use Rattle.calculus.specs.declared.command.Command as calculus_command
 use Rattle.calculus.specs.declared.command.Reply as calculus_reply
 use Rattle.calculus.proofs.Effects.{does-effect}
 use Rattle.calculus.proofs.ObjectLaws.{stays, least-rollback-law, back-then-forth-law, rolls-exactly, rolled-value, consequences-exactly}
 use Rattle.locked_execution.specs.AtDesk.{AtDesk, execution}
-use Rattle.locked_execution.specs.Answered.{Answered}
 use Rattle.locked_execution.specs.Bridge.{commands_of}
-use Rattle.locked_execution.specs.GoingBack.{NoneTakeLess, RollTakesNoOthers, ConsequencesTellRoll, ValueFromBefore, session_command, PerformsAll, AmountsToBackAndForth, AllAmountToBackAndForth}
+use Rattle.locked_execution.specs.GoingBack.{NoneTakeLess, RollTakesNoOthers, ConsequencesTellRoll, ValueFromBefore, session_command, PerformsAll, AllAmountToBackAndForth}
 use Rattle.locked_execution.specs.Performs.{Performs, OnExecution, session_reply}
-use Rattle.locked_execution.specs.declared.command.Command.{Command}
 use Rattle.locked_execution.specs.declared.command.Reply.{Reply}
 use Rattle.locked_execution.proofs.BridgeLaws.{are-on-execution}
 use Rattle.locked_execution.proofs.SomeReplies.{same-opening}
