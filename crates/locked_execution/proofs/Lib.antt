@@ -1,4 +1,5 @@
 pub mod AskedLists
+pub mod BackLaws
 pub mod BranchReplies
 pub mod BridgeLaws
 pub mod Crossing

@@ -24,7 +24,7 @@ abbrev Replied : AtDesk → ℕ → Command → Type 0
 Replied d session command = (reply : Reply) × (d' : AtDesk) × Performs d session command reply d'
 
 -- an execution goes on from where it began
-same-opening : (o o' : Object) → Effect o o' → o'.opening ≡ o.opening
+pub same-opening : (o o' : Object) → Effect o o' → o'.opening ≡ o.opening
 same-opening o o' (unchanged is) = ap (λ (p : Object). p.opening) is
 same-opening o o' (added e T r a room left is) = ap (λ (p : Object). p.opening) is
 same-opening o o' (taken k back is) = ap (λ (p : Object). p.opening) is

@@ -1,7 +1,7 @@
 -- Several passes on one execution.
-use Rattle.std.specs.Prelude.{◌≡◌, ◌≤◌, ◌^◌, ◌⊎◌, ℕ, Bool, true, false, List, length}
-use Rattle.calculus.specs.declared.command.Refusal.TheVariants.{Memory, Spent}
-use Rattle.recorded_calls.specs.History.{Replays, IsLegal}
+use Rattle.std.specs.Prelude.{◌≡◌, ℕ, Bool, true, false, List}
+use Rattle.calculus.specs.declared.command.Refusal.TheVariants.{Memory}
+use Rattle.recorded_calls.specs.History.{IsLegal}
 use Rattle.recorded_calls.specs.declared.entry.Entry.{Entry}
 use Rattle.locked_execution.specs.AtDesk.{AtDesk}
 use Rattle.locked_execution.specs.Performs.{Performs, MayWantMemory}

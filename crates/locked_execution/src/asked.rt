@@ -5,6 +5,7 @@ ghost use Rattle.calculus.specs.ObjectLaws.{Grows};
 ghost use Rattle.machine.specs.Headline.{Headline};
 ghost use Rattle.locked_execution.specs.AtDesk.{execution};
 ghost use Rattle.locked_execution.specs.Answered.{Answered};
+ghost use Rattle.locked_execution.specs.GoingBack.{DependentsGoAlong, AmountsToBackAndForth};
 
 use crate::{Command, Desk, Reply};
 use std::alloc::{AllocError, Global};
@@ -21,6 +22,8 @@ pub fn run_commands(
     ensures refused { OnErr result (desk.new ≡ desk.old) }
     ensures headline { Headline (execution desk.new) }
     ensures tickets { Grows (execution desk.old) (execution desk.new) }
+    ensures least { DependentsGoAlong (execution desk.old) (execution desk.new) }
+    ensures back_and_forth { AmountsToBackAndForth desk.old desk.new }
     ensures system { desk.new.machine.checked ≡ desk.old.machine.checked }
 {
     desk.is_sound();

@@ -1,4 +1,5 @@
 ghost use Rattle.std.specs.Prelude.{◌≡◌, ◌<◌, [], replicate};
+ghost use Rattle.sharing_check.specs.Rule.{SharesWell};
 ghost use Rattle.machine.specs.Headline.{Headline};
 ghost use Rattle.locked_execution.specs.AtDesk.{execution, OfSessions, new_desk, breaks_of, sessions};
 
@@ -67,8 +68,10 @@ impl Desk {
     pub fn is_sound(&self)
         ensures execution { Headline (execution self.now) }
         ensures breakpoints { OfSessions self.now.breaks }
+        ensures sharing { SharesWell self.now.machine.checked }
     {
         self.machine.is_sound();
+        self.machine.checked().shares_well();
     }
 }
 

@@ -1,6 +1,7 @@
 // Laws of the desk, each the contract of a function that does nothing.
 ghost use Rattle.locked_execution.specs.Bridge.{IsOnExecution, AreOnExecution};
 ghost use Rattle.locked_execution.specs.Frames.{OnlyBreaksAndClears, OthersKeepTheirs, OthersKeepTheirsOverLists, BreakLeavesExecution, ClearLeavesExecution, RefusalLeavesAll, BreakSets, ClearClears};
+ghost use Rattle.locked_execution.specs.GoingBack.{NoneTakeLess, RollTakesNoOthers, ConsequencesTellRoll, ValueFromBefore, AllAmountToBackAndForth};
 ghost use Rattle.locked_execution.specs.Replies.{OneReply, SomeReply, AnsweredJoins};
 
 /// What sessions are answered is what their execution answers to its own commands, a step in a branch being the step of the
@@ -29,4 +30,15 @@ pub fn reply_laws()
     ensures one { OneReply }
     ensures some { SomeReply }
     ensures joins { AnsweredJoins }
+{}
+
+/// What depends on an event goes with it, whatever sessions ask; a rollback takes that and no more, and the consequences tell
+/// it beforehand. A variable that is rolled back has the value from before its last writer. Any commands of sessions amount to
+/// undos and then steps.
+pub fn rollback_laws()
+    ensures least { NoneTakeLess }
+    ensures rolls { RollTakesNoOthers }
+    ensures told { ConsequencesTellRoll }
+    ensures value { ValueFromBefore }
+    ensures amounts { AllAmountToBackAndForth }
 {}

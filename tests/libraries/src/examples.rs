@@ -56,6 +56,13 @@ pub const ARBITER: Example = Example {
     stimulus: "a = 5\nb = 7",
 };
 
+/// A value of either channel, with which nothing is done.
+pub const ALIKE: Example = Example {
+    source: "procedure p (input a, b : 8 bits) is
+        begin select a then continue | b then continue end end",
+    stimulus: "a = 5\nb = 5",
+};
+
 /// Two branches, one of them with two steps.
 pub const BRANCHES: Example = Example {
     source: "procedure p is variable x, y : 8 bits begin x := 1 || [y := 2 ; y := 3] end",

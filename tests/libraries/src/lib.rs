@@ -31,6 +31,8 @@ mod rollbacks;
 #[cfg(test)]
 mod runs;
 #[cfg(test)]
+mod same_runs;
+#[cfg(test)]
 mod sessions;
 #[cfg(test)]
 mod sharing;

@@ -2,7 +2,7 @@
 
 use crate::parsing::parsed;
 use elaborate::{Stimulus, elaborate};
-use sharing_check::{Fault, check_sharing};
+use sharing_check::{Checked, Fault, check_sharing};
 use std::alloc::{AllocError, Global};
 use std::test::Fail;
 use syntax::Items;
@@ -32,6 +32,13 @@ fn shared(alloc: Global, variables: &VariableTable) -> Result<VariableTable, All
         })?;
     }
     VariableTable::new(alloc, shared)
+}
+
+/// The system of the source, where all variables are shared.
+pub fn racing(alloc: Global, source: &[u8]) -> Result<Checked, Fail> {
+    let mut system = system(alloc, source)?;
+    system.variables = shared(alloc, &system.variables)?;
+    Ok(check_sharing(alloc, system)?)
 }
 
 /// Why the system is refused, if it is. Want of memory fails the test.

@@ -1,9 +1,10 @@
-use Rattle.std.proofs.Common.{◌∙◌, arith, take}
+use Rattle.std.proofs.Common.{[], refl, ◌∙◌, arith, take}
 use Rattle.machine.proofs.HeadlineLaws.{headline}
 use Rattle.calculus.proofs.ObjectLaws.{stays-over-lists, tickets-grow}
 use Rattle.locked_execution.specs.AtDesk.{execution}
 use Rattle.locked_execution.specs.Bridge.{commands_of}
 use Rattle.locked_execution.proofs.AskedLists.{answered-more}
+use Rattle.locked_execution.proofs.BackLaws.{none-take-less, all-amount-to-back-and-forth}
 use Rattle.locked_execution.proofs.BridgeLaws.{are-on-execution}
 use Rattle.locked_execution.proofs.asked.run_commands.Goals as goal
 
@@ -35,3 +36,21 @@ returns-clause-tickets c =
     let there = are-on-execution c.args.desk.now c.loop-session.desk done c.loop-session.replies.items c.loop-session.invariant.answered in
     tickets-grow (execution c.args.desk.now) (execution c.loop-session.desk) (commands_of done c.loop-session.replies.items)
     there.0 c.is_sound.ensures.execution.sound there.2
+
+pub returns-in_err-replies-clause-least : goal.returns-in_err-replies-clause-least
+returns-in_err-replies-clause-least c =
+    none-take-less c.args.desk.now c.args.desk.now [] [] c.is_sound.ensures.execution.sound (refl, refl)
+
+pub returns-in_err-replies-clause-back_and_forth : goal.returns-in_err-replies-clause-back_and_forth
+returns-in_err-replies-clause-back_and_forth c =
+    all-amount-to-back-and-forth c.args.desk.now c.args.desk.now [] [] c.is_sound.ensures.sharing c.is_sound.ensures.execution.sound (refl, refl)
+
+pub returns-clause-least : goal.returns-clause-least
+returns-clause-least c =
+    none-take-less c.args.desk.now c.loop-session.desk (take c.loop-session.session-index c.args.commands.now) c.loop-session.replies.items
+    c.is_sound.ensures.execution.sound c.loop-session.invariant.answered
+
+pub returns-clause-back_and_forth : goal.returns-clause-back_and_forth
+returns-clause-back_and_forth c =
+    all-amount-to-back-and-forth c.args.desk.now c.loop-session.desk (take c.loop-session.session-index c.args.commands.now) c.loop-session.replies.items
+    c.is_sound.ensures.sharing c.is_sound.ensures.execution.sound c.loop-session.invariant.answered

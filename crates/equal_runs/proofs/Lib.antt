@@ -1,0 +1,4 @@
+pub mod Alikeness
+pub mod IndexLaws
+pub mod ListPlaces
+pub mod OneRunLaws
