@@ -411,3 +411,48 @@ fn the_end_of_a_loop_is_taken_back(rt: HostRuntime) -> Result<(), Fail> {
     assert_eq!(rt; number_in(&run, 0), 0);
     Ok(())
 }
+
+/// Makes the first event that is ready, again and again until none is or so many are made, and takes all back, the last first.
+fn go_and_return(
+    rt: &impl Abort,
+    alloc: Global,
+    example: Example,
+    most: usize,
+) -> Result<usize, Fail> {
+    let mut run = begun(alloc, example)?;
+    let first = numbers_of(alloc, run.tree.root())?;
+    while run.records.len() < most {
+        let ready = ready_events(alloc, &run.uses, &run.tree, &run.store)?;
+        let Some(event) = ready.get(0) else {
+            break;
+        };
+        make(rt, alloc, &mut run, event.copy(alloc)?)?;
+    }
+    let made = run.records.len();
+    for place in (0..made).rev() {
+        undo(&mut run, place);
+    }
+    let last = numbers_of(alloc, run.tree.root())?;
+    assert!(rt; last.as_slice() == first.as_slice());
+    Ok(made)
+}
+
+#[test]
+fn choices_are_made_and_taken_back(rt: HostRuntime) -> Result<(), Fail> {
+    let alloc = rt.alloc();
+    // The test takes the second guard, and its arm assigns.
+    assert_eq!(rt; go_and_return(&rt, alloc, SECOND_GUARD, 9)?, 2);
+    assert_eq!(rt; go_and_return(&rt, alloc, CASE_WITH_ELSE, 9)?, 2);
+    // No arm is taken, and nothing is left.
+    assert_eq!(rt; go_and_return(&rt, alloc, NO_ARM, 9)?, 1);
+    // The sync opens the arm, and is released by the close.
+    assert_eq!(rt; go_and_return(&rt, alloc, SELECTION, 9)?, 2);
+    Ok(())
+}
+
+#[test]
+fn branches_begin_again_and_are_taken_back(rt: HostRuntime) -> Result<(), Fail> {
+    let alloc = rt.alloc();
+    assert_eq!(rt; go_and_return(&rt, alloc, LOOP_OF_BRANCHES, 5)?, 5);
+    Ok(())
+}

@@ -12,7 +12,7 @@ from .faulty_parts import faulty_parts
 from .limits import levels, near_limit
 from .mutations import mutate_bytes, mutate_names, mutate_numbers, mutate_words, twist
 from .rendering import render
-from .scripts import long_script, script_for, script_of_breakpoints, twisted_script
+from .scripts import long_script, script_for, script_of_breakpoints, script_of_long_run, twisted_script
 from .sources import Style, any_style
 from .stimuli import ports_of, stimulus_for, twisted_stimulus
 from .threads import threads
@@ -125,6 +125,16 @@ def circuit_run(random: Random) -> Case:
     return Case("debug", source, stimulus, long_script(random, source, stimulus, [30, 80, 150, 300]))
 
 
+def long_run(random: Random) -> Case:
+    """A run of some hundred or thousand steps: of several circuits the first that goes on for so long."""
+    for _ in range(20):
+        source, stimulus = circuits(random)
+        script = script_of_long_run(random, source, stimulus, random.choice([100, 300, 1000, 2000]))
+        if script.count(b"step ") + script.count(b"branch ") > 400:
+            break
+    return Case("debug", source, stimulus, script)
+
+
 def any_run(random: Random) -> Case:
     return thread_run(random) if random.random() < 0.5 else circuit_run(random)
 
@@ -186,16 +196,19 @@ KINDS: dict[str, Callable[[Random], Case]] = {
     "breakpoints": breakpoints,
     "script-changed": script_changed,
     "stimulus-changed": stimulus_changed,
+    "long-run": long_run,
     "trace-run": trace_run,
     "trace-changed": trace_changed,
 }
 
 # Their cases are large, so they come at one seed of ten only, unless they are asked for.
 LARGE = ("nodes", "depth")
+# A case of these takes many seconds, so they come only where they are asked for.
+LONG = ("long-run",)
 
 
 def kinds_at(seed: int) -> list[str]:
-    return [kind for kind in KINDS if kind not in LARGE or seed % 10 == 1]
+    return [kind for kind in KINDS if kind not in LONG and (kind not in LARGE or seed % 10 == 1)]
 
 
 def case_of(kind: str, seed: int) -> Case:

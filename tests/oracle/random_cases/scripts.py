@@ -37,6 +37,8 @@ EDITS = [
     (b"0", b"00"), (b"1", b"2"), (b".", b"/"), (b"/", b"."), (b"0", b""), (b"1", b"4294967296"),
     (b"0", b"4294967295"), (b"/", b" "),
 ]
+# Of what depends on one event, at most so many are undone one by one.
+MOST_UNDOS = 60
 ODD_FIELDS = [b"", b"0", b"1", b"x", b"live", b"-1", b"01"]
 
 # How often a script has which lines: mostly steps, or more and more of the others.
@@ -165,6 +167,39 @@ class ScriptWriter:
             if not self.add(line) and self.random.random() < 0.8:
                 return
 
+    def step_often(self, count: int) -> None:
+        """Steps of what is ready, by place or by branch, until so many were asked for or nothing is ready."""
+        for _ in range(count):
+            if not self.desk.machine.ready():
+                return
+            self.add(self.branch() if self.random.random() < 0.1 else self.step())
+
+    def take_back(self) -> None:
+        """An event and all that depend on it: by a rollback, or by an undo each, in a random order that respects dependence."""
+        live = self.desk.machine.live
+        from_last = self.random.choice([10, 100, 400, len(live)])
+        chosen = self.random.choice(live[-from_last:])
+        left = self.desk.machine.closure(chosen.ticket)
+        if len(left) > MOST_UNDOS or self.random.random() < 0.3:
+            self.add(f"consequences {chosen.ticket}")
+            self.add(f"roll {chosen.ticket}")
+            return
+        self.add(f"undo {chosen.ticket}")
+        while chosen in self.desk.machine.live:
+            needed = lambda one: any(depends_directly(one.event, other.event) for other in left if other.ticket > one.ticket)
+            gone = self.random.choice([one for one in left if not needed(one)])
+            left.remove(gone)
+            self.add(f"undo {gone.ticket}")
+
+    def add_long_run(self, count: int) -> None:
+        """Steps as often as `count` says, some taken back in between, in a few rounds."""
+        for _ in range(self.random.choice([2, 4, 8])):
+            self.step_often(count)
+            for _ in range(self.random.choice([1, 5, 20])):
+                if self.desk.machine.live:
+                    self.take_back()
+            self.add_ends()
+
     def add_many_breakpoints(self) -> None:
         """Breakpoints on lines with commands and some others, more than a session may have if there are so many."""
         lines = self.begun + self.random.sample(range(self.begun[-1] + 2), self.random.randint(1, self.begun[-1]))
@@ -200,6 +235,16 @@ def long_script(random: Random, source: bytes, stimulus: bytes, counts: list[int
     writer = ScriptWriter(random, desk)
     writer.add_some(random.choice(counts), 0)
     writer.add_ends()
+    return writer.script()
+
+
+def script_of_long_run(random: Random, source: bytes, stimulus: bytes, count: int) -> bytes:
+    """Rounds of so many steps, with undos and rollbacks between them."""
+    desk = desk_for(source, stimulus)
+    if desk is None:
+        return b"live\n"
+    writer = ScriptWriter(random, desk)
+    writer.add_long_run(count)
     return writer.script()
 
 

@@ -26,7 +26,14 @@ class Machine:
         self.system = system
         self.live: list[Live] = []
         self.next_ticket = 1
-        self.state = opening_state(system)
+        self.run: State | None = opening_state(system)
+
+    @property
+    def state(self) -> State:
+        """The state to which the live events run. Behind what was taken back it is made anew once it is asked for."""
+        if self.run is None:
+            self.run = self.replayed()
+        return self.run
 
     def ready(self) -> list[Event]:
         return possible_events(self.state)
@@ -36,7 +43,7 @@ class Machine:
             if (event.acting, event.arm) == (acting, arm):
                 if len(self.live) >= MOST_LIVE:
                     raise Refused(Number.HISTORY_FULL)
-                self.state = after(self.state, event)
+                self.run = after(self.state, event)
                 self.live.append(Live(self.next_ticket, event))
                 self.next_ticket += 1
                 return self.live[-1]
@@ -79,7 +86,7 @@ class Machine:
     def remove(self, gone: list[Live]) -> None:
         tickets = {entry.ticket for entry in gone}
         self.live = [entry for entry in self.live if entry.ticket not in tickets]
-        self.state = self.replayed()
+        self.run = None
 
     def replayed(self) -> State:
         """The state to which the live events run from the opening."""
