@@ -3,6 +3,7 @@ pub mod AtDesk
 pub mod Bridge
 pub mod Calls
 pub mod Frames
+pub mod Histories
 pub mod Performs
 pub mod Replies
 pub mod Sharing

@@ -1,6 +1,7 @@
 // Laws of the desk, each the contract of a function that does nothing.
 ghost use Rattle.locked_execution.specs.Bridge.{IsOnExecution, AreOnExecution};
 ghost use Rattle.locked_execution.specs.Frames.{OnlyBreaksAndClears, OthersKeepTheirs, OthersKeepTheirsOverLists, BreakLeavesExecution, ClearLeavesExecution, RefusalLeavesAll, BreakSets, ClearClears};
+ghost use Rattle.locked_execution.specs.Histories.{HistoryIsAnswered, HistoryKeepsHeadline};
 ghost use Rattle.locked_execution.specs.Replies.{OneReply, SomeReply, AnsweredJoins};
 
 /// What sessions are answered is what their execution answers to its own commands, a step in a branch being the step of the
@@ -29,4 +30,11 @@ pub fn reply_laws()
     ensures one { OneReply }
     ensures some { SomeReply }
     ensures joins { AnsweredJoins }
+{}
+
+/// A legal history of a shared execution is answered, call by call, as a list of commands of sessions is. Where the execution was
+/// sound before it, what holds after all commands holds after the history.
+pub fn history_laws()
+    ensures answered { HistoryIsAnswered }
+    ensures headline { HistoryKeepsHeadline }
 {}

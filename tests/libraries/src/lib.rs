@@ -51,6 +51,8 @@ mod transcripts;
 #[cfg(test)]
 mod trees;
 #[cfg(test)]
+mod unlocked;
+#[cfg(test)]
 mod values;
 #[cfg(test)]
 mod views;
