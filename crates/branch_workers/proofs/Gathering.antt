@@ -8,7 +8,7 @@ use Rattle.recorded_calls.specs.declared.entry.Entry.{Entry}
 use Rattle.locked_object.specs.Passes.{IsPassOf}
 use Rattle.locked_object.specs.declared.pass.Pass.{Pass}
 use Rattle.branch_workers.specs.Dealt.{hand, total}
-use Rattle.branch_workers.specs.Runs.{steps_in, PassRan, PassesRan, WorkersRan, PassesFit}
+use Rattle.branch_workers.specs.Runs.{steps_in, PassRan, PassesRan, WorkersRan, PassesFit, SawLegal, AllSawLegal}
 use Rattle.branch_workers.specs.walking.Workers.{WorkerRan, Ready, IsReady, AllReady, AllRan, CountsFew, IsCounted}
 use Rattle.branch_workers.specs.declared.worker.Worker.{Worker}
 use Rattle.branch_workers.proofs.Numbers.{total_end}
@@ -22,33 +22,33 @@ module _ {D C R : Type 0} (table : TableId) (opening : D) where
   ready_at line (w ∷ ws) (suc i) d h less = ready_at line ws i d h.1 (omega arith)
 
   -- workers with passes of this table are ready
-  pub all_ready : (line : TableId) (ps : List (Pass D C R)) (ws : List (Worker D C R)) → PassesFit table opening ps → Ready line ps ws → AllReady table opening line ws
-  all_ready line [] [] fits h = tt
-  all_ready line [] (w ∷ ws) fits h = absurd h
-  all_ready line (p ∷ ps) [] fits h = absurd h
-  all_ready line (p ∷ ps) (w ∷ ws) fits h =
+  pub all_ready : (line : TableId) (from : ℕ) (ps : List (Pass D C R)) (ws : List (Worker D C R)) → PassesFit table opening ps → Ready line from ps ws → AllReady table opening line ws
+  all_ready line from [] [] fits h = tt
+  all_ready line from [] (w ∷ ws) fits h = absurd h
+  all_ready line from (p ∷ ps) [] fits h = absurd h
+  all_ready line from (p ∷ ps) (w ∷ ws) fits h =
       let one = h.0 in (
         (
           record { pass = subst (IsPassOf table opening) (sym one.0) fits.0; place = one.3; no_slot = one.4; empty = one.5 },
           one.1,
           one.2,
         ),
-        all_ready line ps ws fits.1 h.1,
+        all_ready line (suc from) ps ws fits.1 h.1,
       )
 
-  module _ (asks : ℕ → C) (steps : R → Bool) (count turns : ℕ) where
+  module _ (performs : D → ℕ → C → R → D → Type 0) (asks : ℕ → C) (steps : R → Bool) (count turns : ℕ) where
     -- what holds at each place holds of the lists
     pub all_ran : (vs ws : List (Worker D C R)) → length vs ≡ length ws
-        → ((i : ℕ) (d : Worker D C R) → i < length vs → WorkerRan table opening asks steps count turns (slice_index_or vs i d) (slice_index_or ws i d))
-        → AllRan table opening asks steps count turns vs ws
+        → ((i : ℕ) (d : Worker D C R) → i < length vs → WorkerRan table opening performs asks steps count turns (slice_index_or vs i d) (slice_index_or ws i d))
+        → AllRan table opening performs asks steps count turns vs ws
     all_ran [] [] same each = tt
     all_ran [] (w ∷ ws) same each = absurd (omega arith)
     all_ran (v ∷ vs) [] same each = absurd (omega arith)
     all_ran (v ∷ vs) (w ∷ ws) same each = (each 0 v (omega arith), all_ran vs ws (omega arith) (λ i d less. each (suc i) d (omega arith)))
 
     -- the same workers
-    pub same_ran : (v u w x : Worker D C R) → v ≡ u → w ≡ x → WorkerRan table opening asks steps count turns v w → WorkerRan table opening asks steps count turns u x
-    same_ran v u w x one other ran = subst (WorkerRan table opening asks steps count turns u) other (subst (λ (y : Worker D C R). WorkerRan table opening asks steps count turns y w) one ran)
+    pub same_ran : (v u w x : Worker D C R) → v ≡ u → w ≡ x → WorkerRan table opening performs asks steps count turns v w → WorkerRan table opening performs asks steps count turns u x
+    same_ran v u w x one other ran = subst (WorkerRan table opening performs asks steps count turns u) other (subst (λ (y : Worker D C R). WorkerRan table opening performs asks steps count turns y w) one ran)
 
 module _ {C R : Type 0} (steps : R → Bool) where
   -- there are no more steps than calls
@@ -56,39 +56,41 @@ module _ {C R : Type 0} (steps : R → Bool) where
   total_few [] = omega arith
   total_few (l ∷ ls) = let a = steps_few steps l in let b = total_few ls in omega arith
 
-module _ {D C R : Type 0} (table : TableId) (opening : D) (asks : ℕ → C) (steps : R → Bool) (count turns : ℕ) where
+module _ {D C R : Type 0} (table : TableId) (opening : D) (performs : D → ℕ → C → R → D → Type 0) (asks : ℕ → C) (steps : R → Bool) (count turns : ℕ) where
   -- what the workers have done, of the passes that they were given
   pub record Gathered (ps : List (Pass D C R)) (ws : List (Worker D C R)) : Type 0 where
     pub added : List (List (Entry C R))
     pub each : PassesRan table opening asks count turns ps (map (λ (w : Worker D C R). w.pass) ws) added
     pub stepped : total (λ (w : Worker D C R). w.stepped) ws ≡ total (steps_in steps) added
+    pub legal : AllSawLegal performs opening ps (map (λ (w : Worker D C R). w.pass) ws)
     pub lost : total length added + total (λ (w : Worker D C R). w.lost) ws ≡ turns * length ps
 
-  pub gathered : (line : TableId) (ps : List (Pass D C R)) (vs ws : List (Worker D C R)) → Ready line ps vs → AllRan table opening asks steps count turns vs ws → Gathered ps ws
-  gathered line [] [] [] h ran = record { added = []; each = tt; stepped = refl; lost = sym (mul-zero turns) }
-  gathered line [] [] (w ∷ ws) h ran = absurd ran
-  gathered line [] (v ∷ vs) ws h ran = absurd h
-  gathered line (p ∷ ps) [] ws h ran = absurd h
-  gathered line (p ∷ ps) (v ∷ vs) [] h ran = absurd ran
-  gathered line (p ∷ ps) (v ∷ vs) (w ∷ ws) h ran =
+  pub gathered : (line : TableId) (from : ℕ) (ps : List (Pass D C R)) (vs ws : List (Worker D C R)) → Ready line from ps vs → AllRan table opening performs asks steps count turns vs ws → Gathered ps ws
+  gathered line from [] [] [] h ran = record { added = []; each = tt; legal = tt; stepped = refl; lost = sym (mul-zero turns) }
+  gathered line from [] [] (w ∷ ws) h ran = absurd ran
+  gathered line from [] (v ∷ vs) ws h ran = absurd h
+  gathered line from (p ∷ ps) [] ws h ran = absurd h
+  gathered line from (p ∷ ps) (v ∷ vs) [] h ran = absurd ran
+  gathered line from (p ∷ ps) (v ∷ vs) (w ∷ ws) h ran =
       let one = h.0 in
       let did = ran.0 in
-      let rest = gathered line ps vs ws h.1 ran.1 in
+      let rest = gathered line (suc from) ps vs ws h.1 ran.1 in
       record {
         added = did.added ∷ rest.added;
         each = (subst (λ (q : Pass D C R). PassRan table opening asks count turns q w.pass did.added) one.0 did.ran, rest.each);
+        legal = (subst (λ (q : Pass D C R). SawLegal performs opening q w.pass) one.0 did.legal, rest.legal);
         stepped = let a = did.stepped in let b = one.1 in let d = rest.stepped in omega arith;
         lost = let a = did.rest_lost in let b = one.2 in let d = rest.lost in let m = mul-suc turns (length ps) in omega arith;
       }
 
   -- a worker a pass, afterwards too
-  pub ran_length : (line : TableId) (ps : List (Pass D C R)) (vs ws : List (Worker D C R)) → Ready line ps vs → AllRan table opening asks steps count turns vs ws → length ws ≡ length ps
-  ran_length line [] [] [] h ran = refl
-  ran_length line [] [] (w ∷ ws) h ran = absurd ran
-  ran_length line [] (v ∷ vs) ws h ran = absurd h
-  ran_length line (p ∷ ps) [] ws h ran = absurd h
-  ran_length line (p ∷ ps) (v ∷ vs) [] h ran = absurd ran
-  ran_length line (p ∷ ps) (v ∷ vs) (w ∷ ws) h ran = ap suc (ran_length line ps vs ws h.1 ran.1)
+  pub ran_length : (line : TableId) (from : ℕ) (ps : List (Pass D C R)) (vs ws : List (Worker D C R)) → Ready line from ps vs → AllRan table opening performs asks steps count turns vs ws → length ws ≡ length ps
+  ran_length line from [] [] [] h ran = refl
+  ran_length line from [] [] (w ∷ ws) h ran = absurd ran
+  ran_length line from [] (v ∷ vs) ws h ran = absurd h
+  ran_length line from (p ∷ ps) [] ws h ran = absurd h
+  ran_length line from (p ∷ ps) (v ∷ vs) [] h ran = absurd ran
+  ran_length line from (p ∷ ps) (v ∷ vs) (w ∷ ws) h ran = ap suc (ran_length line (suc from) ps vs ws h.1 ran.1)
 
   -- so many turns of so many workers are counted in 64 bits
   pub counts_fit : (ps : List (Pass D C R)) (ws : List (Worker D C R)) → Gathered ps ws → turns ≤ 144115188075855872 → length ps ≤ 16 → CountsFew ws
@@ -98,6 +100,10 @@ module _ {D C R : Type 0} (table : TableId) (opening : D) (asks : ℕ → C) (st
       let b = g.lost in
       let d = total_few steps g.added in
       (omega arith, omega arith)
+
+  -- the same of the passes that come back
+  pub passes_saw : (ps qs : List (Pass D C R)) (ws : List (Worker D C R)) (stepped lost : ℕ) → Gathered ps ws → IsCounted ws qs stepped lost → AllSawLegal performs opening ps qs
+  passes_saw ps qs ws stepped lost g is = subst (AllSawLegal performs opening ps) (sym is.0) g.legal
 
   -- the same of what was counted
   pub workers_ran : (ps qs : List (Pass D C R)) (ws : List (Worker D C R)) (stepped lost : ℕ) → Gathered ps ws → IsCounted ws qs stepped lost
@@ -112,22 +118,22 @@ module _ {D C R : Type 0} (table : TableId) (opening : D) (asks : ℕ → C) (st
 
 module _ {D C R : Type 0} where
   -- one worker more, for one pass more
-  pub ready_more : (line : TableId) (ps : List (Pass D C R)) (ws more : List (Worker D C R)) (p : Pass D C R) (w : Worker D C R) → Ready line ps ws → more ≡ ws ++ w ∷ []
-      → (w.pass ≡ p) × (w.stepped ≡ 0) × (w.lost ≡ 0) × (w.seat.table_id ≡ line) × (w.seat.me.1 ≡ []) × (queue.view w.seat ≡ hand []) → Ready line (ps ++ p ∷ []) more
-  ready_more line ps ws more p w h is one = subst (Ready line (ps ++ p ∷ [])) (sym is) (go ps ws h)
+  pub ready_more : (line : TableId) (from : ℕ) (ps : List (Pass D C R)) (ws more : List (Worker D C R)) (p : Pass D C R) (w : Worker D C R) → Ready line from ps ws → more ≡ ws ++ w ∷ []
+      → (w.pass ≡ p) × (w.stepped ≡ 0) × (w.lost ≡ 0) × (w.seat.table_id ≡ line) × (w.seat.me.1 ≡ []) × (queue.view w.seat ≡ hand []) × (w.number ≡ from + length ps) → Ready line from (ps ++ p ∷ []) more
+  ready_more line from ps ws more p w h is one = subst (Ready line from (ps ++ p ∷ [])) (sym is) (go from ps ws h one.6)
     where
-      go : (qs : List (Pass D C R)) (vs : List (Worker D C R)) → Ready line qs vs → Ready line (qs ++ p ∷ []) (vs ++ w ∷ [])
-      go [] [] k = (one, tt)
-      go [] (v ∷ vs) k = absurd k
-      go (q ∷ qs) [] k = absurd k
-      go (q ∷ qs) (v ∷ vs) k = (k.0, go qs vs k.1)
+      go : (n : ℕ) (qs : List (Pass D C R)) (vs : List (Worker D C R)) → Ready line n qs vs → w.number ≡ n + length qs → Ready line n (qs ++ p ∷ []) (vs ++ w ∷ [])
+      go n [] [] k at = ((one.0, one.1, one.2, one.3, one.4, one.5, (omega arith)), tt)
+      go n [] (v ∷ vs) k at = absurd k
+      go n (q ∷ qs) [] k at = absurd k
+      go n (q ∷ qs) (v ∷ vs) k at = (k.0, go (suc n) qs vs k.1 (omega arith))
 
   -- a worker a pass
-  pub ready_length : (line : TableId) (ps : List (Pass D C R)) (ws : List (Worker D C R)) → Ready line ps ws → length ps ≡ length ws
-  ready_length line [] [] h = refl
-  ready_length line [] (w ∷ ws) h = absurd h
-  ready_length line (p ∷ ps) [] h = absurd h
-  ready_length line (p ∷ ps) (w ∷ ws) h = ap suc (ready_length line ps ws h.1)
+  pub ready_length : (line : TableId) (from : ℕ) (ps : List (Pass D C R)) (ws : List (Worker D C R)) → Ready line from ps ws → length ps ≡ length ws
+  ready_length line from [] [] h = refl
+  ready_length line from [] (w ∷ ws) h = absurd h
+  ready_length line from (p ∷ ps) [] h = absurd h
+  ready_length line from (p ∷ ps) (w ∷ ws) h = ap suc (ready_length line (suc from) ps ws h.1)
 
   -- one worker more is counted
   pub counted_more : (ws : List (Worker D C R)) (ps more : List (Pass D C R)) (w : Worker D C R) (stepped lost : ℕ) → IsCounted ws ps stepped lost → more ≡ ps ++ w.pass ∷ []

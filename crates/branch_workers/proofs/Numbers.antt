@@ -124,3 +124,7 @@ next-range n m v w all one = sym (ap tail one) ∙ ap tail all ∙ ap (λ k. ran
 pub deal_next : (n b : ℕ) (v w : List ℕ) → n < b → v ≡ range n (b - n) → v ≡ n ∷ w → w ≡ range (n + 1) (b - (n + 1))
 deal_next n b v w less all one =
     let e : b - n ≡ suc (b - (n + 1)) = omega arith in next-range n (b - (n + 1)) v w (all ∙ ap (range n) e) one
+
+-- no number is left
+pub all_dealt : (n b : ℕ) (v : Hand) → b ≤ n → v.numbers ≡ range n (b - n) → v ≡ hand []
+all_dealt n b v past all = let e : b - n ≡ 0 = omega arith in ap hand (all ∙ ap (range n) e)

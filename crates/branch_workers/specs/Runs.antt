@@ -2,6 +2,7 @@
 use Rattle.std.specs.Prelude.{◌≡◌, ◌⊎◌, ℕ, ◌+◌, ◌<◌, ◌≤◌, ◌*◌, Bool, if◌then◌else◌, List, [], ◌∷◌, ◌++◌, length}
 use mathlib.Core.List.{IsPrefix}
 use Rattle.atomic_table.specs.Seated.{TableId}
+use Rattle.recorded_calls.specs.History.{IsLegal}
 use Rattle.recorded_calls.specs.declared.entry.Entry.{Entry}
 use Rattle.locked_object.specs.Passes.{IsPassOf, number, seen, own}
 use Rattle.locked_object.specs.declared.pass.Pass.{Pass}
@@ -12,14 +13,14 @@ module _ {C R : Type 0} where
   abbrev pub steps_in : (R → Bool) → List (Entry C R) → ℕ
   steps_in steps = total (λ e. if steps e.reply then 1 else 0)
 
-  -- a call of the pass of this number, which asks for a step of a branch below the count, or of branch 0
-  abbrev pub StepsBranch : (ℕ → C) → ℕ → ℕ → Entry C R → Type 0
-  StepsBranch asks count n e = (e.pass ≡ n) × ((k : ℕ) × (e.command ≡ asks k) × ((k < count) ⊎ (k ≡ 0)))
+  -- a call of the pass of this number, which asks for a step of a branch below the count, of branch 0 where there is none
+  abbrev pub AsksBranch : (ℕ → C) → ℕ → ℕ → Entry C R → Type 0
+  AsksBranch asks count n e = (e.pass ≡ n) × ((k : ℕ) × (e.command ≡ asks k) × ((k < count) ⊎ ((count ≡ 0) × (k ≡ 0))))
 
   -- each of these calls is one
-  abbrev pub StepBranches : (ℕ → C) → ℕ → ℕ → List (Entry C R) → Type 0
-  StepBranches asks count n [] = Unit {0}
-  StepBranches asks count n (e ∷ es) = StepsBranch asks count n e × StepBranches asks count n es
+  abbrev pub AskBranches : (ℕ → C) → ℕ → ℕ → List (Entry C R) → Type 0
+  AskBranches asks count n [] = Unit {0}
+  AskBranches asks count n (e ∷ es) = AsksBranch asks count n e × AskBranches asks count n es
 
 module _ {D C R : Type 0} where
   module _ (table : TableId) (opening : D) (asks : ℕ → C) (count turns : ℕ) where
@@ -29,7 +30,7 @@ module _ {D C R : Type 0} where
       pub same : number after ≡ number before
       pub saw : IsPrefix (seen before) (seen after)
       pub made : own after ≡ own before ++ added
-      pub branches : StepBranches asks count (number before) added
+      pub branches : AskBranches asks count (number before) added
       pub few : length added ≤ turns
 
     -- each of the passes, in their order
@@ -44,6 +45,16 @@ module _ {D C R : Type 0} where
       pub each : PassesRan before after added
       pub counted : stepped ≡ total (steps_in steps) added
       pub rest_lost : total length added + lost ≡ turns * length before
+
+  -- the pass has seen what it had seen, or it has seen a legal history
+  abbrev pub SawLegal : (D → ℕ → C → R → D → Type 0) → D → Pass D C R → Pass D C R → Type 0
+  SawLegal performs opening before after = (seen after ≡ seen before) ⊎ IsLegal performs opening (seen after)
+
+  -- each of the passes, in their order
+  abbrev pub AllSawLegal : (D → ℕ → C → R → D → Type 0) → D → List (Pass D C R) → List (Pass D C R) → Type 0
+  AllSawLegal performs opening [] [] = Unit {0}
+  AllSawLegal performs opening (p ∷ ps) (q ∷ qs) = SawLegal performs opening p q × AllSawLegal performs opening ps qs
+  AllSawLegal performs opening ps qs = ⊥
 
   -- the passes are of this table
   abbrev pub PassesFit : TableId → D → List (Pass D C R) → Type 0

@@ -2,13 +2,13 @@
 //! asks the object to step it, and puts the number back.
 #![tactic(auto)]
 
-mod branched;
+mod branches;
 mod dealing;
 mod gate;
 mod running;
 mod worker;
 
-pub use branched::Branched;
+pub use branches::Branches;
 pub use dealing::{Dealing, Hand};
 pub use gate::Gate;
 pub use running::{Ran, run_workers};

@@ -3,12 +3,12 @@ ghost use Rattle.std.specs.Prelude.{◌≡◌, ◌≤◌, ◌<◌, ◌^◌, [], 
 ghost use Rattle.std.specs.Vec.{vec_capacity};
 ghost use Rattle.crossbeam_queue.specs.Passes as queue;
 ghost use Rattle.branch_workers.specs.Dealt.{hand, range};
-ghost use Rattle.branch_workers.specs.Runs.{PassesFit, WorkersRan};
+ghost use Rattle.branch_workers.specs.Runs.{PassesFit, WorkersRan, AllSawLegal};
 ghost use Rattle.branch_workers.specs.walking.Workers.{WorkerRan, Ready, IsReady, AllReady, AllRan, CountsFew, IsCounted};
 
 use crate::dealing::{Branching, Comes, Hand, Queue};
 use crate::worker::{Work, Worker, put_back};
-use crate::{Branched, Gate};
+use crate::{Branches, Gate};
 use locked_object::{Pass, Shared};
 use std::alloc::{AllocError, Global};
 use std::marker::Brand;
@@ -34,14 +34,14 @@ struct Room<D, C, R, B: Branching> {
     done: Vec<Pass<D, C, R>>,
 }
 
-/// Runs one worker for each pass, each in a thread of its own, and each for so many turns: it takes the number of a branch from a
+/// Runs one worker for each pass, each in a thread of its own where one can be made, and each for so many turns: it takes the number of a branch from a
 /// queue, asks for a step of it, and puts it back; where the queue is empty it asks for a step of branch 0. The gate is told of
-/// each call. Without memory the passes come back as they were, and no worker has begun.
+/// each call, with the place of its pass. Without memory the passes come back as they were, and no worker has begun.
 pub fn run_workers<
     W: Threads + Wait + Sync,
     C: Drop + Send + Sync,
     R: Drop + Send + Sync,
-    D: Branched<C, R> + Send + Sync,
+    D: Branches<C, R> + Send + Sync,
     G: Gate + Sync,
 >(
     rt: &W,
@@ -56,6 +56,7 @@ pub fn run_workers<
     requires few { length passes.items ≤ 16 }
     requires turns { turns ≤ 2 ^ 57 }
     ensures ran { IfOk result (λ ran. WorkersRan shared.now.board.table.shared.table_id shared.now.board.table.shared.key D.asks branches turns D.steps passes.items ran.passes.items ran.stepped ran.lost) }
+    ensures legal { IfOk result (λ ran. AllSawLegal D.performs shared.now.board.table.shared.key passes.items ran.passes.items) }
     ensures refused { IfErr result (λ back. back.0.items ≡ passes.items) }
 {
     run_dealt::<Brand, W, C, R, D, G>(rt, alloc, shared, branches, passes, gate, turns)
@@ -67,7 +68,7 @@ fn run_dealt<
     W: Threads + Wait + Sync,
     C: Drop + Send + Sync,
     R: Drop + Send + Sync,
-    D: Branched<C, R> + Send + Sync,
+    D: Branches<C, R> + Send + Sync,
     G: Gate + Sync,
 >(
     rt: &W,
@@ -83,6 +84,7 @@ fn run_dealt<
     requires few { length passes.items ≤ 16 }
     requires turns { turns ≤ 2 ^ 57 }
     ensures ran { IfOk result (λ ran. WorkersRan shared.now.board.table.shared.table_id shared.now.board.table.shared.key D.asks B.count turns D.steps passes.items ran.passes.items ran.stepped ran.lost) }
+    ensures legal { IfOk result (λ ran. AllSawLegal D.performs shared.now.board.table.shared.key passes.items ran.passes.items) }
     ensures refused { IfErr result (λ back. back.0.items ≡ passes.items) }
 {
     let Ok(room) = room_for::<B, D, C, R>(alloc, branches, passes.len()) else {
@@ -137,33 +139,37 @@ fn deal<W: Wait, B: Branching>(
     requires fits { queue.IsPassOf line.now seat.old }
     requires room { B.count ≤ queue.ruled_capacity line.now }
     requires held { queue.view seat.old ≡ hand (range 0 B.count) }
-    ensures { queue.IsPassOf line.now seat.new }
+    ensures { queue.IsPassOf line.now seat.new × (queue.view seat.new ≡ hand []) }
 {
     for number in 0..branches {
         put_back(rt, line, seat, number);
     }
 }
 
-/// A worker for each pass, with empty hands.
+/// A worker for each pass, numbered from 0 in their order, with empty hands as the seat has that they come from.
 fn make_ready<B: Branching, D, C, R>(
     line: &Queue<B>,
     seat: &mut crossbeam_queue::Pass<u32, Hand>,
     passes: Vec<Pass<D, C, R>>,
     workers: &mut Vec<Worker<D, C, R>>,
 )
-    requires fits { queue.IsPassOf line.now seat.old }
+    requires fits { queue.IsPassOf line.now seat.old × (queue.view seat.old ≡ hand []) }
+    requires few { length passes.items ≤ 16 }
     requires room { (workers.old.items ≡ []) × (length passes.items ≤ vec_capacity workers.old) }
-    ensures { Ready line.now.table.shared.table_id passes.items workers.new.items }
+    ensures ready { Ready line.now.table.shared.table_id 0 passes.items workers.new.items }
+    ensures empty { queue.view seat.new ≡ hand [] }
 {
+    let mut number = 0;
     for pass in passes {
         let worker = Worker {
-            number: pass.number(),
             pass,
             seat: line.another::<Comes>(seat),
+            number,
             stepped: 0,
             lost: 0,
         };
         workers.push_reserved(worker);
+        number += 1;
     }
 }
 
@@ -172,13 +178,13 @@ fn run_list<
     W: Threads + Wait + Sync,
     C: Drop + Send + Sync,
     R: Drop + Send + Sync,
-    D: Branched<C, R> + Send + Sync,
+    D: Branches<C, R> + Send + Sync,
     G: Gate + Sync,
     B: Branching + Send + Sync,
 >(rt: &W, work: &Work<'_, C, R, D, G, B>, workers: &mut Vec<Worker<D, C, R>>, turns: u64)
     requires ready { AllReady work.now.shared.now.board.table.shared.table_id work.now.shared.now.board.table.shared.key work.now.queue.now.table.shared.table_id workers.old.items }
     requires room { B.count ≤ queue.ruled_capacity work.now.queue.now }
-    ensures { AllRan work.now.shared.now.board.table.shared.table_id work.now.shared.now.board.table.shared.key D.asks D.steps B.count turns workers.old.items workers.new.items }
+    ensures { AllRan work.now.shared.now.board.table.shared.table_id work.now.shared.now.board.table.shared.key D.performs D.asks D.steps B.count turns workers.old.items workers.new.items }
 {
     run_all(rt, work, workers.as_mut_slice(), turns);
 }
@@ -188,13 +194,13 @@ fn run_all<
     W: Threads + Wait + Sync,
     C: Drop + Send + Sync,
     R: Drop + Send + Sync,
-    D: Branched<C, R> + Send + Sync,
+    D: Branches<C, R> + Send + Sync,
     G: Gate + Sync,
     B: Branching + Send + Sync,
 >(rt: &W, work: &Work<'_, C, R, D, G, B>, workers: &mut [Worker<D, C, R>], turns: u64)
     requires ready { AllReady work.now.shared.now.board.table.shared.table_id work.now.shared.now.board.table.shared.key work.now.queue.now.table.shared.table_id workers.old }
     requires room { B.count ≤ queue.ruled_capacity work.now.queue.now }
-    ensures { AllRan work.now.shared.now.board.table.shared.table_id work.now.shared.now.board.table.shared.key D.asks D.steps B.count turns workers.old workers.new }
+    ensures { AllRan work.now.shared.now.board.table.shared.table_id work.now.shared.now.board.table.shared.key D.performs D.asks D.steps B.count turns workers.old workers.new }
 {
     if workers.is_empty() {
         return;
@@ -202,7 +208,7 @@ fn run_all<
     let threads = workers.len();
     let run = |_place: usize, worker: &mut Worker<D, C, R>|
         requires { IsReady work.now.shared.now.board.table.shared.table_id work.now.shared.now.board.table.shared.key work.now.queue.now.table.shared.table_id worker.now × (B.count ≤ queue.ruled_capacity work.now.queue.now) }
-        ensures { WorkerRan work.entry.now.shared.now.board.table.shared.table_id work.entry.now.shared.now.board.table.shared.key D.asks D.steps B.count turns worker.entry.now worker.exit.now }
+        ensures { WorkerRan work.entry.now.shared.now.board.table.shared.table_id work.entry.now.shared.now.board.table.shared.key D.performs D.asks D.steps B.count turns worker.entry.now worker.exit.now }
     { worker.run(rt, work, turns) };
     for_each_mut(rt, workers, threads, &run);
 }

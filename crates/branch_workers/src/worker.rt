@@ -5,19 +5,19 @@ ghost use Rattle.locked_object.specs.Passes as locked;
 ghost use Rattle.branch_workers.specs.walking.Workers.{WorkerFits, WorkerRan};
 
 use crate::dealing::{Branching, Gives, Hand, Queue, Takes};
-use crate::{Branched, Gate};
+use crate::{Branches, Gate};
 use locked_object::{NotRecorded, Pass, Shared};
 use std::sync::Wait;
 
 /// What all workers share.
 #[derive(Drop)]
-pub(crate) struct Work<'a, C: Drop, R: Drop, D: Branched<C, R>, G: Gate, B: Branching> {
+pub(crate) struct Work<'a, C: Drop, R: Drop, D: Branches<C, R>, G: Gate, B: Branching> {
     pub(crate) shared: &'a Shared<C, R, D>,
     pub(crate) queue: &'a Queue<B>,
     pub(crate) gate: &'a G,
 }
 
-/// A pass, its place at the queue, the number of the worker from 0, and how many of its turns were steps and were lost.
+/// A pass, its place at the queue, the number of the worker, which is its pass's place from 0, and how many of its turns were steps and were lost.
 #[derive(Drop)]
 pub(crate) struct Worker<D, C, R> {
     pub(crate) pass: Pass<D, C, R>,
@@ -27,7 +27,7 @@ pub(crate) struct Worker<D, C, R> {
     pub(crate) lost: u64,
 }
 
-impl<C: Drop, R: Drop, D: Branched<C, R>> Worker<D, C, R> {
+impl<C: Drop, R: Drop, D: Branches<C, R>> Worker<D, C, R> {
     /// Takes so many turns.
     pub(crate) fn run<W: Wait, G: Gate, B: Branching>(
         &mut self,
@@ -38,7 +38,7 @@ impl<C: Drop, R: Drop, D: Branched<C, R>> Worker<D, C, R> {
         requires fits { WorkerFits work.now.shared.now.board.table.shared.table_id work.now.shared.now.board.table.shared.key work.now.queue.now.table.shared.table_id self.old }
         requires new { (self.old.stepped ≡ 0) × (self.old.lost ≡ 0) }
         requires room { B.count ≤ queue.ruled_capacity work.now.queue.now }
-        ensures { WorkerRan work.now.shared.now.board.table.shared.table_id work.now.shared.now.board.table.shared.key D.asks D.steps B.count turns self.old self.new }
+        ensures { WorkerRan work.now.shared.now.board.table.shared.table_id work.now.shared.now.board.table.shared.key D.performs D.asks D.steps B.count turns self.old self.new }
     {
         for turn in 0..turns {
             self.turn(rt, work, turn);
@@ -56,7 +56,7 @@ impl<C: Drop, R: Drop, D: Branched<C, R>> Worker<D, C, R> {
         requires few { (self.old.stepped ≤ turn) × (self.old.lost ≤ turn) × (turn < 2 ^ 64 - 1) }
         requires room { B.count ≤ queue.ruled_capacity work.now.queue.now }
         ensures fits { WorkerFits work.now.shared.now.board.table.shared.table_id work.now.shared.now.board.table.shared.key work.now.queue.now.table.shared.table_id self.new }
-        ensures ran { WorkerRan work.now.shared.now.board.table.shared.table_id work.now.shared.now.board.table.shared.key D.asks D.steps B.count 1 self.old self.new }
+        ensures ran { WorkerRan work.now.shared.now.board.table.shared.table_id work.now.shared.now.board.table.shared.key D.performs D.asks D.steps B.count 1 self.old self.new }
     {
         match work.queue.pop_as::<Takes<B>, W>(rt, &mut self.seat) {
             Some(branch) => {
@@ -76,10 +76,10 @@ impl<C: Drop, R: Drop, D: Branched<C, R>> Worker<D, C, R> {
         turn: u64,
     )
         requires pass { locked.IsPassOf work.now.shared.now.board.table.shared.table_id work.now.shared.now.board.table.shared.key self.old.pass }
-        requires branch { (branch < B.count) ⊎ (branch ≡ 0) }
+        requires branch { (branch < B.count) ⊎ ((B.count ≡ 0) × (branch ≡ 0)) }
         requires few { (self.old.stepped ≤ turn) × (self.old.lost ≤ turn) × (turn < 2 ^ 64 - 1) }
         ensures seat { (self.new.seat ≡ self.old.seat) × (self.new.number ≡ self.old.number) }
-        ensures ran { WorkerRan work.now.shared.now.board.table.shared.table_id work.now.shared.now.board.table.shared.key D.asks D.steps B.count 1 self.old self.new }
+        ensures ran { WorkerRan work.now.shared.now.board.table.shared.table_id work.now.shared.now.board.table.shared.key D.performs D.asks D.steps B.count 1 self.old self.new }
     {
         work.gate.before(self.number, turn);
         let command = D::ask(branch);

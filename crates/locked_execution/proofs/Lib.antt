@@ -5,6 +5,7 @@ pub mod BridgeLaws
 pub mod Crossing
 pub mod ExpressionCrossing
 pub mod FrameLaws
+pub mod HistoryLaws
 pub mod LineLaws
 pub mod MachineCrossing
 pub mod OneReplies

@@ -4,13 +4,12 @@ use Rattle.atomic_table.specs.Seated.{TableId}
 use Rattle.calculus.specs.declared.command.Refusal.TheVariants.{Spent}
 use Rattle.recorded_calls.specs.History.{Replays}
 use Rattle.locked_object.specs.Passes as passes
-use Rattle.locked_object.specs.Passes.{number, seen}
-use Rattle.locked_object.specs.Sharing.{Recorded}
+use Rattle.locked_object.specs.Passes.{number, seen, told}
+use Rattle.locked_object.specs.Sharing.{Recorded, SawNothing}
 use Rattle.locked_object.specs.declared.pass.Pass.{Pass}
 use Rattle.branch_workers.specs.Runs.{PassesFit}
 use Rattle.locked_execution.specs.AtDesk.{AtDesk}
-use Rattle.locked_execution.specs.Performs.{Performs}
-use Rattle.locked_execution.specs.Sharing.{History, Legal, WantsMemory}
+use Rattle.locked_execution.specs.Sharing.{History, Keeps, Legal, NotKept}
 use Rattle.locked_execution.specs.declared.command.Command.{Command}
 use Rattle.locked_execution.specs.declared.command.Reply.{Reply}
 use Rattle.locked_execution.specs.declared.shared.Shared.{Shared}
@@ -30,15 +29,16 @@ IsPassOf s p = passes.IsPassOf (table s) (opening s) p
 abbrev pub ArePassesOf : Shared → List (Pass AtDesk Command Reply) → Type 0
 ArePassesOf s ps = PassesFit (table s) (opening s) ps
 
--- why a call was not recorded: after some legal history there is no memory for it, or there is no room for one call more
-abbrev pub NotRecorded : AtDesk → ℕ → Command → Reply → Type 0
-NotRecorded opening n command reply =
-    ((log : History) × (d : AtDesk) × Replays Performs opening log d × WantsMemory d n command reply)
-    ⊎ ((reply ≡ Reply.Refused Spent) × ((log : History) × Legal opening log × (2 ^ 63 ≤ length log)))
+-- why a call was not recorded, of the history: after it the reply to the command is one that is not recorded, for want of memory or
+-- of a ticket; or it has no room for one call more
+abbrev pub WhyNotRecorded : AtDesk → ℕ → Command → History → Reply → Type 0
+WhyNotRecorded opening n command log reply =
+    ((d : AtDesk) × Replays Keeps opening log d × NotKept d n command reply)
+    ⊎ ((reply ≡ Reply.Refused Spent) × (Legal opening log × (2 ^ 63 ≤ length log)))
 
--- a call is recorded, behind all that the pass had seen: the pass has then seen a legal history that ends with it; or it is not, and
--- the pass is as it was
+-- a call is recorded, behind all that the pass had seen: the pass has then seen a legal history that ends with it; or it is not: the
+-- pass has seen and made what it had, and it was told the history that says why
 abbrev pub Answered : AtDesk → Pass AtDesk Command Reply → Command → Reply → Pass AtDesk Command Reply → Type 0
 Answered opening before command reply after =
     (Recorded before command reply after × Legal opening (seen after))
-    ⊎ (NotRecorded opening (number before) command reply × (after ≡ before))
+    ⊎ (WhyNotRecorded opening (number before) command (told after) reply × SawNothing before after)

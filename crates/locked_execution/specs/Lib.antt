@@ -4,6 +4,7 @@ pub mod Bridge
 pub mod Calls
 pub mod Frames
 pub mod GoingBack
+pub mod Histories
 pub mod Performs
 pub mod Replies
 pub mod Sharing

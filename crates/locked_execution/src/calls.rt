@@ -1,12 +1,12 @@
-// The calls of several designers, each in a thread of its own.
+// The calls of several designers, who may be in threads of their own.
 ghost use Rattle.std.specs.Prelude.{◌≡◌, ◌≤◌, ◌<◌, ◌^◌, length, IfOk, IfErr};
 ghost use mathlib.Core.List.{IsPrefix};
-ghost use Rattle.branch_workers.specs.Runs.{WorkersRan};
-ghost use Rattle.locked_object.specs.Passes.{number, seen, own};
+ghost use Rattle.machine.specs.Headline.{Headline};
+ghost use Rattle.branch_workers.specs.Runs.{WorkersRan, AllSawLegal};
+ghost use Rattle.locked_object.specs.Passes.{number, seen, own, told};
 ghost use Rattle.locked_object.specs.Sharing.{NewPasses};
-ghost use Rattle.locked_execution.specs.AtDesk.{new_desk};
-ghost use Rattle.locked_execution.specs.Performs.{Performs};
-ghost use Rattle.locked_execution.specs.Sharing.{Legal, is_step};
+ghost use Rattle.locked_execution.specs.AtDesk.{execution, new_desk};
+ghost use Rattle.locked_execution.specs.Sharing.{Keeps, Legal, is_step};
 ghost use Rattle.locked_execution.specs.Calls.{IsPassOf, ArePassesOf, Answered, opening, table};
 ghost use Rattle.locked_execution.specs.declared.command.Command as any;
 ghost use Rattle.system_places.specs.SystemBranches.{branch_count};
@@ -21,7 +21,7 @@ use std::sync::Wait;
 use std::thread::Threads;
 
 impl Shared {
-    /// The execution under a lock, without breakpoints, and so many passes, 1 to 16, numbered from 0.
+    /// The execution under a lock, without breakpoints, and so many passes, 16 at most, numbered from 0.
     pub fn new(
         alloc: Global,
         machine: Machine,
@@ -29,8 +29,10 @@ impl Shared {
     ) -> Result<(Shared, Vec<Pass>), AllocError>
         requires { count ≤ 16 }
         ensures opening { IfOk result (λ made. opening made.0 ≡ new_desk machine) }
+        ensures sound { Headline (execution (new_desk machine)) }
         ensures passes { IfOk result (λ made. NewPasses (table made.0) (opening made.0) count made.1.items) }
     {
+        machine.is_sound();
         let branches = machine.checked().branches();
         let (object, passes) = locked_object::Shared::new(alloc, Desk::new(machine), count)?;
         Ok((Shared { object, branches }, passes))
@@ -43,8 +45,9 @@ impl Shared {
         self.branches
     }
 
-    /// Answers the command of a pass under the lock, for which it may wait. Want of memory, and 26 where 2^63 calls are
-    /// recorded, are not recorded; all else is.
+    /// Answers the command of a pass under the lock, for which it may wait. Want of memory is not recorded, nor is 26, where no
+    /// ticket is left or 2^63 calls are recorded; all else is. Where the call is not recorded the pass is told the history that says
+    /// why, and `length` answers no less than its length from then on.
     pub fn call<W: Wait>(&self, rt: &W, pass: &mut Pass, command: &Command) -> Reply
         requires { IsPassOf self.now pass.old }
         ensures pass { IsPassOf self.now pass.new × (number pass.new ≡ number pass.old) }
@@ -64,6 +67,7 @@ impl Shared {
         ensures length { length (seen pass.new) ≡ result }
         ensures legal { Legal (opening self.now) (seen pass.new) }
         ensures before { IsPrefix (seen pass.old) (seen pass.new) }
+        ensures told { IsPrefix (told pass.old) (seen pass.new) }
     {
         self.object.length(pass)
     }
@@ -83,7 +87,7 @@ impl Shared {
         self.object.meet(one, other)
     }
 
-    /// Runs a worker for each pass, each in a thread of its own, for so many turns: a turn steps a branch. It tells the passes in
+    /// Runs a worker for each pass, each in a thread of its own where one can be made, for so many turns: a turn steps a branch. It tells the passes in
     /// their order, how many turns were steps, and how many were lost: their call was not recorded. Without memory the passes come
     /// back as they were.
     pub fn run_workers<W: Threads + Wait + Sync, G: Gate + Sync>(
@@ -98,6 +102,7 @@ impl Shared {
         requires few { length passes.items ≤ 16 }
         requires turns { turns ≤ 2 ^ 57 }
         ensures ran { IfOk result (λ ran. WorkersRan (table self.now) (opening self.now) any.Command.Branch (branch_count (opening self.now).machine.checked) turns is_step passes.items ran.passes.items ran.stepped ran.lost) }
+        ensures legal { IfOk result (λ ran. AllSawLegal Keeps (opening self.now) passes.items ran.passes.items) }
         ensures refused { IfErr result (λ back. back.0.items ≡ passes.items) }
     {
         run_workers(rt, alloc, &self.object, self.branches, passes, gate, turns)

@@ -2,6 +2,7 @@
 ghost use Rattle.locked_execution.specs.Bridge.{IsOnExecution, AreOnExecution};
 ghost use Rattle.locked_execution.specs.Frames.{OnlyBreaksAndClears, OthersKeepTheirs, OthersKeepTheirsOverLists, BreakLeavesExecution, ClearLeavesExecution, RefusalLeavesAll, BreakSets, ClearClears};
 ghost use Rattle.locked_execution.specs.GoingBack.{NoneTakeLess, RollTakesNoOthers, ConsequencesTellRoll, ValueFromBefore, AllAmountToBackAndForth};
+ghost use Rattle.locked_execution.specs.Histories.{HistoryIsAnswered, HistoryKeepsHeadline};
 ghost use Rattle.locked_execution.specs.Replies.{OneReply, SomeReply, AnsweredJoins};
 
 /// What sessions are answered is what their execution answers to its own commands, a step in a branch being the step of the
@@ -41,4 +42,11 @@ pub fn rollback_laws()
     ensures told { ConsequencesTellRoll }
     ensures value { ValueFromBefore }
     ensures amounts { AllAmountToBackAndForth }
+{}
+
+/// A legal history of a shared execution is answered, call by call, as a list of commands of sessions is. Where the execution was
+/// sound before it, what holds after all commands holds after the history.
+pub fn history_laws()
+    ensures answered { HistoryIsAnswered }
+    ensures headline { HistoryKeepsHeadline }
 {}

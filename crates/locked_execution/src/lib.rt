@@ -16,6 +16,6 @@ pub use branch_workers::{Gate, Ran};
 pub use calculus::{Choice, Event, Kind, Refusal};
 pub use command::{Command, Reply};
 pub use desk::Desk;
-pub use laws::{breakpoint_laws, execution_laws, reply_laws, rollback_laws};
+pub use laws::{breakpoint_laws, execution_laws, history_laws, reply_laws, rollback_laws};
 pub use machine::{Breaks, Machine};
 pub use shared::{Pass, Shared};

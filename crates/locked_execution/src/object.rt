@@ -1,27 +1,26 @@
 // The desk as the object of one thread that several passes call under a lock.
-ghost use Rattle.std.specs.Prelude.{◌≡◌, MatchResult};
+ghost use Rattle.std.specs.Prelude.{◌≡◌, ◌⊎◌, MatchResult};
 ghost use Rattle.calculus.specs.declared.command.Refusal as refusal;
 ghost use Rattle.locked_execution.specs.declared.command.Reply as any;
 
 use crate::{Command, Desk, Reply};
-use branch_workers::Branched;
+use branch_workers::Branches;
 use calculus::Refusal;
 use locked_object::Object;
 
 impl Object<Command, Reply> for Desk {
-    ghost use Rattle.locked_execution.specs.Performs.{Performs};
-    ghost use Rattle.locked_execution.specs.Sharing.{WantsMemory};
+    ghost use Rattle.locked_execution.specs.Sharing.{Keeps, NotKept};
 
-    ghost performs = { Performs };
+    ghost performs = { Keeps };
 
-    ghost refuses = { WantsMemory };
+    ghost refuses = { NotKept };
 
     fn perform(&mut self, pass: u32, command: &Command) -> Result<Reply, Reply> {
-        unless_memory(Desk::perform(self, pass, command))
+        if_kept(Desk::perform(self, pass, command))
     }
 }
 
-impl Branched<Command, Reply> for Desk {
+impl Branches<Command, Reply> for Desk {
     ghost use Rattle.locked_execution.specs.declared.command.Command as commands;
     ghost use Rattle.locked_execution.specs.Sharing.{is_step};
 
@@ -41,12 +40,15 @@ impl Branched<Command, Reply> for Desk {
     }
 }
 
-/// The reply, as an error where there was no memory.
-fn unless_memory(reply: Reply) -> Result<Reply, Reply>
-    ensures { MatchResult result (λ r. (r ≡ reply) × (reply ≡ any.Reply.Refused refusal.Refusal.Memory → ⊥)) (λ r. (r ≡ reply) × (reply ≡ any.Reply.Refused refusal.Refusal.Memory)) }
+/// The reply, as an error where it is not recorded: there was no memory, or no ticket.
+fn if_kept(reply: Reply) -> Result<Reply, Reply>
+    ensures { MatchResult result
+        (λ r. (r ≡ reply) × (reply ≡ any.Reply.Refused refusal.Refusal.Memory → ⊥) × (reply ≡ any.Reply.Refused refusal.Refusal.Spent → ⊥))
+        (λ r. (r ≡ reply) × ((reply ≡ any.Reply.Refused refusal.Refusal.Memory) ⊎ (reply ≡ any.Reply.Refused refusal.Refusal.Spent))) }
 {
     match reply {
         Reply::Refused(Refusal::Memory) => Err(Reply::Refused(Refusal::Memory)),
+        Reply::Refused(Refusal::Spent) => Err(Reply::Refused(Refusal::Spent)),
         told => Ok(told),
     }
 }

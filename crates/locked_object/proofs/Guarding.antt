@@ -4,7 +4,7 @@ use mathlib.Core.Option.{Option, some, none, some-injective, some-ne-none}
 use lib.ListN.{get_elem?}
 use Rattle.atomic_table.specs.Table.{State, Me, takes, gives, Allows, rest}
 use Rattle.atomic_table.specs.Seated.{TableId}
-use Rattle.locked_object.specs.Guards.{Guards, Stays, TakesOut, PutsBack}
+use Rattle.locked_object.specs.Guards.{Guards, Stays, TakesKeeper, GivesKeeper}
 use Rattle.locked_object.specs.Keepers.{IsKeeperOf}
 use Rattle.locked_object.specs.declared.keeper.Keeper.{Keeper}
 use Rattle.locked_object.specs.declared.vault.Place.{Place}
@@ -26,24 +26,24 @@ module _ {D C R : Type 0} (performs : D → ℕ → C → R → D → Type 0) (t
   alone : (views : List Place) (id : ℕ) (u w : Place) → id ≡ 0 → views ≡ u ∷ [] → set views id w ≡ w ∷ []
   alone views id u w e is = λ i. set (is i) (e i) w
 
-  takes-home : (slots id : ℕ) (known : Keeper D C R → Type 0) → ((k : Keeper D C R) → IsKeeperOf performs table opening k → known k) → Allows (Guards performs table opening) slots id (Home, []) 0 (λ n. n) (λ _. TakesOut known)
+  takes-home : (slots id : ℕ) (known : Keeper D C R → Type 0) → ((k : Keeper D C R) → IsKeeperOf performs table opening k → known k) → Allows (Guards performs table opening) slots id (Home, []) 0 (λ n. n) (λ _. TakesKeeper known)
   takes-home slots id known all s h count at small =
       let now = seated s id Home h at in
       let k = now.2.0 in
       (Away, takes 0 k, ap (λ (hs : List (Option (Keeper D C R))). get_elem? hs 0) now.2.1, (Away, alone s.views id Home Away now.0 now.1, ap (λ (hs : List (Option (Keeper D C R))). set hs 0 none) now.2.1), (k, refl, all k now.2.2))
 
   pub takes_at : (slots id : ℕ) (me : Me (Keeper D C R) Place) (known : Keeper D C R → Type 0) → me ≡ (Home, []) → ((k : Keeper D C R) → IsKeeperOf performs table opening k → known k)
-      → Allows (Guards performs table opening) slots id me 0 (λ n. n) (λ _. TakesOut known)
-  takes_at slots id me known is all = subst (λ (m : Me (Keeper D C R) Place). Allows (Guards performs table opening) slots id m 0 (λ n. n) (λ _. TakesOut known)) (sym is) (takes-home slots id known all)
+      → Allows (Guards performs table opening) slots id me 0 (λ n. n) (λ _. TakesKeeper known)
+  takes_at slots id me known is all = subst (λ (m : Me (Keeper D C R) Place). Allows (Guards performs table opening) slots id m 0 (λ n. n) (λ _. TakesKeeper known)) (sym is) (takes-home slots id known all)
 
-  gives-away : (slots id : ℕ) (k : Keeper D C R) → IsKeeperOf performs table opening k → Allows (Guards performs table opening) slots id (Away, (0, k) ∷ []) 0 (λ n. n) (λ _. PutsBack)
+  gives-away : (slots id : ℕ) (k : Keeper D C R) → IsKeeperOf performs table opening k → Allows (Guards performs table opening) slots id (Away, (0, k) ∷ []) 0 (λ n. n) (λ _. GivesKeeper)
   gives-away slots id k fits s h count at small =
       let now = seated s id Away h at in
       (Home, gives, tt, (Home, alone s.views id Away Home now.0 now.1, (k, ap (λ (hs : List (Option (Keeper D C R))). set hs 0 (some k)) now.2, fits)), refl)
 
   pub gives_at : (slots id : ℕ) (me : Me (Keeper D C R) Place) (k : Keeper D C R) → me ≡ (Away, (0, k) ∷ []) → IsKeeperOf performs table opening k
-      → Allows (Guards performs table opening) slots id me 0 (λ n. n) (λ _. PutsBack)
-  gives_at slots id me k is fits = subst (λ (m : Me (Keeper D C R) Place). Allows (Guards performs table opening) slots id m 0 (λ n. n) (λ _. PutsBack)) (sym is) (gives-away slots id k fits)
+      → Allows (Guards performs table opening) slots id me 0 (λ n. n) (λ _. GivesKeeper)
+  gives_at slots id me k is fits = subst (λ (m : Me (Keeper D C R) Place). Allows (Guards performs table opening) slots id m 0 (λ n. n) (λ _. GivesKeeper)) (sym is) (gives-away slots id k fits)
 
   -- the same keeper, at the same word
   pub keeper_moves : (t : TableId) (o : D) (k : Keeper D C R) → t ≡ table → o ≡ opening → IsKeeperOf performs t o k → IsKeeperOf performs table opening k

@@ -1,8 +1,12 @@
 -- One call more at the end of a history.
-use Rattle.std.proofs.Common.{◌≡◌, ℕ, ◌+◌, List, [], ◌∷◌, ◌++◌, length, refl, ap, ◌∙◌, subst, arith}
+use Rattle.std.proofs.Common.{◌≡◌, ℕ, ◌+◌, List, [], ◌∷◌, ◌++◌, length, refl, sym, ap, ◌∙◌, subst, arith}
 use Rattle.std.proofs.lemmas.List.{length-append}
+use Rattle.atomic_table.specs.Seated.{TableId}
 use Rattle.recorded_calls.specs.History.{Replays, entry_of}
+use Rattle.recorded_calls.specs.Seats.{IsScribeOf}
 use Rattle.recorded_calls.specs.declared.entry.Entry.{Entry}
+use Rattle.locked_object.specs.Keepers.{IsKeeperOf, history}
+use Rattle.locked_object.specs.declared.keeper.Keeper.{Keeper}
 
 module _ {D C R : Type 0} (performs : D → ℕ → C → R → D → Type 0) where
   -- what the object replies behind a history makes the history longer
@@ -13,3 +17,13 @@ module _ {D C R : Type 0} (performs : D → ℕ → C → R → D → Type 0) wh
   -- and one longer
   pub one_more : (calls : ℕ) (log longer : List (Entry C R)) (e : Entry C R) → calls ≡ length log → longer ≡ log ++ e ∷ [] → calls + 1 ≡ length longer
   one_more calls log longer e counted is = let l = ap length is ∙ length-append log (e ∷ []) in omega arith
+
+module _ {D C R : Type 0} (performs : D → ℕ → C → R → D → Type 0) (table : TableId) (opening : D) where
+  -- a keeper with the same object and the same history
+  pub keeper_same : (k k' : Keeper D C R) → IsScribeOf table opening k'.scribe → k'.object ≡ k.object → k'.calls ≡ k.calls → history k' ≡ history k → IsKeeperOf performs table opening k → IsKeeperOf performs table opening k'
+  keeper_same k k' notes object calls same fits =
+      record {
+        notes = notes;
+        replays = subst (λ (log : List (Entry C R)). Replays performs opening log k'.object) (sym same) (subst (Replays performs opening (history k)) (sym object) fits.replays);
+        counted = calls ∙ fits.counted ∙ sym (ap length same);
+      }

@@ -1,4 +1,6 @@
 -- The rule of the vault, and its two steps.
+-- It says where the keeper is by what the vault's only seat knows. While the lock is free that seat rests on the lock, and the lock lends
+-- seats of one view alone, `Home`: so while the lock is free the keeper is at home.
 use Rattle.std.specs.Prelude.{◌≡◌, ℕ, List, [], ◌∷◌}
 use mathlib.Core.Option.{Option, none, some}
 use Rattle.atomic_table.specs.Table.{State, Me}
@@ -19,8 +21,9 @@ module _ {D C R : Type 0} where
   Guards performs table opening s = (v : Place) × (s.views ≡ v ∷ []) × Stays performs table opening v s.homes
 
   -- the seat has the keeper, of which this is known
-  abbrev pub TakesOut : (Keeper D C R → Type 0) → Me (Keeper D C R) Place → Type 0
-  TakesOut known n = (k : Keeper D C R) × (n ≡ (Away, (0, k) ∷ [])) × known k
+  abbrev pub TakesKeeper : (Keeper D C R → Type 0) → Me (Keeper D C R) Place → Type 0
+  TakesKeeper known n = (k : Keeper D C R) × (n ≡ (Away, (0, k) ∷ [])) × known k
 
-  abbrev pub PutsBack : Me (Keeper D C R) Place → Type 0
-  PutsBack n = n ≡ (Home, [])
+  -- it has put the keeper back
+  abbrev pub GivesKeeper : Me (Keeper D C R) Place → Type 0
+  GivesKeeper n = n ≡ (Home, [])

@@ -14,6 +14,6 @@ pub record OneHolds (word : ℕ) (views : List Hold) : Type 0 where
 abbrev pub Locked : ℕ → Hold → Type 0
 Locked found after = 2 ≤ found → after ≡ Held
 
--- nobody but who has the lock lets the seat rest
+-- where the seat is let rest the word was 0: it did not rest there already
 abbrev pub Unlocked : ℕ → Type 0
 Unlocked found = found ≡ 0

@@ -18,6 +18,10 @@ module _ {D C R : Type 0} where
   abbrev pub own : Pass D C R → List (Entry C R)
   own p = seats.own p.seat
 
+  -- a beginning of the history that it was told of and has not looked at: the whole history, where its last call was not recorded
+  abbrev pub told : Pass D C R → List (Entry C R)
+  told p = seats.told p.seat
+
   -- a pass between its calls, at the word of this table, with this opening
   abbrev pub IsPassOf : TableId → D → Pass D C R → Type 0
   IsPassOf table opening p = seats.IsPassOf table opening p.seat

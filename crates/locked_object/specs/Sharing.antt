@@ -19,8 +19,11 @@ module _ {D C R : Type 0} where
     pub saw : seen after ≡ (seen before ++ between) ++ entry_of (number before) c reply ∷ []
     pub made : own after ≡ own before ++ entry_of (number before) c reply ∷ []
 
-  -- why the call was not recorded: after some legal history the object refuses it, or there is no room for one call more
-  abbrev pub Unrecorded : (D → ℕ → C → R → D → Type 0) → (D → ℕ → C → R → Type 0) → D → ℕ → C → NotRecorded R → Type 0
-  Unrecorded performs refuses opening n c (NotRecorded.Refused reply) =
-      (log : List (Entry C R)) × (d : D) × Replays performs opening log d × refuses d n c reply
-  Unrecorded performs refuses opening n c NotRecorded.Full = (log : List (Entry C R)) × IsLegal performs opening log × (2 ^ 63 ≤ length log)
+  -- why the call was not recorded, of the history: the object after it refuses the call, or it has no room for one call more
+  abbrev pub Unrecorded : (D → ℕ → C → R → D → Type 0) → (D → ℕ → C → R → Type 0) → D → ℕ → C → List (Entry C R) → NotRecorded R → Type 0
+  Unrecorded performs refuses opening n c log (NotRecorded.Refused reply) = (d : D) × Replays performs opening log d × refuses d n c reply
+  Unrecorded performs refuses opening n c log NotRecorded.Full = IsLegal performs opening log × (2 ^ 63 ≤ length log)
+
+  -- the pass of a call that is not recorded has seen and made what it had
+  abbrev pub SawNothing : Pass D C R → Pass D C R → Type 0
+  SawNothing before after = (seen after ≡ seen before) × (own after ≡ own before)

@@ -18,9 +18,11 @@ impl<C, R, D: Object<C, R>> Keeper<D, C, R> {
     ghost use mathlib.Core.List.{IsPrefix};
     ghost use Rattle.recorded_calls.specs.History.{entry_of};
     ghost use Rattle.locked_object.specs.Keepers.{IsKeeperOf, history, NotRecordedBy};
-    ghost use Rattle.locked_object.specs.Passes.{IsPassOf, number, seen, own};
+    ghost use Rattle.locked_object.specs.Passes.{IsPassOf, number, seen, own, told};
+    ghost use Rattle.locked_object.specs.Sharing.{SawNothing};
 
-    /// Performs the command of a pass on the object, and records it with its reply.
+    /// Performs the command of a pass on the object, and records it with its reply. Where it is not recorded the pass is told the
+    /// history, after which that is so.
     pub fn perform(
         &mut self,
         board: &Board<D, C, R, Replies<D>>,
@@ -37,9 +39,11 @@ impl<C, R, D: Object<C, R>> Keeper<D, C, R> {
         ensures seen { OnOk result (seen pass.new ≡ history self.new) }
         ensures before { OnOk result (IsPrefix (seen pass.old) (history self.old)) }
         ensures refused { IfErr result (NotRecordedBy D.refuses self.old (number pass.old) command.now) }
-        ensures same { OnErr result ((self.new ≡ self.old) × (pass.new ≡ pass.old)) }
+        ensures same { OnErr result ((self.new.object ≡ self.old.object) × (history self.new ≡ history self.old)) }
+        ensures told { OnErr result (SawNothing pass.old pass.new × (told pass.new ≡ history self.old)) }
     {
         if self.calls >= MOST_CALLS {
+            self.tell(board, pass);
             return Err(NotRecorded::Full);
         }
         match self.object.perform(pass.number, command) {
@@ -48,7 +52,22 @@ impl<C, R, D: Object<C, R>> Keeper<D, C, R> {
                 self.calls += 1;
                 Ok(reply)
             }
-            Err(reply) => Err(NotRecorded::Refused(reply)),
+            Err(reply) => {
+                self.tell(board, pass);
+                Err(NotRecorded::Refused(reply))
+            }
         }
+    }
+
+    /// Tells the pass the history.
+    fn tell(&mut self, board: &Board<D, C, R, Replies<D>>, pass: &mut Pass<D, C, R>)
+        requires keeper { IsKeeperOf D.performs board.now.table.shared.table_id board.now.table.shared.key self.old }
+        requires pass { IsPassOf board.now.table.shared.table_id board.now.table.shared.key pass.old }
+        ensures keeper { IsKeeperOf D.performs board.now.table.shared.table_id board.now.table.shared.key self.new }
+        ensures pass { IsPassOf board.now.table.shared.table_id board.now.table.shared.key pass.new × (number pass.new ≡ number pass.old) }
+        ensures same { (self.new.object ≡ self.old.object) × (history self.new ≡ history self.old) }
+        ensures told { SawNothing pass.old pass.new × (told pass.new ≡ history self.old) }
+    {
+        board.tell(&mut self.scribe, &mut pass.seat);
     }
 }

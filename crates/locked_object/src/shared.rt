@@ -3,10 +3,10 @@ ghost use Rattle.std.specs.Prelude.{◌≡◌, ◌≤◌, [], length, IfOk, OnOk
 ghost use mathlib.Core.List.{IsPrefix};
 ghost use Rattle.recorded_calls.specs.History.{IsLegal};
 ghost use Rattle.recorded_calls.specs.Seats.{IsScribeOf, noted, made};
-ghost use Rattle.locked_object.specs.Guards.{TakesOut};
+ghost use Rattle.locked_object.specs.Guards.{TakesKeeper};
 ghost use Rattle.locked_object.specs.Keepers.{IsKeeperOf};
-ghost use Rattle.locked_object.specs.Passes.{IsPassOf, number, seen, own};
-ghost use Rattle.locked_object.specs.Sharing.{NewPasses, Recorded, Unrecorded};
+ghost use Rattle.locked_object.specs.Passes.{IsPassOf, number, seen, own, told};
+ghost use Rattle.locked_object.specs.Sharing.{NewPasses, Recorded, Unrecorded, SawNothing};
 ghost use Rattle.locked_object.specs.declared.keeper.Keeper as any;
 ghost use Rattle.locked_object.specs.declared.lock.Hold.TheVariants.{Held};
 ghost use Rattle.locked_object.specs.declared.vault.Place.TheVariants.{Home};
@@ -64,7 +64,8 @@ impl<C, R, D: Object<C, R>> Shared<C, R, D> {
         Ok((shared, passes))
     }
 
-    /// Performs the command of a pass under the lock, for which it may wait, and records it with its reply.
+    /// Performs the command of a pass under the lock, for which it may wait, and records it with its reply. Where it is not recorded
+    /// the pass is told the history, after which that is so, and `length` answers no less than its length from then on.
     pub fn call<W: Wait>(
         &self,
         rt: &W,
@@ -75,8 +76,8 @@ impl<C, R, D: Object<C, R>> Shared<C, R, D> {
         ensures pass { IsPassOf self.now.board.table.shared.table_id self.now.board.table.shared.key pass.new × (number pass.new ≡ number pass.old) }
         ensures recorded { IfOk result (λ reply. Recorded pass.old command.now reply pass.new) }
         ensures legal { OnOk result (IsLegal D.performs self.now.board.table.shared.key (seen pass.new)) }
-        ensures refused { IfErr result (Unrecorded D.performs D.refuses self.now.board.table.shared.key (number pass.old) command.now) }
-        ensures same { OnErr result (pass.new ≡ pass.old) }
+        ensures refused { IfErr result (Unrecorded D.performs D.refuses self.now.board.table.shared.key (number pass.old) command.now (told pass.new)) }
+        ensures same { OnErr result (SawNothing pass.old pass.new) }
     {
         let (mark, mut seat) = self.lock(rt);
         let told = self.call_at(&mut seat, pass, command);
@@ -91,6 +92,7 @@ impl<C, R, D: Object<C, R>> Shared<C, R, D> {
         ensures length { length (seen pass.new) ≡ result }
         ensures legal { IsLegal D.performs self.now.board.table.shared.key (seen pass.new) }
         ensures before { IsPrefix (seen pass.old) (seen pass.new) }
+        ensures told { IsPrefix (told pass.old) (seen pass.new) }
     {
         self.board.length(&mut pass.seat)
     }
@@ -167,8 +169,8 @@ impl<C, R, D: Object<C, R>> Shared<C, R, D> {
         ensures pass { IsPassOf self.now.board.table.shared.table_id self.now.board.table.shared.key pass.new × (number pass.new ≡ number pass.old) }
         ensures recorded { IfOk result (λ reply. Recorded pass.old command.now reply pass.new) }
         ensures legal { OnOk result (IsLegal D.performs self.now.board.table.shared.key (seen pass.new)) }
-        ensures refused { IfErr result (Unrecorded D.performs D.refuses self.now.board.table.shared.key (number pass.old) command.now) }
-        ensures same { OnErr result (pass.new ≡ pass.old) }
+        ensures refused { IfErr result (Unrecorded D.performs D.refuses self.now.board.table.shared.key (number pass.old) command.now (told pass.new)) }
+        ensures same { OnErr result (SawNothing pass.old pass.new) }
     {
         self.take::<Brand>(seat);
         let keeper = seat.slot_mut(&self.vault.shared, 0);
@@ -182,7 +184,7 @@ impl<C, R, D: Object<C, R>> Shared<C, R, D> {
         requires seat { (seat.old.table_id ≡ self.now.vault.shared.table_id) × (seat.old.me ≡ (Home, [])) }
         requires known { (k : any.Keeper D C R) → IsKeeperOf D.performs self.now.board.table.shared.table_id self.now.board.table.shared.key k → J.known k }
         ensures seat { seat.new.table_id ≡ seat.old.table_id }
-        ensures taken { TakesOut J.known seat.new.me }
+        ensures taken { TakesKeeper J.known seat.new.me }
     {
         self.vault.shared.load::<Takes<J>>(seat, 0);
     }

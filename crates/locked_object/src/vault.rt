@@ -32,16 +32,16 @@ pub(crate) struct Takes<J> {
 }
 
 impl<D, C, R, J: Knowing<Keeper<D, C, R>>> Play<Keeper<D, C, R>, Place> for Takes<J> {
-    ghost use Rattle.locked_object.specs.Guards.{TakesOut};
+    ghost use Rattle.locked_object.specs.Guards.{TakesKeeper};
 
-    ghost then = { λ _ _ _. TakesOut J.known };
+    ghost then = { λ _ _ _. TakesKeeper J.known };
 }
 
 /// The keeper is put back.
 pub(crate) struct Gives;
 
 impl<D, C, R> Play<Keeper<D, C, R>, Place> for Gives {
-    ghost use Rattle.locked_object.specs.Guards.{PutsBack};
+    ghost use Rattle.locked_object.specs.Guards.{GivesKeeper};
 
-    ghost then = { λ _ _ _. PutsBack };
+    ghost then = { λ _ _ _. GivesKeeper };
 }

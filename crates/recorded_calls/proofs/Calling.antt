@@ -12,7 +12,7 @@ use Rattle.recorded_calls.specs.declared.board.Pass.{Pass}
 use Rattle.recorded_calls.specs.History.{calls_by, IsLegal}
 use Rattle.recorded_calls.specs.Kept.{Kept}
 use Rattle.recorded_calls.specs.Steps.{keeper_at, pass_at, one_more, newcomer_of, reads, hears, Announces, Records, Adopts, Looks, Takes}
-use Rattle.recorded_calls.specs.Seats.{seen_in, own_in, number_in, IsPassOf}
+use Rattle.recorded_calls.specs.Seats.{seen_in, own_in, told_in, number_in, IsPassOf}
 use Rattle.recorded_calls.proofs.Beginnings.{prefix_both, calls_prefix, calls_here}
 use Rattle.recorded_calls.proofs.StepLaws.{saying, hearing, makes, reads_letter, hears_claim, announces, records, adopts, looks, takes}
 
@@ -76,10 +76,10 @@ module _ {C R : Type 0} where
       ap (λ (l : List (Entry C R)). calls_by n (noted ++ l)) one ∙ calls_here n noted e by ∙ (λ i. all i ++ sym one i)
 
 module _ {O C R : Type 0} where
-  pub is_pass : (table : TableId) (o : O) (p : Pass O C R) (n : ℕ) (seen own : List (Entry C R)) → p.seat.table_id ≡ table → p.seat.me ≡ (pass_at o n seen own, []) → calls_by n seen ≡ own → IsPassOf table o p
-  is_pass table o p n seen own at is calls =
+  pub is_pass : (table : TableId) (o : O) (p : Pass O C R) (n : ℕ) (seen own told : List (Entry C R)) → p.seat.table_id ≡ table → p.seat.me ≡ (pass_at o n seen own told, []) → calls_by n seen ≡ own → IsPassOf table o p
+  is_pass table o p n seen own told at is calls =
       record {
         of_table = at;
-        rests = is ∙ sym (ap (λ (m : Me ℕ (View O C R)). (pass_at o (number_in m.0) (seen_in m.0) (own_in m.0), [])) is);
+        rests = is ∙ sym (ap (λ (m : Me ℕ (View O C R)). (pass_at o (number_in m.0) (seen_in m.0) (own_in m.0) (told_in m.0), [])) is);
         own_calls = subst (λ (m : Me ℕ (View O C R)). calls_by (number_in m.0) (seen_in m.0) ≡ own_in m.0) (sym is) calls;
       }

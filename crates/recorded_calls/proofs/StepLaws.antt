@@ -345,7 +345,7 @@ module _ {O C R : Type 0} (performs : O → ℕ → C → R → O → Type 0) (o
   adopts slots id o n seen own said told is s kept len at bound =
       let a = kept.account in
       let v = saying o n seen own said told in
-      let w = pass_at o n told (own ++ said) in
+      let w = pass_at o n told (own ++ said) [] in
       let f = kept.each id v at in
       let less : IsPrefix (own ++ said) (calls_by n a.log) = subst (λ (l : List (Entry C R)). IsPrefix l (calls_by n a.log)) is (calls_prefix n told a.log f.was_told) in
       let more : IsPrefix (calls_by n a.log) (own ++ said) = ⊎_elim (λ c. subst (λ (l : List (Entry C R)). IsPrefix l (own ++ said)) (sym c) (said, refl)) (λ c. prefix_same (calls_by n a.log) (own ++ said) c) f.stands in (
@@ -372,7 +372,7 @@ module _ {O C R : Type 0} (performs : O → ℕ → C → R → O → Type 0) (o
   looks slots id o n seen own told s kept len at bound =
       let a = kept.account in
       let v = saying o n seen own [] told in
-      let w = pass_at o n a.log own in
+      let w = pass_at o n a.log own [] in
       let f = kept.each id v at in
       let is : calls_by n a.log ≡ own = ⊎_elim (λ c. c) (λ c. c ∙ append-nil own) f.stands in (
         w,
@@ -398,7 +398,7 @@ module _ {O C R : Type 0} (performs : O → ℕ → C → R → O → Type 0) (o
   takes slots id o n seen own told s kept len at bound =
       let a = kept.account in
       let v = saying o n seen own [] told in
-      let w = pass_at o n told (own ++ []) in
+      let w = pass_at o n told (own ++ []) [] in
       let f = kept.each id v at in
       let is : calls_by n a.log ≡ own = ⊎_elim (λ c. c) (λ c. c ∙ append-nil own) f.stands in (
         w,

@@ -18,6 +18,10 @@ module _ {O C R : Type 0} where
   own_in (Speaker p) = p.own
   own_in v = []
 
+  abbrev pub told_in : View O C R → List (Entry C R)
+  told_in (Speaker p) = p.told
+  told_in v = []
+
   abbrev pub number_in : View O C R → ℕ
   number_in (Speaker p) = p.number
   number_in v = 0
@@ -38,6 +42,10 @@ module _ {O C R : Type 0} where
   abbrev pub own : Pass O C R → List (Entry C R)
   own p = own_in p.seat.me.0
 
+  -- a beginning of the history that it was told of and has not looked at: the whole history, where its last call was not recorded
+  abbrev pub told : Pass O C R → List (Entry C R)
+  told p = told_in p.seat.me.0
+
   abbrev pub number : Pass O C R → ℕ
   number p = number_in p.seat.me.0
 
@@ -52,9 +60,10 @@ module _ {O C R : Type 0} where
   -- a pass of this table between its calls: it has announced nothing, and what it has seen has of its number just its own calls
   pub record IsPassOf (table : TableId) (opening : O) (p : Pass O C R) : Type 0 where
     pub of_table : p.seat.table_id ≡ table
-    pub rests : p.seat.me ≡ (pass_at opening (number p) (seen p) (own p), [])
+    pub rests : p.seat.me ≡ (pass_at opening (number p) (seen p) (own p) (told p), [])
     pub own_calls : calls_by (number p) (seen p) ≡ own p
 
+  -- the keeper's seat of this table between calls: it has heard no claim
   pub record IsScribeOf (table : TableId) (opening : O) (s : Scribe O C R) : Type 0 where
     pub of_table : s.seat.table_id ≡ table
     pub rests : s.seat.me ≡ (keeper_at opening (made s) (noted s), [])

@@ -15,13 +15,13 @@ abbrev pub no_claim : {C R : Type 0} → Claimed C R
 no_claim = record { number = 0; seen = []; own = []; says = [] }
 
 module _ {O C R : Type 0} where
-  -- the keeper's seat at the start
+  -- the keeper's seat between calls: it has heard no claim
   abbrev pub keeper_at : O → ℕ → List (Entry C R) → View O C R
   keeper_at opening made noted = Keeper (record { opening = opening; made = made; noted = noted; claim = no_claim })
 
   -- a pass between its calls: it has announced nothing
-  abbrev pub pass_at : O → ℕ → List (Entry C R) → List (Entry C R) → View O C R
-  pass_at opening n seen own = Speaker (record { opening = opening; number = n; seen = seen; own = own; announced = []; told = [] })
+  abbrev pub pass_at : O → ℕ → List (Entry C R) → List (Entry C R) → List (Entry C R) → View O C R
+  pass_at opening n seen own told = Speaker (record { opening = opening; number = n; seen = seen; own = own; announced = []; told = told })
 
   -- a further pass, which the keeper's seat makes
   abbrev pub one_more : View O C R → View O C R
@@ -29,7 +29,7 @@ module _ {O C R : Type 0} where
   one_more v = v
 
   abbrev pub newcomer_of : View O C R → View O C R
-  newcomer_of (Keeper k) = pass_at k.opening k.made [] []
+  newcomer_of (Keeper k) = pass_at k.opening k.made [] [] []
   newcomer_of v = Nobody
 
   -- a letter with the history that the seat notes or has seen, and a pass that reads it
@@ -71,31 +71,35 @@ module _ {O C R : Type 0} where
 
   -- adopt: the pass has seen what it was told, its own list grows by the entry, and the announcement ends
   abbrev pub adopted : View O C R → View O C R
-  adopted (Speaker p) = pass_at p.opening p.number p.told (p.own ++ p.announced)
+  adopted (Speaker p) = pass_at p.opening p.number p.told (p.own ++ p.announced) []
   adopted v = v
 
-  -- the history has no calls of the pass but its own
+  -- what the pass was told has no calls of the pass but its own
   abbrev pub OwnAreAll : View O C R → Type 0
   OwnAreAll (Speaker p) = IsPrefix (calls_by p.number p.told) p.own
   OwnAreAll v = Unit {0}
 
+  -- the pass that claims has seen no more than a beginning of what the keeper's seat notes
   abbrev pub SawNoMore : View O C R → Type 0
   SawNoMore (Keeper k) = IsPrefix k.claim.seen k.noted
   SawNoMore v = Unit {0}
 
+  -- announce, of these entries: what the pass was told has its own calls alone
   abbrev pub Announces : List (Entry C R) → Step ℕ → Me ℕ (View O C R) → ℕ → Me ℕ (View O C R) → Type 0
   Announces entries st m found n = (n ≡ (announced entries m.0, m.1)) × OwnAreAll m.0
 
+  -- record, of what was claimed: the pass had seen no more than was noted
   abbrev pub Records : Step ℕ → Me ℕ (View O C R) → ℕ → Me ℕ (View O C R) → Type 0
   Records st m found n = (n ≡ (recorded m.0, m.1)) × SawNoMore m.0
 
+  -- adopt
   abbrev pub Adopts : Step ℕ → Me ℕ (View O C R) → ℕ → Me ℕ (View O C R) → Type 0
   Adopts st m found n = n ≡ (adopted m.0, m.1)
 
   -- look: the pass has seen the history, whose length was found
   abbrev pub LooksAt : (O → ℕ → C → R → O → Type 0) → View O C R → List (ℕ × ℕ) → ℕ → Me ℕ (View O C R) → Type 0
   LooksAt performs (Speaker p) slots found n =
-      (log : List (Entry C R)) × (n ≡ (pass_at p.opening p.number log p.own, slots)) × (length log ≡ found)
+      (log : List (Entry C R)) × (n ≡ (pass_at p.opening p.number log p.own [], slots)) × (length log ≡ found)
       × IsLegal performs p.opening log × IsPrefix p.seen log × IsPrefix p.told log × (calls_by p.number log ≡ p.own)
   LooksAt performs v slots found n = Unit {0}
 

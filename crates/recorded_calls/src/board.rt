@@ -31,7 +31,7 @@ impl<O, C, R, P: Sequential<O, C, R>> Board<O, C, R, P> {
     ghost use mathlib.Core.List.{IsPrefix};
     ghost use Rattle.recorded_calls.specs.History.{IsLegal, entry_of};
     ghost use Rattle.recorded_calls.specs.declared.entry.Entry.{Entry};
-    ghost use Rattle.recorded_calls.specs.Seats.{IsPassOf, IsScribeOf, seen, own, number, noted, made};
+    ghost use Rattle.recorded_calls.specs.Seats.{IsPassOf, IsScribeOf, seen, own, told, number, noted, made};
 
     /// The word at 0, and the keeper's seat, which notes no call.
     pub fn new(
@@ -113,6 +113,21 @@ impl<O, C, R, P: Sequential<O, C, R>> Board<O, C, R, P> {
         self.table.shared.load::<Adopt>(&mut pass.seat, 0);
     }
 
+    /// The pass is told the noted history, where its call is not recorded. It has seen no more than before.
+    pub fn tell(&self, scribe: &mut Scribe<O, C, R>, pass: &mut Pass<O, C, R>)
+        requires scribe { IsScribeOf self.now.table.shared.table_id self.now.table.shared.key scribe.old }
+        requires pass { IsPassOf self.now.table.shared.table_id self.now.table.shared.key pass.old }
+        ensures scribe { IsScribeOf self.now.table.shared.table_id self.now.table.shared.key scribe.new × (noted scribe.new ≡ noted scribe.old) × (made scribe.new ≡ made scribe.old) }
+        ensures pass { IsPassOf self.now.table.shared.table_id self.now.table.shared.key pass.new × (number pass.new ≡ number pass.old) }
+        ensures same { (seen pass.new ≡ seen pass.old) × (own pass.new ≡ own pass.old) }
+        ensures told { told pass.new ≡ noted scribe.old }
+    {
+        let history = self.table.shared.split_seat::<Tells>(&mut scribe.seat);
+        self.table
+            .shared
+            .join_seat::<Tells>(&mut pass.seat, history);
+    }
+
     /// The number of recorded calls, by one load. The pass has then seen the history of that length.
     pub fn length(&self, pass: &mut Pass<O, C, R>) -> u64
         requires { IsPassOf self.now.table.shared.table_id self.now.table.shared.key pass.old }
@@ -120,6 +135,7 @@ impl<O, C, R, P: Sequential<O, C, R>> Board<O, C, R, P> {
         ensures length { length (seen pass.new) ≡ result }
         ensures legal { IsLegal P.performs self.now.table.shared.key (seen pass.new) }
         ensures before { IsPrefix (seen pass.old) (seen pass.new) }
+        ensures told { IsPrefix (told pass.old) (seen pass.new) }
     {
         self.table.shared.load::<Look<P>>(&mut pass.seat, 0)
     }

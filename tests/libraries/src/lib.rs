@@ -53,6 +53,8 @@ mod transcripts;
 #[cfg(test)]
 mod trees;
 #[cfg(test)]
+mod unlocked;
+#[cfg(test)]
 mod values;
 #[cfg(test)]
 mod views;

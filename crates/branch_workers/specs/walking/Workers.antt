@@ -1,12 +1,12 @@
 -- What one worker is between its turns, and what some turns add to it.
-use Rattle.std.specs.Prelude.{◌≡◌, ℕ, ◌+◌, ◌<◌, ◌^◌, Bool, List, [], ◌∷◌, map, length}
+use Rattle.std.specs.Prelude.{◌≡◌, ℕ, suc, ◌+◌, ◌<◌, ◌^◌, Bool, List, [], ◌∷◌, map, length}
 use Rattle.atomic_table.specs.Seated.{TableId}
 use Rattle.crossbeam_queue.specs.Passes as queue
 use Rattle.recorded_calls.specs.declared.entry.Entry.{Entry}
 use Rattle.locked_object.specs.Passes.{IsPassOf}
 use Rattle.locked_object.specs.declared.pass.Pass.{Pass}
 use Rattle.branch_workers.specs.Dealt.{hand, total}
-use Rattle.branch_workers.specs.Runs.{PassRan, steps_in}
+use Rattle.branch_workers.specs.Runs.{PassRan, SawLegal, steps_in}
 use Rattle.branch_workers.specs.declared.worker.Worker.{Worker}
 
 module _ {D C R : Type 0} where
@@ -18,18 +18,20 @@ module _ {D C R : Type 0} where
     pub empty : queue.view w.seat ≡ hand []
 
   -- what so many turns add
-  pub record WorkerRan (table : TableId) (opening : D) (asks : ℕ → C) (steps : R → Bool) (count turns : ℕ) (before after : Worker D C R) : Type 0 where
+  pub record WorkerRan (table : TableId) (opening : D) (performs : D → ℕ → C → R → D → Type 0) (asks : ℕ → C) (steps : R → Bool) (count turns : ℕ) (before after : Worker D C R) : Type 0 where
     pub added : List (Entry C R)
     pub ran : PassRan table opening asks count turns before.pass after.pass added
     pub stepped : after.stepped ≡ before.stepped + steps_in steps added
     pub rest_lost : length added + after.lost ≡ before.lost + turns
+    pub legal : SawLegal performs opening before.pass after.pass
+    pub same : after.number ≡ before.number
 
-  -- workers at the queue, with these passes, that have taken no turn yet
-  abbrev pub Ready : TableId → List (Pass D C R) → List (Worker D C R) → Type 0
-  Ready line [] [] = Unit {0}
-  Ready line (p ∷ ps) (w ∷ ws) =
-      ((w.pass ≡ p) × (w.stepped ≡ 0) × (w.lost ≡ 0) × (w.seat.table_id ≡ line) × (w.seat.me.1 ≡ []) × (queue.view w.seat ≡ hand [])) × Ready line ps ws
-  Ready line ps ws = ⊥
+  -- workers at the queue, with these passes, numbered from this number, that have taken no turn yet
+  abbrev pub Ready : TableId → ℕ → List (Pass D C R) → List (Worker D C R) → Type 0
+  Ready line from [] [] = Unit {0}
+  Ready line from (p ∷ ps) (w ∷ ws) =
+      ((w.pass ≡ p) × (w.stepped ≡ 0) × (w.lost ≡ 0) × (w.seat.table_id ≡ line) × (w.seat.me.1 ≡ []) × (queue.view w.seat ≡ hand []) × (w.number ≡ from)) × Ready line (suc from) ps ws
+  Ready line from ps ws = ⊥
 
   abbrev pub IsReady : TableId → D → TableId → Worker D C R → Type 0
   IsReady table opening line w = WorkerFits table opening line w × (w.stepped ≡ 0) × (w.lost ≡ 0)
@@ -39,10 +41,10 @@ module _ {D C R : Type 0} where
   AllReady table opening line (w ∷ ws) = IsReady table opening line w × AllReady table opening line ws
 
   -- what so many turns add to each
-  abbrev pub AllRan : (table : TableId) (opening : D) (asks : ℕ → C) (steps : R → Bool) (count turns : ℕ) → List (Worker D C R) → List (Worker D C R) → Type 0
-  AllRan table opening asks steps count turns [] [] = Unit {0}
-  AllRan table opening asks steps count turns (v ∷ vs) (w ∷ ws) = WorkerRan table opening asks steps count turns v w × AllRan table opening asks steps count turns vs ws
-  AllRan table opening asks steps count turns vs ws = ⊥
+  abbrev pub AllRan : (table : TableId) (opening : D) (performs : D → ℕ → C → R → D → Type 0) (asks : ℕ → C) (steps : R → Bool) (count turns : ℕ) → List (Worker D C R) → List (Worker D C R) → Type 0
+  AllRan table opening performs asks steps count turns [] [] = Unit {0}
+  AllRan table opening performs asks steps count turns (v ∷ vs) (w ∷ ws) = WorkerRan table opening performs asks steps count turns v w × AllRan table opening performs asks steps count turns vs ws
+  AllRan table opening performs asks steps count turns vs ws = ⊥
 
   -- what they have counted, all together, is a number of 64 bits
   abbrev pub CountsFew : List (Worker D C R) → Type 0

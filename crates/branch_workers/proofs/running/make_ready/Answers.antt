@@ -14,7 +14,7 @@ push_reserved-requires g c =
     let all = ap length at.invariant.rest in
     let parts = length-append at.yielded (into_iter_items at.pass-iterator) in
     let one = ap length steps in
-    let same = ready_length _ _ _ at.invariant.ready in
+    let same = ready_length _ 0 _ _ at.invariant.ready in
     let room = at.invariant.room in
     let enough = c.requires.room.1 in
     omega arith
@@ -28,5 +28,16 @@ loop-pass-preserved g c =
       rest = append_assoc at.yielded (c.in-Some.pass ∷ []) _ ∙ rw (← steps) at.invariant.rest;
       left = (let was = at.invariant.left in let gone = c.in-Some.ensures.steps.1 in let short = ap length steps in omega arith);
       room = c.push_reserved.ensures.capacity ∙ at.invariant.room;
-      ready = ready_more _ at.yielded at.workers.items _ c.in-Some.pass _ at.invariant.ready c.push_reserved.ensures.items (refl, refl, refl, c.another.ensures.queue.1.0, c.another.ensures.queue.1.1, c.another.ensures.rule.1);
+      empty = c.another.ensures.rule.0 ∙ at.invariant.empty;
+      number = (let was = at.invariant.number in let more = length-append at.yielded (c.in-Some.pass ∷ []) in omega arith);
+      ready = ready_more _ 0 at.yielded at.workers.items _ c.in-Some.pass _ at.invariant.ready c.push_reserved.ensures.items (refl, refl, refl, c.another.ensures.queue.1.0, c.another.ensures.queue.1.1, c.another.ensures.rule.1, (let is = at.invariant.number in omega arith));
     }
+
+pub overflow_add-number : goal.overflow_add-number
+overflow_add-number g c =
+    let at = c.loop-pass in
+    let all = ap length at.invariant.rest in
+    let parts = length-append at.yielded (into_iter_items at.pass-iterator) in
+    let is = at.invariant.number in
+    let few = c.requires.few in
+    omega arith

@@ -1,7 +1,8 @@
-use Rattle.std.proofs.Common.{◌≡◌, ◌++◌, length}
+use Rattle.std.proofs.Common.{◌≡◌, [], ◌++◌, length}
 use Rattle.std.specs.Vec.{vec_capacity}
 use Rattle.std.specs.Vec.Iter.{into_iter_items, into_iter_len}
-use Rattle.crossbeam_queue.specs.Passes.{IsPassOf}
+use Rattle.crossbeam_queue.specs.Passes.{IsPassOf, view}
+use Rattle.branch_workers.specs.Dealt.{hand}
 use Rattle.branch_workers.specs.walking.Workers.{Ready}
 use Rattle.branch_workers.proofs.running.make_ready.Given as goal
 
@@ -12,5 +13,7 @@ invariant-loop-pass g l = record {
   rest : l.yielded ++ into_iter_items l.pass-iterator ≡ l.fn.passes.items;
   left : into_iter_len l.pass-iterator ≡ length (into_iter_items l.pass-iterator);
   room : vec_capacity l.workers ≡ vec_capacity l.initial.workers;
-  ready : Ready l.line.table.shared.table_id l.yielded l.workers.items;
+  empty : view l.seat ≡ hand [];
+  number : l.number ≡ length l.yielded;
+  ready : Ready l.line.table.shared.table_id 0 l.yielded l.workers.items;
 }

@@ -11,5 +11,5 @@ for_each_mut-requires-clause-accepts g c κs within = λ i p less is. (
 
 pub returns : goal.returns
 returns g c =
-    all_ran _ _ g.D.Branched.asks g.D.Branched.steps g.B.Branching.count c.args.turns c.args.workers.now c.for_each_mut.new.s (sym c.for_each_mut.auto.s)
-    (λ i d less. let at = (c.for_each_mut.ensures i d less).1 in same_ran _ _ g.D.Branched.asks g.D.Branched.steps g.B.Branching.count c.args.turns _ _ _ _ at.argument_is at.left at.call)
+    all_ran _ _ _ g.D.Branches.asks g.D.Branches.steps g.B.Branching.count c.args.turns c.args.workers.now c.for_each_mut.new.s (sym c.for_each_mut.auto.s)
+    (λ i d less. let at = (c.for_each_mut.ensures i d less).1 in same_ran _ _ _ g.D.Branches.asks g.D.Branches.steps g.B.Branching.count c.args.turns _ _ _ _ at.argument_is at.left at.call)

@@ -1,5 +1,5 @@
 use Rattle.std.proofs.Common.{◌≡◌, [], ◌++◌, length, ap, sym, ◌∙◌, subst, arith}
-use Rattle.recorded_calls.specs.Seats.{seen, own, number, noted, made, number_in}
+use Rattle.recorded_calls.specs.Seats.{seen, own, told as told_of, number, noted, made, number_in}
 use Rattle.recorded_calls.specs.Steps.{keeper_at, pass_at, letter_of, claim_of, reads, hears, announced, recorded, adopted, OwnAreAll, SawNoMore}
 use Rattle.recorded_calls.proofs.Calling.{reads_at, hears_at, announces_at, records_at, adopts_at, calls_recorded, is_pass}
 use Rattle.recorded_calls.proofs.StepLaws.{tells, claims, saying, hearing}
@@ -14,7 +14,7 @@ join_seat-requires g c =
     let p = c.args.pass.now in
     let s = c.args.scribe.now in
     let letter = ap (λ m. m.0) c.split_seat-letter.ensures.4 ∙ ap (λ m. letter_of m.0) c.requires.scribe.rests in
-    (c.requires.pass.of_table, c.split_seat-letter.ensures.3 ∙ c.requires.scribe.of_table, ap (λ m. m.1) c.split_seat-letter.ensures.4, omega (arith, c.args.self.now.one_word), reads_at _ _ _ _ c.args.self.now.table.shared.key (number p) (seen p) (own p) [] [] _ _ (noted s) (ap (λ m. m.0) c.requires.pass.rests) letter)
+    (c.requires.pass.of_table, c.split_seat-letter.ensures.3 ∙ c.requires.scribe.of_table, ap (λ m. m.1) c.split_seat-letter.ensures.4, omega (arith, c.args.self.now.one_word), reads_at _ _ _ _ c.args.self.now.table.shared.key (number p) (seen p) (own p) [] (told_of p) _ _ (noted s) (ap (λ m. m.0) c.requires.pass.rests) letter)
 
 pub load-requires : goal.load-requires
 load-requires g c =
@@ -109,5 +109,5 @@ returns-clause-pass g c =
     let rest = c.split_seat-claim.ensures.2 ∙ says in
     let last : c.join_seat-3.new.seat.me ≡ (saying g.P.Sequential.performs c.args.self.now.table.shared.key c.args.self.now.table.shared.key (number p) (seen p) (own p) g.J.Naming.entries (noted s ++ g.J.Naming.entries), []) = c.join_seat-3.ensures.2 ∙ (λ i. (reads ((rest i).0) (news i), (rest i).1)) in
     let calls = calls_recorded (number p) (seen p) (noted s) (own p) g.J.Naming.entries c.requires.named.0 c.requires.named.1 (sym c.requires.named.2) c.requires.pass.own_calls saw told in
-    let took : c.load-2.new.seat.me ≡ (pass_at c.args.self.now.table.shared.key (number p) (noted s ++ g.J.Naming.entries) (own p ++ g.J.Naming.entries), []) = c.load-2.ensures.2 ∙ ap (λ m. (adopted m.0, m.1)) last in
-    (is_pass _ _ _ (number p) (noted s ++ g.J.Naming.entries) (own p ++ g.J.Naming.entries) (c.load-2.ensures.0 ∙ c.join_seat-3.ensures.0 ∙ c.split_seat-claim.ensures.0 ∙ c.load.ensures.0 ∙ c.join_seat.ensures.0 ∙ c.requires.pass.of_table) took calls, ap (λ m. number_in m.0) took)
+    let took : c.load-2.new.seat.me ≡ (pass_at c.args.self.now.table.shared.key (number p) (noted s ++ g.J.Naming.entries) (own p ++ g.J.Naming.entries) [], []) = c.load-2.ensures.2 ∙ ap (λ m. (adopted m.0, m.1)) last in
+    (is_pass _ _ _ (number p) (noted s ++ g.J.Naming.entries) (own p ++ g.J.Naming.entries) [] (c.load-2.ensures.0 ∙ c.join_seat-3.ensures.0 ∙ c.split_seat-claim.ensures.0 ∙ c.load.ensures.0 ∙ c.join_seat.ensures.0 ∙ c.requires.pass.of_table) took calls, ap (λ m. number_in m.0) took)

@@ -3,7 +3,7 @@ ghost use Rattle.std.specs.Prelude.{◌≡◌, ℕ, Bool};
 use locked_object::Object;
 
 /// An object with branches, numbered from 0, that can be stepped one at a time.
-pub trait Branched<C: Drop, R: Drop>: Object<C, R> {
+pub trait Branches<C: Drop, R: Drop>: Object<C, R> {
     // The command that steps a branch.
     ghost asks: { ℕ → C };
 
