@@ -64,7 +64,8 @@ standard input, and each line is answered as soon as it is read:
   clear LINE      take it away: `ok`
   session N       go on as session N, 0 to 15. All sessions step one run; each
                   has breakpoints of its own. The session is 0 at first
-  trace           print the trace of the live steps, which `replay` takes again
+  trace           print the trace of the live steps, which `replay` takes again:
+                  the same bytes in whichever order independent steps were taken
   view            print FILE with marks: `>` where a step can be taken, `*` for
                   a breakpoint, `!` for a select that could take several arms.
                   What the environment takes at an output port is on no line
@@ -94,7 +95,9 @@ pub const REPLAY: &str = "Take the steps of a trace again, and list them";
 pub const REPLAY_LONG: &str = "\
 Take the steps of a trace again, in its order, and list them with new tickets from
 1, as the script line `live` does. A trace is what the script line `trace` answers:
-the line `balsadbg trace 1`, and for each step that is live a line `step PLACE ARM`.
+the line `balsadbg trace 2`, and for each step that is live a line `step PLACE ARM`,
+always the one with the least place of those that wait for none that is left. Behind
+the line `balsadbg trace 1`, of older traces, the steps may stand in any order.
 
 Example:
   balsadbg replay examples/one.balsa examples/one.stimulus examples/one.trace
@@ -183,9 +186,10 @@ macro_rules! refusal_lines_of_scripts {
 
 pub const REFUSALS: &str = refusal_lines_of_scripts!(
     [
-        "  31  TRACE does not begin with the line `balsadbg trace 1`\n"
+        "  31  TRACE does not begin with the line `balsadbg trace 2`, or with 1 for 2\n"
         "  32  this line of TRACE, from 1, is no step, or has no end\n"
         "  33  the step of this line of TRACE, from 1, cannot be taken there\n"
+        "  34  behind `balsadbg trace 2` another step comes before that of this line\n"
     ]
     ["  41  a file is missing, or reading it or the script failed\n"]
 );
@@ -203,9 +207,10 @@ pub const DEBUG_REFUSALS: &str = refusal_lines_of_scripts!(
 
 pub const REPLAY_REFUSALS: &str = refusal_lines_over_ports!(
     [
-        "  31  TRACE does not begin with the line `balsadbg trace 1`\n"
+        "  31  TRACE does not begin with the line `balsadbg trace 2`, or with 1 for 2\n"
         "  32  this line of TRACE, from 1, is no step, or has no end\n"
         "  33  the step of this line of TRACE, from 1, cannot be taken there\n"
+        "  34  behind `balsadbg trace 2` another step comes before that of this line\n"
     ]
     ["  41  FILE, STIMULUS or TRACE is missing, or reading it failed\n"]
     []

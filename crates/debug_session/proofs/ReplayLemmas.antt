@@ -52,5 +52,6 @@ refuses system text not_loaded.Memory h = tt
 refuses system text not_loaded.BadHeader h = (λ e. cc, h)
 refuses system text (not_loaded.BadLine n) h = (λ e. cc, h)
 refuses system text (not_loaded.NotAStep n) h = (λ e. cc, h)
+refuses system text (not_loaded.NotCanonical n) h = (λ e. cc, h)
 refuses system text not_loaded.ReadFailed h = absurd h
 refuses system text not_loaded.WriteFailed h = absurd h

@@ -4,7 +4,7 @@ use Rattle.std.specs.Io.KnownBytes.{Appends, Consumes, IsAtEnd}
 use Rattle.system.specs.declared.system.System.{System}
 use Rattle.calculus.specs.Live.{events}
 use Rattle.source_view.specs.View.{IsView}
-use Rattle.trace_file.specs.TraceText.{trace_text}
+use Rattle.trace_file.specs.TraceText.{IsTrace}
 use Rattle.locked_execution.specs.AtDesk.{breaks_of}
 use Rattle.locked_execution.specs.Performs.{Answers}
 use Rattle.locked_execution.specs.declared.command.Reply.{Reply}
@@ -26,7 +26,7 @@ SaidAnswered system a (Line.Asked c) answer a' =
 SaidAnswered system a (Line.Session session) answer a' =
     (answer ≡ session_text session) × (a' ≡ record { desk = a.desk; session = session; source = a.source })
 SaidAnswered system a Line.View answer a' = IsView a.desk.machine (breaks_of a.desk a.session) a.source answer × (a' ≡ a)
-SaidAnswered system a Line.Trace answer a' = (answer ≡ trace_text (events a.desk.machine.live)) × (a' ≡ a)
+SaidAnswered system a Line.Trace answer a' = IsTrace (events a.desk.machine.live) answer × (a' ≡ a)
 SaidAnswered system a Line.Empty answer a' = (answer ≡ []) × (a' ≡ a)
 
 -- the line is answered so, and leaves a'

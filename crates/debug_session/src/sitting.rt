@@ -1,7 +1,7 @@
 ghost use Rattle.std.specs.Prelude.{◌≡◌, ◌<◌, IfOk};
 ghost use Rattle.calculus.specs.Live.{events};
 ghost use Rattle.source_view.specs.View.{IsView};
-ghost use Rattle.trace_file.specs.TraceText.{trace_text};
+ghost use Rattle.trace_file.specs.TraceText.{IsTrace};
 ghost use Rattle.locked_execution.specs.AtDesk.{breaks_of, new_desk};
 ghost use Rattle.locked_execution.specs.Performs.{Answers};
 
@@ -82,7 +82,7 @@ impl<'a> Sitting<'a> {
 
     /// The trace of the live events.
     pub(crate) fn trace(&self, alloc: Global) -> Result<Vec<u8>, AllocError>
-        ensures { IfOk result (λ bytes. bytes.items ≡ trace_text (events self.now.desk.machine.live)) }
+        ensures { IfOk result (λ bytes. IsTrace (events self.now.desk.machine.live) bytes.items) }
     {
         write_trace(alloc, self.desk.machine())
     }

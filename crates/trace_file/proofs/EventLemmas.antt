@@ -1,11 +1,11 @@
 -- Lists of events with their lines and tickets.
-use Rattle.std.proofs.Common.{◌≡◌, ℕ, suc, ◌+◌, List, [], ◌∷◌, ◌++◌, length, refl, sym, ap, ◌∙◌, arith, append_assoc, append-nil, length-append}
+use Rattle.std.proofs.Common.{◌≡◌, ℕ, suc, ◌+◌, List, [], ◌∷◌, ◌++◌, length, refl, ap, ◌∙◌, arith, append-nil, length-append}
 use Rattle.std.specs.List.{flat_map}
 use Rattle.std.proofs.lemmas.List.Concat.{flat_map-append}
 use Rattle.syntax.specs.Lists.{Every}
 use Rattle.calculus.specs.Live.{Live, events}
 use Rattle.calculus.specs.declared.event.Event.{Event}
-use Rattle.trace_file.specs.TraceText.{header, event_line, trace_text}
+use Rattle.trace_file.specs.TraceText.{event_line}
 use Rattle.trace_file.specs.Loading.{ticketed}
 
 -- what holds of every element and of one more
@@ -34,16 +34,7 @@ ticketed-more t (f ∷ h) e =
 pub length-more : (h : List Event) (e : Event) → length (h ++ e ∷ []) ≡ suc (length h)
 length-more h e = omega (arith, length-append h (e ∷ []))
 
--- the trace of one event more
-pub trace-more : (h : List Event) (e : Event) → trace_text (h ++ e ∷ []) ≡ trace_text h ++ event_line e
-trace-more h e =
-    ap (λ (t : List ℕ). header ++ 10 ∷ t) (flat_map-append event_line h (e ∷ []) ∙ ap (λ (t : List ℕ). flat_map event_line h ++ t) (append-nil (event_line e)))
-    ∙ sym (append_assoc header (10 ∷ flat_map event_line h) (event_line e))
-
--- the trace of no event and then what is behind the header
-pub trace-none : (rest : List ℕ) → header ++ 10 ∷ rest ≡ trace_text [] ++ rest
-trace-none rest = sym (append_assoc header (10 ∷ []) rest)
-
--- a trace and a rest, behind the header
-pub trace-behind : (h : List Event) (rest : List ℕ) → trace_text h ++ rest ≡ header ++ 10 ∷ (flat_map event_line h ++ rest)
-trace-behind h rest = append_assoc header (10 ∷ flat_map event_line h) rest
+-- the lines of one event more
+pub lines-more : (h : List Event) (e : Event) → flat_map event_line (h ++ e ∷ []) ≡ flat_map event_line h ++ event_line e
+lines-more h e =
+    flat_map-append event_line h (e ∷ []) ∙ ap (λ (t : List ℕ). flat_map event_line h ++ t) (append-nil (event_line e))

@@ -1,5 +1,5 @@
 -- What texts stand for, and that they are refused for one reason.
-use Rattle.std.proofs.Common.{◌≡◌, ◌⊎◌, inl, inr, ℕ, suc, ◌+◌, ◌≤◌, List, [], ◌∷◌, ◌++◌, length, refl, sym, ap, ◌∙◌, subst, arith, append_assoc, append-nil, length-append}
+use Rattle.std.proofs.Common.{◌≡◌, ◌⊎◌, inl, inr, ℕ, suc, ◌+◌, ◌≤◌, List, [], ◌∷◌, ◌++◌, length, refl, sym, ap, ◌∙◌, subst, arith, append_assoc, append-nil, length-append, get_or}
 use Rattle.std.specs.List.{All, flat_map}
 use Rattle.syntax.specs.Lists.{Every}
 use Rattle.system.specs.declared.system.System.{System}
@@ -15,12 +15,18 @@ use Rattle.calculus.proofs.Opening.{opening-formed}
 use Rattle.calculus.proofs.Orders.{run-join, run-part, run-formed}
 use Rattle.calculus.proofs.StepOf.{step-determined, run-determined}
 use Rattle.machine.specs.AtMachine.{AtMachine}
-use Rattle.trace_file.specs.declared.fault.Fault.{Fault}
-use Rattle.trace_file.specs.TraceText.{header, choice_line, event_line, trace_text, IsWritable, Begins}
+use Rattle.trace_file.specs.TraceText.{header_of, choice_line, event_line, trace_text, IsWritable, HasSteps, Begins}
 use Rattle.trace_file.specs.Loading.{IsFirstLine, IsNoEnd, IsStep, CannotStep}
-use Rattle.trace_file.specs.Laws.{OneList, NotRefused, TraceStands, LoadsTheSame}
-use Rattle.trace_file.proofs.LineLemmas.{same-behind, cut-same, has-one, step-same, clear-by-test}
-use Rattle.trace_file.proofs.EventLemmas.{events-length, ticketed-events, trace-behind}
+use Rattle.trace_file.specs.declared.version.Version.{Version}
+use Rattle.trace_file.specs.declared.version.Version.TheVariants.{First, Second}
+use Rattle.canonical_order.proofs.Canonicals.{canonical-rearranged, canonical-runs, is-its-own-order, orders-agree}
+use Rattle.canonical_order.specs.Canonical.{IsCanonicalOrder}
+use Rattle.calculus.proofs.Elements.{in-rearranged}
+use Rattle.calculus.proofs.FromOpening.{one_state}
+use Rattle.calculus.proofs.Lists.{every-in, every-of}
+use Rattle.trace_file.specs.Laws.{OneList, EqualBytes, TraceStands, LoadsTheSame}
+use Rattle.trace_file.proofs.LineLemmas.{cut-same, has-one, step-same, clear-by-test}
+use Rattle.trace_file.proofs.EventLemmas.{events-length, ticketed-events}
 
 -- the lines of events can be written
 abbrev pub Writable : List Event → Type 0
@@ -77,12 +83,11 @@ one-goes-on system p S T U (e ∷ g) (f ∷ h) x y shares r a b v w same =
     (run-join (opening system) S a.0 p (e ∷ []) r (a.0, a.1, refl)) a.2 rest v.1 w.1 first.1)
 
 -- two beginnings of one text
-pub begins-on : (system : System) (text : List ℕ) (g h : List Event) (x y : List ℕ) → SharesWell system
-    → Begins system text g x → Begins system text h y → OneGoesOn g h x y
-begins-on system text g h x y shares one other =
+pub begins-on : (system : System) (steps : List ℕ) (g h : List Event) (x y : List ℕ) → SharesWell system
+    → Begins system steps g x → Begins system steps h y → OneGoesOn g h x y
+begins-on system steps g h x y shares one other =
     one-goes-on system [] (opening system) one.runs.0 other.runs.0 g h x y shares refl one.runs.1 other.runs.1 one.lines other.lines
-    (same-behind (header ++ 10 ∷ []) (lines_of g ++ x) (lines_of h ++ y)
-    (sym (trace-behind g x) ∙ (sym one.written ∙ (other.written ∙ trace-behind h y))))
+    (sym one.written ∙ other.written)
 
 -- a line is not empty
 line-some : (e : Event) (u v : List ℕ) → [] ≡ (event_line e ++ u) ++ v → ⊥
@@ -94,39 +99,67 @@ none-more [] y e = (refl, sym e)
 none-more (d ∷ k) y e = absurd (line-some d (lines_of k) y e)
 
 -- no event more
-no-more : (g h : List Event) (x y : List ℕ) (on : GoesOn g h x y) → x ≡ [] → (h ≡ g) × (y ≡ [])
+pub no-more : (g h : List Event) (x y : List ℕ) (on : GoesOn g h x y) → x ≡ [] → (h ≡ g) × (y ≡ [])
 no-more g h x y on none =
     let nothing = none-more on.more y (sym none ∙ on.text) in
     (on.is ∙ (ap (λ (k : List Event). g ++ k) nothing.0 ∙ append-nil g), nothing.1)
 
--- a text stands for one list
-pub one-list : OneList
-one-list system text g h shares one other =
-    elim (begins-on system text g h [] [] shares one other) [
+-- the lines of a text are those of one list
+pub one-list-steps : (system : System) (steps : List ℕ) (g h : List Event) → SharesWell system → Begins system steps g [] → Begins system steps h [] → g ≡ h
+one-list-steps system steps g h shares one other =
+    elim (begins-on system steps g h [] [] shares one other) [
       | inl on ↦ sym (no-more g h [] [] on refl).0
       | inr on ↦ (no-more h g [] [] on refl).0
     ]
 
--- the header has no end of a line
-pub header-clear : All IsNoEnd header
-header-clear = clear-by-test 10 header refl
+-- a header has no end of a line
+pub header-clear : (v : Version) → All IsNoEnd (header_of v)
+header-clear First = clear-by-test 10 (header_of First) refl
+header-clear Second = clear-by-test 10 (header_of Second) refl
 
--- the first line of a text that begins with the header
-pub first-is-header : (text rest line : List ℕ) → text ≡ header ++ 10 ∷ rest → IsFirstLine text line → line ≡ header
-first-is-header text rest line is (clear, inl whole) = absurd (has-one 10 header rest (subst (λ (t : List ℕ). All IsNoEnd t) (sym whole ∙ is) clear))
-first-is-header text rest line is (clear, inr (behind, cut)) =
-    (cut-same 10 line header behind rest clear header-clear (sym cut ∙ is)).0
+-- the last bytes of the headers differ
+other-header : header_of First ≡ header_of Second → ⊥
+other-header e =
+    let last : 49 ≡ 50 = ap (λ (l : List ℕ). get_or l 15 0) e in
+    omega (arith, last)
 
--- a text for events is not the bare header
-pub not-bare : (rest : List ℕ) → header ≡ header ++ 10 ∷ rest → ⊥
-not-bare rest e = cc
+-- a header is that of one version
+version-same : (v w : Version) → header_of v ≡ header_of w → v ≡ w
+version-same First First e = refl
+version-same First Second e = absurd (other-header e)
+version-same Second First e = absurd (other-header (sym e))
+version-same Second Second e = refl
+
+-- a text has one header, and one text behind it
+pub same-steps : (v w : Version) (text s t : List ℕ) → HasSteps v text s → HasSteps w text t → (v ≡ w) × (s ≡ t)
+same-steps v w text s t one other =
+    let cut = cut-same 10 (header_of v) (header_of w) s t (header-clear v) (header-clear w) (sym one ∙ other) in
+    (version-same v w cut.0, cut.1)
+
+-- the first line of a text that begins with a header
+pub first-is-header : (v : Version) (text steps line : List ℕ) → HasSteps v text steps → IsFirstLine text line → line ≡ header_of v
+first-is-header v text steps line has (clear, inl whole) =
+    absurd (has-one 10 (header_of v) steps (subst (λ (t : List ℕ). All IsNoEnd t) (sym whole ∙ has) clear))
+first-is-header v text steps line has (clear, inr (behind, cut)) =
+    (cut-same 10 line (header_of v) behind steps clear (header-clear v) (sym cut ∙ has)).0
+
+-- a text with a header and its end is not a bare header
+pub not-bare : (v w : Version) (text steps : List ℕ) → HasSteps v text steps → text ≡ header_of w → ⊥
+not-bare v w text steps has bare =
+    has-one 10 (header_of v) steps (subst (λ (t : List ℕ). All IsNoEnd t) (sym bare ∙ has) (header-clear w))
+
+-- a text stands for one list
+pub one-list : OneList
+one-list system text g h shares (v, s, has, one, _) (w, t, same, other, _) =
+    one-list-steps system s g h shares one
+    (subst (λ (x : List ℕ). Begins system x h []) (sym (same-steps v w text s t has same).1) other)
 
 -- the line of a choice is not empty
 choice-some : (c : Choice) (after : List ℕ) → [] ≡ choice_line c ++ after → ⊥
 choice-some c after is = cc
 
 -- a step is not empty
-step-some : (c : Choice) (rest after : List ℕ) → IsStep c rest after → rest ≡ [] → ⊥
+pub step-some : (c : Choice) (rest after : List ℕ) → IsStep c rest after → rest ≡ [] → ⊥
 step-some c rest after step none = choice-some c after (sym none ∙ step.0)
 
 -- behind these events the step of the next can be taken
@@ -140,55 +173,55 @@ next-can system g k e T r room (inr full) =
     let more : length (g ++ e ∷ k) ≡ length g + suc (length k) = length-append g (e ∷ k) in
     omega (arith, room, full, more)
 
--- the first of the events by which a list goes on
-more-parts : (g h : List Event) (rest : List ℕ) → (rest ≡ [] → ⊥) → (k : List Event) → h ≡ g ++ k → rest ≡ lines_of k ++ [] → Writable k
-    → (e : Event) × (l : List Event) × (h ≡ g ++ e ∷ l) × IsStep (choice_of e) rest (lines_of l ++ [])
-more-parts g h rest some [] is text lines = absurd (some text)
-more-parts g h rest some (e ∷ l) is text lines = (e, l, is, (text ∙ append_assoc (event_line e) (lines_of l) [], lines.0))
+-- the canonical order has as many events
+pub canonical-length : (h g : List Event) → IsCanonicalOrder h g → length g ≡ length h
+canonical-length h [] c = ap (λ (l : List Event). length l) (sym c)
+canonical-length h (e ∷ g) c =
+    let rest : length g ≡ length (c.0 ++ c.1) = canonical-length (c.0 ++ c.1) g c.4 in
+    let whole : length h ≡ length (c.0 ++ e ∷ c.1) = ap (λ (l : List Event). length l) c.2 in
+    let more : length (c.0 ++ e ∷ c.1) ≡ length c.0 + suc (length c.1) = length-append c.0 (e ∷ c.1) in
+    let less : length (c.0 ++ c.1) ≡ length c.0 + length c.1 = length-append c.0 c.1 in
+    omega (arith, rest, whole, more, less)
 
--- events go on where a rest is left
-rest-more : (g h : List Event) (rest : List ℕ) → (rest ≡ [] → ⊥) → OneGoesOn h g [] rest → (e : Event) × (k : List Event)
-    × (h ≡ g ++ e ∷ k) × IsStep (choice_of e) rest (lines_of k ++ [])
-rest-more g h rest some (inl on) = absurd (some (no-more h g [] rest on refl).1)
-rest-more g h rest some (inr on) = more-parts g h rest some on.more on.is on.text on.lines
+-- lines that can be written in one order can be in canonical order
+pub canonical-writable : (h g : List Event) → IsCanonicalOrder h g → Writable h → Writable g
+canonical-writable h g c w =
+    every-of (λ e. IsWritable (choice_of e)) g
+    (λ e i. every-in (λ f. IsWritable (choice_of f)) h e w (in-rearranged g h e (canonical-rearranged h g c) i))
 
--- a text that stands for events is not refused
-pub not-refused : NotRefused
-not-refused system text h Fault.Memory shares stands refused = refl
-not-refused system text h Fault.BadHeader shares stands (line, first, other) =
-    absurd (other (first-is-header text (lines_of h ++ []) line (stands.written ∙ trace-behind h []) first))
-not-refused system text h (Fault.BadLine n) shares stands (inl bare) =
-    absurd (not-bare (lines_of h ++ []) (sym bare.1 ∙ (stands.written ∙ trace-behind h [])))
-not-refused system text h (Fault.BadLine n) shares stands (inr (g, rest, begins, line, some, none)) =
-    let next = rest-more g h rest some (begins-on system text h g [] rest shares stands begins) in
-    absurd (none (choice_of next.0) (lines_of next.1 ++ []) next.3)
-not-refused system text h (Fault.NotAStep n) shares stands (g, rest, begins, line, (c, after, step, cannot)) =
-    let next = rest-more g h rest (step-some c rest after step) (begins-on system text h g [] rest shares stands begins) in
-    let same : c ≡ choice_of next.0 = (step-same c (choice_of next.0) rest after (lines_of next.1 ++ []) step next.3).0 in
-    absurd (next-can system g next.1 next.0 stands.runs.0 (subst (λ (k : List Event). Run (opening system) k stands.runs.0) next.2 stands.runs.1)
-    (subst (λ (k : List Event). length k ≤ most_live) next.2 stands.room)
-    (subst (CannotStep system g) same cannot))
-not-refused system text h Fault.ReadFailed shares stands refused = absurd refused
-not-refused system text h Fault.WriteFailed shares stands refused = absurd refused
+-- the traces of respecting orders
+pub equal-bytes : EqualBytes
+equal-bytes system h k T one other r there back (g, c, is) (f, o, too) =
+    is ∙ (ap (λ (l : List Event). trace_text Second l) (orders-agree system h k g f T r there back c o) ∙ sym too)
 
--- the trace of a machine stands for its events
+-- the trace of a machine stands for its events in canonical order
 pub trace-stands : TraceStands
-trace-stands m s lines = record {
-  written = sym (append-nil (trace_text (events m.live)));
-  lines = lines;
-  runs = s.runs;
-  room = omega (arith, s.room, events-length m.live);
-}
+trace-stands m text s lines (g, c, is) =
+    let begins : Begins m.checked (lines_of g) g [] = record {
+      written = sym (append-nil (lines_of g));
+      lines = canonical-writable (events m.live) g c lines;
+      runs = (s.runs.0, canonical-runs m.checked (events m.live) g s.runs.0 s.runs.1 c);
+      room = omega (arith, s.room, events-length m.live, canonical-length (events m.live) g c);
+    } in
+    (g, c, (Second, lines_of g, is, begins, is-its-own-order m.checked (events m.live) g s.runs.0 s.runs.1 c))
 
 -- what is loaded from it has the same events and the same state
 pub loads-the-same : LoadsTheSame
-loads-the-same m m' shares s lines (h, stands, is) =
-    let same : h ≡ events m.live = one-list m.checked (trace_text (events m.live)) h (events m.live) shares stands (trace-stands m s lines) in
-    let live : events m'.live ≡ events m.live = ap (λ (n : AtMachine). events n.live) is ∙ (ticketed-events 1 h ∙ same) in
-    let checked : m'.checked ≡ m.checked = ap (λ (n : AtMachine). n.checked) is in (
-      live,
+loads-the-same m m' text shares s lines trace (h, stands, is) =
+    let saved = trace-stands m text s lines trace in
+    let same : h ≡ saved.0 = one-list m.checked text h saved.0 shares stands saved.2 in
+    let live : events m'.live ≡ saved.0 = ap (λ (n : AtMachine). events n.live) is ∙ (ticketed-events 1 h ∙ same) in
+    let checked : m'.checked ≡ m.checked = ap (λ (n : AtMachine). n.checked) is in
+    let order : IsCanonicalOrder (events m.live) (events m'.live) =
+    subst (λ (k : List Event). IsCanonicalOrder (events m.live) k) (sym live) saved.1 in
+    let whole : Run (opening m.checked) (events m.live) s.runs.0 = s.runs.1 in
+    let ordered : Run (opening m.checked) (events m'.live) s.runs.0 = canonical-runs m.checked (events m.live) (events m'.live) s.runs.0 whole order in (
+      order,
       λ T. (
-        λ r. subst (λ (c : System). Run (opening c) (events m.live) T) checked (subst (λ (k : List Event). Run (opening m'.checked) k T) live r),
-        λ r. subst (λ (k : List Event). Run (opening m'.checked) k T) (sym live) (subst (λ (c : System). Run (opening c) (events m.live) T) (sym checked) r),
+        λ r. subst (λ (U : State). Run (opening m.checked) (events m.live) U)
+            (one_state m.checked (events m'.live) s.runs.0 T ordered
+            (subst (λ (c : System). Run (opening c) (events m'.live) T) checked r)) whole,
+        λ r. subst (λ (c : System). Run (opening c) (events m'.live) T) (sym checked)
+            (canonical-runs m.checked (events m.live) (events m'.live) T r order),
       ),
     )

@@ -4,5 +4,6 @@ pub mod LawLemmas
 pub mod LineLemmas
 pub mod LoadLemmas
 pub mod LongLemmas
+pub mod OrderLemmas
 pub mod RootLemmas
 pub mod SaveLemmas

@@ -1,7 +1,6 @@
 -- A trace that is taken line by line.
-use Rattle.std.proofs.Common.{◌≡◌, inl, inr, ℕ, suc, ◌+◌, ◌≤◌, ◌<◌, List, [], ◌∷◌, ◌++◌, length, refl, sym, ap, ◌∙◌, subst, arith, append_assoc, Result, Err, MatchResult, Bool, false, ◌↔◌}
-use Rattle.std.specs.Prelude.{IsTrue}
-use Rattle.std.proofs.lemmas.Bool.{false≢true}
+use Rattle.std.proofs.Common.{◌≡◌, inl, inr, ℕ, suc, ◌+◌, ◌≤◌, ◌<◌, List, [], ◌∷◌, ◌++◌, length, refl, sym, ap, ◌∙◌, subst, arith, append_assoc, Result, Err, MatchResult}
+use Rattle.std.specs.List.{flat_map}
 use Rattle.system.specs.declared.system.System.{System}
 use Rattle.calculus.specs.Choices.{choice_of}
 use Rattle.calculus.specs.Does.{Answers}
@@ -19,11 +18,12 @@ use Rattle.calculus.proofs.Orders.{run-join}
 use Rattle.calculus.proofs.Tickets.{events-join}
 use Rattle.machine.specs.AtMachine.{AtMachine, object}
 use Rattle.trace_file.specs.declared.fault.Fault.{Fault}
-use Rattle.trace_file.specs.TraceText.{header, choice_line, event_line, trace_text, IsWritable, Begins}
-use Rattle.trace_file.specs.Loading.{ticketed, IsLoaded, IsStep, CannotStep, IsRefused}
-use Rattle.trace_file.specs.walking.OneStep.{Loading, Taken, NotTaken, LineTaken, LineStops, StepStops, HeaderStops, outcome_of}
+use Rattle.trace_file.specs.declared.version.Version.{Version}
+use Rattle.trace_file.specs.TraceText.{header_of, choice_line, event_line, IsWritable, HasSteps, Begins, KeepsOrder}
+use Rattle.trace_file.specs.Loading.{ticketed, IsLoaded, IsStep, CannotStep, StepsStop, IsRefused}
+use Rattle.trace_file.specs.walking.OneStep.{Loading, Taken, NotTaken, LineTaken, LineStops, StepStops, HeaderStops, OrderStops, outcome_of}
 use Rattle.trace_file.specs.walking.Fields.{HasNone, IsCut}
-use Rattle.trace_file.proofs.EventLemmas.{every-more, events-length, ticketed-more, length-more, trace-more, trace-none}
+use Rattle.trace_file.proofs.EventLemmas.{every-more, events-length, ticketed-more, length-more, lines-more}
 
 -- a machine has its parts
 same-machine : (m n : AtMachine) → m.checked ≡ n.checked → m.live ≡ n.live → m.next ≡ n.next → m ≡ n
@@ -31,11 +31,11 @@ same-machine m n a b c = λ i. record { checked = a i; live = b i; next = c i }
 
 -- before the first line
 pub loading-start : (system : System) (steps : List ℕ) (m : AtMachine) → m ≡ record { checked = system; live = []; next = 1 }
-    → Loading system (header ++ 10 ∷ steps) m steps
-loading-start system steps m e = subst (λ (n : AtMachine). Loading system (header ++ 10 ∷ steps) n steps) (sym e) (record {
+    → Loading system steps m steps
+loading-start system steps m e = subst (λ (n : AtMachine). Loading system steps n steps) (sym e) (record {
   checked = refl;
   begins = record {
-    written = trace-none steps;
+    written = refl;
     lines = tt;
     runs = (opening system, refl);
     room = omega arith;
@@ -50,8 +50,8 @@ begins-more : (system : System) (text : List ℕ) (h : List Event) (c : Choice) 
     → Begins system text (h ++ e ∷ []) after
 begins-more system text h c e rest after T b s r chosen room = record {
   written = b.written
-      ∙ (ap (λ (t : List ℕ). trace_text h ++ t) (s.0 ∙ ap (λ (d : Choice). choice_line d ++ after) (sym chosen.choice))
-      ∙ (sym (append_assoc (trace_text h) (event_line e) after) ∙ ap (λ (t : List ℕ). t ++ after) (sym (trace-more h e))));
+      ∙ (ap (λ (t : List ℕ). flat_map event_line h ++ t) (s.0 ∙ ap (λ (d : Choice). choice_line d ++ after) (sym chosen.choice))
+      ∙ (sym (append_assoc (flat_map event_line h) (event_line e) after) ∙ ap (λ (t : List ℕ). t ++ after) (sym (lines-more h e))));
   lines = every-more (λ f. IsWritable (choice_of f)) h e b.lines (subst IsWritable (sym chosen.choice) s.1);
   runs = (chosen.allowed.0, run-join (opening system) T chosen.allowed.0 h (e ∷ []) r (chosen.allowed.0, chosen.allowed.1, refl));
   room = omega (arith, length-more h e, room);
@@ -92,40 +92,58 @@ number-more system text m m' rest after number loading then (c, step, (t, e, tak
     omega (arith, is, more)
 
 -- behind the last line
-pub loaded : (system : System) (text : List ℕ) (m : AtMachine) (rest : List ℕ) → Loading system text m rest → rest ≡ [] → IsLoaded system text m
-loaded system text m rest loading end = (
+pub all-taken : (system : System) (steps : List ℕ) (m : AtMachine) (rest : List ℕ) → Loading system steps m rest → rest ≡ [] → Loading system steps m []
+all-taken system steps m rest loading end = subst (λ (r : List ℕ). Loading system steps m r) end loading
+
+-- all steps of a text are taken, and its events stand as they have to
+pub loaded : (system : System) (v : Version) (text steps : List ℕ) (m : AtMachine) → HasSteps v text steps → Loading system steps m []
+    → KeepsOrder v (events m.live) → IsLoaded system text m
+loaded system v text steps m has loading order = (
   events m.live,
-  subst (λ (r : List ℕ). Begins system text (events m.live) r) end loading.begins,
+  (v, steps, has, loading.begins, order),
   same-machine m (record { checked = system; live = ticketed 1 (events m.live); next = suc (length (events m.live)) })
       loading.checked loading.tickets loading.next,
 )
 
+-- its events do not
+pub order-refused : (system : System) (v : Version) (text steps : List ℕ) (m : AtMachine) (fault : Fault) → HasSteps v text steps
+    → Loading system steps m [] → OrderStops v (events m.live) fault → IsRefused system text fault
+order-refused system v text steps m Fault.Memory has loading stops = tt
+order-refused system v text steps m Fault.BadHeader has loading stops = absurd stops
+order-refused system v text steps m (Fault.BadLine n) has loading stops = absurd stops
+order-refused system v text steps m (Fault.NotAStep n) has loading stops = absurd stops
+order-refused system v text steps m (Fault.NotCanonical n) has loading (second, other) =
+    (steps, events m.live, subst (λ (w : Version). HasSteps w text steps) second has, loading.begins, other)
+order-refused system v text steps m Fault.ReadFailed has loading stops = absurd stops
+order-refused system v text steps m Fault.WriteFailed has loading stops = absurd stops
+
 -- why the step of a line is refused
-cannot : (system : System) (text : List ℕ) (m m' : AtMachine) (rest : List ℕ) (c : Choice) → Loading system text m rest → NotTaken m c m'
+cannot : (system : System) (steps : List ℕ) (m m' : AtMachine) (rest : List ℕ) (c : Choice) → Loading system steps m rest → NotTaken m c m'
     → CannotStep system (events m.live) c
-cannot system text m m' rest c loading (NotReady, none) =
+cannot system steps m m' rest c loading (NotReady, none) =
     inl (none.0.0, subst (λ (s : System). Run (opening s) (events m.live) none.0.0) loading.checked none.0.1, none.0.2)
-cannot system text m m' rest c loading (HistoryFull, full) =
+cannot system steps m m' rest c loading (HistoryFull, full) =
     let room : length (events m.live) ≤ most_live = loading.begins.room in
     let many : most_live ≤ length m.live = full.0.1 in
     inr (omega (arith, room, many, events-length m.live))
-cannot system text m m' rest c loading (Spent, spent) =
+cannot system steps m m' rest c loading (Spent, spent) =
     let room : length (events m.live) ≤ most_live = loading.begins.room in
     let past : last_ticket < m.next = spent.0.2 in
     absurd (omega (arith, room, past, loading.next))
-cannot system text m m' rest c loading (_, other) = absurd other.0
+cannot system steps m m' rest c loading (_, other) = absurd other.0
 
 -- a line that is not taken refuses the text
-pub line-refused : (system : System) (text : List ℕ) (m : AtMachine) (rest : List ℕ) (number : ℕ) (fault : Fault) → Loading system text m rest
-    → number ≡ 2 + length (events m.live) → (rest ≡ [] → ⊥) → LineStops m rest number fault → IsRefused system text fault
-line-refused system text m rest number Fault.Memory loading is some stops = tt
-line-refused system text m rest number Fault.BadHeader loading is some stops = absurd stops
-line-refused system text m rest number (Fault.BadLine n) loading is some stops =
-    inr (events m.live, rest, loading.begins, stops.0 ∙ is, some, stops.1)
-line-refused system text m rest number (Fault.NotAStep n) loading is some (same, (c, after, m', step, none)) =
-    (events m.live, rest, loading.begins, same ∙ is, (c, after, step, cannot system text m m' rest c loading none))
-line-refused system text m rest number Fault.ReadFailed loading is some stops = absurd stops
-line-refused system text m rest number Fault.WriteFailed loading is some stops = absurd stops
+pub line-refused : (system : System) (steps : List ℕ) (m : AtMachine) (rest : List ℕ) (number : ℕ) (fault : Fault) → Loading system steps m rest
+    → number ≡ 2 + length (events m.live) → (rest ≡ [] → ⊥) → LineStops m rest number fault → StepsStop system steps fault
+line-refused system steps m rest number Fault.Memory loading is some stops = tt
+line-refused system steps m rest number Fault.BadHeader loading is some stops = absurd stops
+line-refused system steps m rest number (Fault.BadLine n) loading is some stops =
+    (events m.live, rest, loading.begins, stops.0 ∙ is, some, stops.1)
+line-refused system steps m rest number (Fault.NotAStep n) loading is some (same, (c, after, m', step, none)) =
+    (events m.live, rest, loading.begins, same ∙ is, (c, after, step, cannot system steps m m' rest c loading none))
+line-refused system steps m rest number (Fault.NotCanonical n) loading is some stops = absurd stops
+line-refused system steps m rest number Fault.ReadFailed loading is some stops = absurd stops
+line-refused system steps m rest number Fault.WriteFailed loading is some stops = absurd stops
 
 -- a line whose step is not taken
 pub line-stops : (m : AtMachine) (c : Choice) (rest after : List ℕ) (number : ℕ) (fault : Fault) → IsStep c rest after → StepStops m c number fault
@@ -134,6 +152,7 @@ line-stops m c rest after number Fault.Memory step stops = tt
 line-stops m c rest after number Fault.BadHeader step stops = absurd stops
 line-stops m c rest after number (Fault.BadLine n) step stops = absurd stops
 line-stops m c rest after number (Fault.NotAStep n) step stops = (stops.0, (c, after, stops.1.0, step, stops.1.1))
+line-stops m c rest after number (Fault.NotCanonical n) step stops = absurd stops
 line-stops m c rest after number Fault.ReadFailed step stops = absurd stops
 line-stops m c rest after number Fault.WriteFailed step stops = absurd stops
 
@@ -154,32 +173,57 @@ pub stepped-as : (m m' : AtMachine) (c : Choice) (number : ℕ) (reply : Reply) 
 stepped-as m m' c number reply r is h =
     subst (λ (x : Result (Unit {0}) Fault). MatchResult x (λ _. Taken m c m') (λ fault. StepStops m c number fault)) (sym is) (stepped m m' c number reply h)
 
--- the whole text has no end of a line, and is not the header
-pub no-header : (text : List ℕ) → HasNone 10 text → (text ≡ header → ⊥) → HeaderStops text Fault.BadHeader
+-- the whole text has no end of a line, and is no header
+pub no-header : (text : List ℕ) → HasNone 10 text → ((v : Version) → text ≡ header_of v → ⊥) → HeaderStops text Fault.BadHeader
 no-header text clear other = (text, (clear, inl refl), other)
 
--- the first line is not the header
-pub other-line : (text line steps : List ℕ) → IsCut 10 text line steps → (line ≡ header → ⊥) → HeaderStops text Fault.BadHeader
+-- the first line is no header
+pub other-line : (text line steps : List ℕ) → IsCut 10 text line steps → ((v : Version) → line ≡ header_of v → ⊥) → HeaderStops text Fault.BadHeader
 other-line text line steps cut other = (line, (cut.1, inr (steps, cut.0)), other)
 
--- a text without an end of a line
-pub without-end : (text : List ℕ) (r : Bool) → HasNone 10 text → (IsTrue r ↔ (text ≡ header)) → r ≡ false → HeaderStops text Fault.BadHeader
-without-end text r clear is fails-it = no-header text clear (λ e. false≢true (sym fails-it ∙ is.1 e))
-
--- a line that is not the header
-pub another-line : (text line steps : List ℕ) (r : Bool) → IsCut 10 text line steps → (IsTrue r ↔ (line ≡ header)) → r ≡ false → HeaderStops text Fault.BadHeader
-another-line text line steps r cut is fails-it = other-line text line steps cut (λ e. false≢true (sym fails-it ∙ is.1 e))
+-- the first line is a header
+pub has-steps : (text line steps : List ℕ) (v : Version) → IsCut 10 text line steps → line ≡ header_of v → HasSteps v text steps
+has-steps text line steps v cut is = cut.0 ∙ ap (λ (l : List ℕ). l ++ 10 ∷ steps) is
 
 -- what is told of a fault
 pub fails : {A : Type 0} (r : Result A Fault) (fault : Fault) (Q : A → Type 0) (P : Fault → Type 0) → r ≡ Err fault → P fault → MatchResult r Q P
 fails {A} r fault Q P is p = subst (λ (x : Result A Fault). MatchResult x Q P) (sym is) p
 
--- why a text is refused, behind its header
-pub refused-text : (system : System) (m : AtMachine) (text steps : List ℕ) (fault : Fault) → m ≡ record { checked = system; live = []; next = 1 }
-    → text ≡ header ++ 10 ∷ steps → IsRefused m.checked (header ++ 10 ∷ steps) fault → IsRefused system text fault
-refused-text system m text steps fault new is h =
-    subst (λ (t : List ℕ). IsRefused system t fault) (sym is)
-    (subst (λ (s : System). IsRefused s (header ++ 10 ∷ steps) fault) (ap (λ (n : AtMachine). n.checked) new) h)
+-- why a text is refused, at its header
+pub header-refused : (system : System) (text : List ℕ) (fault : Fault) → HeaderStops text fault → IsRefused system text fault
+header-refused system text Fault.Memory stops = absurd stops
+header-refused system text Fault.BadHeader stops = stops
+header-refused system text (Fault.BadLine n) stops = inl stops
+header-refused system text (Fault.NotAStep n) stops = absurd stops
+header-refused system text (Fault.NotCanonical n) stops = absurd stops
+header-refused system text Fault.ReadFailed stops = absurd stops
+header-refused system text Fault.WriteFailed stops = absurd stops
+
+-- behind its header
+steps-refused : (system : System) (v : Version) (text steps : List ℕ) (fault : Fault) → HasSteps v text steps → StepsStop system steps fault
+    → IsRefused system text fault
+steps-refused system v text steps Fault.Memory has stops = tt
+steps-refused system v text steps Fault.BadHeader has stops = absurd stops
+steps-refused system v text steps (Fault.BadLine n) has stops = inr (v, steps, has, stops)
+steps-refused system v text steps (Fault.NotAStep n) has stops = (v, steps, has, stops)
+steps-refused system v text steps (Fault.NotCanonical n) has stops = absurd stops
+steps-refused system v text steps Fault.ReadFailed has stops = absurd stops
+steps-refused system v text steps Fault.WriteFailed has stops = absurd stops
+
+-- the system of a new machine
+pub new-system : (system : System) (m : AtMachine) → m ≡ record { checked = system; live = []; next = 1 } → m.checked ≡ system
+new-system system m new = ap (λ (n : AtMachine). n.checked) new
+
+-- behind its header, by a new machine
+pub refused-text : (system : System) (v : Version) (m : AtMachine) (text steps : List ℕ) (fault : Fault)
+    → m ≡ record { checked = system; live = []; next = 1 } → HasSteps v text steps → StepsStop m.checked steps fault → IsRefused system text fault
+refused-text system v m text steps fault new has stops =
+    steps-refused system v text steps fault has (subst (λ (s : System). StepsStop s steps fault) (new-system system m new) stops)
+
+-- all steps are taken on a new machine
+pub taken-all : (system : System) (m m' : AtMachine) (steps : List ℕ) → m ≡ record { checked = system; live = []; next = 1 }
+    → Loading m.checked steps m' [] → Loading system steps m' []
+taken-all system m m' steps new loading = subst (λ (s : System). Loading s steps m' []) (new-system system m new) loading
 
 -- the number of the first line behind the header
 pub number-start : (system : System) (m : AtMachine) → m ≡ record { checked = system; live = []; next = 1 } → 2 ≡ 2 + length (events m.live)

@@ -1,5 +1,5 @@
 -- The trace of the live events, written event by event.
-use Rattle.std.proofs.Common.{◌≡◌, ◌≢◌, ℕ, zero, suc, ◌+◌, ◌≤◌, ◌<◌, ◌^◌, List, [], ◌∷◌, ◌++◌, length, take, get_or, Some, None, refl, sym, ap, ◌∙◌, subst, arith, append_assoc, append-nil}
+use Rattle.std.proofs.Common.{◌≡◌, ◌≢◌, ℕ, zero, suc, ◌+◌, ◌≤◌, ◌<◌, ◌^◌, List, [], ◌∷◌, ◌++◌, length, take, get_or, Some, sym, ap, ◌∙◌, subst, arith, append_assoc, append-nil}
 use Rattle.std.specs.Prelude.{slice_get}
 use Rattle.syntax.specs.Lists.{Every}
 use Rattle.address.specs.Reading.{EntryFits, NumbersFit}
@@ -7,15 +7,20 @@ use Rattle.address.specs.declared.Entry.{Entry}
 use Rattle.calculus.specs.Choices.{choice_of}
 use Rattle.calculus.specs.Events.{acting}
 use Rattle.calculus.specs.Live.{Live, events}
-use Rattle.calculus.specs.Object.{most_live}
-use Rattle.calculus.specs.Sound.{Sound}
+use Rattle.calculus.specs.Steps.{State, Run, opening}
 use Rattle.calculus.specs.declared.event.Event.{Event}
-use Rattle.machine.specs.AtMachine.{AtMachine, object}
-use Rattle.trace_file.specs.TraceText.{trace_text, event_line, IsWritable}
-use Rattle.trace_file.proofs.EventLemmas.{every-more, trace-more}
+use Rattle.canonical_order.proofs.Canonicals.{canonical-rearranged}
+use Rattle.canonical_order.proofs.Stands.{stand-length, stand-one}
+use Rattle.canonical_order.specs.Canonical.{IsCanonicalOrder, StandAt}
+use Rattle.system.specs.declared.system.System.{System}
+use Rattle.std.specs.List.{flat_map}
+use Rattle.calculus.proofs.Elements.{rearranged-in}
+use Rattle.calculus.proofs.Lists.{every-in, every-of}
+use Rattle.trace_file.specs.declared.version.Version.TheVariants.{Second}
+use Rattle.trace_file.specs.TraceText.{header_of, trace_text, event_line, IsTrace, IsWritable}
+use Rattle.trace_file.proofs.EventLemmas.{every-more, lines-more}
 use Rattle.trace_file.proofs.RootLemmas.{never-at-root}
 use Rattle.calculus.proofs.Options.{none-some, some-injective}
-use Rattle.calculus.proofs.Tickets.{events-join}
 use Rattle.std.proofs.lemmas.List.{take_all, take_more}
 use Rattle.std.proofs.lemmas.List.Concat.{flat_map-append}
 use Rattle.address.specs.Text.{entry_text, text_of}
@@ -24,43 +29,42 @@ use Rattle.address.specs.Text.{entry_text, text_of}
 abbrev pub HasNumbers : Event → Type 0
 HasNumbers e = NumbersFit (choice_of e).place × ((choice_of e).arm < 2 ^ 32)
 
--- the lines of these events were written, and the events are those of the machine up to a place
-pub record Written (out : List ℕ) (l : Live) (i : ℕ) : Type 0 where
-  pub text : out ≡ trace_text (events (take i l))
-  pub numbers : Every HasNumbers (events (take i l))
+-- the lines of the events at the places passed were written
+pub record Written (out : List ℕ) (l : Live) (places : List ℕ) (i : ℕ) : Type 0 where
+  pub text : (g : List Event) → StandAt l places g → out ≡ trace_text Second (take i g)
+  pub numbers : (g : List Event) → StandAt l places g → Every HasNumbers (take i g)
 
 -- one more is taken
-take-next : (l : Live) (i : ℕ) (x : ℕ × Event) → slice_get l i ≡ Some x → take (suc i) l ≡ take i l ++ x ∷ []
+take-next : (g : List Event) (i : ℕ) (x : Event) → slice_get g i ≡ Some x → take (suc i) g ≡ take i g ++ x ∷ []
 take-next [] i x h = none-some x h
-take-next (y ∷ l) zero x h = ap (λ z. z ∷ []) (some-injective y x h)
-take-next (y ∷ l) (suc i) x h = ap (λ (k : Live). y ∷ k) (take-next l i x h)
-
--- all are taken where none is at the place
-take-past : (l : Live) (i : ℕ) → slice_get l i ≡ None → take i l ≡ l
-take-past [] zero h = refl
-take-past [] (suc i) h = refl
-take-past (y ∷ l) zero h = none-some y (sym h)
-take-past (y ∷ l) (suc i) h = ap (λ (k : Live). y ∷ k) (take-past l i h)
+take-next (y ∷ g) zero x h = ap (λ z. z ∷ []) (some-injective y x h)
+take-next (y ∷ g) (suc i) x h = ap (λ (k : List Event). y ∷ k) (take-next g i x h)
 
 -- the header is written
-pub written-none : (out start bytes : List ℕ) (l : Live) → start ≡ [] → out ≡ start ++ bytes → bytes ≡ trace_text [] → Written out l 0
-written-none out start bytes l none is same = record {
-  text = is ∙ (ap (λ (t : List ℕ). t ++ bytes) none ∙ same);
-  numbers = tt;
+pub written-none : (out start bytes : List ℕ) (l : Live) (places : List ℕ) → start ≡ [] → out ≡ start ++ bytes → bytes ≡ trace_text Second []
+    → Written out l places 0
+written-none out start bytes l places none is same = record {
+  text = λ g s. is ∙ (ap (λ (t : List ℕ). t ++ bytes) none ∙ same);
+  numbers = λ g s. tt;
 }
 
+-- the text of one event more
+text-more : (h : List Event) (e : Event) → trace_text Second (h ++ e ∷ []) ≡ trace_text Second h ++ event_line e
+text-more h e =
+    ap (λ (t : List ℕ). header_of Second ++ 10 ∷ t) (lines-more h e) ∙ sym (append_assoc (header_of Second) (10 ∷ flat_map event_line h) (event_line e))
+
 -- one line more is written
-pub written-more : (out more : List ℕ) (l : Live) (i t : ℕ) (e : Event) → Written out l i → slice_get l i ≡ Some (t, e)
-    → more ≡ out ++ event_line e → HasNumbers e → Written more l (i + 1)
-written-more out more l i t e w at is numbers =
+pub written-more : (out more : List ℕ) (l : Live) (places : List ℕ) (i d t : ℕ) (e : Event) → Written out l places i → i < length places
+    → slice_get l (get_or places i d) ≡ Some (t, e) → more ≡ out ++ event_line e → HasNumbers e → Written more l places (i + 1)
+written-more out more l places i d t e w within at is numbers =
     let next : i + 1 ≡ suc i = omega arith in
-    let taken : events (take (i + 1) l) ≡ events (take i l) ++ e ∷ [] =
-    ap (λ (n : ℕ). events (take n l)) next ∙ (ap events (take-next l i (t, e) at) ∙ events-join (take i l) ((t, e) ∷ [])) in
+    let taken : (g : List Event) → StandAt l places g → take (i + 1) g ≡ take i g ++ e ∷ [] =
+    λ g s. ap (λ (n : ℕ). take n g) next ∙ take-next g i e (stand-one l places g i d t e s within at) in
     record {
-      text = is
-          ∙ (ap (λ (x : List ℕ). x ++ event_line e) w.text
-          ∙ (sym (trace-more (events (take i l)) e) ∙ ap trace_text (sym taken)));
-      numbers = subst (λ (h : List Event). Every HasNumbers h) (sym taken) (every-more HasNumbers (events (take i l)) e w.numbers numbers);
+      text = λ g s. is
+          ∙ (ap (λ (x : List ℕ). x ++ event_line e) (w.text g s)
+          ∙ (sym (text-more (take i g) e) ∙ ap (λ (h : List Event). trace_text Second h) (sym (taken g s))));
+      numbers = λ g s. subst (λ (h : List Event). Every HasNumbers h) (sym (taken g s)) (every-more HasNumbers (take i g) e (w.numbers g s) numbers);
     }
 
 -- numbers and a place other than the root
@@ -68,24 +72,25 @@ both-hold : (h : List Event) → Every HasNumbers h → Every (λ e. acting e �
 both-hold [] n r = tt
 both-hold (e ∷ h) n r = ((r.0, n.0.0, n.0.1), both-hold h n.1 r.1)
 
--- the whole trace is written
-whole : (out : List ℕ) (m : AtMachine) (i : ℕ) → Sound (object m) → Written out m.live i → take i m.live ≡ m.live
-    → (out ≡ trace_text (events m.live)) × Every (λ e. IsWritable (choice_of e)) (events m.live)
-whole out m i s w all =
-    let numbers : Every HasNumbers (events m.live) = subst (λ (l : Live). Every HasNumbers (events l)) all w.numbers in (
-      w.text ∙ ap (λ (l : Live). trace_text (events l)) all,
-      both-hold (events m.live) numbers (never-at-root m.checked s.runs.0 (events m.live) s.runs.1),
-    )
+-- all lines are written
+all-taken : (l : Live) (places : List ℕ) (i : ℕ) (g : List Event) → StandAt l places g → length places ≤ i → take i g ≡ g
+all-taken l places i g s many = take_all i g (omega (arith, stand-length l places g s, many))
 
--- it is where none is at the place
-pub written-whole : (out : List ℕ) (m : AtMachine) (i : ℕ) → Sound (object m) → Written out m.live i → slice_get m.live i ≡ None
-    → (out ≡ trace_text (events m.live)) × Every (λ e. IsWritable (choice_of e)) (events m.live)
-written-whole out m i s w none = whole out m i s w (take-past m.live i none)
+-- the trace is written
+pub written-whole : (out : List ℕ) (l : Live) (places : List ℕ) (i : ℕ) → Written out l places i → length places ≤ i
+    → (g : List Event) × IsCanonicalOrder (events l) g × StandAt l places g → IsTrace (events l) out
+written-whole out l places i w many (g, c, s) =
+    (g, c, w.text g s ∙ ap (λ (h : List Event). trace_text Second h) (all-taken l places i g s many))
 
--- it is behind as many as may be live
-pub written-most : (out : List ℕ) (m : AtMachine) (i : ℕ) → Sound (object m) → Written out m.live i → most_live ≤ i
-    → (out ≡ trace_text (events m.live)) × Every (λ e. IsWritable (choice_of e)) (events m.live)
-written-most out m i s w most = whole out m i s w (take_all i m.live (omega (arith, s.room, most)))
+-- its lines can be written
+pub lines-whole : (out : List ℕ) (l : Live) (places : List ℕ) (i : ℕ) → Written out l places i → length places ≤ i
+    → (g : List Event) × IsCanonicalOrder (events l) g × StandAt l places g → (system : System) × (T : State) × Run (opening system) (events l) T
+    → Every (λ e. IsWritable (choice_of e)) (events l)
+lines-whole out l places i w many (g, c, s) (system, T, r) =
+    let numbers : Every HasNumbers g = subst (λ (h : List Event). Every HasNumbers h) (all-taken l places i g s many) (w.numbers g s) in
+    both-hold (events l)
+    (every-of HasNumbers (events l) (λ e i. every-in HasNumbers g e numbers (rearranged-in g (events l) e (canonical-rearranged (events l) g c) i)))
+    (never-at-root system T (events l) r)
 
 -- the numbers of one entry more have 32 bits
 pub numbers-more : (a : List Entry) (e : Entry) → NumbersFit a → EntryFits e → NumbersFit (a ++ e ∷ [])

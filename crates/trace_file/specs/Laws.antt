@@ -4,13 +4,15 @@ use Rattle.syntax.specs.Lists.{Every}
 use Rattle.system.specs.declared.system.System.{System}
 use Rattle.sharing_check.specs.Rule.{SharesWell}
 use Rattle.calculus.specs.Choices.{choice_of}
+use Rattle.calculus.specs.Dependence.{Respecting}
 use Rattle.calculus.specs.Live.{events}
 use Rattle.calculus.specs.Object.{Reaches}
 use Rattle.calculus.specs.Sound.{Sound}
-use Rattle.calculus.specs.Steps.{State}
+use Rattle.calculus.specs.Steps.{State, Run, opening}
 use Rattle.calculus.specs.declared.event.Event.{Event}
 use Rattle.machine.specs.AtMachine.{AtMachine, object}
-use Rattle.trace_file.specs.TraceText.{trace_text, IsWritable, StandsFor}
+use Rattle.canonical_order.specs.Canonical.{IsCanonicalOrder}
+use Rattle.trace_file.specs.TraceText.{IsTrace, IsWritable, StandsFor}
 use Rattle.trace_file.specs.Loading.{IsLoaded, IsRefused}
 use Rattle.trace_file.specs.declared.fault.Fault.{Fault}
 use Rattle.trace_file.specs.declared.fault.Fault.TheVariants.{Memory}
@@ -29,13 +31,18 @@ abbrev pub OneFault : Type 0
 OneFault = (system : System) (text : List ℕ) (one other : Fault) → SharesWell system → IsRefused system text one → IsRefused system text other →
     (one ≡ Memory → ⊥) → (other ≡ Memory → ⊥) → one ≡ other
 
--- the trace of a machine, whose lines can be written, stands for its events
-abbrev pub TraceStands : Type 0
-TraceStands = (m : AtMachine) → Sound (object m) → Every (λ e. IsWritable (choice_of e)) (events m.live) →
-    StandsFor m.checked (trace_text (events m.live)) (events m.live)
+-- the traces of two lists that are respecting orders of each other, of which one runs, have equal bytes
+abbrev pub EqualBytes : Type 0
+EqualBytes = (system : System) (h k : List Event) (T : State) (one other : List ℕ) → Run (opening system) h T →
+    Respecting h k → Respecting k h → IsTrace h one → IsTrace k other → one ≡ other
 
--- what is loaded from the trace of a machine has the same events, and the same state
+-- the trace of a machine, whose lines can be written, stands for its events in canonical order
+abbrev pub TraceStands : Type 0
+TraceStands = (m : AtMachine) (text : List ℕ) → Sound (object m) → Every (λ e. IsWritable (choice_of e)) (events m.live) →
+    IsTrace (events m.live) text → (g : List Event) × IsCanonicalOrder (events m.live) g × StandsFor m.checked text g
+
+-- what is loaded from the trace of a machine has the same events in canonical order, and the same state
 abbrev pub LoadsTheSame : Type 0
-LoadsTheSame = (m m' : AtMachine) → SharesWell m.checked → Sound (object m) → Every (λ e. IsWritable (choice_of e)) (events m.live) →
-    IsLoaded m.checked (trace_text (events m.live)) m' →
-    (events m'.live ≡ events m.live) × ((T : State) → Reaches (object m') T ↔ Reaches (object m) T)
+LoadsTheSame = (m m' : AtMachine) (text : List ℕ) → SharesWell m.checked → Sound (object m) → Every (λ e. IsWritable (choice_of e)) (events m.live) →
+    IsTrace (events m.live) text → IsLoaded m.checked text m' →
+    IsCanonicalOrder (events m.live) (events m'.live) × ((T : State) → Reaches (object m') T ↔ Reaches (object m) T)

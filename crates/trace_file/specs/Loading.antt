@@ -12,7 +12,10 @@ use Rattle.calculus.specs.declared.event.Event.{Event}
 use Rattle.machine.specs.AtMachine.{AtMachine}
 use Rattle.devices.specs.Counting.{one_more, IsBeginning}
 use Rattle.trace_file.specs.declared.fault.Fault.{Fault}
-use Rattle.trace_file.specs.TraceText.{header, choice_line, IsWritable, Begins, StandsFor}
+use Rattle.trace_file.specs.TraceText.{header_of, choice_line, event_line, IsWritable, IsTrace, HasSteps, Begins, StandsFor}
+use Rattle.trace_file.specs.declared.version.Version.{Version}
+use Rattle.trace_file.specs.declared.version.Version.TheVariants.{Second}
+use Rattle.canonical_order.specs.Canonical.{IsCanonicalOrder}
 
 -- the events under the tickets from t on
 abbrev pub ticketed : ℕ → List Event → Live
@@ -44,18 +47,40 @@ IsNoStep text = (c : Choice) (after : List ℕ) → IsStep c text after → ⊥
 abbrev pub CannotStep : System → List Event → Choice → Type 0
 CannotStep system h c = ((T : State) × Run (opening system) h T × (ChoiceAllowed T c → ⊥)) ⊎ (length h ≡ most_live)
 
--- the text is refused for this reason. The lines before the one that is named stand for events; line 1 is the header
+-- the line of number n is the first in which the text of the events h differs from that of the events g; the first line is the header
+abbrev pub DiffersAt : List Event → List Event → ℕ → Type 0
+DiffersAt h g n =
+    (p : List Event) × (e : Event) × (f : Event) × (k : List Event) × (l : List Event)
+    × (h ≡ p ++ e ∷ k) × (g ≡ p ++ f ∷ l) × (event_line e ≢ event_line f) × (n ≡ 2 + length p)
+
+-- the text behind a header is refused for this reason. The lines before the one that is named stand for events; line 1 is the header
+abbrev pub StepsStop : System → List ℕ → Fault → Type 0
+-- a line is not that of a choice
+StepsStop system steps (Fault.BadLine n) =
+    (h : List Event) × (rest : List ℕ) × Begins system steps h rest × (n ≡ 2 + length h) × (rest ≢ []) × IsNoStep rest
+-- the step of a line cannot be taken
+StepsStop system steps (Fault.NotAStep n) =
+    (h : List Event) × (rest : List ℕ) × Begins system steps h rest × (n ≡ 2 + length h)
+    × ((c : Choice) × (after : List ℕ) × IsStep c rest after × CannotStep system h c)
+-- there was no memory for it
+StepsStop system steps Fault.Memory = Unit {0}
+StepsStop system steps _ = ⊥
+
+-- the text is refused for this reason
 abbrev pub IsRefused : System → List ℕ → Fault → Type 0
--- the first line is not the header, or is missing
-IsRefused system text Fault.BadHeader = (line : List ℕ) × IsFirstLine text line × (line ≢ header)
--- the header lacks its end, or a line is not that of a choice
+-- the first line is no header, or is missing
+IsRefused system text Fault.BadHeader = (line : List ℕ) × IsFirstLine text line × ((v : Version) → line ≢ header_of v)
+-- the header lacks its end, or a line behind it is not that of a choice
 IsRefused system text (Fault.BadLine n) =
-    ((n ≡ 1) × (text ≡ header))
-    ⊎ ((h : List Event) × (rest : List ℕ) × Begins system text h rest × (n ≡ 2 + length h) × (rest ≢ []) × IsNoStep rest)
+    ((n ≡ 1) × ((v : Version) × (text ≡ header_of v)))
+    ⊎ ((v : Version) × (steps : List ℕ) × HasSteps v text steps × StepsStop system steps (Fault.BadLine n))
 -- the step of a line cannot be taken
 IsRefused system text (Fault.NotAStep n) =
-    (h : List Event) × (rest : List ℕ) × Begins system text h rest × (n ≡ 2 + length h)
-    × ((c : Choice) × (after : List ℕ) × IsStep c rest after × CannotStep system h c)
+    (v : Version) × (steps : List ℕ) × HasSteps v text steps × StepsStop system steps (Fault.NotAStep n)
+-- all steps of a text of version 2 can be taken, and its lines differ from those of their canonical order, first in this one
+IsRefused system text (Fault.NotCanonical n) =
+    (steps : List ℕ) × (h : List Event) × HasSteps Second text steps × Begins system steps h []
+    × ((g : List Event) × IsCanonicalOrder h g × DiffersAt h g n)
 -- there was no memory for it
 IsRefused system text Fault.Memory = Unit {0}
 -- a text is not refused for what devices do
@@ -75,16 +100,16 @@ Loads system read left result =
     (λ m. (text : List ℕ) × Consumes read left text × IsAtEnd left × IsLoaded system text m)
     (λ fault. LoadStops system read left fault)
 
--- what of a text was written where there was no memory for it, or the writer failed: nothing, or a beginning
-abbrev pub SaveStops : List ℕ → List ℕ → Fault → Type 0
-SaveStops text given Fault.Memory = given ≡ []
-SaveStops text given Fault.WriteFailed = IsBeginning text given
-SaveStops text given _ = ⊥
+-- what of the trace of the events h was written where there was no memory for it, or the writer failed: nothing, or a beginning
+abbrev pub SaveStops : List Event → List ℕ → Fault → Type 0
+SaveStops h given Fault.Memory = given ≡ []
+SaveStops h given Fault.WriteFailed = (text : List ℕ) × IsTrace h text × IsBeginning text given
+SaveStops h given _ = ⊥
 
--- a text was written, or it was not
-abbrev pub Saves : List ℕ → Option (List ℕ) → Option (List ℕ) → Result (Unit {0}) Fault → Type 0
-Saves text wrote held result =
-    (given : List ℕ) × Appends wrote held given × MatchResult result (λ _. given ≡ text) (λ fault. SaveStops text given fault)
+-- the trace of the events h was written, or it was not
+abbrev pub Saves : List Event → Option (List ℕ) → Option (List ℕ) → Result (Unit {0}) Fault → Type 0
+Saves h wrote held result =
+    (given : List ℕ) × Appends wrote held given × MatchResult result (λ _. IsTrace h given) (λ fault. SaveStops h given fault)
 
 -- the failures of the reader behind this fault: one more at 41, and else as many as before
 abbrev pub fault_reads : Fault → ℕ → ℕ

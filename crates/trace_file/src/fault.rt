@@ -19,6 +19,9 @@ pub enum Fault {
     /// The step of the line cannot be taken.
     #[error("the step of line {0} of the trace cannot be taken")]
     NotAStep(u64),
+    /// The steps are not in canonical order: the line is the first that differs from the trace of the same events.
+    #[error("line {0} of the trace is not the step that comes next in canonical order")]
+    NotCanonical(u64),
     /// The reader of the trace failed.
     #[error("the trace could not be read")]
     ReadFailed,
@@ -37,6 +40,7 @@ impl Fault {
             Fault::BadHeader => 31,
             Fault::BadLine(_) => 32,
             Fault::NotAStep(_) => 33,
+            Fault::NotCanonical(_) => 34,
             Fault::ReadFailed => 41,
             Fault::WriteFailed => 42,
         }
@@ -47,7 +51,7 @@ impl Fault {
         ensures { result ≡ fault_field self.now }
     {
         match self {
-            Fault::BadLine(line) | Fault::NotAStep(line) => Some(*line),
+            Fault::BadLine(line) | Fault::NotAStep(line) | Fault::NotCanonical(line) => Some(*line),
             Fault::Memory | Fault::BadHeader | Fault::ReadFailed | Fault::WriteFailed => None,
         }
     }

@@ -1,22 +1,21 @@
-ghost use Rattle.std.specs.Prelude.{◌≡◌, ◌↔◌, ◌++◌, ◌∷◌, [], IsTrue, MatchResult};
+ghost use Rattle.std.specs.Prelude.{◌≡◌, [], MatchResult};
 ghost use Rattle.devices.specs.Counting.{device, failures};
-ghost use Rattle.trace_file.specs.TraceText.{header};
-ghost use Rattle.trace_file.specs.Loading.{IsLoaded, IsRefused, Loads, after_reading};
+ghost use Rattle.trace_file.specs.TraceText.{HasSteps};
+ghost use Rattle.trace_file.specs.Loading.{IsLoaded, IsRefused, StepsStop, Loads, after_reading};
 ghost use Rattle.trace_file.specs.walking.Fields.{HasNone};
-ghost use Rattle.trace_file.specs.walking.OneStep.{LineTaken, LineStops, Taken, StepStops, HeaderStops, outcome_of};
+ghost use Rattle.trace_file.specs.walking.OneStep.{Loading, LineTaken, LineStops, Taken, StepStops, HeaderStops, outcome_of};
 
-use crate::Fault;
 use crate::line::{cut_at, read_step};
 use crate::long::refuse_long;
+use crate::order::refuse_disorder;
+use crate::version::version_of;
+use crate::{Fault, Version};
 use calculus::{Choice, Refusal, Reply};
 use devices::{Counted, ReadFault, read_all};
 use machine::Machine;
 use sharing_check::Checked;
 use std::alloc::Global;
 use std::io::Read;
-
-/// The first line of a trace, without its end.
-const HEADER: &[u8] = b"balsadbg trace 1";
 
 /// A machine that has taken the steps of the trace that the reader has left, which is read whole before the first step.
 ///
@@ -25,9 +24,10 @@ const HEADER: &[u8] = b"balsadbg trace 1";
 /// # Errors
 ///
 /// - `ReadFailed` exactly where the reader counts a failure;
-/// - `BadHeader` where the first line is another;
+/// - `BadHeader` where the first line is not the header of a version;
 /// - `BadLine` for a line of another form, with a number past its type, or without an end, and `NotAStep` for a step that
 ///   cannot be taken there: whichever comes first, with the number of its line;
+/// - else, for version 2, `NotCanonical` with the number of the first line that differs from the trace of the same events;
 /// - `Memory` without memory.
 pub fn load<R: Read>(
     alloc: Global,
@@ -48,24 +48,23 @@ pub fn load<R: Read>(
 pub fn load_text(alloc: Global, checked: Checked, text: &[u8]) -> Result<Machine, Fault>
     ensures { MatchResult result (λ machine. IsLoaded checked text.now machine) (λ fault. IsRefused checked text.now fault) }
 {
-    let steps = behind_header(text)?;
+    let (version, steps) = behind_header(text)?;
     let mut machine = Machine::new(alloc, checked)?;
     take_steps(alloc, &mut machine, steps)?;
+    refuse_disorder(alloc, &machine, version)?;
     Ok(machine)
 }
 
-/// What is behind the first line, which is to be the header.
-fn behind_header(text: &[u8]) -> Result<&[u8], Fault>
-    ensures { MatchResult result (λ steps. text.now ≡ header ++ 10 ∷ steps.now)
-        (λ fault. HeaderStops text.now fault) }
+/// The version by the first line, which is to be a header, and what is behind that line.
+fn behind_header(text: &[u8]) -> Result<(Version, &[u8]), Fault>
+    ensures { MatchResult result (λ found. HasSteps found.0 text.now found.1.now) (λ fault. HeaderStops text.now fault) }
 {
     let Some((line, steps)) = cut_at(text, b'\n') else {
         return Err(without_end(text));
     };
-    if is_header(line) {
-        Ok(steps)
-    } else {
-        Err(Fault::BadHeader)
+    match version_of(line) {
+        Some(version) => Ok((version, steps)),
+        None => Err(Fault::BadHeader),
     }
 }
 
@@ -74,25 +73,17 @@ fn without_end(text: &[u8]) -> Fault
     requires { HasNone 10 text.now }
     ensures { HeaderStops text.now result }
 {
-    if is_header(text) {
-        Fault::BadLine(1)
-    } else {
-        Fault::BadHeader
+    match version_of(text) {
+        Some(_) => Fault::BadLine(1),
+        None => Fault::BadHeader,
     }
-}
-
-/// Whether this is the first line of a trace.
-fn is_header(line: &[u8]) -> bool
-    ensures { IsTrue result ↔ (line.now ≡ header) }
-{
-    line == HEADER
 }
 
 /// Takes the steps of the lines in their order. Lines count from 2.
 fn take_steps(alloc: Global, machine: &mut Machine, steps: &[u8]) -> Result<(), Fault>
     requires { machine.old ≡ record { checked = machine.old.checked; live = []; next = 1 } }
-    ensures { MatchResult result (λ _. IsLoaded machine.old.checked (header ++ 10 ∷ steps.now) machine.new)
-        (λ fault. IsRefused machine.old.checked (header ++ 10 ∷ steps.now) fault) }
+    ensures { MatchResult result (λ _. Loading machine.old.checked steps.now machine.new [])
+        (λ fault. StepsStop machine.old.checked steps.now fault) }
 {
     let mut rest = steps;
     for number in 2..u64::MAX {

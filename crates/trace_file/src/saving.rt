@@ -1,30 +1,35 @@
-ghost use Rattle.std.specs.Prelude.{Err, ◌≡◌, ◌++◌, ◌<◌, ◌^◌, OnOk, IfOk};
+ghost use Rattle.std.specs.Prelude.{Err, ℕ, ◌≡◌, ◌++◌, ◌<◌, ◌^◌, length, Some, slice_get, OnOk, IfOk};
 ghost use Rattle.std.specs.Fmt.{decimal};
 ghost use Rattle.syntax.specs.Lists.{Every};
 ghost use Rattle.address.specs.Text.{entry_text, text_of};
 ghost use Rattle.address.specs.Reading.{EntryFits, NumbersFit};
 ghost use Rattle.calculus.specs.Choices.{choice_of};
 ghost use Rattle.calculus.specs.Live.{events};
+ghost use Rattle.system.specs.declared.system.System.{System};
+ghost use Rattle.calculus.specs.Steps.{State, Run, opening};
 ghost use Rattle.devices.specs.Counting.{device, failures};
-ghost use Rattle.trace_file.specs.TraceText.{trace_text, event_line, IsWritable};
+ghost use Rattle.trace_file.specs.TraceText.{event_line, IsTrace, IsWritable};
 ghost use Rattle.trace_file.specs.Loading.{Saves, after_writing};
 
 use crate::Fault;
+use crate::order::list_live;
 use address::{Address, Entry};
-use calculus::{Event, MOST_LIVE_EVENTS};
+use calculus::Event;
+use canonical_order::canonical_order;
 use devices::{Counted, write_out};
 use machine::Machine;
 use std::alloc::{AllocError, Global};
 use std::io::Write;
 
-/// Writes the trace of the live events. At `Memory` the writer was not asked for anything, and at `WriteFailed`, which comes
-/// exactly where the writer counts a failure, a beginning is out.
+/// Writes the trace of the live events: a header, and a line for the choice of each, in canonical order. So two machines whose
+/// live events are the same but for the order of independent ones write equal bytes (`trace_laws`). At `Memory` the writer was
+/// not asked for anything, and at `WriteFailed`, which comes exactly where the writer counts a failure, a beginning is out.
 pub fn save<W: Write>(
     alloc: Global,
     machine: &Machine,
     writer: &mut Counted<W>,
 ) -> Result<(), Fault>
-    ensures saves { Saves (trace_text (events machine.now.live)) (W.contents (device writer.old)) (W.contents (device writer.new)) result }
+    ensures saves { Saves (events machine.now.live) (W.contents (device writer.old)) (W.contents (device writer.new)) result }
     ensures lines { OnOk result (Every (λ e. IsWritable (choice_of e)) (events machine.now.live)) }
     ensures failures { failures writer.new ≡ after_writing result (failures writer.old) }
     ensures untouched { result ≡ Err Fault.Memory → writer.new ≡ writer.old }
@@ -36,21 +41,37 @@ pub fn save<W: Write>(
     }
 }
 
-/// The trace of the live events: the header, and a line for the choice of each. It is an error if there is no memory.
+/// The trace of the live events, as `save` writes it. It is an error if there is no memory.
 pub fn write_trace(alloc: Global, machine: &Machine) -> Result<Vec<u8>, AllocError>
-    ensures text { IfOk result (λ text. text.items ≡ trace_text (events machine.now.live)) }
+    ensures text { IfOk result (λ text. IsTrace (events machine.now.live) text.items) }
     ensures lines { OnOk result (Every (λ e. IsWritable (choice_of e)) (events machine.now.live)) }
 {
     machine.is_sound();
+    let live = list_live(machine)?;
+    write_events(alloc, live.as_slice())
+}
+
+/// The trace of these live events.
+fn write_events(alloc: Global, live: &[(u64, Event)]) -> Result<Vec<u8>, AllocError>
+    requires { (system : System) × (T : State) × Run (opening system) (events live.now) T }
+    ensures text { IfOk result (λ text. IsTrace (events live.now) text.items) }
+    ensures lines { OnOk result (Every (λ e. IsWritable (choice_of e)) (events live.now)) }
+{
+    let order = canonical_order(alloc, live)?;
     let mut out = Vec::new(alloc);
-    add_bytes(&mut out, b"balsadbg trace 1\n")?;
-    for place in 0..MOST_LIVE_EVENTS {
-        let Some((_, event)) = machine.live_at(place) else {
-            return Ok(out);
-        };
-        add_line(&mut out, event)?;
+    add_bytes(&mut out, b"balsadbg trace 2\n")?;
+    for place in order.as_slice() {
+        add_line(&mut out, event_at(live, *place))?;
     }
     Ok(out)
+}
+
+/// The event at a place.
+fn event_at(live: &[(u64, Event)], place: usize) -> &Event
+    requires { place < length live.now }
+    ensures { (t : ℕ) × (slice_get live.now place ≡ Some (t, result.now)) }
+{
+    &live[place].1
 }
 
 /// Adds the line of the event behind what is there.

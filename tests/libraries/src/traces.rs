@@ -1,6 +1,6 @@
 //! Traces that are saved and loaded, over readers and writers that give little at a time or fail.
 
-use crate::examples::BUFFER;
+use crate::examples::{BUFFER, Example, TWO_BUFFERS};
 use crate::told::place;
 use calculus::{Choice, Refusal, Reply};
 use devices::Counted;
@@ -12,14 +12,19 @@ use std::test::Fail;
 use trace_file::{Fault, load, load_text, save, write_trace};
 
 /// The trace of a turn, a value in and the value out.
-const THREE: &[u8] = b"balsadbg trace 1\nstep /0.0 0\nstep /0.1.0 0\nstep /2.0 0\n";
+const THREE: &[u8] = b"balsadbg trace 2\nstep /0.0 0\nstep /0.1.0 0\nstep /2.0 0\n";
 
 /// The places of these steps.
 const PLACES: [&[u8]; 3] = [b"/0.0", b"/0.1.0", b"/2.0"];
 
 /// The buffer behind these steps.
 fn stepped(alloc: Global, places: &[&'static [u8]]) -> Result<Machine, Fail> {
-    let mut machine = Machine::new(alloc, BUFFER.checked(alloc)?)?;
+    behind(alloc, BUFFER, places)
+}
+
+/// The example behind these steps.
+fn behind(alloc: Global, example: Example, places: &[&'static [u8]]) -> Result<Machine, Fail> {
+    let mut machine = Machine::new(alloc, example.checked(alloc)?)?;
     for at in places {
         let place = place(alloc, at)?;
         if let Reply::Refused(refusal) = machine.step(&Choice { place, arm: 0 }) {
@@ -80,6 +85,68 @@ fn what_is_saved_loads_to_the_same_events(rt: HostRuntime) -> Result<(), Fail> {
         let loaded = load_text(rt.alloc(), BUFFER.checked(rt.alloc())?, text.as_slice())?;
         assert!(rt; same_events(&machine, &loaded)?, "{steps}");
         assert_eq!(rt; loaded.next_ticket(), machine.next_ticket());
+    }
+    Ok(())
+}
+
+/// Two buffers in a row: a turn of each, a value into the first, and from the first into the second.
+const IN_CANONICAL_ORDER: &[u8] =
+    b"balsadbg trace 2\nstep /0/0.0 0\nstep /0/0.1.0 0\nstep /0/1.0 0\nstep /0/1.1.0 0\n";
+
+/// The same steps in three orders.
+const ORDERS: [[&[u8]; 4]; 3] = [
+    [b"/0/0.0", b"/0/1.0", b"/0/0.1.0", b"/0/1.1.0"],
+    [b"/0/0.0", b"/0/0.1.0", b"/0/1.0", b"/0/1.1.0"],
+    [b"/0/1.0", b"/0/0.0", b"/0/0.1.0", b"/0/1.1.0"],
+];
+
+#[test]
+fn orders_of_the_same_steps_have_equal_bytes(rt: HostRuntime) -> Result<(), Fail> {
+    assert_eq!(rt; IN_CANONICAL_ORDER.len(), 77);
+    let expected = behind(rt.alloc(), TWO_BUFFERS, &ORDERS[1])?;
+    for order in ORDERS {
+        let machine = behind(rt.alloc(), TWO_BUFFERS, &order)?;
+        let text = write_trace(rt.alloc(), &machine)?;
+        assert!(rt; text.as_slice() == IN_CANONICAL_ORDER);
+        let loaded = load_text(
+            rt.alloc(),
+            TWO_BUFFERS.checked(rt.alloc())?,
+            text.as_slice(),
+        )?;
+        assert!(rt; same_events(&expected, &loaded)?);
+    }
+    Ok(())
+}
+
+/// Texts of these four steps in another order, and why they are refused.
+const OUT_OF_ORDER: [(&[u8], Option<Fault>); 5] = [
+    (
+        b"balsadbg trace 2\nstep /0/0.0 0\nstep /0/1.0 0\nstep /0/0.1.0 0\nstep /0/1.1.0 0\n",
+        Some(Fault::NotCanonical(3)),
+    ),
+    (
+        b"balsadbg trace 2\nstep /0/1.0 0\nstep /0/0.0 0\nstep /0/0.1.0 0\nstep /0/1.1.0 0\n",
+        Some(Fault::NotCanonical(2)),
+    ),
+    (
+        b"balsadbg trace 1\nstep /0/1.0 0\nstep /0/0.0 0\nstep /0/0.1.0 0\nstep /0/1.1.0 0\n",
+        None,
+    ),
+    (
+        b"balsadbg trace 2\nstep /0/1.0 0\nstep /0/0.0 0\nstep /0/0.0 0\n",
+        Some(Fault::NotAStep(4)),
+    ),
+    (
+        b"balsadbg trace 2\nstep /0/1.0 0\nstep /0/0.0 0\nstep",
+        Some(Fault::BadLine(4)),
+    ),
+];
+
+#[test]
+fn another_order_is_refused_at_its_first_line(rt: HostRuntime) -> Result<(), Fail> {
+    for (text, fault) in OUT_OF_ORDER {
+        let loaded = load_text(rt.alloc(), TWO_BUFFERS.checked(rt.alloc())?, text);
+        assert_eq!(rt; refused(&loaded)?, fault, "{fault:?}");
     }
     Ok(())
 }
@@ -202,7 +269,7 @@ fn a_writer_that_fails_has_a_beginning(rt: HostRuntime) -> Result<(), Fail> {
 /// A trace of one line, whose place is so many of these entries.
 fn long_line(alloc: Global, entry: &[u8], count: usize, arm: &[u8]) -> Result<Vec<u8>, Fail> {
     let mut text = Vec::with_capacity(alloc, 200_000)?;
-    text.extend_from_slice(b"balsadbg trace 1\nstep ")?;
+    text.extend_from_slice(b"balsadbg trace 2\nstep ")?;
     for _ in 0..count {
         text.extend_from_slice(entry)?;
     }

@@ -9,7 +9,7 @@ from reference.traces import trace_of
 from .scripts import ScriptWriter, desk_for, twisted_script
 
 HEADERS = [
-    b"", b"balsadbg trace 2", b"balsadbg trace 1 ", b"balsadbg trace 1\r", b"Balsadbg trace 1", b"balsadbg trace",
+    b"", b"balsadbg trace 1", b"balsadbg trace 3", b"balsadbg trace 2 ", b"balsadbg trace 1 ", b"balsadbg trace 1\r", b"Balsadbg trace 1", b"balsadbg trace",
     b"balsadbg trace 1\n", b"\nbalsadbg trace 1", b"balsadbg trace 1\nbalsadbg trace 1",
 ]
 BROKEN_STEPS = [
@@ -24,7 +24,7 @@ def trace_for(random: Random, source: bytes, stimulus: bytes) -> bytes:
     """The trace behind some lines of a script, which may undo and roll back."""
     desk = desk_for(source, stimulus)
     if desk is None:
-        return b"balsadbg trace 1\n"
+        return b"balsadbg trace 2\n"
     writer = ScriptWriter(random, desk)
     writer.add_some(random.choice([0, 5, 30, 100]), 0)
     return "".join(line + "\n" for line in trace_of(desk.machine)).encode()

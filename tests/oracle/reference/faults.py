@@ -32,6 +32,7 @@ class Number(IntEnum):
     BAD_HEADER = 31
     BAD_LINE = 32
     NOT_A_STEP = 33
+    NOT_CANONICAL = 34
     READ_FAILED = 41
     WRITE_FAILED = 42
     BAD_STIMULUS = 51

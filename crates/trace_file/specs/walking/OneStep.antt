@@ -1,6 +1,6 @@
 -- One line of a trace on a machine.
 -- No reader has to believe it: `proofs/LoadLemmas.antt` ties it to `IsLoaded` and `IsRefused` of `Loading.antt`.
-use Rattle.std.specs.Prelude.{ℕ, suc, ◌≡◌, ◌≢◌, List, length, Result, Ok, Err}
+use Rattle.std.specs.Prelude.{ℕ, suc, ◌≡◌, ◌≢◌, ◌<◌, List, length, get_or, Result, Ok, Err}
 use Rattle.system.specs.declared.system.System.{System}
 use Rattle.calculus.specs.Does.{Steps}
 use Rattle.calculus.specs.Live.{events}
@@ -10,13 +10,16 @@ use Rattle.calculus.specs.declared.event.Choice.{Choice}
 use Rattle.calculus.specs.declared.event.Event.{Event}
 use Rattle.machine.specs.AtMachine.{AtMachine, object}
 use Rattle.trace_file.specs.declared.fault.Fault.{Fault}
-use Rattle.trace_file.specs.TraceText.{header, Begins}
-use Rattle.trace_file.specs.Loading.{ticketed, IsFirstLine, IsStep, IsNoStep}
+use Rattle.trace_file.specs.declared.version.Version.{Version}
+use Rattle.trace_file.specs.TraceText.{header_of, Begins}
+use Rattle.trace_file.specs.Loading.{ticketed, IsFirstLine, IsStep, IsNoStep, DiffersAt}
+use Rattle.trace_file.specs.declared.version.Version.TheVariants.{Second}
+use Rattle.canonical_order.specs.Canonical.{IsCanonicalOrder}
 
 -- the machine has the events of the lines so far, and `rest` is to be read
-pub record Loading (system : System) (text : List ℕ) (m : AtMachine) (rest : List ℕ) : Type 0 where
+pub record Loading (system : System) (steps : List ℕ) (m : AtMachine) (rest : List ℕ) : Type 0 where
   pub checked : m.checked ≡ system
-  pub begins : Begins system text (events m.live) rest
+  pub begins : Begins system steps (events m.live) rest
   pub tickets : m.live ≡ ticketed 1 (events m.live)
   pub next : m.next ≡ suc (length (events m.live))
 
@@ -47,9 +50,25 @@ StepStops m c number _ = ⊥
 
 -- why a text is refused at its first line
 abbrev pub HeaderStops : List ℕ → Fault → Type 0
-HeaderStops text Fault.BadHeader = (line : List ℕ) × IsFirstLine text line × (line ≢ header)
-HeaderStops text (Fault.BadLine n) = (n ≡ 1) × (text ≡ header)
+HeaderStops text Fault.BadHeader = (line : List ℕ) × IsFirstLine text line × ((v : Version) → line ≢ header_of v)
+HeaderStops text (Fault.BadLine n) = (n ≡ 1) × ((v : Version) × (text ≡ header_of v))
 HeaderStops text _ = ⊥
+
+-- why events do not stand as a text of this version has to have them
+abbrev pub OrderStops : Version → List Event → Fault → Type 0
+OrderStops v h Fault.Memory = Unit {0}
+OrderStops v h (Fault.NotCanonical n) = (v ≡ Second) × ((g : List Event) × IsCanonicalOrder h g × DiffersAt h g n)
+OrderStops v h _ = ⊥
+
+-- each number stands at its own place
+abbrev pub AllAtHome : List ℕ → Type 0
+AllAtHome places = (i : ℕ) → i < length places → get_or places i 0 ≡ i
+
+-- the first that does not stand at its own place is at k
+pub record FirstMoved (places : List ℕ) (k : ℕ) : Type 0 where
+  pub within : k < length places
+  pub moved : get_or places k 0 ≢ k
+  pub before : (i : ℕ) → i < k → get_or places i 0 ≡ i
 
 -- what becomes of the line of this number whose step is answered so
 abbrev pub outcome_of : ℕ → Reply → Result (Unit {0}) Fault

@@ -1,6 +1,6 @@
 -- What is saved loads again.
-use Rattle.trace_file.proofs.FaultLemmas.{one-fault}
-use Rattle.trace_file.proofs.LawLemmas.{one-list, not-refused, trace-stands, loads-the-same}
+use Rattle.trace_file.proofs.FaultLemmas.{not-refused, one-fault}
+use Rattle.trace_file.proofs.LawLemmas.{one-list, equal-bytes, trace-stands, loads-the-same}
 use Rattle.trace_file.proofs.laws.trace_laws.Goals as goal
 
 pub returns-clause-list : goal.returns-clause-list
@@ -11,6 +11,9 @@ returns-clause-refused c = not-refused
 
 pub returns-clause-fault : goal.returns-clause-fault
 returns-clause-fault c = one-fault
+
+pub returns-clause-equal : goal.returns-clause-equal
+returns-clause-equal c = equal-bytes
 
 pub returns-clause-saved : goal.returns-clause-saved
 returns-clause-saved c = trace-stands

@@ -1,0 +1,4 @@
+pub mod Canonicals
+pub mod Orders
+pub mod Placing
+pub mod Stands

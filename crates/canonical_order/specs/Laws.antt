@@ -1,0 +1,32 @@
+-- The laws of the canonical order, for lists that run in any system from its opening state.
+use Rattle.std.specs.Prelude.{◌≡◌, List}
+use Rattle.system.specs.declared.system.System.{System}
+use Rattle.calculus.specs.Dependence.{Respecting}
+use Rattle.calculus.specs.Steps.{State, Run, opening}
+use Rattle.calculus.specs.declared.event.Event.{Event}
+use Rattle.canonical_order.specs.Canonical.{IsCanonicalOrder}
+
+-- the canonical order of a list is a respecting order of it
+abbrev pub CanonicalRespects : Type 0
+CanonicalRespects = (h g : List Event) → IsCanonicalOrder h g → Respecting h g
+
+-- and so it runs to the same state
+abbrev pub CanonicalRuns : Type 0
+CanonicalRuns =
+    (system : System) (h g : List Event) (T : State) → Run (opening system) h T → IsCanonicalOrder h g → Run (opening system) g T
+
+-- two lists that are respecting orders of each other, of which one runs, have one canonical order
+abbrev pub OrdersAgree : Type 0
+OrdersAgree =
+    (system : System) (h k a b : List Event) (T : State) → Run (opening system) h T → Respecting h k → Respecting k h →
+    IsCanonicalOrder h a → IsCanonicalOrder k b → a ≡ b
+
+-- a list that runs has one canonical order
+abbrev pub OneCanonicalOrder : Type 0
+OneCanonicalOrder =
+    (system : System) (h a b : List Event) (T : State) → Run (opening system) h T → IsCanonicalOrder h a → IsCanonicalOrder h b → a ≡ b
+
+-- the canonical order of a list that runs is its own canonical order
+abbrev pub IsItsOwnOrder : Type 0
+IsItsOwnOrder =
+    (system : System) (h g : List Event) (T : State) → Run (opening system) h T → IsCanonicalOrder h g → IsCanonicalOrder g g

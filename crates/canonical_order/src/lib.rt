@@ -1,0 +1,8 @@
+//! One list of some events for all the orders in which they may have been taken: the canonical order.
+#![tactic(auto)]
+
+mod laws;
+mod ordering;
+
+pub use laws::canonical_laws;
+pub use ordering::canonical_order;
