@@ -5,17 +5,23 @@
 #[cfg(test)]
 mod addresses;
 #[cfg(test)]
+mod crowd;
+#[cfg(test)]
 mod examples;
 #[cfg(test)]
 mod expressions;
 #[cfg(test)]
 mod faults;
 #[cfg(test)]
+mod histories;
+#[cfg(test)]
 mod lines;
 #[cfg(test)]
 mod lists;
 #[cfg(test)]
 mod live_events;
+#[cfg(test)]
+mod logged;
 #[cfg(test)]
 mod numbered;
 #[cfg(test)]
@@ -27,11 +33,15 @@ mod parsing;
 #[cfg(test)]
 mod passes;
 #[cfg(test)]
+mod random;
+#[cfg(test)]
 mod rollbacks;
 #[cfg(test)]
 mod runs;
 #[cfg(test)]
 mod sessions;
+#[cfg(test)]
+mod shared_sessions;
 #[cfg(test)]
 mod sharing;
 #[cfg(test)]
@@ -50,6 +60,8 @@ mod traces;
 mod transcripts;
 #[cfg(test)]
 mod trees;
+#[cfg(test)]
+mod two_people;
 #[cfg(test)]
 mod values;
 #[cfg(test)]
