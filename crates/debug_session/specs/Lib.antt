@@ -10,6 +10,7 @@ pub mod OneThing
 pub mod Replaying
 pub mod ReplyText
 pub mod Script
+pub mod Sessions
 pub mod Transcript
 pub mod Wrapping
 pub mod walking

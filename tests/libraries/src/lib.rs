@@ -5,17 +5,23 @@
 #[cfg(test)]
 mod addresses;
 #[cfg(test)]
+mod crowd;
+#[cfg(test)]
 mod examples;
 #[cfg(test)]
 mod expressions;
 #[cfg(test)]
 mod faults;
 #[cfg(test)]
+mod histories;
+#[cfg(test)]
 mod lines;
 #[cfg(test)]
 mod lists;
 #[cfg(test)]
 mod live_events;
+#[cfg(test)]
+mod logged;
 #[cfg(test)]
 mod numbered;
 #[cfg(test)]
@@ -27,6 +33,8 @@ mod parsing;
 #[cfg(test)]
 mod passes;
 #[cfg(test)]
+mod random;
+#[cfg(test)]
 mod rollbacks;
 #[cfg(test)]
 mod runs;
@@ -34,6 +42,8 @@ mod runs;
 mod same_runs;
 #[cfg(test)]
 mod sessions;
+#[cfg(test)]
+mod shared_sessions;
 #[cfg(test)]
 mod sharing;
 #[cfg(test)]
@@ -52,6 +62,8 @@ mod traces;
 mod transcripts;
 #[cfg(test)]
 mod trees;
+#[cfg(test)]
+mod two_people;
 #[cfg(test)]
 mod unlocked;
 #[cfg(test)]

@@ -130,3 +130,64 @@ fn a_refusal_is_recorded(rt: HostRuntime) -> Result<(), Fail> {
     assert_eq!(rt; shared.branches(), 3);
     Ok(())
 }
+
+/// What the pass is told, by a second call where there was no memory for the first: that has recorded and changed nothing.
+fn told_at_last<W: Wait>(
+    rt: &W,
+    shared: &Shared,
+    pass: &mut Pass,
+    command: &Command,
+) -> Result<Reply, Fail> {
+    let before = shared.length(pass);
+    match shared.call(rt, pass, command) {
+        Reply::Refused(Refusal::Memory) if shared.length(pass) != before => {
+            Err(Fail::from("a call without memory was recorded"))
+        }
+        Reply::Refused(Refusal::Memory) => Ok(shared.call(rt, pass, command)),
+        reply => Ok(reply),
+    }
+}
+
+#[test]
+fn a_call_without_memory_changes_nothing(rt: HostRuntime) -> Result<(), Fail> {
+    let alloc = rt.alloc();
+    let (shared, mut passes) = shared(alloc, 1)?;
+    let Some(mut pass) = passes.pop() else {
+        return Err(Fail::from("a pass"));
+    };
+    let turn = command(alloc, Asked::Step(b"/0.0"))?;
+    let meet = command(alloc, Asked::Step(b"/0.1.0"))?;
+    let told = told_at_last(&rt, &shared, &mut pass, &turn)?;
+    assert!(rt; matches!(told, Reply::Stepped(1, event) if event.kind == Kind::Turn));
+    let told = told_at_last(&rt, &shared, &mut pass, &meet)?;
+    assert!(rt; matches!(told, Reply::Stepped(2, event) if event.kind == Kind::Meet));
+    let told = told_at_last(&rt, &shared, &mut pass, &Command::Live)?;
+    assert!(rt; matches!(told, Reply::Live(live) if live.len() == 2));
+    let told = told_at_last(&rt, &shared, &mut pass, &Command::Break(1))?;
+    assert!(rt; matches!(told, Reply::Done | Reply::Refused(Refusal::NoSuchLine)));
+    let told = told_at_last(&rt, &shared, &mut pass, &Command::Undo(2))?;
+    assert!(rt; matches!(told, Reply::Undone(2, _)));
+    let told = told_at_last(&rt, &shared, &mut pass, &meet)?;
+    assert!(rt; matches!(told, Reply::Stepped(3, _)));
+    assert_eq!(rt; shared.length(&mut pass), 6);
+    assert_eq!(rt; shared.finish().next_ticket(), 4);
+    Ok(())
+}
+
+// What comes behind the first call here takes no memory, so tests/memory/run finds no allocation there to fail.
+#[test]
+fn lengths_and_meetings_take_no_memory(rt: HostRuntime) -> Result<(), Fail> {
+    let (shared, mut passes) = shared(rt.alloc(), 2)?;
+    let (Some(mut one), Some(mut zero)) = (passes.pop(), passes.pop()) else {
+        return Err(Fail::from("two passes"));
+    };
+    let refused = Told::Refused(Refusal::NoSuchEvent);
+    assert!(rt; is_told(&rt, rt.alloc(), &shared, &mut zero, Asked::Undo(1), refused)?);
+    for _ in 0..100 {
+        assert_eq!(rt; shared.length(&mut zero), 1);
+        assert_eq!(rt; shared.meet(&mut one, &mut zero), 1);
+        assert_eq!(rt; shared.meet(&mut zero, &mut one), 1);
+        assert_eq!(rt; shared.length(&mut one), 1);
+    }
+    Ok(())
+}
