@@ -11,6 +11,8 @@ mod expressions;
 #[cfg(test)]
 mod faults;
 #[cfg(test)]
+mod gates;
+#[cfg(test)]
 mod lines;
 #[cfg(test)]
 mod lists;
