@@ -1,9 +1,9 @@
 -- How what workers did becomes the end of a request.
-use Rattle.std.proofs.Common.{◌≡◌, ◌⊎◌, inl, inr, ℕ, zero, suc, ◌<◌, ◌≤◌, ◌+◌, ◌*◌, Bool, true, false, true≢false, List, [], ◌∷◌, length, Option, Some, None, Result, Ok, Err, refl, sym, ap, ◌∙◌, subst, arith}
-use Rattle.std.specs.Prelude.{is_some, MatchOption, slice_get}
+use Rattle.std.proofs.Common.{◌≡◌, ◌⊎◌, inl, inr, ℕ, zero, suc, ◌≤◌, ◌+◌, ◌*◌, Bool, List, [], ◌∷◌, length, Option, Some, None, Result, Ok, Err, refl, sym, ap, ◌∙◌, subst, arith}
+use Rattle.std.specs.Prelude.{slice_get}
 use Rattle.std.specs.Result.{IsErrAnd}
 use Rattle.std.proofs.Math.Nat.{mul_comm}
-use Rattle.std.proofs.lemmas.Option.{none-some, slice_get_within}
+use Rattle.std.proofs.lemmas.Option.{none-some}
 use Rattle.atomic_table.specs.Seated.{TableId}
 use Rattle.recorded_calls.specs.declared.entry.Entry.{Entry}
 use Rattle.locked_object.specs.Passes.{IsPassOf}
@@ -33,16 +33,13 @@ past [] i e = omega arith
 past (x ∷ xs) zero e = none-some x (sym e)
 past (x ∷ xs) (suc i) e = let h = past xs i e in omega arith
 
-module _ {E X : Type 0} (shown : E → X) (xs : List X) (n : ℕ) where
-  -- what is told of a place within the list
-  pub is_within : (o : Option E) → is_some o ≡ true → MatchOption o (slice_get xs n ≡ None) (λ e. slice_get xs n ≡ Some (shown e)) → n < length xs
-  is_within None some told = absurd (true≢false (sym some))
-  is_within (Some e) some told = slice_get_within xs n (shown e) told
+-- and where each place before it has one, they are as many
+pub counted_at : {X : Type 0} (xs : List X) (n : ℕ) → n ≤ length xs → slice_get xs n ≡ None → n ≡ length xs
+counted_at xs n within none = let h = past xs n none in omega arith
 
-  -- and behind it
-  pub is_past : (o : Option E) → is_some o ≡ false → MatchOption o (slice_get xs n ≡ None) (λ e. slice_get xs n ≡ Some (shown e)) → length xs ≤ n
-  is_past None none told = past xs n told
-  is_past (Some e) none told = absurd (true≢false none)
+-- one number is at most another and more
+below : (s t u l n : ℕ) → s ≡ t → t ≤ u → u + l ≡ n → s ≤ n
+below s t u l n is few all = omega arith
 
 module _ {D C R : Type 0} where
   -- passes of one object at each place
@@ -64,9 +61,8 @@ module _ {D C R : Type 0} where
   pub steps_of_turns : (table : TableId) (opening : D) (asks : ℕ → C) (count turns : ℕ) (steps : R → Bool) (before after : List (Pass D C R)) (stepped lost workers : ℕ)
       → WorkersRan table opening asks count turns steps before after stepped lost → length before ≡ workers → stepped ≤ workers * turns
   steps_of_turns table opening asks count turns steps before after stepped lost workers ran many =
-      let a = total_few steps ran.added in let b = ran.counted in let c = ran.rest_lost in
-      let d : stepped ≤ turns * length before = omega arith in
-      subst (λ n. stepped ≤ n) (ap (λ n. turns * n) many ∙ mul_comm turns workers) d
+      subst (λ (n : ℕ). stepped ≤ n) (ap (λ (n : ℕ). turns * n) many ∙ mul_comm turns workers)
+      (below stepped (total (steps_in steps) ran.added) (total length ran.added) lost (turns * length before) ran.counted (total_few steps ran.added) ran.rest_lost)
 
 -- workers with new passes of an execution of the system took their turns
 pub crew_ran : (system : System) (workers turns stepped live lost : ℕ) (table : TableId) (opening : AtDesk) (made ended : AtMachine) (before after : List (Pass AtDesk Command Reply))

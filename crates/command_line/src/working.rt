@@ -12,6 +12,7 @@ ghost use Rattle.command_line.specs.Working.{Worked, work_text};
 use crate::files::Files;
 use crate::request::Crew;
 use crate::telling::write_around;
+use calculus::MOST_LIVE_EVENTS;
 use debug_session::{Counted, Fault, accept};
 use locked_execution::{Gate, Machine, Shared};
 use sharing_check::Checked;
@@ -44,11 +45,12 @@ fn live_count(machine: &Machine) -> u64
     ensures sound { Headline (object machine.now) }
 {
     machine.is_sound();
-    let mut count = 0;
-    while machine.live_at(count).is_some() {
-        count += 1;
+    for place in 0..MOST_LIVE_EVENTS {
+        let Some(_) = machine.live_at(place) else {
+            return place;
+        };
     }
-    count
+    MOST_LIVE_EVENTS
 }
 
 /// Runs the workers over this system.
