@@ -2,3 +2,4 @@ pub mod ReplayLemmas
 pub mod RunningLemmas
 pub mod ServingLemmas
 pub mod TellingLemmas
+pub mod WorkLemmas

@@ -1,3 +1,4 @@
 pub mod FaultLine
 pub mod Running
 pub mod Serving
+pub mod Working

@@ -10,6 +10,8 @@ use Rattle.debug_session.specs.Transcript.{Debugged}
 use Rattle.debug_session.specs.declared.fault.Fault.{Fault}
 use Rattle.debug_session.specs.declared.fault.Fault.TheVariants.{Memory, ReadFailed}
 use Rattle.command_line.specs.FaultLine.{fault_line}
+use Rattle.crew.specs.Working.{Worked}
+use Rattle.command_line.specs.Working.{work_text}
 use Rattle.command_line.specs.declared.request.Request.{Request}
 
 -- how the work for a request ended
@@ -93,6 +95,26 @@ ReplaysFiles holds file stimulus trace untouched caused wrote contents done =
     ⊎ ((source : List ℕ) × (values : List ℕ) × holds file (Some source) × holds stimulus (Some values)
     × ReplaysSource holds source values trace untouched caused wrote contents done)
 
+-- workers over this system: there is no memory for them and nothing is written, or they take their turns, and what they did is told;
+-- `caused` says that the writer failed as what ended so has it
+abbrev pub AnswersWork : System → ℕ → ℕ → Type 0 → (Outcome → Type 0) → Option (List ℕ) → Option (List ℕ) → Outcome → Type 0
+AnswersWork system workers turns untouched caused wrote contents done =
+    ((done ≡ Err Memory) × untouched)
+    ⊎ ((stepped : ℕ) × (live : ℕ) × Worked system workers turns stepped live × Told (work_text stepped live) wrote contents done × caused done)
+
+-- workers over these bytes
+abbrev pub WorksSource : List ℕ → List ℕ → ℕ → ℕ → Type 0 → (Outcome → Type 0) → Option (List ℕ) → Option (List ℕ) → Outcome → Type 0
+WorksSource source values workers turns untouched caused wrote contents done =
+    ((fault : Fault) × IsRefused source values fault × (done ≡ Err fault) × untouched)
+    ⊎ ((system : System) × AcceptedAs source values system × AnswersWork system workers turns untouched caused wrote contents done)
+
+-- workers over the files of these names
+abbrev pub WorksFiles : (List ℕ → Option (List ℕ) → Type 0) → List ℕ → List ℕ → ℕ → ℕ → Type 0 → (Outcome → Type 0) → Option (List ℕ) → Option (List ℕ) → Outcome → Type 0
+WorksFiles holds file stimulus workers turns untouched caused wrote contents done =
+    ((fault : Fault) × (NotHad (holds file) fault ⊎ NotHad (holds stimulus) fault) × (done ≡ Err fault) × untouched)
+    ⊎ ((source : List ℕ) × (values : List ℕ) × holds file (Some source) × holds stimulus (Some values)
+    × WorksSource source values workers turns untouched caused wrote contents done)
+
 -- what the run does for the request; `unread` and `unwritten` say that the reader and the writer are as they were, `written`
 -- that the writer failed as what ended so has it, and `caused` that both did
 abbrev pub Serves : (List ℕ → Option (List ℕ) → Type 0) → Request → Type 0 → Type 0 → (Outcome → Type 0) → (Outcome → Type 0) → Option (List ℕ) → Option (List ℕ) → Option (List ℕ) → Option (List ℕ) → Outcome → Type 0
@@ -102,3 +124,5 @@ Serves holds (Request.Debug file stimulus) unread unwritten written caused read 
     DebugsFiles holds file.now stimulus.now (unread × unwritten) caused read left wrote contents done
 Serves holds (Request.Replay file stimulus trace) unread unwritten written caused read left wrote contents done =
     unread × ReplaysFiles holds file.now stimulus.now trace.now unwritten written wrote contents done
+Serves holds (Request.Work file stimulus crew) unread unwritten written caused read left wrote contents done =
+    unread × WorksFiles holds file.now stimulus.now crew.workers crew.turns unwritten written wrote contents done

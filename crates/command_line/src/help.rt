@@ -106,6 +106,27 @@ To go on from a trace, give its steps to `debug`, with more lines behind them:
   (tail -n +2 examples/one.trace; echo 'value x') |
     balsadbg debug examples/one.balsa examples/one.stimulus";
 
+pub const WORKERS: &str = "How many workers there are, 1 to 16";
+
+pub const TURNS: &str = "How many turns each worker takes, 0 to 1000000";
+
+pub const WORK: &str = "Let workers step a description side by side, and count the steps";
+
+pub const WORK_LONG: &str = "\
+Let workers step a description side by side, and count the steps. Each worker is
+a thread. In a turn it takes the number of a branch that no other worker has, and
+takes the first step of that branch that can be taken now, as the script line
+`branch` does; where there is none, the turn is idle. Which worker takes which
+step is left to chance. The answer has two lines: how many turns were steps, and
+how many steps are live in the end.
+
+Example:
+  balsadbg work examples/one.balsa examples/one.stimulus --workers 2 --turns 9
+
+It answers:
+  stepped 2
+  live 2";
+
 /// What each refusal of a command means: with lines for a trace, for the files, for a stimulus and for a script.
 macro_rules! refusal_lines {
     ([$($trace:literal)*] [$($files:literal)*] [$($stimulus:literal)*] [$($script:literal)*]) => {
@@ -213,5 +234,11 @@ pub const REPLAY_REFUSALS: &str = refusal_lines_over_ports!(
         "  34  behind `balsadbg trace 2` another step comes before that of this line\n"
     ]
     ["  41  FILE, STIMULUS or TRACE is missing, or reading it failed\n"]
+    []
+);
+
+pub const WORK_REFUSALS: &str = refusal_lines_over_ports!(
+    []
+    ["  41  FILE or STIMULUS is missing, or reading it failed\n"]
     []
 );

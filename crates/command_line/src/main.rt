@@ -7,39 +7,47 @@ mod replaying;
 mod request;
 mod running;
 mod telling;
+mod working;
 
 use debug_session::{Counted, Fault};
 use files::Disk;
 use running::run;
-use std::io::{BufReader, ErrorKind, Write};
+use std::io::{BufReader, ErrorKind, Stdin, Write};
 use std::process::ExitCode;
 use std::{env, io};
 use telling::write_fault;
 
-fn words(rt: &HostRuntime) -> io::Result<Vec<String>> {
-    Ok(env::args(rt)?.collect(rt.alloc())?)
+/// What the system gives to a run: its words and its standard input.
+struct Given {
+    words: Vec<String>,
+    reader: Counted<BufReader<Stdin>>,
 }
 
-/// Runs the program on the words and the streams that the system gives it.
-fn run_here(rt: &HostRuntime) -> io::Result<u8> {
-    let words = words(rt)?;
-    let mut reader = Counted::new(BufReader::new(rt.alloc(), rt.stdin())?);
-    let mut out = Counted::new(rt.stdout());
-    let mut err = Counted::new(rt.stderr());
-    Ok(run(
-        rt,
-        words.as_slice(),
-        &Disk::new(rt),
-        &mut reader,
-        &mut out,
-        &mut err,
-    ))
+impl Given {
+    fn by(rt: &HostRuntime) -> io::Result<Given> {
+        Ok(Given {
+            words: env::args(rt)?.collect(rt.alloc())?,
+            reader: Counted::new(BufReader::new(rt.alloc(), rt.stdin())?),
+        })
+    }
 }
 
 fn main(rt: HostRuntime) -> ExitCode {
+    let mut out = Counted::new(rt.stdout());
     let mut err = Counted::new(rt.stderr());
-    match run_here(&rt) {
-        Ok(status) => ExitCode::from(status),
+    match Given::by(&rt) {
+        Ok(Given { words, mut reader }) => {
+            let files = Disk::new(&rt);
+            let status = run(
+                &rt,
+                words.as_slice(),
+                &files,
+                &mut reader,
+                &mut out,
+                &mut err,
+            );
+            ExitCode::from(status)
+        }
         Err(error) if error.kind() == ErrorKind::InvalidData => {
             let _ = err.write_all(b"error: the command line is no text in UTF-8\n");
             ExitCode::from(2)

@@ -2,7 +2,8 @@
 
 use crate::help;
 use clap::error::ErrorKind;
-use clap::{Arg, ArgAction, ArgMatches, Command, Error};
+use clap::{Arg, ArgAction, ArgMatches, Command, Error, value_parser};
+use crew::{Crew, MOST_TURNS, MOST_WORKERS};
 use std::alloc::{AllocError, Global};
 use std::convert::AsStr;
 
@@ -23,6 +24,12 @@ pub enum Request<'a> {
         file: &'a str,
         stimulus: &'a str,
         trace: &'a str,
+    },
+    /// Let workers step the description in `file`, and tell how many steps they took.
+    Work {
+        file: &'a str,
+        stimulus: &'a str,
+        crew: Crew,
     },
 }
 
@@ -45,6 +52,26 @@ fn trace<'a>(alloc: Global) -> Arg<'a> {
         .required(true)
         .action(ArgAction::Set)
         .help(help::TRACE)
+}
+
+fn workers<'a>(alloc: Global) -> Arg<'a> {
+    Arg::new(alloc, "workers")
+        .long("workers")
+        .value_name("N")
+        .required(true)
+        .action(ArgAction::Set)
+        .value_parser(value_parser!(u32).range(1..=i64::from(MOST_WORKERS)))
+        .help(help::WORKERS)
+}
+
+fn turns<'a>(alloc: Global) -> Arg<'a> {
+    Arg::new(alloc, "turns")
+        .long("turns")
+        .value_name("M")
+        .required(true)
+        .action(ArgAction::Set)
+        .value_parser(value_parser!(u64).range(0..=i64::from(MOST_TURNS)))
+        .help(help::TURNS)
 }
 
 fn check<'a>(alloc: Global) -> Result<Command<'a>, AllocError> {
@@ -74,6 +101,17 @@ fn replay<'a>(alloc: Global) -> Result<Command<'a>, AllocError> {
         .arg(trace(alloc))
 }
 
+fn work<'a>(alloc: Global) -> Result<Command<'a>, AllocError> {
+    Command::new(alloc, "work")
+        .about(help::WORK)
+        .long_about(help::WORK_LONG)
+        .after_long_help(help::WORK_REFUSALS)
+        .arg(file(alloc))?
+        .arg(stimulus(alloc))?
+        .arg(workers(alloc))?
+        .arg(turns(alloc))
+}
+
 fn balsadbg<'a>(alloc: Global) -> Result<Command<'a>, AllocError> {
     Command::new(alloc, "balsadbg")
         .bin_name("balsadbg")?
@@ -85,7 +123,8 @@ fn balsadbg<'a>(alloc: Global) -> Result<Command<'a>, AllocError> {
         .arg_required_else_help(true)
         .subcommand(check(alloc)?)?
         .subcommand(debug(alloc)?)?
-        .subcommand(replay(alloc)?)
+        .subcommand(replay(alloc)?)?
+        .subcommand(work(alloc)?)
 }
 
 fn chosen<'a>(matches: &ArgMatches<'a>) -> Option<Request<'a>> {
@@ -106,6 +145,15 @@ fn chosen<'a>(matches: &ArgMatches<'a>) -> Option<Request<'a>> {
             trace,
         });
     }
+    if name == "work" {
+        let workers = words.get_one::<u32>("workers")?;
+        let turns = words.get_one::<u64>("turns")?;
+        return Some(Request::Work {
+            file,
+            stimulus,
+            crew: Crew::new(workers, turns)?,
+        });
+    }
     None
 }
 
@@ -115,7 +163,7 @@ pub fn requested<'a, S: AsStr>(alloc: Global, words: &'a [S]) -> Result<Request<
     let matches = command.try_get_matches_from_mut(words)?;
     match chosen(&matches) {
         Some(request) => Ok(request),
-        // Never taken: the command and its files are required.
+        // Never taken: the command, its files and its numbers are required.
         None => Err(command.error(ErrorKind::MissingSubcommand, "a command is missing")?),
     }
 }

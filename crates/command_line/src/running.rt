@@ -10,12 +10,15 @@ use crate::files::Files;
 use crate::replaying::replay_files;
 use crate::request::{Request, requested};
 use crate::telling::write_fault;
+use crate::working::work_files;
 use clap::Error;
 use clap::error::ErrorKind;
 use debug_session::{Counted, Fault, accept, debug, write_out};
 use std::alloc::{AllocError, Global};
 use std::convert::AsStr;
 use std::io::{BufRead, Write};
+use std::sync::Wait;
+use std::thread::Threads;
 
 /// Says whether the description is accepted.
 fn check_source<O: Write>(alloc: Global, source: &[u8], out: &mut Counted<O>) -> Result<(), Fault>
@@ -90,7 +93,8 @@ fn finish<E: Write>(done: Result<(), Fault>, err: &mut Counted<E>) -> Ended
 }
 
 /// Does what is asked for with the files that it names.
-fn perform<F: Files, I: BufRead, O: Write>(
+fn perform<W: Threads + Wait + Sync, F: Files, I: BufRead, O: Write>(
+    rt: &W,
     alloc: Global,
     request: Request<'_>,
     files: &F,
@@ -112,11 +116,17 @@ fn perform<F: Files, I: BufRead, O: Write>(
             stimulus,
             trace,
         } => replay_files(alloc, file, stimulus, trace, files, out),
+        Request::Work {
+            file,
+            stimulus,
+            crew,
+        } => work_files(rt, alloc, file, stimulus, crew, files, out),
     }
 }
 
 /// Does what is asked for with the files that it names, and tells on `err` why it ended early.
-pub fn serve<F: Files, I: BufRead, O: Write, E: Write>(
+pub fn serve<W: Threads + Wait + Sync, F: Files, I: BufRead, O: Write, E: Write>(
+    rt: &W,
     alloc: Global,
     request: Request<'_>,
     files: &F,
@@ -135,7 +145,7 @@ pub fn serve<F: Files, I: BufRead, O: Write, E: Write>(
     ensures status { result.status ≤ 1 }
     ensures quiet { result.status ≡ 0 → err.new ≡ err.old }
 {
-    let done = perform(alloc, request, files, reader, out);
+    let done = perform(rt, alloc, request, files, reader, out);
     finish(done, err)
 }
 
@@ -204,7 +214,14 @@ fn explain<O: Write, E: Write>(
 ///
 /// Answers the status to end with: 0 where it was done, 1 where it was refused, 2 where `words`
 /// could not be read.
-pub fn run<R: AllocGlobal, S: AsStr, F: Files, I: BufRead, O: Write, E: Write>(
+pub fn run<
+    R: AllocGlobal + Threads + Wait + Sync,
+    S: AsStr,
+    F: Files,
+    I: BufRead,
+    O: Write,
+    E: Write,
+>(
     rt: &R,
     words: &[S],
     files: &F,
@@ -227,7 +244,7 @@ pub fn run<R: AllocGlobal, S: AsStr, F: Files, I: BufRead, O: Write, E: Write>(
 {
     let alloc = rt.alloc();
     match requested(alloc, words) {
-        Ok(request) => serve(alloc, request, files, reader, out, err).status,
+        Ok(request) => serve(rt, alloc, request, files, reader, out, err).status,
         Err(error) => explain(alloc, &error, out, err),
     }
 }

@@ -31,7 +31,7 @@ fn write_number<W: Write>(out: &mut Counted<W>, number: u64, behind: &[u8]) -> R
 }
 
 /// Writes a text, a number in decimal, and another text.
-fn write_around<W: Write>(
+pub fn write_around<W: Write>(
     out: &mut Counted<W>,
     before: &[u8],
     number: u64,

@@ -14,6 +14,7 @@ mod expressions;
 mod faults;
 #[cfg(test)]
 mod histories;
+mod gates;
 #[cfg(test)]
 mod lines;
 #[cfg(test)]
