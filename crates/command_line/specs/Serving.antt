@@ -10,7 +10,7 @@ use Rattle.debug_session.specs.Transcript.{Debugged}
 use Rattle.debug_session.specs.declared.fault.Fault.{Fault}
 use Rattle.debug_session.specs.declared.fault.Fault.TheVariants.{Memory, ReadFailed}
 use Rattle.command_line.specs.FaultLine.{fault_line}
-use Rattle.crew.specs.Working.{Worked}
+use Rattle.locked_execution.specs.Working.{Worked}
 use Rattle.command_line.specs.Working.{work_text}
 use Rattle.command_line.specs.declared.request.Request.{Request}
 

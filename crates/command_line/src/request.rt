@@ -3,7 +3,7 @@
 use crate::help;
 use clap::error::ErrorKind;
 use clap::{Arg, ArgAction, ArgMatches, Command, Error, value_parser};
-use crew::{Crew, MOST_TURNS, MOST_WORKERS};
+use locked_execution::{Crew, MOST_TURNS, MOST_WORKERS};
 use std::alloc::{AllocError, Global};
 use std::convert::AsStr;
 

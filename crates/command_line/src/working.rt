@@ -8,8 +8,8 @@ ghost use Rattle.command_line.specs.Working.{work_text};
 
 use crate::files::Files;
 use crate::telling::write_around;
-use crew::{Crew, Tally};
 use debug_session::{Counted, Fault, accept};
+use locked_execution::{Crew, Tally};
 use sharing_check::Checked;
 use std::alloc::Global;
 use std::io::Write;

@@ -13,3 +13,4 @@ pub mod SomeReplies
 pub mod SystemCrossing
 pub mod TreeCrossing
 pub mod Unchanged
+pub mod WorkLemmas

@@ -8,3 +8,4 @@ pub mod Histories
 pub mod Performs
 pub mod Replies
 pub mod Sharing
+pub mod Working

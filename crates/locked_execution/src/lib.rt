@@ -5,6 +5,7 @@
 mod asked;
 mod calls;
 mod command;
+mod crew;
 mod desk;
 mod laws;
 mod object;
@@ -15,6 +16,7 @@ pub use asked::run_commands;
 pub use branch_workers::{Gate, Ran};
 pub use calculus::{Choice, Event, Kind, Refusal};
 pub use command::{Command, Reply};
+pub use crew::{Crew, MOST_TURNS, MOST_WORKERS, Tally};
 pub use desk::Desk;
 pub use laws::{breakpoint_laws, execution_laws, history_laws, reply_laws, rollback_laws};
 pub use machine::{Breaks, Machine};

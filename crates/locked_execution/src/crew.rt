@@ -1,13 +1,13 @@
-//! Workers in threads of their own over a system: how many steps they took, and what is live in the end.
-#![tactic(auto)]
-
+// Workers in threads of their own over a system: how many steps they took, and what is live in the end.
 ghost use Rattle.std.specs.Prelude.{◌≡◌, ◌≤◌, ◌<◌, ◌⊎◌, length, IfOk, MatchOption};
 ghost use Rattle.machine.specs.AtMachine.{object};
 ghost use Rattle.machine.specs.Headline.{Headline};
-ghost use Rattle.crew.specs.Working.{Worked};
+ghost use Rattle.locked_execution.specs.Working.{Worked};
 
+use crate::Shared;
+use branch_workers::Gate;
 use calculus::MOST_LIVE_EVENTS;
-use locked_execution::{Gate, Machine, Shared};
+use machine::Machine;
 use sharing_check::Checked;
 use std::alloc::{AllocError, Global};
 use std::sync::Wait;

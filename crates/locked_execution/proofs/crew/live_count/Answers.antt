@@ -1,7 +1,7 @@
-use Rattle.std.proofs.Common.{◌≡◌, arith}
+use Rattle.std.proofs.Common.{arith}
 use Rattle.std.proofs.lemmas.Option.{slice_get_within}
-use Rattle.crew.proofs.WorkLemmas.{counted_at}
-use Rattle.crew.proofs.live_count.Goals as goal
+use Rattle.locked_execution.proofs.WorkLemmas.{counted_at}
+use Rattle.locked_execution.proofs.crew.live_count.Goals as goal
 
 pub returns-in_default-clause-count : goal.returns-in_default-clause-count
 returns-in_default-clause-count c = counted_at c.args.machine.now.live c.loop-place.place c.loop-place.invariant c.in_default.ensures

@@ -1,7 +1,6 @@
 -- What workers did, of the passes that they were given.
-use Rattle.std.proofs.Common.{◌≡◌, ◌⊎◌, inl, inr, ℕ, zero, suc, ◌≤◌, ◌+◌, ◌*◌, Bool, List, [], ◌∷◌, length, Option, Some, None, Result, Ok, Err, refl, sym, ap, ◌∙◌, subst, arith}
+use Rattle.std.proofs.Common.{◌≡◌, ℕ, zero, suc, ◌≤◌, ◌+◌, ◌*◌, Bool, List, [], ◌∷◌, length, Some, None, refl, sym, ap, ◌∙◌, subst, arith}
 use Rattle.std.specs.Prelude.{slice_get}
-use Rattle.std.specs.Result.{IsErrAnd}
 use Rattle.std.proofs.Math.Nat.{mul_comm}
 use Rattle.std.proofs.lemmas.Option.{none-some}
 use Rattle.atomic_table.specs.Seated.{TableId}
@@ -20,12 +19,12 @@ use Rattle.locked_execution.specs.AtDesk.{AtDesk, new_desk}
 use Rattle.locked_execution.specs.Sharing.{is_step}
 use Rattle.locked_execution.specs.declared.command.Command.{Command}
 use Rattle.locked_execution.specs.declared.command.Reply.{Reply}
-use Rattle.crew.specs.Working.{unstepped, Worked}
+use Rattle.locked_execution.specs.Working.{unstepped, Worked}
 
 -- where there is no element the list has ended
 past : {X : Type 0} (xs : List X) (i : ℕ) → slice_get xs i ≡ None → length xs ≤ i
 past [] i e = omega arith
-past (x ∷ xs) zero e = none-some x (sym e)
+past (x ∷ xs) zero e = absurd (none-some x (sym e))
 past (x ∷ xs) (suc i) e = let h = past xs i e in omega arith
 
 -- and where each place before it has one, they are as many
@@ -35,6 +34,12 @@ counted_at xs n within none = let h = past xs n none in omega arith
 -- one number is at most another and more
 below : (s t u l n : ℕ) → s ≡ t → t ≤ u → u + l ≡ n → s ≤ n
 below s t u l n is few all = omega arith
+
+module _ {C R : Type 0} where
+  -- there are no more steps than calls
+  total_few : (steps : R → Bool) (ls : List (List (Entry C R))) → total (steps_in steps) ls ≤ total length ls
+  total_few steps [] = omega arith
+  total_few steps (l ∷ ls) = let a = steps_few steps l in let b = total_few steps ls in omega arith
 
 module _ {D C R : Type 0} where
   -- passes of one object at each place
@@ -46,11 +51,6 @@ module _ {D C R : Type 0} where
   -- new passes are of their object
   pub new_fit : (table : TableId) (opening : D) (count : ℕ) (ps : List (Pass D C R)) → NewPasses table opening count ps → PassesFit table opening ps
   new_fit table opening count ps new = fit table opening ps (λ i p e. (new.each i p e).0)
-
-  -- there are no more steps than calls
-  total_few : (steps : R → Bool) (ls : List (List (Entry C R))) → total (steps_in steps) ls ≤ total length ls
-  total_few steps [] = omega arith
-  total_few steps (l ∷ ls) = let a = steps_few steps l in let b = total_few steps ls in omega arith
 
   -- and no more than turns
   pub steps_of_turns : (table : TableId) (opening : D) (asks : ℕ → C) (count turns : ℕ) (steps : R → Bool) (before after : List (Pass D C R)) (stepped lost workers : ℕ)

@@ -1,5 +1,5 @@
 use Rattle.std.proofs.Common.{◌≤◌, length}
-use Rattle.crew.proofs.live_count.Given as goal
+use Rattle.locked_execution.proofs.crew.live_count.Given as goal
 
 -- there is an event at each place passed
 abbrev pub invariant-loop-place : goal.invariant-loop-place
