@@ -2,7 +2,7 @@
 
 ghost use Rattle.std.specs.Prelude.{◌<◌};
 
-use branch_workers::Branched;
+use branch_workers::Branches;
 use calculus::{Choice, Refusal};
 use debug_session::write_reply;
 use locked_execution::{Command, Desk, Machine, Reply};
@@ -208,7 +208,7 @@ impl Object<Command, Told> for Logged {
     }
 }
 
-impl Branched<Command, Told> for Logged {
+impl Branches<Command, Told> for Logged {
     ghost asks = { λ k. Command.Branch k };
 
     ghost steps = { λ _. true };

@@ -16,7 +16,7 @@ def canonical(events: list[Event]) -> list[Event]:
     """Again and again, of the events that are left and depend directly on no earlier one of these, the one with the least
     acting address."""
     left, order = list(events), []
-    causes = {id(event): {id(one) for one in events[:at] if depends_directly(event, one)} for at, event in enumerate(events)}
+    causes = {id(event): {id(one) for one in events[:at] if depends_directly(one, event)} for at, event in enumerate(events)}
     while left:
         waiting = {id(event) for event in left}
         following = min((event for event in left if not causes[id(event)] & waiting), key=lambda event: event.acting)
