@@ -6,6 +6,7 @@ use std::sync::atomic::{AtomicU64, Ordering};
 use std::test::Fail;
 
 /// A gate that counts what it is told.
+#[derive(Drop)]
 struct Counts {
     before: AtomicU64,
     after: AtomicU64,

@@ -13,8 +13,9 @@ mod expressions;
 #[cfg(test)]
 mod faults;
 #[cfg(test)]
-mod histories;
 mod gates;
+#[cfg(test)]
+mod histories;
 #[cfg(test)]
 mod lines;
 #[cfg(test)]
