@@ -1,4 +1,4 @@
-//! What a crowd was told is what one desk answers to the same commands, one after another. The long form is tests/crowd.
+//! What a crowd was told is what one desk answers to the same commands, one after another.
 
 use crate::crowd::{Crowd, found};
 use crate::examples::*;
