@@ -55,8 +55,8 @@ standard input, and each line is answered as soon as it is read:
   roll TICKET     take all of those back: `rolled COUNT`
   blame X         tell which step wrote the variable X last: `blame TICKET`
   rollvalue X     take that step back, with all that depend on it
-  branch N        take the first step of branch N that can be taken now, past
-                  lines with a breakpoint: `step TICKET EVENT`. `stopped LINE`
+  branch N        take the first step of branch N that can be taken now and is on
+                  no line with a breakpoint: `step TICKET EVENT`. `stopped LINE`
                   where all are on such lines, `idle` where there is none
   break LINE      set a breakpoint on this line of FILE, from 1: `ok`. A meeting
                   is on the line of its receive (of two syncs, of the first), so
@@ -70,8 +70,9 @@ standard input, and each line is answered as soon as it is read:
                   a breakpoint, `!` for a select that could take several arms.
                   What the environment takes at an output port is on no line
 
-A line that is none of these ends the run, and its steps are lost (`trace` first
-keeps them): there are no comments, and no `quit`, which is Ctrl-D.
+A line that is none of these ends the run, and its steps are lost (copy what
+`trace` prints before): there are no comments, and no `quit`, which is Ctrl-D.
+`tee my.script | balsadbg debug ..` keeps what you type.
 
 A place is written like /0.1.0. /0 is the body of the last procedure, and /1,
 /2 and so on are the environment at its ports. Behind that, .N counts what comes
@@ -114,11 +115,11 @@ pub const WORK: &str = "Let workers step a description side by side, and count t
 
 pub const WORK_LONG: &str = "\
 Let workers step a description side by side, and count the steps. Each worker is
-a thread. In a turn it takes the number of a branch that no other worker has, and
-takes the first step of that branch that can be taken now, as the script line
-`branch` does; where there is none, the turn is idle. Which worker takes which
-step is left to chance. The answer has two lines: how many turns were steps, and
-how many steps are live in the end.
+a thread. In a turn it takes the number of a branch from a queue, or 0 where that
+is empty, and takes the first step of that branch that can be taken now, as the
+script line `branch` does; where there is none, the turn is idle. Which worker
+takes which step is left to chance. The answer has two lines: how many turns were
+steps, and how many steps are live in the end. It does not say why no more were.
 
 Example:
   balsadbg work examples/one.balsa examples/one.stimulus --workers 2 --turns 9
