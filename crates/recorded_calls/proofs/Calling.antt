@@ -11,10 +11,10 @@ use Rattle.recorded_calls.specs.declared.view.Claimed.{Claimed}
 use Rattle.recorded_calls.specs.declared.board.Pass.{Pass}
 use Rattle.recorded_calls.specs.History.{calls_by, IsLegal}
 use Rattle.recorded_calls.specs.Kept.{Kept}
-use Rattle.recorded_calls.specs.Steps.{keeper_at, pass_at, one_more, newcomer_of, reads, hears, Announces, Records, Adopts, Looks, Takes}
+use Rattle.recorded_calls.specs.Steps.{keeper_at, pass_at, one_more, newcomer_of, reads, hears, Announces, Records, Confirms, Adopts, Looks, Takes}
 use Rattle.recorded_calls.specs.Seats.{seen_in, own_in, told_in, number_in, IsPassOf}
 use Rattle.recorded_calls.proofs.Beginnings.{prefix_both, calls_prefix, calls_here}
-use Rattle.recorded_calls.proofs.StepLaws.{saying, hearing, makes, reads_letter, hears_claim, announces, records, adopts, looks, takes}
+use Rattle.recorded_calls.proofs.StepLaws.{saying, hearing, makes, reads_letter, hears_claim, announces, records, confirms, adopts, looks, takes}
 
 module _ {O C R : Type 0} (performs : O → ℕ → C → R → O → Type 0) (opening : O) where
   pub makes_at : (id : ℕ) (v : View O C R) (o : O) (made : ℕ) (noted : List (Entry C R)) → v ≡ keeper_at o made noted → Splits (Kept performs opening) id v (one_more v) (newcomer_of v)
@@ -47,6 +47,11 @@ module _ {O C R : Type 0} (performs : O → ℕ → C → R → O → Type 0) (o
       let told' : IsPrefix (calls_by e.pass noted) own = subst (λ (k : ℕ). IsPrefix (calls_by k noted) own) by told in
       let is' : me ≡ (hearing performs opening o made noted e.pass seen own (e ∷ []), []) = is ∙ (λ i. (hearing performs opening o made noted (by i) seen own (one i), [])) in
       subst (λ (m : Me ℕ (View O C R)). Allows (Kept performs opening) slots id m 0 (λ x. (x + 1) % 2 ^ 64) (Records (step slots 0 1 0 none) m)) (sym is') (records performs opening slots id o made noted seen own e legal' told' room)
+
+  pub confirms_at : (slots id : ℕ) (me : Me ℕ (View O C R)) (o : O) (made : ℕ) (noted : List (Entry C R)) (n : ℕ) (seen own says : List (Entry C R)) → me ≡ (hearing performs opening o made noted n seen own says, [])
+      → Allows (Kept performs opening) slots id me 0 (λ x. x) (Confirms (step slots 0 0 0 none) me)
+  confirms_at slots id me o made noted n seen own says is =
+      subst (λ (m : Me ℕ (View O C R)). Allows (Kept performs opening) slots id m 0 (λ x. x) (Confirms (step slots 0 0 0 none) m)) (sym is) (confirms performs opening slots id o made noted n seen own says)
 
   pub adopts_at : (slots id : ℕ) (me : Me ℕ (View O C R)) (o : O) (n : ℕ) (seen own said told : List (Entry C R)) → calls_by n told ≡ own ++ said → me ≡ (saying performs opening o n seen own said told, [])
       → Allows (Kept performs opening) slots id me 0 (λ x. x) (Adopts (step slots 0 0 0 none) me)

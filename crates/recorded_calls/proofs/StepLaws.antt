@@ -16,7 +16,7 @@ use Rattle.recorded_calls.specs.declared.view.Passing.{Passing}
 use Rattle.recorded_calls.specs.declared.view.Claimed.{Claimed}
 use Rattle.recorded_calls.specs.History.{calls_by, IsLegal}
 use Rattle.recorded_calls.specs.Kept.{Account, SpeakerFits, Fits, Kept}
-use Rattle.recorded_calls.specs.Steps.{no_claim, keeper_at, pass_at, one_more, newcomer_of, letter_of, with_letter, claim_of, with_claim, Announces, Records, Adopts, Looks, Takes}
+use Rattle.recorded_calls.specs.Steps.{no_claim, keeper_at, pass_at, one_more, newcomer_of, letter_of, with_letter, claim_of, with_claim, Announces, Records, Confirms, Adopts, Looks, Takes}
 use Rattle.recorded_calls.proofs.Beginnings.{prefix_same, prefix_trans, prefix_more, prefix_length, prefix_both, calls_prefix, calls_here, calls_else, changed, changed_here, changed_else, next_said}
 use Rattle.recorded_calls.proofs.Seating.{at_below, set_length, at_one, all_set, all_more}
 
@@ -335,6 +335,29 @@ module _ {O C R : Type 0} (performs : O → ℕ → C → R → O → Type 0) (o
               count = f.count;
               notes = ap (λ (l : List (Entry C R)). l ++ e ∷ []) f.notes;
               claim_holds = record { seen_before = (a.log ++ e ∷ [], refl); said_before = (a.said 0, refl) };
+            }),
+        (refl, subst (λ (l : List (Entry C R)). IsPrefix seen l) (sym f.notes) f.claim_holds.seen_before),
+      )
+
+  -- confirm
+  pub confirms : (slots id : ℕ) (o : O) (made : ℕ) (noted : List (Entry C R)) (n : ℕ) (seen own says : List (Entry C R))
+      → Allows (Kept performs opening) slots id (hearing o made noted n seen own says, []) 0 (λ x. x) (Confirms (step slots 0 0 0 none) (hearing o made noted n seen own says, []))
+  confirms slots id o made noted n seen own says s kept len at bound =
+      let a = kept.account in
+      let v = hearing o made noted n seen own says in
+      let w = keeper_at o made noted in
+      let f = kept.each id v at in (
+        w,
+        keeps,
+        tt,
+        set_same s kept id v w at (slice_set s.words 0 (slice_index s.words 0)) s.homes (loaded s kept)
+            (λ k' q. (record { opening = o; made = made; noted = noted; claim = no_claim }, refl))
+            (record {
+              opened = f.opened;
+              one = f.one;
+              count = f.count;
+              notes = f.notes;
+              claim_holds = record { seen_before = (a.log, refl); said_before = (a.said 0, refl) };
             }),
         (refl, subst (λ (l : List (Entry C R)). IsPrefix seen l) (sym f.notes) f.claim_holds.seen_before),
       )

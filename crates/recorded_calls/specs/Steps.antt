@@ -69,6 +69,11 @@ module _ {O C R : Type 0} where
   recorded (Keeper k) = keeper_at k.opening k.made (k.noted ++ k.claim.says)
   recorded v = v
 
+  -- confirm: the keeper's seat puts the claim away
+  abbrev pub unclaimed : View O C R → View O C R
+  unclaimed (Keeper k) = keeper_at k.opening k.made k.noted
+  unclaimed v = v
+
   -- adopt: the pass has seen what it was told, its own list grows by the entry, and the announcement ends
   abbrev pub adopted : View O C R → View O C R
   adopted (Speaker p) = pass_at p.opening p.number p.told (p.own ++ p.announced) []
@@ -91,6 +96,10 @@ module _ {O C R : Type 0} where
   -- record, of what was claimed: the pass had seen no more than was noted
   abbrev pub Records : Step ℕ → Me ℕ (View O C R) → ℕ → Me ℕ (View O C R) → Type 0
   Records st m found n = (n ≡ (recorded m.0, m.1)) × SawNoMore m.0
+
+  -- confirm, of what was claimed: the pass had seen no more than is noted
+  abbrev pub Confirms : Step ℕ → Me ℕ (View O C R) → ℕ → Me ℕ (View O C R) → Type 0
+  Confirms st m found n = (n ≡ (unclaimed m.0, m.1)) × SawNoMore m.0
 
   -- adopt
   abbrev pub Adopts : Step ℕ → Me ℕ (View O C R) → ℕ → Me ℕ (View O C R) → Type 0

@@ -1,7 +1,7 @@
 // The word, the seats at it, and the calls that a layer above makes under its lock.
 ghost use Rattle.std.specs.Prelude.{◌≡◌};
 
-use crate::plays::{Adopt, Announce, Claims, Look, Makes, Naming, Record, Take, Tells};
+use crate::plays::{Adopt, Announce, Claims, Confirm, Look, Makes, Naming, Record, Take, Tells};
 use crate::{Recording, Sequential, View};
 use atomic_table::{Seat, Table};
 use std::alloc::{AllocError, Global};
@@ -121,11 +121,30 @@ impl<O, C, R, P: Sequential<O, C, R>> Board<O, C, R, P> {
         ensures pass { IsPassOf self.now.table.shared.table_id self.now.table.shared.key pass.new × (number pass.new ≡ number pass.old) }
         ensures same { (seen pass.new ≡ seen pass.old) × (own pass.new ≡ own pass.old) }
         ensures told { told pass.new ≡ noted scribe.old }
+        ensures before { IsPrefix (seen pass.old) (noted scribe.old) }
     {
+        let claim = self.table.shared.split_seat::<Claims>(&mut pass.seat);
+        self.table
+            .shared
+            .join_seat::<Claims>(&mut scribe.seat, claim);
+        self.table.shared.load::<Confirm>(&mut scribe.seat, 0);
         let history = self.table.shared.split_seat::<Tells>(&mut scribe.seat);
         self.table
             .shared
             .join_seat::<Tells>(&mut pass.seat, history);
+    }
+
+    /// The pass has then seen the noted history.
+    pub fn show(&self, scribe: &mut Scribe<O, C, R>, pass: &mut Pass<O, C, R>)
+        requires scribe { IsScribeOf self.now.table.shared.table_id self.now.table.shared.key scribe.old }
+        requires pass { IsPassOf self.now.table.shared.table_id self.now.table.shared.key pass.old }
+        ensures scribe { IsScribeOf self.now.table.shared.table_id self.now.table.shared.key scribe.new × (noted scribe.new ≡ noted scribe.old) × (made scribe.new ≡ made scribe.old) }
+        ensures pass { IsPassOf self.now.table.shared.table_id self.now.table.shared.key pass.new × (number pass.new ≡ number pass.old) × (own pass.new ≡ own pass.old) }
+        ensures seen { seen pass.new ≡ noted scribe.old }
+        ensures before { IsPrefix (seen pass.old) (noted scribe.old) }
+    {
+        self.tell(scribe, pass);
+        self.table.shared.load::<Take>(&mut pass.seat, 0);
     }
 
     /// The number of recorded calls, by one load. The pass has then seen the history of that length.

@@ -99,6 +99,14 @@ impl<O, C, R> Play<u8, View<O, C, R>> for Record {
     ghost then = { Records };
 }
 
+pub(crate) struct Confirm;
+
+impl<O, C, R> Play<u8, View<O, C, R>> for Confirm {
+    ghost use Rattle.recorded_calls.specs.Steps.{Confirms};
+
+    ghost then = { Confirms };
+}
+
 pub(crate) struct Adopt;
 
 impl<O, C, R> Play<u8, View<O, C, R>> for Adopt {
