@@ -2,7 +2,7 @@
 use Rattle.std.proofs.Common.{◌≡◌, ℕ, zero, suc, List, [], ◌∷◌, set, refl, ap, sym, ◌∙◌, subst}
 use mathlib.Core.Option.{Option, some, none, some-injective, some-ne-none}
 use lib.ListN.{get_elem?}
-use Rattle.atomic_table.specs.Table.{State, Me, takes, gives, Allows, rest}
+use Rattle.atomic_table.specs.Table.{State, Me, takes, gives, Allows, rest, Final, Seen}
 use Rattle.atomic_table.specs.Seated.{TableId}
 use Rattle.locked_object.specs.Guards.{Guards, Stays, TakesKeeper, GivesKeeper}
 use Rattle.locked_object.specs.Keepers.{IsKeeperOf}
@@ -44,6 +44,15 @@ module _ {D C R : Type 0} (performs : D → ℕ → C → R → D → Type 0) (t
   pub gives_at : (slots id : ℕ) (me : Me (Keeper D C R) Place) (k : Keeper D C R) → me ≡ (Away, (0, k) ∷ []) → IsKeeperOf performs table opening k
       → Allows (Guards performs table opening) slots id me 0 (λ n. n) (λ _. GivesKeeper)
   gives_at slots id me k is fits = subst (λ (m : Me (Keeper D C R) Place). Allows (Guards performs table opening) slots id m 0 (λ n. n) (λ _. GivesKeeper)) (sym is) (gives-away slots id k fits)
+
+  -- the keeper that is found where the vault is closed while its seat knows it at home
+  pub closed_keeper : (id : ℕ) (u : Place) (words : List ℕ) (slots : List (Keeper D C R)) (x : Keeper D C R) → u ≡ Home → Final (Seen (Guards performs table opening) id u) words slots → get_elem? slots 0 ≡ some x
+      → IsKeeperOf performs table opening x
+  closed_keeper id u words slots x home ended at =
+      let s = ended.0 in
+      let now = seated s id Home ended.1.0 (ended.1.1 ∙ ap some home) in
+      let there = ended.4 0 now.2.0 (ap (λ (hs : List (Option (Keeper D C R))). get_elem? hs 0) now.2.1) in
+      subst (IsKeeperOf performs table opening) (some-injective now.2.0 x (sym there ∙ at)) now.2.2
 
   -- the same keeper, at the same word
   pub keeper_moves : (t : TableId) (o : D) (k : Keeper D C R) → t ≡ table → o ≡ opening → IsKeeperOf performs t o k → IsKeeperOf performs table opening k

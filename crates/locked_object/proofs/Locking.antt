@@ -3,7 +3,7 @@ use Rattle.std.proofs.Common.{◌≡◌, ◌≢◌, inl, inr, ℕ, ◌==◌, Lis
 use mathlib.Core.Option.{some}
 use lib.ListN.{get_elem?}
 use prog.Atomic.{either}
-use Rattle.atomic_table.proofs.Lists.{at_set}
+use Rattle.atomic_table.proofs.Lists.{at_set, set_again}
 use Rattle.atomic_table.specs.Marked.{Keeps, Comes}
 use Rattle.recorded_calls.proofs.Seating.{all_more}
 use Rattle.locked_object.specs.Lock.{OneHolds, Locked, Unlocked}
@@ -32,6 +32,26 @@ comes-first n views none =
 
 pub locks : Comes OneHolds 0 Locked
 locks n views h small = elim h.rests [ inl e ↦ comes-late n views h e | inr r ↦ comes-first n views r.1 ]
+
+-- who looks changes nothing
+pub looks : (id : ℕ) (v : Hold) → Keeps OneHolds id v (λ n. n) (λ n _. Unit {0})
+looks id v n views h at small = (v, subst (OneHolds n) (sym (set_again views id v at)) h, tt)
+
+-- whoever takes the lock while the word is 0 holds nothing, of those who held nothing
+takes-late : (id n : ℕ) (views : List Hold) → OneHolds n views → n ≡ 0 → (w : Hold) × OneHolds 0 (set views id w) × Locked n w
+takes-late id n views h e =
+    let old : (j : ℕ) → get_elem? (set views id Free) j ≡ some Held → get_elem? views j ≡ some Held =
+    λ j p. ⊎_elim (λ (x : (j ≡ id) × (Free ≡ Held)). absurd (free-not-held x.1)) (λ (x : (j ≢ id) × (get_elem? views j ≡ some Held)). x.1) (at_set views id j Free Held p) in
+    (Free, record { one = λ i j p q. h.one i j (old i p) (old j q); rests = inl refl }, λ two. absurd (omega arith))
+
+takes-first : (id n : ℕ) (views : List Hold) → ((i : ℕ) → get_elem? views i ≡ some Held → ⊥) → (w : Hold) × OneHolds 0 (set views id w) × Locked n w
+takes-first id n views none =
+    let only : (j : ℕ) → get_elem? (set views id Held) j ≡ some Held → j ≡ id =
+    λ j p. ⊎_elim (λ (x : (j ≡ id) × (Held ≡ Held)). x.0) (λ (x : (j ≢ id) × (get_elem? views j ≡ some Held)). absurd (none j x.1)) (at_set views id j Held Held p) in
+    (Held, record { one = λ i j p q. only i p ∙ sym (only j q); rests = inl refl }, λ _. refl)
+
+pub takes : (id : ℕ) (v : Hold) → Keeps OneHolds id v (λ _. 0) Locked
+takes id v n views h at small = elim h.rests [ inl e ↦ takes-late id n views h e | inr r ↦ takes-first id n views r.1 ]
 
 -- whoever has the lock finds the word 0
 lets-rest : (id n : ℕ) (views : List Hold) → OneHolds n views → get_elem? views id ≡ some Held → n ≡ 0 → (w : Hold) × OneHolds (either (n == 0) 2 n) (set views id w) × Unlocked n

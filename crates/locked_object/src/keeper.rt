@@ -37,7 +37,7 @@ impl<C, R, D: Object<C, R>> Keeper<D, C, R> {
         ensures noted { IfOk result (λ reply. history self.new ≡ history self.old ++ entry_of (number pass.old) command.now reply ∷ []) }
         ensures own { IfOk result (λ reply. own pass.new ≡ own pass.old ++ entry_of (number pass.old) command.now reply ∷ []) }
         ensures seen { OnOk result (seen pass.new ≡ history self.new) }
-        ensures before { OnOk result (IsPrefix (seen pass.old) (history self.old)) }
+        ensures before { IsPrefix (seen pass.old) (history self.old) }
         ensures refused { IfErr result (NotRecordedBy D.refuses self.old (number pass.old) command.now) }
         ensures same { OnErr result ((self.new.object ≡ self.old.object) × (history self.new ≡ history self.old)) }
         ensures told { OnErr result (SawNothing pass.old pass.new × (told pass.new ≡ history self.old)) }
@@ -67,7 +67,33 @@ impl<C, R, D: Object<C, R>> Keeper<D, C, R> {
         ensures pass { IsPassOf board.now.table.shared.table_id board.now.table.shared.key pass.new × (number pass.new ≡ number pass.old) }
         ensures same { (self.new.object ≡ self.old.object) × (history self.new ≡ history self.old) }
         ensures told { SawNothing pass.old pass.new × (told pass.new ≡ history self.old) }
+        ensures before { IsPrefix (seen pass.old) (history self.old) }
     {
         board.tell(&mut self.scribe, &mut pass.seat);
+    }
+
+    /// The pass has then seen the recorded history.
+    pub fn show(&mut self, board: &Board<D, C, R, Replies<D>>, pass: &mut Pass<D, C, R>)
+        requires keeper { IsKeeperOf D.performs board.now.table.shared.table_id board.now.table.shared.key self.old }
+        requires pass { IsPassOf board.now.table.shared.table_id board.now.table.shared.key pass.old }
+        ensures keeper { IsKeeperOf D.performs board.now.table.shared.table_id board.now.table.shared.key self.new }
+        ensures pass { IsPassOf board.now.table.shared.table_id board.now.table.shared.key pass.new × (number pass.new ≡ number pass.old) × (own pass.new ≡ own pass.old) }
+        ensures same { (self.new.object ≡ self.old.object) × (history self.new ≡ history self.old) }
+        ensures seen { seen pass.new ≡ history self.old }
+        ensures before { IsPrefix (seen pass.old) (history self.old) }
+    {
+        board.show(&mut self.scribe, &mut pass.seat);
+    }
+
+    /// The object alone.
+    pub fn into_object(self) -> D
+        ensures { result ≡ self.object }
+    {
+        let Keeper {
+            object,
+            calls: _,
+            scribe: _scribe,
+        } = self;
+        object
     }
 }

@@ -27,6 +27,12 @@ impl PerchPlay<Hold> for Locks {
     ghost then = { λ _ _ _. Locked };
 }
 
+pub(crate) struct Looks;
+
+impl PerchPlay<Hold> for Looks {
+    ghost then = { λ _ _ _ _ _. Unit {0} };
+}
+
 pub(crate) struct Unlocks;
 
 impl PerchPlay<Hold> for Unlocks {

@@ -1,5 +1,5 @@
 // The object under its lock.
-ghost use Rattle.std.specs.Prelude.{◌≡◌, ◌≤◌, [], length, IfOk, OnOk, IfErr, OnErr};
+ghost use Rattle.std.specs.Prelude.{◌≡◌, ◌≤◌, [], length, IfOk, OnOk, IfErr, OnErr, IfSome};
 ghost use mathlib.Core.List.{IsPrefix};
 ghost use Rattle.recorded_calls.specs.History.{IsLegal};
 ghost use Rattle.recorded_calls.specs.Seats.{IsScribeOf, noted, made};
@@ -11,15 +11,16 @@ ghost use Rattle.locked_object.specs.declared.keeper.Keeper as any;
 ghost use Rattle.locked_object.specs.declared.lock.Hold.TheVariants.{Held};
 ghost use Rattle.locked_object.specs.declared.vault.Place.TheVariants.{Home};
 
-use crate::lock::{Hold, Locks, OneHolder, Unlocks};
+use crate::lock::{Hold, Locks, Looks, OneHolder, Unlocks};
 use crate::naming::Knowing;
 use crate::vault::{Gives, Guarded, Place, Takes};
 use crate::{Keeper, NotRecorded, Object, Pass, Replies};
 use atomic_table::{Mark, RuledPerch, Seat, Table};
 use recorded_calls::{Board, Scribe};
 use std::alloc::{AllocError, Global};
+use std::hint::spin_loop;
 use std::marker::Brand;
-use std::sync::Wait;
+use std::sync::{Mutex, Wait};
 use std::thread::yield_now;
 
 /// The keeper in its vault.
@@ -28,12 +29,17 @@ type Vault<C, R, D> = Table<Keeper<D, C, R>, Place, Board<D, C, R, Replies<D>>, 
 /// The vault's only seat.
 type Key<C, R, D> = Seat<Keeper<D, C, R>, Place>;
 
+/// So often a caller looks whether the lock is free, before it sleeps.
+const LOOKS: u32 = 200;
+
 /// An object under a lock, and the word of its recorded calls.
 #[derive(Drop)]
 pub struct Shared<C, R, D: Object<C, R>> {
     board: Board<D, C, R, Replies<D>>,
     vault: Vault<C, R, D>,
     lock: RuledPerch<Keeper<D, C, R>, Place, Hold, OneHolder>,
+    /// where those who wait for the lock sleep, but for one
+    turn: Mutex<()>,
     pub ghost guards: { vault.shared.key ≡ board },
     pub ghost one_keeper: { (vault.shared.table_id.words ≡ 1) × (vault.shared.table_id.slots ≡ 1) },
     pub ghost rests: { (lock.table_id ≡ vault.shared.table_id) × (lock.view ≡ Home) },
@@ -59,7 +65,12 @@ impl<C, R, D: Object<C, R>> Shared<C, R, D> {
         };
         let (vault, seat) = vault_of(alloc, &board, keeper)?;
         let (lock, mark) = RuledPerch::new(&seat, 0);
-        let shared = Shared { board, vault, lock };
+        let shared = Shared {
+            board,
+            vault,
+            lock,
+            turn: Mutex::new(()),
+        };
         shared.unlock(mark, seat);
         Ok((shared, passes))
     }
@@ -78,6 +89,7 @@ impl<C, R, D: Object<C, R>> Shared<C, R, D> {
         ensures legal { OnOk result (IsLegal D.performs self.now.board.table.shared.key (seen pass.new)) }
         ensures refused { IfErr result (Unrecorded D.performs D.refuses self.now.board.table.shared.key (number pass.old) command.now (told pass.new)) }
         ensures same { OnErr result (SawNothing pass.old pass.new) }
+        ensures before { OnErr result (IsPrefix (seen pass.old) (told pass.new)) }
     {
         let (mark, mut seat) = self.lock(rt);
         let told = self.call_at(&mut seat, pass, command);
@@ -112,37 +124,84 @@ impl<C, R, D: Object<C, R>> Shared<C, R, D> {
         self.board.meet(&mut one.seat, &mut other.seat)
     }
 
-    /// The object, once no pass calls it any more.
+    /// The object, once no pass calls it any more. It waits for nobody, so that no clause says what the object is: `close` has one.
     pub fn finish(self) -> D {
         let Shared {
             board: _board,
             vault,
             lock: _lock,
+            turn: _turn,
         } = self;
         let mut closed = vault.close();
         let keeper = closed.take(0);
         closed.free();
-        let Keeper {
-            object,
-            calls: _,
-            scribe: _scribe,
-        } = keeper;
-        object
+        keeper.into_object()
     }
 
-    /// Waits until the vault's seat rests on the lock, and takes it.
+    /// The word of recorded calls, and the keeper with the object, once no pass calls it any more. It takes the lock, for which it may
+    /// wait, so that the object is what the opening is after the recorded history; `Keeper::show` shows that history to a pass.
+    pub fn close<W: Wait>(self, rt: &W) -> (Board<D, C, R, Replies<D>>, Keeper<D, C, R>)
+        ensures board { result.0 ≡ self.board }
+        ensures keeper { IsKeeperOf D.performs result.0.table.shared.table_id result.0.table.shared.key result.1 }
+    {
+        let (_mark, seat) = self.lock(rt);
+        let Shared {
+            board,
+            vault,
+            lock: _lock,
+            turn: _turn,
+        } = self;
+        let mut closed = vault.close_with(seat);
+        let keeper = closed.take(0);
+        closed.free();
+        (board, keeper)
+    }
+
+    /// Waits until the vault's seat rests on the lock, and takes it: looks for a while, and then as the only one that does not sleep.
     fn lock<W: Wait>(&self, rt: &W) -> (Mark<Hold>, Key<C, R, D>)
         ensures mark { (result.0.perch ≡ self.now.lock.name) × (result.0.view ≡ Held) }
         ensures seat { (result.1.table_id ≡ self.now.vault.shared.table_id) × (result.1.me ≡ (Home, [])) }
     {
+        let (_found, mut mark, seat) = self.lock.swap_new_mark::<Locks>(0);
+        if let Some(seat) = seat {
+            return (mark, seat);
+        }
+        for _ in 0..LOOKS {
+            if let Some(seat) = self.try_lock(&mut mark) {
+                return (mark, seat);
+            }
+            spin_loop();
+        }
+        let _turn = self.turn.lock(rt);
+        self.lock_in_turn(rt, mark)
+    }
+
+    /// The same for the one whose turn it is: it lets others have the processor.
+    fn lock_in_turn<W: Wait>(&self, rt: &W, mut mark: Mark<Hold>) -> (Mark<Hold>, Key<C, R, D>)
+        requires { mark.perch ≡ self.now.lock.name }
+        ensures mark { (result.0.perch ≡ self.now.lock.name) × (result.0.view ≡ Held) }
+        ensures seat { (result.1.table_id ≡ self.now.vault.shared.table_id) × (result.1.me ≡ (Home, [])) }
+    {
         for _ in rt.forever() {
-            let (_found, mark, seat) = self.lock.swap_new_mark::<Locks>(0);
-            if let Some(seat) = seat {
+            if let Some(seat) = self.try_lock(&mut mark) {
                 return (mark, seat);
             }
             yield_now();
         }
         unreachable!()
+    }
+
+    /// Takes the lock if the vault's seat rests on it. It looks before it writes, so that those who wait do not take the word from one another.
+    fn try_lock(&self, mark: &mut Mark<Hold>) -> Option<Key<C, R, D>>
+        requires { mark.old.perch ≡ self.now.lock.name }
+        ensures perch { mark.new.perch ≡ self.now.lock.name }
+        ensures held { IfSome result (λ _. mark.new.view ≡ Held) }
+        ensures seat { IfSome result (λ s. (s.table_id ≡ self.now.vault.shared.table_id) × (s.me ≡ (Home, []))) }
+    {
+        if self.lock.load::<Looks>(mark) < 2 {
+            return None;
+        }
+        self.lock.swap::<Locks>(mark, 0).1
     }
 
     /// Lets the vault's seat rest on the lock again.
@@ -171,6 +230,7 @@ impl<C, R, D: Object<C, R>> Shared<C, R, D> {
         ensures legal { OnOk result (IsLegal D.performs self.now.board.table.shared.key (seen pass.new)) }
         ensures refused { IfErr result (Unrecorded D.performs D.refuses self.now.board.table.shared.key (number pass.old) command.now (told pass.new)) }
         ensures same { OnErr result (SawNothing pass.old pass.new) }
+        ensures before { OnErr result (IsPrefix (seen pass.old) (told pass.new)) }
     {
         self.take::<Brand>(seat);
         let keeper = seat.slot_mut(&self.vault.shared, 0);
