@@ -60,10 +60,14 @@ def check(source: bytes) -> Outcome:
 
 def debug(source: bytes, stimulus: bytes, script: bytes) -> Outcome:
     try:
-        desk = Desk(accept(source, stimulus), source)
+        return debug_system(accept(source, stimulus), source, script)
     except Refused as refused:
         return outcome([], refused.text())
-    answers: list[str] = []
+
+
+def debug_system(system: System, source: bytes, script: bytes) -> Outcome:
+    """The answers over a system that was accepted."""
+    desk, answers = Desk(system, source), []
     for number, line in enumerate(lines_of(script), 1):
         try:
             answers += answer(desk, line) if line else []
@@ -75,7 +79,15 @@ def debug(source: bytes, stimulus: bytes, script: bytes) -> Outcome:
 def replay(source: bytes, stimulus: bytes, trace: Callable[[], bytes]) -> Outcome:
     """The trace is read once source and stimulus are accepted."""
     try:
-        return outcome(live_lines(load(accept(source, stimulus), trace())))
+        return replay_system(accept(source, stimulus), trace())
+    except Refused as refused:
+        return outcome([], refused.text())
+
+
+def replay_system(system: System, trace: bytes) -> Outcome:
+    """The live events behind the trace, over a system that was accepted."""
+    try:
+        return outcome(live_lines(load(system, trace)))
     except Refused as refused:
         return outcome([], refused.text())
 
