@@ -1,11 +1,12 @@
 //! Devices that count how often they failed.
 
-ghost use Rattle.std.specs.Prelude.{◌≡◌, ◌≢◌, ◌⊎◌, ◌++◌, ◌<◌, ◌-◌, ◌^◌, IfOk, IfErr, OnOk, IfSome, MatchResult, [], false};
+ghost use Rattle.std.specs.Prelude.{◌≡◌, ◌≢◌, ◌⊎◌, ◌++◌, ◌<◌, ◌+◌, ◌-◌, ◌^◌, vec_len, IfOk, IfErr, OnOk, IfSome, MatchResult, [], false};
 ghost use Rattle.std.specs.IoError.{error_kind};
 ghost use Rattle.std.specs.Io.{WritesAtMost, StopsAt, appended_bytes};
 ghost use Rattle.std.specs.Io.KnownBytes.{Consumes, Keeps, IsAtEnd, WriteAppends};
 ghost use Rattle.std.specs.Io.BufRead.{take_through, ends_with_byte, DropsThrough};
 ghost use Rattle.devices.specs.Counting.{device, failures, patience, one_more, CountsIf, after_filling};
+ghost use Rattle.devices.specs.declared.failing.ReadFault.TheVariants.{Memory, Failed};
 
 use crate::ReadFault;
 use std::io;
@@ -73,22 +74,26 @@ impl<R: Read> Counted<R> {
         ensures bytes { OnOk result (Consumes (R.remaining (device self.old)) (R.remaining (device self.new)) (appended_bytes bytes.old.items bytes.new.items)) }
         ensures end { OnOk result (IsAtEnd (R.remaining (device self.new))) }
         ensures failures { failures self.new ≡ after_filling result (failures self.old) }
+        ensures patience { patience self.new ≡ patience self.old }
     {
         match self.device.read_to_end(bytes) {
             Ok(_) => Ok(()),
-            Err(error) if error.kind() == ErrorKind::OutOfMemory => Err(ReadFault::Memory),
-            Err(_) => {
-                self.count();
-                Err(ReadFault::Failed)
+            Err(error) => {
+                let fault = fault_of(&error);
+                if fault == ReadFault::Failed {
+                    self.count();
+                }
+                Err(fault)
             }
         }
     }
 }
 
 impl<R: BufRead> Counted<R> {
-    /// Reads behind the next byte 10, or to the end, and counts whether that failed. A line that is there whole counts
-    /// even where the reader then failed.
+    /// Reads behind the next byte 10, or to the end, and counts whether that failed: so many bytes. A line that is there whole
+    /// counts even where the reader then failed.
     pub fn read_through(&mut self, line: &mut Vec<u8>) -> io::Result<usize>
+        ensures count { IfOk result (λ n. vec_len line.new ≡ vec_len line.old + n) }
         ensures stops { StopsAt (appended_bytes line.old.items line.new.items) 10 }
         ensures bytes { OnOk result (IfSome (R.remaining (device self.old)) (λ xs. line.new.items ≡ line.old.items ++ take_through 10 xs)) }
         ensures rest { OnOk result (DropsThrough (R.remaining (device self.old)) (R.remaining (device self.new)) 10) }
@@ -97,6 +102,7 @@ impl<R: BufRead> Counted<R> {
         ensures counted { MatchResult result (λ _. failures self.new ≡ failures self.old)
             (λ error. CountsIf ((error_kind error ≢ ErrorKind.OutOfMemory) × (ends_with_byte 10 line.new.items ≡ false))
             (failures self.old) (failures self.new)) }
+        ensures patience { patience self.new ≡ patience self.old }
     {
         let read = self.device.read_until(b'\n', line);
         if let Err(error) = &read {
@@ -140,6 +146,18 @@ impl<W: Write> Write for Counted<W> {
             self.count();
         }
         flushed
+    }
+}
+
+/// What a failure to read all bytes is.
+fn fault_of(error: &Error) -> ReadFault
+    ensures { ((result ≡ Memory) × (error_kind error.now ≡ ErrorKind.OutOfMemory))
+        ⊎ ((result ≡ Failed) × (error_kind error.now ≢ ErrorKind.OutOfMemory)) }
+{
+    if error.kind() == ErrorKind::OutOfMemory {
+        ReadFault::Memory
+    } else {
+        ReadFault::Failed
     }
 }
 
