@@ -149,3 +149,74 @@ pub const GUARDS: Example = Example {
     source: "procedure p is variable x, y : 1 bits begin if y then x := 1 | x then y := 1 end end",
     stimulus: "",
 };
+
+/// A choice of two values that are both there.
+pub const SELECT: Example = Example {
+    source: "procedure p (input a, b : 8 bits ; output o : 8 bits) is
+        begin select a then o <- a | b then o <- b end end",
+    stimulus: "a = 5\nb = 7",
+};
+
+pub const TWO_SYNCS: Example = Example {
+    source: "procedure p is sync s begin sync s || sync s end",
+    stimulus: "",
+};
+
+/// One assignment of a value that is cut, or that wraps.
+pub const CUT_AND_WRAPPED: [Example; 3] = [
+    Example {
+        source: "procedure p is variable x : 8 bits begin x := (255 + 1 as 8 bits) end",
+        stimulus: "",
+    },
+    Example {
+        source: "procedure p is variable x : 8 bits begin x := 0 - 1 end",
+        stimulus: "",
+    },
+    Example {
+        source: "procedure p is variable x : 8 bits begin x := 200 - 201 end",
+        stimulus: "",
+    },
+];
+
+pub const EMPTY_LOOP: Example = Example {
+    source: "procedure p is begin loop continue end end",
+    stimulus: "",
+};
+
+/// The one-place buffer, into which nothing comes.
+pub const STARVED_BUFFER: Example = Example {
+    source: "procedure p (input i : 8 bits ; output o : 8 bits) is
+        variable x : 8 bits begin loop i -> x ; o <- x end end",
+    stimulus: "i =",
+};
+
+/// A loop that syncs with the environment, once.
+pub const SYNC_LOOP: Example = Example {
+    source: "procedure p (sync s) is begin loop sync s end end",
+    stimulus: "s * 1",
+};
+
+/// Two writes of one variable in each turn.
+pub const LOOP_OF_WRITES: Example = Example {
+    source: "procedure p is variable x : 8 bits begin loop [x := 1 ; x := 2] end end",
+    stimulus: "",
+};
+
+/// A write and a read of a variable race.
+pub const RACE: Example = Example {
+    source: "procedure p is shared variable x : 8 bits variable y : 8 bits begin x := 1 || y := x end",
+    stimulus: "",
+};
+
+/// Two writes of a variable race.
+pub const RACE_OF_WRITES: Example = Example {
+    source: "procedure p is shared variable x : 8 bits begin x := 1 || x := 2 end",
+    stimulus: "",
+};
+
+/// A value that is computed in one branch and received in the other.
+pub const HANDED_OVER: Example = Example {
+    source: "procedure p is channel c : 8 bits variable x, y : 8 bits
+        begin c -> x || [y := 3 ; c <- y] end",
+    stimulus: "",
+};

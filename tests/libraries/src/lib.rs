@@ -25,6 +25,8 @@ mod live_events;
 #[cfg(test)]
 mod logged;
 #[cfg(test)]
+mod narrow_devices;
+#[cfg(test)]
 mod numbered;
 #[cfg(test)]
 mod numbers;
@@ -38,6 +40,8 @@ mod passes;
 mod random;
 #[cfg(test)]
 mod rollbacks;
+#[cfg(test)]
+mod rolled_forms;
 #[cfg(test)]
 mod runs;
 #[cfg(test)]

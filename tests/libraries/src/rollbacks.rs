@@ -11,7 +11,7 @@ use std::test::Fail;
 
 /// A call in short.
 #[derive(Clone, Copy)]
-enum Asked {
+pub enum Asked {
     Undo(u64),
     Roll(u64),
     /// of the variable of this number
@@ -21,7 +21,7 @@ enum Asked {
 
 /// An answer in short.
 #[derive(Clone, Copy)]
-enum Told {
+pub enum Told {
     Undone(u64),
     Rolled(u64),
     Blamed(u64),
@@ -29,12 +29,12 @@ enum Told {
 }
 
 /// Calls with their answers, and the tickets that are live behind each.
-type Calls = &'static [(Asked, Told, &'static [u64])];
+pub type Calls = &'static [(Asked, Told, &'static [u64])];
 
 /// The places of steps, with their arms.
-type Steps = &'static [(&'static str, u32)];
+pub type Steps = &'static [(&'static str, u32)];
 
-fn begun(alloc: Global, example: Example, steps: Steps) -> Result<Machine, Fail> {
+pub fn begun(alloc: Global, example: Example, steps: Steps) -> Result<Machine, Fail> {
     let mut machine = Machine::new(alloc, example.checked(alloc)?)?;
     for (at, arm) in steps {
         let place = place(alloc, at.as_bytes())?;
@@ -77,7 +77,7 @@ fn are_live(machine: &Machine, tickets: &[u64]) -> bool {
 }
 
 /// Asks one call after the other.
-fn look(rt: &impl Abort, machine: &mut Machine, calls: Calls) {
+pub fn look(rt: &impl Abort, machine: &mut Machine, calls: Calls) {
     for (asked, told, left) in calls {
         let reply = ask(machine, *asked);
         assert!(rt; is_told(&reply, *told));
@@ -112,7 +112,7 @@ fn steps_are_undone_the_last_first(rt: HostRuntime) -> Result<(), Fail> {
 }
 
 /// Both loops turn, the first buffer receives, and hands its value on.
-const IN_ROW: Steps = &[
+pub const IN_ROW: Steps = &[
     ("/0/0.0", 0),
     ("/0/1.0", 0),
     ("/0/0.1.0", 0),
