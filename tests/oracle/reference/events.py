@@ -116,8 +116,8 @@ def events_of(moves: list[Move]) -> Iterator[Event]:
 
 
 def moved(tree: Residual, number: int, move: Move, event: Event, store: Store) -> Residual:
-    """What the move leaves of a tree. The other move of the event may have changed the tree, so the move is looked up
-    in it again."""
+    """What the move leaves of a tree which the other move of the event has changed, so the move is looked up in it
+    again."""
     found = [
         other
         for other in moves_of(tree, branch((), number), store)
@@ -128,11 +128,15 @@ def moved(tree: Residual, number: int, move: Move, event: Event, store: Store) -
 
 
 def after(state: State, event: Event) -> State:
-    """The state behind an event that is possible."""
+    """The state behind an event, which is one of its `possible_events`."""
     trees, store = list(state.trees), list(state.store)
     for move in event.moves:
         number = move.place[0].number
-        trees[number] = moved(trees[number], number, move, event, state.store)
+        tree = trees[number]
+        if tree is state.trees[number]:
+            trees[number] = move.leaves(event.meeting)
+        else:
+            trees[number] = moved(tree, number, move, event, state.store)
     if event.writes is not None:
         store[event.writes.number] = event.value
     return State(tuple(trees), store)

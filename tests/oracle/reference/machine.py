@@ -27,6 +27,7 @@ class Machine:
         self.live: list[Live] = []
         self.next_ticket = 1
         self.run: State | None = opening_state(system)
+        self.listed: tuple[State, list[Event]] | None = None
 
     @property
     def state(self) -> State:
@@ -36,7 +37,11 @@ class Machine:
         return self.run
 
     def ready(self) -> list[Event]:
-        return possible_events(self.state)
+        """What is possible, listed once for each state."""
+        state = self.state
+        if self.listed is None or self.listed[0] is not state:
+            self.listed = (state, possible_events(state))
+        return self.listed[1]
 
     def step(self, acting: Address, arm: int) -> Live:
         for event in self.ready():

@@ -6,7 +6,7 @@ A command that has not begun is its own residual. What is done is erased at once
 from __future__ import annotations
 
 from collections.abc import Callable, Iterator
-from dataclasses import dataclass, replace
+from dataclasses import dataclass
 from typing import Union
 
 from .elaboration import Environment
@@ -95,7 +95,7 @@ class Meeting:
 ALONE = Meeting()
 
 
-@dataclass(frozen=True)
+@dataclass(slots=True, eq=False)
 class Move:
     """A local move of a command, which is None for the environment. The kind is assign, turn, test, send, receive,
     sync, open, release or close. `leaves` gives the residual behind it. The value is what is assigned or sent, the arm
@@ -111,6 +111,14 @@ class Move:
     arm: int | None = None
     reads: frozenset[Variable] = frozenset()
 
+    def within(self, rebuild: Callable[[Residual], Residual]) -> Move:
+        """The move of a part as one of the whole, which `rebuild` makes of what is left of the part."""
+        leaves = self.leaves
+        return Move(
+            self.kind, self.command, self.place, lambda meeting: rebuild(leaves(meeting)), self.channel, self.variable,
+            self.value, self.arm, self.reads,
+        )
+
 
 Moves = Iterator[Move]
 
@@ -118,7 +126,7 @@ Moves = Iterator[Move]
 def within(moves: Moves, rebuild: Callable[[Residual], Residual]) -> Moves:
     """The moves of a part as moves of the whole, which `rebuild` makes of what is left of the part."""
     for move in moves:
-        yield replace(move, leaves=lambda meeting, leaves=move.leaves: rebuild(leaves(meeting)))
+        yield move.within(rebuild)
 
 
 def start(command: Command) -> Residual:
@@ -224,10 +232,10 @@ def offer_of(command: Send | Sync, place: Address, store: Store) -> Move:
 def environment_moves(acting: Acting, place: Address) -> Moves:
     environment, act = acting.environment, acting.act
     channel = environment.channel
-    following = replace(acting, act=act + 1, held=False)
+    following = Acting(environment, act + 1)
 
     def leaves(meeting: Meeting) -> Residual:
-        return replace(acting, held=True) if meeting.opens else following
+        return Acting(environment, act, True) if meeting.opens else following
 
     here = ordered(place, act)
     if acting.held:
