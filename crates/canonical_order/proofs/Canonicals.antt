@@ -4,11 +4,9 @@ use Rattle.std.specs.declared.cmp.Ordering.TheVariants.{Less}
 use Rattle.address.proofs.Total.{order-total}
 use Rattle.address.specs.Order.{order_of}
 use Rattle.syntax.specs.Lists.{In}
-use Rattle.system.specs.declared.system.System.{System}
 use Rattle.calculus.specs.Dependence.{Directly, Earlier, Rearranged, Respecting}
 use Rattle.calculus.specs.Events.{acting}
 use Rattle.calculus.specs.Moves.{Place}
-use Rattle.calculus.specs.Steps.{State, Run, opening}
 use Rattle.calculus.specs.declared.event.Event.{Event}
 use Rattle.calculus.proofs.Elements.{Distinct, rearranged-in, in-rearranged, rearranged-turned, rearranged-distinct, earlier-more, earlier-before, earlier-first, earlier-second}
 use Rattle.calculus.proofs.Lists.{in-right}

@@ -1,21 +1,40 @@
--- One event more in a canonical order.
-use Rattle.std.proofs.Common.{◌≡◌, ◌⊎◌, inl, inr, ℕ, zero, suc, ◌≤◌, ◌<◌, List, [], ◌∷◌, ◌++◌, length, Some, refl, sym, ap, ◌∙◌, subst, arith, append_assoc, append-nil}
-use Rattle.std.specs.Prelude.{slice_get}
-use Rattle.std.specs.List.{insert}
+-- One event more in a canonical order, and so a canonical order of each list that runs.
+use Rattle.std.proofs.Common.{◌≡◌, ◌⊎◌, inl, inr, List, [], ◌∷◌, ◌++◌, refl, sym, ap, ◌∙◌, subst, append_assoc, append-nil}
 use Rattle.std.specs.declared.cmp.Ordering.TheVariants.{Less}
-use Rattle.address.proofs.Total.{order-itself, order-transitive}
+use Rattle.address.proofs.Total.{order-itself, order-total, order-transitive}
 use Rattle.address.specs.Order.{order_of}
 use Rattle.syntax.specs.Lists.{In}
 use Rattle.calculus.specs.Dependence.{Directly, Earlier, Rearranged}
 use Rattle.calculus.specs.Events.{acting}
+use Rattle.calculus.specs.Moves.{Place}
 use Rattle.calculus.specs.declared.event.Event.{Event}
+use Rattle.calculus.proofs.Decisions.{Or, search-list, directly?}
 use Rattle.calculus.proofs.Elements.{earlier-before, earlier-first, rearranged-in, in-rearranged}
+use Rattle.calculus.proofs.FromOpening.{acting_once}
 use Rattle.calculus.proofs.Lists.{in-left, in-right, in-parts}
-use Rattle.calculus.proofs.Options.{none-some, some-injective}
 use Rattle.canonical_order.specs.Canonical.{Free, LeastFree, IsCanonicalOrder}
-use Rattle.canonical_order.specs.walking.Placing.{NoCause, SomeCause, ActsBelow, Placed, Scanned}
+use Rattle.canonical_order.specs.Laws.{SomeCanonicalOrder}
 use Rattle.canonical_order.proofs.Canonicals.{canonical-rearranged}
 use Rattle.canonical_order.proofs.Orders.{ActsOnce, once-less, earlier-left, earlier-parts}
+
+-- none of g is a direct cause of e
+abbrev pub NoCause : List Event → Event → Type 0
+NoCause g e = (f : Event) → In f g → Directly f e → ⊥
+
+-- one of g is a direct cause of e
+abbrev pub SomeCause : List Event → Event → Type 0
+SomeCause g e = (f : Event) × In f g × Directly f e
+
+-- the acting address of e is less than that of f
+abbrev pub ActsBelow : Event → Event → Type 0
+ActsBelow e f = order_of (acting e) (acting f) ≡ Less
+
+-- e, on which none of g depends, is put into g behind its direct causes, in front of the first event there of a greater acting address
+abbrev pub Placed : Event → List Event → List Event → Type 0
+Placed e [] out = out ≡ e ∷ []
+Placed e (f ∷ g) out =
+    ((out ≡ e ∷ f ∷ g) × NoCause (f ∷ g) e × ActsBelow e f)
+    ⊎ ((rest : List Event) × (out ≡ f ∷ rest) × (SomeCause (f ∷ g) e ⊎ (ActsBelow e f → ⊥)) × Placed e g rest)
 
 -- what acts below another is not the other
 below-itself : (e : Event) → ActsBelow e e → ⊥
@@ -118,65 +137,39 @@ placed-canonical h (x ∷ g) out e once c (inr (rest, is, behind, placed)) =
     ) in
     subst (λ (l : List Event). IsCanonicalOrder (h ++ e ∷ []) l) (sym is) whole
 
--- at the end nothing is scanned yet
-pub scanned-none : (e : Event) (g : List Event) (n : ℕ) → n ≡ length g → Scanned e g n n
-scanned-none e [] zero is = (omega arith, λ f i. absurd i, refl)
-scanned-none e [] (suc n) is = cc
-scanned-none e (x ∷ g) zero is = cc
-scanned-none e (x ∷ g) (suc n) is = scanned-none e g n (omega arith)
+-- an event acts below another, or it does not
+below? : (e f : Event) → Or (ActsBelow e f)
+below? e f =
+    elim (order-total (acting e) (acting f)) [
+      | inl u ↦ inl u
+      | inr (inl u) ↦ inr (λ below. below-itself e (order-transitive (acting e) (acting f) (acting e) below u))
+      | inr (inr u) ↦ inr (λ below. below-itself e (subst (λ (a : Place). order_of (acting e) a ≡ Less) (sym u) below))
+    ]
 
--- the place that was found is one of the list
-pub scanned-within : (e : Event) (g : List Event) (at found : ℕ) → Scanned e g at found → found ≤ length g
-scanned-within e g zero found s = s.0
-scanned-within e [] (suc at) found s = absurd s
-scanned-within e (x ∷ g) (suc at) zero s = absurd s
-scanned-within e (x ∷ g) (suc at) (suc found) s = let rest = scanned-within e g at found s in omega arith
+-- there is a place for each event
+placed-some : (e : Event) (g : List Event) → (out : List Event) × Placed e g out
+placed-some e [] = (e ∷ [], refl)
+placed-some e (f ∷ g) =
+    let rest = placed-some e g in
+    elim (search-list (λ (x : Event). Directly x e) (f ∷ g) (λ x i. directly? x e)) [
+      | inl cause ↦ (f ∷ rest.0, inr (rest.0, refl, inl cause, rest.1))
+      | inr none ↦ elim (below? e f) [
+        | inl below ↦ (e ∷ f ∷ g, inl (refl, none, below))
+        | inr above ↦ (f ∷ rest.0, inr (rest.0, refl, inr above, rest.1))
+      ]
+    ]
 
--- all is scanned
-pub scanned-all : (e : Event) (g : List Event) (found : ℕ) → Scanned e g 0 found → Placed e g (insert g found e)
-scanned-all e g found s = s.2
+-- the events of k, put one after another into the canonical order of those before them
+all-placed : (h k g : List Event) → ActsOnce (h ++ k) → IsCanonicalOrder h g → (out : List Event) × IsCanonicalOrder (h ++ k) out
+all-placed h [] g once c = (g, subst (λ (l : List Event). IsCanonicalOrder l g) (sym (append-nil h)) c)
+all-placed h (e ∷ k) g once c =
+    let placed = placed-some e g in
+    let next : (h ++ e ∷ []) ++ k ≡ h ++ e ∷ k = append_assoc h (e ∷ []) k in
+    let all : ActsOnce ((h ++ e ∷ []) ++ k) = subst ActsOnce (sym next) once in
+    let first : ActsOnce (h ++ e ∷ []) = λ x y i. all x y (earlier-left x y (h ++ e ∷ []) k i) in
+    let rest = all-placed (h ++ e ∷ []) k placed.0 all (placed-canonical h g placed.0 e first c placed.1) in
+    (rest.0, subst (λ (l : List Event). IsCanonicalOrder l rest.0) next rest.1)
 
--- none of a list is a cause where the first and the others are none
-none-before : (e x : Event) (g : List Event) → (Directly x e → ⊥) → NoCause g e → NoCause (x ∷ g) e
-none-before e x g n none f i direct =
-    elim i [ inl u ↦ n (subst (λ (z : Event). Directly z e) u direct) | inr u ↦ none f u direct ]
-
--- one event more is scanned, and the new one acts below it
-pub scanned-here : (e x : Event) (g : List Event) (at found : ℕ) → slice_get g at ≡ Some x → (Directly x e → ⊥) → ActsBelow e x
-    → Scanned e g (suc at) found → Scanned e g at at
-scanned-here e x [] at found is n below s = absurd s
-scanned-here e x (y ∷ g) at zero is n below s = absurd s
-scanned-here e x (y ∷ g) zero (suc found) is n below s =
-    let same : y ≡ x = some-injective y x is in
-    let none : NoCause (y ∷ g) e = none-before e y g (λ d. n (subst (λ (z : Event). Directly z e) same d)) s.1 in
-    (omega arith, none, inl (refl, none, subst (λ (z : Event). ActsBelow e z) (sym same) below))
-scanned-here e x (y ∷ g) (suc at) (suc found) is n below s = scanned-here e x g at found is n below s
-
--- one event more is scanned, and the new one does not act below it
-pub scanned-on : (e x : Event) (g : List Event) (at found : ℕ) → slice_get g at ≡ Some x → (Directly x e → ⊥) → (ActsBelow e x → ⊥)
-    → Scanned e g (suc at) found → Scanned e g at found
-scanned-on e x [] at found is n above s = absurd s
-scanned-on e x (y ∷ g) at zero is n above s = absurd s
-scanned-on e x (y ∷ g) zero (suc found) is n above s =
-    let same : y ≡ x = some-injective y x is in
-    let none : NoCause (y ∷ g) e = none-before e y g (λ d. n (subst (λ (z : Event). Directly z e) same d)) s.1 in
-    let within : found ≤ length g = s.0 in
-    let stays : ActsBelow e y → ⊥ = λ b. above (subst (λ (z : Event). ActsBelow e z) same b) in
-    (omega arith, none, inr (insert g found e, refl, inr stays, s.2))
-scanned-on e x (y ∷ g) (suc at) (suc found) is n above s = scanned-on e x g at found is n above s
-
--- what stands at a place is an element
-in-at : (g : List Event) (i : ℕ) (x : Event) → slice_get g i ≡ Some x → In x g
-in-at [] i x h = none-some x h
-in-at (y ∷ g) zero x h = inl (sym (some-injective y x h))
-in-at (y ∷ g) (suc i) x h = inr (in-at g i x h)
-
--- a direct cause ends the search
-pub scanned-cause : (e x : Event) (g : List Event) (at found : ℕ) → slice_get g at ≡ Some x → Directly x e
-    → Scanned e g (suc at) found → Placed e g (insert g found e)
-scanned-cause e x [] at found is direct s = absurd s
-scanned-cause e x (y ∷ g) at zero is direct s = absurd s
-scanned-cause e x (y ∷ g) zero (suc found) is direct s =
-    inr (insert g found e, refl, inl (x, inl (sym (some-injective y x is)), direct), s.2)
-scanned-cause e x (y ∷ g) (suc at) (suc found) is direct s =
-    inr (insert g found e, refl, inl (x, inr (in-at g at x is), direct), scanned-cause e x g at found is direct s)
+-- a list that runs has a canonical order
+pub some-canonical-order : SomeCanonicalOrder
+some-canonical-order system h T r = all-placed [] h [] (λ e f i. acting_once system h T e f r i) refl

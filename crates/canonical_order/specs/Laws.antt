@@ -21,10 +21,14 @@ OrdersAgree =
     (system : System) (h k a b : List Event) (T : State) → Run (opening system) h T → Respecting h k → Respecting k h →
     IsCanonicalOrder h a → IsCanonicalOrder k b → a ≡ b
 
--- a list that runs has one canonical order
+-- a list that runs has no two canonical orders
 abbrev pub OneCanonicalOrder : Type 0
 OneCanonicalOrder =
     (system : System) (h a b : List Event) (T : State) → Run (opening system) h T → IsCanonicalOrder h a → IsCanonicalOrder h b → a ≡ b
+
+-- a list that runs has a canonical order
+abbrev pub SomeCanonicalOrder : Type 0
+SomeCanonicalOrder = (system : System) (h : List Event) (T : State) → Run (opening system) h T → (g : List Event) × IsCanonicalOrder h g
 
 -- the canonical order of a list that runs is its own canonical order
 abbrev pub IsItsOwnOrder : Type 0

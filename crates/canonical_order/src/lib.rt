@@ -3,6 +3,7 @@
 
 mod laws;
 mod ordering;
+mod queue;
 
 pub use laws::canonical_laws;
 pub use ordering::canonical_order;

@@ -9,7 +9,7 @@ use Rattle.calculus.specs.InOrder.{InOrder}
 use Rattle.calculus.specs.Live.{Live, Rising, LiveAt, NoneAt}
 use Rattle.calculus.specs.declared.event.Event.{Event}
 use Rattle.calculus.proofs.Tickets.{rising-in}
-use Rattle.dependence.specs.Followers.{Follower, ListsFollowers}
+use Rattle.dependence.specs.Followers.{ListsLeads, Follower, ListsFollowers}
 use Rattle.dependence.specs.declared.links.Links.{Links}
 use Rattle.dependence.specs.walking.Tables.{IsRising, Linked, Falling, PartLinked, ListsWith, FollowersChanged, Removed}
 use Rattle.calculus.proofs.Lists.{in-left, in-right, in-parts, every-in}
@@ -303,3 +303,13 @@ followers-at l links t place e m p at is =
     let size : length links ≡ length l = p.size in
     let within : place < length links = omega arith in
     p.followers place t e m at (slice_get-get_or links place m within ∙ ap (λ (k : Links). Some k) (sym is))
+
+-- what the tables list of the events that it follows
+pub leads-at : (l : Live) (links : List Links) (u place : ℕ) (f : Event) (m : Links) → Linked l links → slice_get l place ≡ Some (u, f) → m ≡ get_or links place m →
+    ListsLeads l u m.leads.items
+leads-at l links u place f m p at is =
+    let inside : place < length l = slice_get_within l place (u, f) at in
+    let size : length links ≡ length l = p.size in
+    let within : place < length links = omega arith in
+    let held : slice_get links place ≡ Some m = slice_get-get_or links place m within ∙ ap (λ (k : Links). Some k) (sym is) in
+    record { exactly = p.leads place u f m at held; falling = p.falling place m held }

@@ -30,6 +30,11 @@ pub record ListsFollowers (l : Live) (t : ℕ) (tickets : List ℕ) : Type 0 whe
   pub exactly : (u : ℕ) → In u tickets ↔ Follower l t u
   pub ascending : InOrder ◌<◌ tickets
 
+-- exactly the tickets of the events that that of ticket u follows, falling
+pub record ListsLeads (l : Live) (u : ℕ) (tickets : List ℕ) : Type 0 where
+  pub exactly : (t : ℕ) → In t tickets ↔ Follower l t u
+  pub falling : InOrder (λ (a : ℕ) (b : ℕ). b < a) tickets
+
 -- exactly the tickets of the direct dependents, ascending
 pub record ListsDirect (l : Live) (t : ℕ) (tickets : List ℕ) : Type 0 where
   pub exactly : (u : ℕ) → In u tickets ↔ DirectDependent l t u

@@ -2,7 +2,7 @@ ghost use Rattle.std.specs.Prelude.{◌≡◌, ◌<◌, ℕ, [], length, Some, N
 ghost use Rattle.calculus.specs.Dependence.{Without};
 ghost use Rattle.calculus.specs.Live.{LiveAt, NoneAt, NoDependent, FirstDependent, ConsequencesList, WithoutTickets, IsLive, LastWriter, NoWriter};
 ghost use Rattle.dependence.specs.Behind.{ComesBehind};
-ghost use Rattle.dependence.specs.Followers.{ListsFollowers, CountsDirect};
+ghost use Rattle.dependence.specs.Followers.{ListsFollowers, ListsLeads, CountsDirect};
 ghost use Rattle.dependence.specs.Shown.{with_newest, Greatest, IsSound};
 ghost use Rattle.dependence.specs.Taking.{MarksAllDependents, OneMarkedAt, NoneMarkedAt, StaysBeside};
 ghost use Rattle.syntax.specs.Lists.{In};
@@ -13,7 +13,7 @@ use crate::marks::{copy_marked, count_marked, last_marked, mark_dependents, mark
 use crate::places::place_of;
 use crate::tables::Tables;
 use crate::taking::{keep_unmarked, take_marked};
-use crate::whole::{add_event, followers_of, last_writer, least_dependent, take_event};
+use crate::whole::{add_event, followers_of, last_writer, leads_at, least_dependent, take_event};
 use calculus::Event;
 use std::alloc::{AllocError, Global};
 use std::marker::Model;
@@ -100,6 +100,15 @@ impl Live {
         ensures { ListsFollowers self.now.live ticket result.now }
     {
         followers_of(self.pairs.as_slice(), self.links.as_slice(), ticket)
+    }
+
+    /// The tickets of the live events that the live event of this ticket follows: of those on which it depends directly with no
+    /// live event between, falling.
+    pub fn leads(&self, ticket: u64) -> &[u64]
+        requires { IsLive self.now.live ticket }
+        ensures { ListsLeads self.now.live ticket result.now }
+    {
+        leads_at(self.pairs.as_slice(), self.links.as_slice(), ticket)
     }
 
     /// The least ticket of another live event that depends on the live event of this ticket.

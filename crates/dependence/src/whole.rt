@@ -3,7 +3,7 @@ ghost use Rattle.std.specs.Prelude.{◌≡◌, ◌<◌, ◌++◌, ◌∷◌, [],
 ghost use Rattle.calculus.specs.Dependence.{Without};
 ghost use Rattle.calculus.specs.Live.{LiveAt, NoDependent, FirstDependent, WithoutTickets, IsLive, LastWriter, NoWriter};
 ghost use Rattle.dependence.specs.Behind.{ComesBehind};
-ghost use Rattle.dependence.specs.Followers.{ListsFollowers};
+ghost use Rattle.dependence.specs.Followers.{ListsFollowers, ListsLeads};
 ghost use Rattle.dependence.specs.Shown.{tickets_marked};
 ghost use Rattle.dependence.specs.walking.Tables.{IsRising, Linked};
 ghost use Rattle.dependence.specs.walking.Tabled.{IsTabled, TablesOf};
@@ -26,6 +26,17 @@ pub(crate) fn followers_of<'a>(live: &[(u64, Event)], links: &'a [Links], ticket
 {
     let place = place_of_live(live, ticket);
     links[place].followers.as_slice()
+}
+
+/// The tickets of the live events that the one of this ticket follows.
+pub(crate) fn leads_at<'a>(live: &[(u64, Event)], links: &'a [Links], ticket: u64) -> &'a [u64]
+    requires rising { IsRising live.now }
+    requires linked { Linked live.now links.now }
+    requires live { IsLive live.now ticket }
+    ensures { ListsLeads live.now ticket result.now }
+{
+    let place = place_of_live(live, ticket);
+    links[place].leads.as_slice()
 }
 
 /// The least ticket of another live event that depends on the one of this ticket.

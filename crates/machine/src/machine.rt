@@ -18,6 +18,7 @@ use crate::replying::or_no_memory;
 use address::Address;
 use calculus::{Choice, Event, Reply};
 use channel_uses::ChannelUses;
+use dependence::Live;
 use event_places::{line_after, select_after};
 use process_tree::system_code;
 use sharing_check::Checked;
@@ -72,6 +73,13 @@ impl Machine {
         ensures { result.now ≡ self.now.checked }
     {
         &self.system
+    }
+
+    /// The live events with their tickets and followers, lent as they stand.
+    pub fn live_events(&self) -> &Live
+        ensures { result.now.live ≡ self.now.live }
+    {
+        &self.history.live
     }
 
     /// The ticket and the event at a place of the live events, counted from 0 in order of tickets; `None` past the last.

@@ -33,6 +33,7 @@ fn short_list(rt: &HostRuntime, seed: u64) -> io::Result<()> {
     for _ in 0..SHORT {
         session.change()?;
         session.look_at_all()?;
+        session.look_at_order()?;
     }
     Ok(())
 }
@@ -47,6 +48,7 @@ fn long_list(rt: &HostRuntime, seed: u64) -> io::Result<()> {
         }
         if change % LOOK_BACK_EACH == 0 {
             session.look_at_some(1, usize::MAX)?;
+            session.look_at_order()?;
         }
     }
     Ok(())

@@ -1,7 +1,9 @@
 // Who depends on whom, found by going through all live events.
 
+use address::compare;
 use calculus::{Event, depends_directly, writes};
 use std::alloc::{AllocError, Global};
+use std::cmp::Ordering;
 
 /// For each live event, whether it depends on the one at the place or is it.
 pub fn dependents(
@@ -57,4 +59,41 @@ pub fn last_writer(live: &[(u64, Event)], variable: u32) -> Option<u64> {
         }
     }
     last
+}
+
+/// The places of the events in their canonical order: of those that depend on none that is left the one of the least acting
+/// address comes next.
+pub fn canonical(alloc: Global, live: &[(u64, Event)]) -> Result<Vec<usize>, AllocError> {
+    let mut order = Vec::new(alloc);
+    let mut is_left = Vec::from_elem(alloc, true, live.len())?;
+    for _ in 0..live.len() {
+        if let Some(next) = next_of(live, is_left.as_slice()) {
+            is_left[next] = false;
+            order.push(next)?;
+        }
+    }
+    Ok(order)
+}
+
+/// Of the events left that depend on none that is left, that of the least acting address.
+fn next_of(live: &[(u64, Event)], is_left: &[bool]) -> Option<usize> {
+    let mut next: Option<usize> = None;
+    for place in 0..live.len() {
+        let event = &live[place].1;
+        if !is_left[place]
+            || (0..place).any(|k| is_left[k] && depends_directly(&live[k].1, event))
+        {
+            continue;
+        }
+        next = match next {
+            Some(found) if !acts_below(event, &live[found].1) => Some(found),
+            _ => Some(place),
+        };
+    }
+    next
+}
+
+/// Whether the acting address of the first is less than that of the other.
+fn acts_below(event: &Event, other: &Event) -> bool {
+    compare(event.acting_place(), other.acting_place()) == Ordering::Less
 }

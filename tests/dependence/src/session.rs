@@ -1,9 +1,10 @@
 // A `Live` and the plain list of its events.
 
 use crate::random::Random;
-use crate::scan::{dependents, direct, followers, last_writer};
+use crate::scan::{canonical, dependents, direct, followers, last_writer};
 use crate::threads::Threads;
 use calculus::Event;
+use canonical_order::canonical_order;
 use dependence::Live;
 use std::alloc::Global;
 use std::io;
@@ -110,6 +111,14 @@ impl Session {
         self.expect(past, "pair_at", self.last)
     }
 
+    /// Compares the canonical order of all events.
+    pub fn look_at_order(&self) -> io::Result<()> {
+        let order = canonical_order(self.alloc, &self.live)?;
+        let scanned = canonical(self.alloc, self.plain.as_slice())?;
+        let is_order = order.as_slice() == scanned.as_slice();
+        self.expect(is_order, "canonical_order", self.last)
+    }
+
     /// Compares the answers on so many of the last events.
     pub fn look_at_some(&mut self, count: u64, last: usize) -> io::Result<()> {
         for _ in 0..count {
@@ -144,6 +153,7 @@ impl Session {
         self.expect(is_pair, "pair_at", ticket)?;
         let is_next = self.live.followers(ticket) == next.as_slice();
         self.expect(is_next, "followers", ticket)?;
+        self.expect(self.is_led(ticket)?, "leads", ticket)?;
         let is_least = self.live.first_dependent(ticket) == least;
         self.expect(is_least, "first_dependent", ticket)?;
         let is_count = self.live.count(ticket) == directly.len() as u64;
@@ -157,6 +167,17 @@ impl Session {
         self.expect(is_many, "mark_consequences", ticket)?;
         let is_last = self.live.last_marked() == last;
         self.expect(is_last, "last_marked", ticket)
+    }
+
+    /// Whether the event follows those of which it is a follower, and no others.
+    fn is_led(&self, ticket: u64) -> io::Result<bool> {
+        let mut leads = Vec::new(self.alloc);
+        for (lead, _) in self.plain.iter().rev() {
+            if self.live.followers(*lead).contains(&ticket) {
+                leads.push(*lead)?;
+            }
+        }
+        Ok(self.live.leads(ticket) == leads.as_slice())
     }
 
     /// Names the answer, where it differs.

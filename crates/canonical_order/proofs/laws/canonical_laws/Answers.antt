@@ -1,5 +1,6 @@
 -- The laws of the canonical order.
 use Rattle.canonical_order.proofs.Canonicals.{canonical-respects, canonical-runs, orders-agree, one-canonical-order, is-its-own-order}
+use Rattle.canonical_order.proofs.Placing.{some-canonical-order}
 use Rattle.canonical_order.proofs.laws.canonical_laws.Goals as goal
 
 pub returns-clause-respects : goal.returns-clause-respects
@@ -13,6 +14,9 @@ returns-clause-agree c = orders-agree
 
 pub returns-clause-one : goal.returns-clause-one
 returns-clause-one c = one-canonical-order
+
+pub returns-clause-some : goal.returns-clause-some
+returns-clause-some c = some-canonical-order
 
 pub returns-clause-own : goal.returns-clause-own
 returns-clause-own c = is-its-own-order

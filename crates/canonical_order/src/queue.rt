@@ -1,0 +1,108 @@
+// The events that wait for none that is left, and for how many each of the others waits.
+ghost use Rattle.std.specs.Prelude.{◌≡◌, ◌<◌, ℕ, length, Some, slice_get, IfOk};
+ghost use Rattle.std.specs.BinaryHeap.{heap_items};
+ghost use Rattle.calculus.specs.Live.{IsLive};
+ghost use Rattle.calculus.specs.declared.event.Event.{Event};
+ghost use Rattle.dependence.specs.walking.Tables.{IsRising};
+ghost use Rattle.canonical_order.specs.walking.Waiting.{Counts, IsQueue, SomeTelling, TellsAll, TellsOne, CanTell, Joins};
+
+use address::Entry;
+use dependence::Live;
+use std::alloc::{AllocError, Global};
+use std::cmp::Reverse;
+use std::collections::BinaryHeap;
+
+/// An event that waits for none: its acting address, and its place among the live events.
+#[derive(Clone, Copy, PartialEq, Eq, PartialOrd, Ord)]
+pub(crate) struct Free<'a> {
+    acting: &'a [Entry],
+    pub(crate) place: usize,
+}
+
+/// Events that wait for none, of which that of the least acting address comes first.
+pub(crate) type Queue<'a> = BinaryHeap<Reverse<Free<'a>>>;
+
+/// How many events each live event follows.
+pub(crate) fn leads_of_all(alloc: Global, live: &Live) -> Result<Vec<usize>, AllocError>
+    ensures { IfOk result (λ left. Counts live.now.live (λ (t : ℕ) (u : ℕ). IsLive live.now.live t) left.items) }
+{
+    let mut left = Vec::new(alloc);
+    for entry in live.as_slice() {
+        left.push(live.leads(entry.0).len())?;
+    }
+    Ok(left)
+}
+
+/// The events that follow none.
+pub(crate) fn first_free<'a>(
+    alloc: Global,
+    live: &'a Live,
+    left: &[usize],
+) -> Result<Queue<'a>, AllocError>
+    requires rising { IsRising live.now.live }
+    requires size { length left.now ≡ length live.now.live }
+    ensures { IfOk result (λ free. IsQueue live.now.live live.now.live left.now (heap_items free)) }
+{
+    let mut free = BinaryHeap::new(alloc);
+    for place in 0..left.len() {
+        if left[place] == 0 {
+            add_free(live, place, &mut free)?;
+        }
+    }
+    Ok(free)
+}
+
+/// Tells the followers of the event at the place that it was taken.
+pub(crate) fn tell_followers<'a>(
+    live: &'a Live,
+    place: usize,
+    left: &mut [usize],
+    free: &mut Queue<'a>,
+) -> Result<(), AllocError>
+    requires rising { IsRising live.now.live }
+    requires telling { SomeTelling live.now.live place left.old (heap_items free.old) }
+    ensures { IfOk result (λ _. TellsAll live.now.live place left.old (heap_items free.old) left.new (heap_items free.new)) }
+{
+    for follower in live.followers(live.as_slice()[place].0) {
+        tell(live, place_of(live, *follower), left, free)?;
+    }
+    Ok(())
+}
+
+/// Tells the event at the place that one of those that it follows was taken.
+fn tell<'a>(
+    live: &'a Live,
+    place: usize,
+    left: &mut [usize],
+    free: &mut Queue<'a>,
+) -> Result<(), AllocError>
+    requires { CanTell live.now.live left.old place }
+    ensures { IfOk result (λ _. TellsOne live.now.live place left.old (heap_items free.old) left.new (heap_items free.new)) }
+{
+    left[place] -= 1;
+    if left[place] == 0 {
+        add_free(live, place, free)?;
+    }
+    Ok(())
+}
+
+/// Puts the event at the place into the queue.
+fn add_free<'a>(live: &'a Live, place: usize, free: &mut Queue<'a>) -> Result<(), AllocError>
+    requires { place < length live.now.live }
+    ensures { IfOk result (λ _. Joins live.now.live place (heap_items free.old) (heap_items free.new)) }
+{
+    let acting = live.as_slice()[place].1.acting_place().entries();
+    free.push(Reverse(Free { acting, place }))?;
+    Ok(())
+}
+
+/// Where the live event of this ticket stands.
+fn place_of(live: &Live, ticket: u64) -> usize
+    requires { IsLive live.now.live ticket }
+    ensures { (f : Event) × (slice_get live.now.live result ≡ Some (ticket, f)) }
+{
+    match live.place_of(ticket) {
+        Some(place) => place,
+        None => unreachable!(),
+    }
+}

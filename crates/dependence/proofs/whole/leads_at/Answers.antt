@@ -1,0 +1,12 @@
+use Rattle.std.proofs.Common.{List, ℕ, sym, subst}
+use Rattle.dependence.specs.Followers.{ListsLeads}
+use Rattle.dependence.specs.declared.links.Links.{Links}
+use Rattle.dependence.proofs.Linking.{leads-at}
+use Rattle.dependence.proofs.whole.leads_at.Goals as goal
+
+pub returns : goal.returns
+returns c =
+    let at = c.place_of_live-place.ensures in
+    subst (λ (k : List ℕ). ListsLeads c.args.live.now c.args.ticket k) (sym c.as_slice.ensures.value)
+    (subst (λ (m : Links). ListsLeads c.args.live.now c.args.ticket m.leads.items) c.index-links-place.is
+    (leads-at c.args.live.now c.args.links.now c.args.ticket c.place_of_live-place.result at.0 c.index-links-place.result c.requires.linked at.1 c.index-links-place.is))
