@@ -26,10 +26,14 @@ pub enum Row {
     Deep,
     /// two sequences, of which the first is taken back before the other
     Middle,
+    /// eight buffers in a row, one value after the other through all of them
+    Buffers,
+    /// a branch that makes one event and is then idle, until the last event of another branch meets it
+    Idle,
 }
 
 /// All of them.
-pub const ROWS: [Row; 9] = [
+pub const ROWS: [Row; 11] = [
     Row::Loops,
     Row::ManyLoops,
     Row::Sequence,
@@ -39,6 +43,8 @@ pub const ROWS: [Row; 9] = [
     Row::Readers,
     Row::Deep,
     Row::Middle,
+    Row::Buffers,
+    Row::Idle,
 ];
 
 impl Row {
@@ -54,6 +60,8 @@ impl Row {
             Row::Readers => "2,000 reads to a write",
             Row::Deep => "a sequence at depth 100",
             Row::Middle => "the first half taken first",
+            Row::Buffers => "8 buffers in a row",
+            Row::Idle => "an idle branch met at the end",
         }
     }
 
@@ -85,14 +93,21 @@ impl Row {
                 let entries = [Entry::Branch(branch), Entry::Ordered(index)];
                 alone(alloc, &entries, Some(branch))
             }
+            Row::Buffers => step_of_buffers(alloc, index / 17, index % 17),
+            Row::Idle => step_or_first_meeting(alloc, index, size),
         }
     }
 }
 
 /// The place of these entries below the body.
 fn place(alloc: Global, entries: &[Entry]) -> Result<Address, AllocError> {
+    place_below(alloc, 0, entries)
+}
+
+/// The place of these entries below the branch, of which 0 is the body and the others are the ports.
+fn place_below(alloc: Global, branch: u32, entries: &[Entry]) -> Result<Address, AllocError> {
     let mut all = Vec::new(alloc);
-    all.push(Entry::Branch(0))?;
+    all.push(Entry::Branch(branch))?;
     for entry in entries {
         all.push(*entry)?;
     }
@@ -192,21 +207,93 @@ fn deep_step(alloc: Global, index: u32) -> Result<Event, AllocError> {
 /// A step of branch 0, at each hundredth with branch 1.
 fn step_or_meeting(alloc: Global, index: u32) -> Result<Event, AllocError> {
     let first = place(alloc, &[Entry::Branch(0), Entry::Ordered(index)])?;
-    let meets = index % 100 == 99;
-    let second = if meets {
-        let entries = [Entry::Branch(1), Entry::Ordered(index / 100)];
-        Some(place(alloc, &entries)?)
-    } else {
-        None
-    };
+    if index % 100 != 99 {
+        return meeting(alloc, first, None, None);
+    }
+    let second = place(alloc, &[Entry::Branch(1), Entry::Ordered(index / 100)])?;
+    meeting(alloc, first, Some(second), Some(0))
+}
+
+/// The first step of branch 1, then steps of branch 0, of which the last, of so many, meets branch 1.
+fn step_or_first_meeting(alloc: Global, index: u32, size: u32) -> Result<Event, AllocError> {
+    let other = place(alloc, &[Entry::Branch(1), Entry::Ordered(index)])?;
+    if index == 0 {
+        return meeting(alloc, other, None, None);
+    }
+    let first = place(alloc, &[Entry::Branch(0), Entry::Ordered(index)])?;
+    if index.wrapping_add(1) < size {
+        return meeting(alloc, first, None, None);
+    }
+    meeting(alloc, first, Some(other), Some(0))
+}
+
+/// A meeting on the channel, which writes and reads no variable, or a step at one place on none.
+fn meeting(
+    alloc: Global,
+    first: Address,
+    second: Option<Address>,
+    channel: Option<u32>,
+) -> Result<Event, AllocError> {
     Ok(Event {
         kind: Kind::Meet,
         first,
         second,
         arm: None,
-        channel: if meets { Some(0) } else { None },
+        channel,
         value: None,
         written: None,
         read: Variables::none(alloc),
     })
+}
+
+/// A step of eight buffers in a row: of each buffer its turn and the meeting that fills it, then the one that takes the value out.
+fn step_of_buffers(alloc: Global, value: u32, step: u32) -> Result<Event, AllocError> {
+    let turn = value.wrapping_mul(2);
+    let number = step / 2;
+    if step < 16 && step % 2 == 0 {
+        let entries = [Entry::Branch(number), Entry::Ordered(turn)];
+        return alone(alloc, &entries, None);
+    }
+    let body = turn.wrapping_add(1);
+    let giver = if number == 0 {
+        place_below(alloc, 1, &[Entry::Ordered(value), Entry::Ordered(0)])?
+    } else {
+        let before = number.wrapping_sub(1);
+        sent(alloc, before, body)?
+    };
+    let taker = if number == 8 {
+        place_below(alloc, 2, &[Entry::Ordered(value)])?
+    } else {
+        let entries = [
+            Entry::Branch(number),
+            Entry::Ordered(body),
+            Entry::Ordered(0),
+        ];
+        place(alloc, &entries)?
+    };
+    let mut event = meeting(alloc, giver, Some(taker), Some(number))?;
+    fill(&mut event, number)?;
+    Ok(event)
+}
+
+/// Where the buffer sends in this turn.
+fn sent(alloc: Global, number: u32, body: u32) -> Result<Address, AllocError> {
+    let entries = [
+        Entry::Branch(number),
+        Entry::Ordered(body),
+        Entry::Ordered(1),
+    ];
+    place(alloc, &entries)
+}
+
+/// The meeting reads the variable of the buffer that gives, and writes that of the one that takes.
+fn fill(event: &mut Event, number: u32) -> Result<(), AllocError> {
+    if number < 8 {
+        event.written = Some(number);
+    }
+    if number > 0 {
+        let before = number.wrapping_sub(1);
+        event.read.insert(before)?;
+    }
+    Ok(())
 }

@@ -18,6 +18,8 @@ struct Times {
     calls: u128,
     sum: u128,
     worst: u128,
+    first: u128,
+    last: u128,
 }
 
 impl Times {
@@ -26,10 +28,16 @@ impl Times {
             calls: 0,
             sum: 0,
             worst: 0,
+            first: 0,
+            last: 0,
         }
     }
 
     fn note(&mut self, time: u128) {
+        if self.calls == 0 {
+            self.first = time;
+        }
+        self.last = time;
         self.calls = self.calls.saturating_add(1);
         self.sum = self.sum.saturating_add(time);
         self.worst = self.worst.max(time);
@@ -47,6 +55,7 @@ struct AllTimes {
     first_dependent: Times,
     count: Times,
     mark: Times,
+    marked: Times,
     take: Times,
 }
 
@@ -58,6 +67,7 @@ pub fn time_row(rt: &HostRuntime, row: Row, size: u32) -> io::Result<()> {
         first_dependent: Times::none(),
         count: Times::none(),
         mark: Times::none(),
+        marked: Times::none(),
         take: Times::none(),
     };
     for index in 0..size {
@@ -122,6 +132,12 @@ fn ask(rt: &HostRuntime, live: &mut Live, ticket: u64, times: &mut AllTimes) -> 
     let start = Instant::now(rt)?;
     let _ = live.mark_consequences(ticket);
     times.mark.note(start.elapsed(rt)?.as_nanos());
+    let start = Instant::now(rt)?;
+    let tickets = live.marked();
+    times.marked.note(start.elapsed(rt)?.as_nanos());
+    if tickets.is_err() {
+        return Err(io::Error::from(ErrorKind::OutOfMemory));
+    }
     Ok(())
 }
 
@@ -150,16 +166,29 @@ fn take(rt: &HostRuntime, live: &mut Live, ticket: u64, times: &mut Times) -> io
     Ok(())
 }
 
-/// Prints the times.
+/// Prints the times: of each call the mean, and of what is done at one end of the list the one call there. The last event is the
+/// last that is added and the first that is taken; the first event is the first that is asked about, a late one the last.
 fn tell(rt: &HostRuntime, row: Row, size: u32, times: AllTimes) -> io::Result<()> {
     let name = row.name();
+    print!(rt; "{name}, {size}: ")?;
     let add = times.add.mean();
     let worst = times.add.worst;
+    let last = times.add.last;
+    print!(rt; "add {add} (worst {worst}, last {last}), ")?;
     let take = times.take.mean();
-    let first = times.first_dependent.mean();
+    let newest = times.take.first;
+    print!(rt; "take {take} (last {newest}), ")?;
+    let dependent = times.first_dependent.mean();
+    let of_first = times.first_dependent.first;
+    print!(rt; "first_dependent {dependent} (first {of_first}), ")?;
     let count = times.count.mean();
+    let count_first = times.count.first;
+    print!(rt; "count {count} (first {count_first}), ")?;
     let mark = times.mark.mean();
-    println!(rt;
-        "{name}, {size}: add {add} (worst {worst}), take {take}, first_dependent {first}, count {count}, mark {mark}"
-    )
+    let mark_first = times.mark.first;
+    let mark_last = times.mark.last;
+    print!(rt; "mark {mark} (first {mark_first}, late {mark_last}), ")?;
+    let marked = times.marked.mean();
+    let marked_last = times.marked.last;
+    println!(rt; "marked {marked} (late {marked_last})")
 }

@@ -6,8 +6,10 @@ use Rattle.std.proofs.lemmas.Bool.{cases_lt}
 use Rattle.std.proofs.lemmas.Option.{slice_get-get_or, get_or_from_slice_get}
 use Rattle.std.proofs.lemmas.List.{take-set, take-set-le, take_more_set, drop-set-lt, drop_more}
 use Rattle.calculus.proofs.Options.{none-some, some-injective}
+use Rattle.dependence.specs.walking.Marking.{UnmarkedTo}
 use Rattle.dependence.specs.walking.Unmarked.{unmarked}
 use Rattle.dependence.proofs.ListPlaces.{at-within, take-all}
+use Rattle.dependence.proofs.Unmarking.{unmarked-passed}
 
 -- the first i items were gone through: those without a mark stand in the first k places of ys, and from i on ys is as it was
 pub record KeptInPlace {X : Type 0} (marks : List Bool) (xs ys : List X) (k i : ℕ) : Type 0 where
@@ -16,6 +18,16 @@ pub record KeptInPlace {X : Type 0} (marks : List Bool) (xs ys : List X) (k i : 
   pub behind : k ≤ i
   pub within : i ≤ length xs
   pub long : length ys ≡ length xs
+
+-- where none of the first n is marked, they stand where they stood
+pub kept-first : {X : Type 0} (marks : List Bool) (xs : List X) (n : ℕ) → UnmarkedTo marks n → n ≤ length marks → length marks ≡ length xs → KeptInPlace marks xs xs n n
+kept-first marks xs n none inside size = record {
+  front = sym (unmarked-passed marks n (take n xs) none);
+  rest = refl;
+  behind = omega arith;
+  within = omega arith;
+  long = refl;
+}
 
 -- one more item without a mark, and one with
 pub one-unmarked : {X : Type 0} (marks : List Bool) (xs : List X) (i : ℕ) (x : X) → slice_get marks i ≡ Some false → slice_get xs i ≡ Some x →

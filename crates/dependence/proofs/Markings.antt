@@ -1,10 +1,12 @@
 -- Marks: what they stand for, and what the passes over them keep.
-use Rattle.std.proofs.Common.{◌≡◌, ◌⊎◌, ◌↔◌, inl, inr, ℕ, zero, suc, ◌+◌, ◌<◌, ◌≤◌, List, [], ◌∷◌, ◌++◌, Bool, true, false, cond, length, take, get_or, Some, refl, sym, ◌∙◌, ap, subst, arith}
-use Rattle.std.specs.Prelude.{slice_get, slice_set}
-use Rattle.std.specs.List.{count_by}
+use Rattle.std.proofs.Common.{◌≡◌, ◌⊎◌, ◌↔◌, inl, inr, ℕ, zero, suc, ◌+◌, ◌-◌, ◌<◌, ◌≤◌, List, [], ◌∷◌, ◌++◌, Bool, true, false, cond, length, take, drop, get_or, Some, refl, sym, ◌∙◌, ap, subst, arith}
+use Rattle.std.specs.Prelude.{slice_get, slice_set, MatchBool}
+use Rattle.std.specs.List.{count_by, between, AllWithin}
+use Rattle.std.proofs.Math.Bool.{beq}
 use Rattle.std.proofs.lemmas.Bool.{cases_eq, cases_lt}
 use Rattle.std.proofs.lemmas.List.Sums.{sum_by-cons}
-use Rattle.std.proofs.lemmas.Option.{slice_get_within, slice_get-get_or}
+use Rattle.std.proofs.lemmas.List.Edits.{get_or-between, length-between}
+use Rattle.std.proofs.lemmas.Option.{slice_get_within, slice_get-get_or, get_or_from_slice_get}
 use Rattle.syntax.specs.Lists.{In}
 use Rattle.calculus.specs.InOrder.{InOrder}
 use Rattle.calculus.specs.Live.{Live, Rising, DependsOn, same, ConsequencesList}
@@ -14,8 +16,9 @@ use Rattle.calculus.proofs.Options.{none-some}
 use Rattle.calculus.proofs.Tickets.{rising-in}
 use Rattle.dependence.specs.Followers.{Follower, ListsFollowers, Reached, here, along}
 use Rattle.dependence.specs.Shown.{tickets_marked, Greatest, IsSound}
+use Rattle.dependence.specs.Taking.{NoneMarkedAt}
 use Rattle.dependence.specs.walking.Tables.{IsRising}
-use Rattle.dependence.specs.walking.Marking.{MarkedAt, MarkedBelow}
+use Rattle.dependence.specs.walking.Marking.{MarkedAt, MarkedBelow, UnmarkedTo}
 use Rattle.dependence.proofs.ListPlaces.{in-at, at-one, take-next, set-here, set-other}
 use Rattle.dependence.proofs.Linking.{one-place}
 use Rattle.dependence.proofs.Standing.{lesser-stands}
@@ -73,6 +76,56 @@ marked-count (x ∷ l) (false ∷ marks) h =
     let more = marked-count l marks rest in
     let step = sum_by-cons (λ (m : Bool). cond m 1 0) false marks in
     omega arith
+
+-- ---- the first n marks, of which none is set, are passed
+pub none-set : (marks : List Bool) → AllWithin (λ (m : Bool). beq m true ≡ false) marks 0 (length marks) → UnmarkedTo marks (length marks)
+none-set marks h i less on =
+    let here : beq (get_or marks i false) true ≡ false = h i false (omega arith) less in
+    let both : true ≡ false = ap (λ (m : Bool). beq m true) (sym (get_or_from_slice_get marks i true false on)) ∙ here in
+    cc
+
+-- of an answer that says which of two holds, the other
+pub unset : (r : Bool) (P Q : Type 0) → r ≡ false → MatchBool r P Q → Q
+unset r P Q off h = subst (λ (b : Bool). MatchBool b P Q) off h
+
+-- a stretch more
+pub stretch-passed : (marks : List Bool) (passed next : ℕ) → passed ≤ next → next ≤ length marks → UnmarkedTo marks passed →
+    UnmarkedTo (between passed next marks) (length (between passed next marks)) → UnmarkedTo marks next
+stretch-passed marks passed next up inside before more i less on = elim (cases_lt i passed) [
+  | inl low ↦ before i low on
+  | inr high ↦
+      let k : ℕ = i - passed in
+      let size : length (between passed next marks) ≡ next - passed = length-between marks passed next inside in
+      let within : k < length (between passed next marks) = omega arith in
+      let there : passed + k < next = omega arith in
+      let at : passed + k ≡ i = omega arith in
+      let here : get_or (between passed next marks) k false ≡ true =
+      get_or-between marks passed next k false there ∙ ap (λ (n : ℕ). get_or marks n false) at ∙ get_or_from_slice_get marks i true false on in
+      more k within (slice_get-get_or (between passed next marks) k false within ∙ ap (λ (m : Bool). Some m) here)
+]
+
+pub passed-first : (m : Bool) (marks : List Bool) (n : ℕ) → UnmarkedTo (m ∷ marks) (suc n) → UnmarkedTo marks n
+passed-first m marks n h i less on = h (suc i) (omega arith) on
+
+pub count-passed : (marks : List Bool) (n : ℕ) → UnmarkedTo marks n → count_by (λ m. m) (drop n marks) ≡ count_by (λ m. m) marks
+count-passed marks zero h = refl
+count-passed [] (suc n) h = refl
+count-passed (true ∷ marks) (suc n) h = absurd (h zero (omega arith) refl)
+count-passed (false ∷ marks) (suc n) h =
+    let rest = count-passed marks n (passed-first false marks n h) in
+    let step = sum_by-cons (λ (m : Bool). cond m 1 0) false marks in
+    omega arith
+
+no-marks : (l : Live) → tickets_marked l [] ≡ []
+no-marks [] = refl
+no-marks (x ∷ l) = refl
+
+pub tickets-passed : (l : Live) (marks : List Bool) (n : ℕ) → UnmarkedTo marks n → tickets_marked (drop n l) (drop n marks) ≡ tickets_marked l marks
+tickets-passed l marks zero h = refl
+tickets-passed [] marks (suc n) h = refl
+tickets-passed (x ∷ l) [] (suc n) h = no-marks (drop n l)
+tickets-passed (x ∷ l) (true ∷ marks) (suc n) h = absurd (h zero (omega arith) refl)
+tickets-passed (x ∷ l) (false ∷ marks) (suc n) h = tickets-passed l marks n (passed-first false marks n h)
 
 -- a mark is set at the place of a ticket
 module _ (low next : ℕ) (l : Live) (marks : List Bool) (t place : ℕ) (e : Event) (r : Rising low l next) (size : length marks ≡ length l) (stands : slice_get l place ≡ Some (t, e)) where
@@ -223,6 +276,13 @@ last-greatest l marks place x r at on none = record {
         | inr less ↦ less
       ];
 }
+
+-- without a mark at the place no live event there is marked
+pub none-here : (l : Live) (marks : List Bool) (place : ℕ) → IsRising l → (slice_get marks place ≡ Some true → ⊥) → NoneMarkedAt l (tickets_marked l marks) place
+none-here l marks place r off e one =
+    let at = (is-marked l marks one.0).0 one.2 in
+    let same : at.0 ≡ place = one-place 0 r.0 l one.0 at.1.0 e at.0 place r.1 at.1.1 one.1 in
+    off (subst (λ (i : ℕ). slice_get marks i ≡ Some true) same at.2)
 
 -- without marks there are no marked tickets
 pub none-at-all : (l : Live) (marks : List Bool) → ((k : ℕ) → 0 ≤ k → slice_get marks k ≡ Some true → ⊥) → tickets_marked l marks ≡ []

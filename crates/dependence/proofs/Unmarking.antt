@@ -12,11 +12,20 @@ use Rattle.calculus.proofs.ReadTests.{is-in, in-is}
 use Rattle.calculus.proofs.Tickets.{rising-in, rising-lower}
 use Rattle.dependence.specs.Shown.{tickets_marked}
 use Rattle.dependence.specs.Taking.{OneMarkedAt, NoneMarkedAt, StaysBeside, done, keeps, drops}
+use Rattle.dependence.specs.walking.Marking.{UnmarkedTo}
 use Rattle.dependence.specs.walking.Tables.{IsRising}
 use Rattle.dependence.specs.walking.Unmarked.{unmarked}
 use Rattle.dependence.proofs.ListPlaces.{in-at, at-one}
 use Rattle.dependence.proofs.Linking.{one-place}
-use Rattle.dependence.proofs.Markings.{is-marked}
+use Rattle.dependence.proofs.Markings.{is-marked, passed-first}
+
+-- the first n stay, where none of them is marked
+pub unmarked-passed : {X : Type 0} (marks : List Bool) (n : ℕ) (xs : List X) → UnmarkedTo marks n → unmarked (take n marks) xs ≡ xs
+unmarked-passed marks zero xs h = refl
+unmarked-passed [] (suc n) xs h = refl
+unmarked-passed (m ∷ marks) (suc n) [] h = refl
+unmarked-passed (true ∷ marks) (suc n) (x ∷ xs) h = absurd (h zero (omega arith) refl)
+unmarked-passed (false ∷ marks) (suc n) (x ∷ xs) h = ap (λ ys. x ∷ ys) (unmarked-passed marks n xs (passed-first false marks n h))
 
 -- the tickets rise still
 pub unmarked-rises : (low next : ℕ) (l : Live) (marks : List Bool) → Rising low l next → Rising low (unmarked marks l) next

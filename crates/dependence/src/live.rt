@@ -1,4 +1,4 @@
-ghost use Rattle.std.specs.Prelude.{◌≡◌, ◌<◌, ℕ, [], length, Some, None, slice_get, MatchOption, IfErr, IfOk, OnOk};
+ghost use Rattle.std.specs.Prelude.{◌≡◌, ◌<◌, ◌≤◌, ℕ, [], length, Some, None, slice_get, MatchOption, IfErr, IfOk, OnOk};
 ghost use Rattle.calculus.specs.Dependence.{Without};
 ghost use Rattle.calculus.specs.Live.{LiveAt, NoneAt, NoDependent, FirstDependent, ConsequencesList, WithoutTickets, IsLive, LastWriter, NoWriter};
 ghost use Rattle.dependence.specs.Behind.{ComesBehind};
@@ -9,7 +9,9 @@ ghost use Rattle.syntax.specs.Lists.{In};
 
 use crate::count::count_direct;
 use crate::links::Links;
-use crate::marks::{copy_marked, count_marked, last_marked, mark_dependents, marked_at};
+use crate::marks::{
+    copy_marked, count_marked, last_marked, mark_dependents, marked_at, unmarked_below,
+};
 use crate::places::place_of;
 use crate::tables::Tables;
 use crate::taking::{keep_unmarked, take_marked};
@@ -126,7 +128,8 @@ impl Live {
         last_writer(self.pairs.as_slice(), &self.tables, variable)
     }
 
-    /// How many live events depend directly on the live event of this ticket.
+    /// How many live events depend directly on the live event of this ticket. It takes as long as to go through the live events
+    /// from the first that depends on it on.
     pub fn count(&self, ticket: u64) -> u64
         requires { IsLive self.now.live ticket }
         ensures { CountsDirect self.now.live ticket result }
@@ -163,6 +166,15 @@ impl Live {
         ensures { MatchOption result (NoneMarkedAt self.now.live self.now.marked place) (λ found. OneMarkedAt self.now.live self.now.marked place found.now) }
     {
         marked_at(self.pairs.as_slice(), self.marks.as_slice(), place)
+    }
+
+    /// A place, counted from 0 in order of tickets, below which no live event is marked. It is less than 1,024 before that of the
+    /// first that is, or before the end.
+    pub fn unmarked_below(&self) -> usize
+        ensures within { result ≤ length self.now.live }
+        ensures none { (i : ℕ) → i < result → NoneMarkedAt self.now.live self.now.marked i }
+    {
+        unmarked_below(self.marks.as_slice())
     }
 
     /// The tickets of the marked live events, ascending.
@@ -218,7 +230,7 @@ impl Live {
     }
 
     /// Takes out the marked live events with their marks, where what depends on a marked one is marked. It takes as long as to go
-    /// through all of them once.
+    /// once through the live events from the first marked one on.
     pub fn take_marked(&mut self)
         requires { MarksAllDependents self.old }
         ensures live { WithoutTickets (λ t. In t self.old.marked) self.old.live self.new.live }

@@ -1,17 +1,20 @@
 // Marks on the events that depend on one.
-ghost use Rattle.std.specs.Prelude.{◌≡◌, ◌<◌, ◌⊎◌, ◌↔◌, ℕ, [], length, true, Some, slice_get, MatchOption, IfOk};
+ghost use Rattle.std.specs.Prelude.{◌≡◌, ◌<◌, ◌≤◌, ◌⊎◌, ◌↔◌, ℕ, [], length, true, false, Some, slice_get, MatchOption, IfOk};
 ghost use Rattle.syntax.specs.Lists.{In};
 ghost use Rattle.system.specs.Expression.{is_in};
 ghost use Rattle.calculus.specs.Live.{ConsequencesList, IsLive};
 ghost use Rattle.dependence.specs.Shown.{tickets_marked, Greatest};
 ghost use Rattle.dependence.specs.Taking.{OneMarkedAt, NoneMarkedAt};
 ghost use Rattle.dependence.specs.walking.Tables.{IsRising, Linked};
-ghost use Rattle.dependence.specs.walking.Marking.{MarkedAt};
+ghost use Rattle.dependence.specs.walking.Marking.{MarkedAt, UnmarkedTo};
 
 use crate::links::Links;
 use crate::places::{place_of, place_of_live};
 use calculus::Event;
 use std::alloc::{AllocError, Global};
+
+/// How many marks are looked at together.
+const STRIDE: usize = 1_024;
 
 /// Marks the event of this ticket and all that depend on it, and no others.
 pub(crate) fn mark_dependents(
@@ -43,6 +46,28 @@ pub(crate) fn clear(marks: &mut [bool])
     for mark in marks.iter_mut() {
         *mark = false;
     }
+}
+
+/// A place below which none is marked, and less than a stride before the first that is, or before the end.
+pub(crate) fn unmarked_below(marks: &[bool]) -> usize
+    ensures within { result ≤ length marks.now }
+    ensures none { UnmarkedTo marks.now result }
+{
+    let mut passed = 0;
+    while STRIDE <= marks.len() - passed {
+        if is_any(&marks[passed..passed + STRIDE]) {
+            return passed;
+        }
+        passed += STRIDE;
+    }
+    passed
+}
+
+/// Whether one of the marks is set.
+fn is_any(marks: &[bool]) -> bool
+    ensures { result ≡ false → UnmarkedTo marks.now (length marks.now) }
+{
+    marks.contains(&true)
 }
 
 /// Marks the events of these tickets beside those that are marked.
@@ -91,7 +116,8 @@ pub(crate) fn count_marked(live: &[(u64, Event)], marks: &[bool]) -> usize
     requires { length marks.now ≡ length live.now }
     ensures { result ≡ length (tickets_marked live.now marks.now) }
 {
-    marks.iter().filter(|mark| **mark).count()
+    let from = unmarked_below(marks);
+    marks[from..].iter().filter(|mark| **mark).count()
 }
 
 /// The tickets of the marked events, ascending.
@@ -100,6 +126,15 @@ pub(crate) fn copy_marked(
     live: &[(u64, Event)],
     marks: &[bool],
 ) -> Result<Vec<u64>, AllocError>
+    requires { length marks.now ≡ length live.now }
+    ensures { IfOk result (λ tickets. tickets.items ≡ tickets_marked live.now marks.now) }
+{
+    let from = unmarked_below(marks);
+    copy_each(alloc, &live[from..], &marks[from..])
+}
+
+/// The same; each of the events is looked at.
+fn copy_each(alloc: Global, live: &[(u64, Event)], marks: &[bool]) -> Result<Vec<u64>, AllocError>
     requires { length marks.now ≡ length live.now }
     ensures { IfOk result (λ tickets. tickets.items ≡ tickets_marked live.now marks.now) }
 {

@@ -1,4 +1,4 @@
-// The marked events taken out all at once: each list is gone through once.
+// The marked events taken out all at once: each list is gone through once, from about the first marked place on.
 ghost use Rattle.std.specs.Prelude.{◌≡◌, ◌<◌, ◌≤◌, ℕ, [], length, true, Some, slice_get};
 ghost use Rattle.syntax.specs.Lists.{In};
 ghost use Rattle.calculus.specs.InOrder.{InOrder};
@@ -12,7 +12,7 @@ ghost use Rattle.dependence.specs.walking.Unmarked.{unmarked, Thinned, AllThinne
 ghost use Rattle.dependence.specs.walking.Whole.{IsWhole};
 
 use crate::links::Links;
-use crate::marks::{clear, is_marked};
+use crate::marks::{clear, is_marked, unmarked_below};
 use crate::places::{place_in, place_of_live};
 use crate::tables::Tables;
 use calculus::Event;
@@ -56,8 +56,9 @@ fn remove_marked(live: &[(u64, Event)], marks: &[bool], tables: &mut Tables)
     requires tabled { IsTabled live.now tables.old }
     ensures { IsTabled (unmarked marks.now live.now) tables.new }
 {
-    for (place, entry) in live.iter().enumerate() {
+    for place in unmarked_below(marks)..live.len() {
         if marks[place] {
+            let entry = &live[place];
             tables.remove(entry.0, &entry.1);
         }
     }
@@ -71,7 +72,7 @@ fn unlink_marked(live: &[(u64, Event)], links: &mut [Links], marks: &[bool])
     ensures thinned { AllThinned (λ t. In t (tickets_marked live.now marks.now)) links.old links.new }
     ensures loose { (place : ℕ) → slice_get marks.now place ≡ Some true → IsLoose live.now links.old links.new place }
 {
-    for place in 0..live.len() {
+    for place in unmarked_below(marks)..live.len() {
         if marks[place] {
             unlink_at(live, links, marks, place);
         }
@@ -131,9 +132,10 @@ pub(crate) fn keep_unmarked<T: Drop>(items: &mut Vec<T>, marks: &[bool])
     requires { length marks.now ≡ length items.old.items }
     ensures { items.new.items ≡ unmarked marks.now items.old.items }
 {
-    let mut kept = 0;
-    for (place, marked) in marks.iter().enumerate() {
-        if !*marked {
+    let from = unmarked_below(marks);
+    let mut kept = from;
+    for place in from..marks.len() {
+        if !marks[place] {
             items.swap(kept, place);
             kept += 1;
         }

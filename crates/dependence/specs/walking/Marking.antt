@@ -9,6 +9,10 @@ use Rattle.dependence.specs.walking.Tables.{StandsAt}
 abbrev pub MarkedAt : Live → List Bool → ℕ → Type 0
 MarkedAt l marks t = (i : ℕ) × StandsAt l t i × (slice_get marks i ≡ Some true)
 
+-- none of the first n marks is set
+abbrev pub UnmarkedTo : List Bool → ℕ → Type 0
+UnmarkedTo marks n = (i : ℕ) → i < n → slice_get marks i ≡ Some true → ⊥
+
 -- t and only what depends on it is marked, and the followers of all that is marked below the place
 pub record MarkedBelow (l : Live) (t place : ℕ) (marks : List Bool) : Type 0 where
   pub sound : (u : ℕ) → MarkedAt l marks u → DependsOn l t u

@@ -1,9 +1,12 @@
-use Rattle.std.proofs.Common.{◌≡◌, ◌∙◌, Bool, rules}
+use Rattle.std.proofs.Common.{◌≡◌, ◌∙◌, ◌-◌, ℕ, List, Bool, length, take, drop, ap, rules}
 use Rattle.std.specs.List.{count_by}
-use Rattle.dependence.proofs.Markings.{marked-count}
+use Rattle.std.proofs.lemmas.List.{take_rest}
+use Rattle.dependence.proofs.Markings.{count-passed, marked-count}
 use Rattle.dependence.proofs.marks.count_marked.Goals as goal
 
 pub returns : goal.returns
 returns c =
-    let counted : c.count.result ≡ count_by (λ (m : Bool). m) c.args.marks.now = search rules in
-    counted ∙ marked-count c.args.live.now c.args.marks.now c.requires
+    let marks : List Bool = c.args.marks.now in
+    let from : ℕ = c.unmarked_below-from.result in
+    let counted : c.count.result ≡ count_by (λ (m : Bool). m) (take (length marks - from) (drop from marks)) = search rules in
+    counted ∙ ap (count_by (λ (m : Bool). m)) (take_rest marks from) ∙ count-passed c.args.marks.now c.unmarked_below-from.result c.unmarked_below-from.ensures.none ∙ marked-count c.args.live.now c.args.marks.now c.requires

@@ -8,9 +8,13 @@ use Rattle.dependence.specs.walking.Tabled.{IsTabled}
 use Rattle.dependence.specs.walking.Unmarked.{unmarked}
 use Rattle.dependence.proofs.ListPlaces.{take-all}
 use Rattle.dependence.proofs.Tabling.{tabled-taken}
-use Rattle.dependence.proofs.Unmarking.{unmarked-rises, passed-marked, passed-unmarked, there-yet}
+use Rattle.dependence.proofs.Unmarking.{unmarked-passed, unmarked-rises, passed-marked, passed-unmarked, there-yet}
 use Rattle.dependence.proofs.taking.remove_marked.Goals as goal
 use Rattle.dependence.proofs.taking.remove_marked.Goals.{then-marks-place, else-marks-place}
+
+pub loop-place-init : goal.loop-place-init
+loop-place-init c =
+    subst (λ (k : Live). IsTabled k c.args.tables.now) (sym (unmarked-passed c.args.marks.now c.unmarked_below-place.result c.args.live.now c.unmarked_below-place.ensures.none)) c.requires.tabled
 
 pub loop-place-preserved : goal.loop-place-preserved
 loop-place-preserved c =
@@ -22,13 +26,13 @@ loop-place-preserved c =
     let inside : i < length l = c.loop-place-test.true in
     let size : length marks ≡ length l = c.requires.size in
     let within : i < length marks = omega arith in
-    let x : ℕ × Event = c.index-live-place.result in
-    let at : slice_get l i ≡ Some x = slice_get-get_or l i x inside ∙ ap (λ (y : ℕ × Event). Some y) (sym c.index-live-place.is) in
     let read = slice_get-get_or marks i false within in
     subst (λ (n : ℕ). IsTabled (unmarked (take n marks) l) c.if-marks-place.tables) more
     (elim c.if-marks-place.branch [
       | then-marks-place w ↦
           let on : slice_get marks i ≡ Some true = read ∙ ap (λ (b : Bool). Some b) w.if-marks-place.true in
+          let x : ℕ × Event = w.index-live-place.result in
+          let at : slice_get l i ≡ Some x = slice_get-get_or l i x inside ∙ ap (λ (y : ℕ × Event). Some y) (sym w.index-live-place.is) in
           subst (λ (held : Tables). IsTabled (unmarked (take (suc i) marks) l) held) (sym w.tables-is)
           (tabled-taken r.0 (unmarked (take i marks) l) (unmarked (take (suc i) marks) l) c.loop-place.tables w.remove.new.self x.0 x.1
           (unmarked-rises 0 r.0 l (take i marks) r.1) (there-yet l marks i x.0 x.1 at) (passed-marked 0 r.0 l marks i x.0 x.1 r.1 on at) c.loop-place.invariant w.remove.ensures)

@@ -2,7 +2,7 @@ use Rattle.std.proofs.Common.{◌≡◌, ◌∙◌, ◌<◌, ℕ, Bool, length, 
 use Rattle.std.proofs.lemmas.Option.{slice_get_within, slice_get-get_or}
 use Rattle.syntax.specs.Lists.{In}
 use Rattle.dependence.specs.Shown.{tickets_marked}
-use Rattle.dependence.proofs.Thinning.{ascend-still, lead-live, all-then, pass-marked, pass-unmarked}
+use Rattle.dependence.proofs.Thinning.{all-same, ascend-still, lead-live, all-then, pass-marked, pass-unmarked}
 use Rattle.dependence.proofs.taking.unlink_marked.Goals as goal
 use Rattle.dependence.proofs.taking.unlink_marked.Goals.{then-marks-place, else-marks-place}
 
@@ -18,6 +18,12 @@ unlink_at-requires-clause-marked c =
     let inside : c.loop-place.place < length c.args.live.now = c.loop-place-test.true in
     let size : length c.args.marks.now ≡ length c.args.live.now = c.requires.size in
     slice_get-get_or c.args.marks.now c.loop-place.place false (omega arith) ∙ ap (λ (b : Bool). Some b) c.if-marks-place.true
+
+pub loop-place-init : goal.loop-place-init
+loop-place-init c = record {
+  thinned = all-same _ c.args.links.now;
+  loose = λ j less on. absurd (c.unmarked_below-place.ensures.none j less on);
+}
 
 pub loop-place-preserved : goal.loop-place-preserved
 loop-place-preserved c =

@@ -1,0 +1,13 @@
+use Rattle.std.proofs.Common.{◌≤◌, ◌+◌, length, arith}
+use Rattle.dependence.proofs.Markings.{stretch-passed}
+use Rattle.dependence.proofs.marks.unmarked_below.Goals as goal
+
+pub loop-passed-preserved : goal.loop-passed-preserved
+loop-passed-preserved c =
+    let within = c.loop-passed.invariant.within in
+    let enough = c.loop-passed-test.true in
+    let inside : c.loop-passed.passed + 1024 ≤ length c.args.marks.now = omega arith in
+    record {
+      within = inside;
+      none = stretch-passed c.args.marks.now c.loop-passed.passed (c.loop-passed.passed + 1024) (omega arith) inside c.loop-passed.invariant.none (c.is_any.ensures c.if-is_any.false);
+    }
