@@ -69,6 +69,12 @@ pub const BRANCHES: Example = Example {
     stimulus: "",
 };
 
+/// Two loops side by side.
+pub const TWO_LOOPS: Example = Example {
+    source: "procedure p is variable x, y : 8 bits begin loop x := 1 end || loop y := 2 end end",
+    stimulus: "",
+};
+
 /// A branch that receives, deep inside it, from the branches on both sides of it and from the environment.
 pub const CROSSING: Example = Example {
     source: "procedure p (input i : 8 bits) is

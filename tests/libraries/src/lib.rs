@@ -25,6 +25,8 @@ mod live_events;
 #[cfg(test)]
 mod logged;
 #[cfg(test)]
+mod long_lists;
+#[cfg(test)]
 mod narrow_devices;
 #[cfg(test)]
 mod numbered;
