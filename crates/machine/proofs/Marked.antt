@@ -1,5 +1,5 @@
 -- The marked events are taken back on the tree, the last first, and then all out of the lists.
-use Rattle.std.proofs.Common.{◌≡◌, ◌↔◌, inl, inr, ℕ, suc, ◌+◌, ◌-◌, ◌<◌, ◌≤◌, List, [], ◌∷◌, ◌++◌, length, take, drop, Some, IsSome, refl, sym, ◌∙◌, ap, subst, arith, slice_get, append_assoc}
+use Rattle.std.proofs.Common.{◌≡◌, ◌↔◌, inl, inr, ℕ, zero, suc, ◌+◌, ◌-◌, ◌<◌, ◌≤◌, List, [], ◌∷◌, ◌++◌, length, take, drop, Some, IsSome, refl, sym, ◌∙◌, ap, subst, arith, slice_get, append_assoc}
 use Rattle.std.specs.Prelude.{slice_set}
 use Rattle.std.proofs.lemmas.List.{take-set, drop-set-lt, take-append-drop, length-take-le, append-nil}
 use Rattle.syntax.specs.Lists.{In}
@@ -16,7 +16,7 @@ use Rattle.calculus.proofs.UndoLaws.{without-live}
 use Rattle.dependence.specs.Shown.{Shown}
 use Rattle.dependence.specs.Taking.{MarksAllDependents, NoneMarkedAt, StaysBeside, done, keeps, drops}
 use Rattle.dependence.proofs.Following.{follows-on, follows-in}
-use Rattle.dependence.proofs.ListPlaces.{in-at, in-take, take-all, drop-all, set-here}
+use Rattle.dependence.proofs.ListPlaces.{at-within, in-at, in-take, take-all, drop-all, set-here}
 use Rattle.event_inverse.specs.Grown.{TreeAndStore}
 use Rattle.event_inverse.specs.Laws.{UndoneBy}
 use Rattle.event_inverse.specs.View.{inverse_view}
@@ -151,6 +151,18 @@ module _ (checked : Checked) (place : ℕ) (T : TreeAndStore) (s : Shown) (is : 
               (without-entry 1 n (take place s.live) h.live t e parted.sound.rising)
               (in-right (t, e) (take place s.live) ((t, e) ∷ h.live) (inl refl)) undone);
         }
+
+-- none of the events below the place is marked
+pub from-below : (checked : Checked) (place : ℕ) (T : TreeAndStore) (s : Shown) (is : List Inverse) (n : ℕ) → place ≤ length s.live → length is ≡ length s.live →
+    ((i : ℕ) → i < place → NoneMarkedAt s.live s.marked i) → StandsFrom checked place T s is n → StandsFrom checked 0 T s is n
+from-below checked zero T s is n inside even none h = h
+from-below checked (suc place) T s is n inside even none h =
+    let less : place < length s.live = omega arith in
+    let beside : place < length is = omega arith in
+    let at = at-within s.live place less in
+    let x = at-within is place beside in
+    from-below checked place T s is n (omega arith) even (λ i low. none i (omega arith))
+    (from-unmarked checked place T s is n at.0.0 at.0.1 x.0 h at.1 x.1 (none place (omega arith)))
 
 -- then the lists are those of the others
 pub all-taken : (checked : Checked) (T : TreeAndStore) (s : Shown) (is js : List Inverse) (n : ℕ) (k : Live) → StandsFrom checked 0 T s is n →

@@ -40,7 +40,7 @@ impl History {
     }
 
     /// Takes the marked events back, which are a live event and all that depend on it: first on the tree and in the store, and
-    /// then out of the lists. Each list is gone through once.
+    /// then out of the lists. Each list is gone through once, from the first marked event on.
     fn take_marked(&mut self)
         requires holds { (system : Checked) × Holds system self.old }
         requires marked { (t : ℕ) × MarksDependents self.old.live t }
@@ -63,8 +63,9 @@ impl History {
         ensures even { length self.new.inverses.items ≡ length self.old.inverses.items }
         ensures holds { (system : Checked) → Holds system self.old → HoldsFrom system 0 self.new }
     {
+        let low = self.live.unmarked_below();
         let mut place = self.live.len();
-        while place > 0 {
+        while place > low {
             place -= 1;
             if let Some(event) = self.live.marked_at(place) {
                 let inverse = &mut self.inverses[place];

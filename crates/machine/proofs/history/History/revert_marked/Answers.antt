@@ -2,13 +2,13 @@ use Rattle.std.proofs.Common.{◌≡◌, ◌∙◌, ℕ, suc, ◌-◌, ◌<◌, 
 use Rattle.std.proofs.lemmas.Option.{slice_get-get_or}
 use Rattle.sharing_check.specs.declared.checked.Checked.{Checked}
 use Rattle.dependence.specs.Shown.{Shown}
-use Rattle.dependence.specs.Taking.{MarksAllDependents}
+use Rattle.dependence.specs.Taking.{MarksAllDependents, NoneMarkedAt}
 use Rattle.dependence.proofs.ListPlaces.{at-within}
 use Rattle.event_inverse.specs.View.{both_view}
 use Rattle.event_inverse.specs.declared.record.Inverse.{Inverse}
 use Rattle.machine.specs.walking.Histories.{tree_of}
 use Rattle.machine.specs.walking.Marking.{StandsFrom}
-use Rattle.machine.proofs.Marked.{from-end, from-unmarked, can-go, from-marked}
+use Rattle.machine.proofs.Marked.{from-end, from-unmarked, from-below, can-go, from-marked}
 use Rattle.machine.proofs.history.History.revert_marked.Goals as goal
 
 pub loop-place-init : goal.loop-place-init
@@ -29,7 +29,7 @@ invert_by-requires c =
     let h = c.loop-place.self in
     let inv = c.loop-place.invariant in
     let q : ℕ = c.loop-place.place - 1 in
-    let test : 0 < c.loop-place.place = c.loop-place-test.true in
+    let test : c.unmarked_below-low.result < c.loop-place.place = c.loop-place-test.true in
     let back : c.loop-place.place ≡ suc q = omega arith in
     let range : c.loop-place.place ≤ length h.live.live = inv.range in
     let sizes : length h.live.live ≡ length c.args.self.now.live.live = ap (λ (s : Shown). length s.live) inv.same in
@@ -52,7 +52,7 @@ loop-place-preserved-in-Some c =
     let h = c.loop-place.self in
     let inv = c.loop-place.invariant in
     let q : ℕ = c.loop-place.place - 1 in
-    let test : 0 < c.loop-place.place = c.loop-place-test.true in
+    let test : c.unmarked_below-low.result < c.loop-place.place = c.loop-place-test.true in
     let back : c.loop-place.place ≡ suc q = omega arith in
     let range : c.loop-place.place ≤ length h.live.live = inv.range in
     let sizes : length h.live.live ≡ length c.args.self.now.live.live = ap (λ (s : Shown). length s.live) inv.same in
@@ -83,7 +83,7 @@ loop-place-preserved c =
     let h = c.loop-place.self in
     let inv = c.loop-place.invariant in
     let q : ℕ = c.loop-place.place - 1 in
-    let test : 0 < c.loop-place.place = c.loop-place-test.true in
+    let test : c.unmarked_below-low.result < c.loop-place.place = c.loop-place-test.true in
     let back : c.loop-place.place ≡ suc q = omega arith in
     let range : c.loop-place.place ≤ length h.live.live = inv.range in
     let sizes : length h.live.live ≡ length c.args.self.now.live.live = ap (λ (s : Shown). length s.live) inv.same in
@@ -104,3 +104,17 @@ loop-place-preserved c =
       some = (inv.some.0, next inv.some.0 inv.some.1);
       holds = λ system held. next system (inv.holds system held);
     }
+
+pub returns-clause-holds : goal.returns-clause-holds
+returns-clause-holds c = λ system held.
+    let h = c.loop-place.self in
+    let inv = c.loop-place.invariant in
+    let past : c.loop-place.place ≤ c.unmarked_below-low.result = c.loop-place-test.false in
+    let sizes : length h.live.live ≡ length c.args.self.now.live.live = ap (λ (s : Shown). length s.live) inv.same in
+    let before : length h.inverses.items ≡ length c.args.self.now.inverses.items = inv.even in
+    let whole : length c.args.self.now.inverses.items ≡ length c.args.self.now.live.live = c.requires.holds.1.even in
+    let even : length h.inverses.items ≡ length h.live.live = omega arith in
+    from-below system c.loop-place.place (tree_of h) h.live h.inverses.items h.next inv.range even
+    (λ i less.
+    let low : i < c.unmarked_below-low.result = omega arith in
+    subst (λ (s : Shown). NoneMarkedAt s.live s.marked i) (sym inv.same) (c.unmarked_below-low.ensures.none i low)) (inv.holds system held)
