@@ -60,7 +60,7 @@ impl<C: Drop, R: Drop, D: Branches<C, R>> Worker<D, C, R> {
     {
         match work.queue.pop_as::<Takes<B>, W>(rt, &mut self.seat) {
             Some(branch) => {
-                self.call(rt, work, branch / 2, turn);
+                self.call(rt, work, branch, turn);
                 put_back(rt, work.queue, &mut self.seat, branch);
             }
             None => self.call(rt, work, 0, turn),
