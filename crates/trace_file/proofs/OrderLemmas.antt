@@ -6,13 +6,10 @@ use Rattle.syntax.specs.Lists.{In, Every}
 use Rattle.system.specs.declared.system.System.{System}
 use Rattle.calculus.specs.Choices.{choice_of}
 use Rattle.calculus.specs.Dependence.{Earlier}
-use Rattle.calculus.specs.Does.{Answers}
 use Rattle.calculus.specs.Events.{acting}
 use Rattle.calculus.specs.Live.{Live, events}
 use Rattle.calculus.specs.Sound.{Sound}
 use Rattle.calculus.specs.Steps.{State, Run, opening}
-use Rattle.calculus.specs.declared.command.Command.{Command}
-use Rattle.calculus.specs.declared.command.Reply.{Reply}
 use Rattle.calculus.specs.declared.event.Choice.{Choice}
 use Rattle.calculus.specs.declared.event.Event.{Event}
 use Rattle.calculus.proofs.FromOpening.{acting_once}
@@ -27,11 +24,6 @@ use Rattle.trace_file.specs.declared.version.Version.TheVariants.{Second}
 use Rattle.trace_file.specs.walking.OneStep.{OrderStops, AllAtHome, FirstMoved}
 use Rattle.trace_file.proofs.LawLemmas.{canonical-length}
 use Rattle.trace_file.proofs.LineLemmas.{step-same}
-
--- what is told of the live events is their list
-pub live-told : (m : AtMachine) (l : Live) → Answers (object m) Command.Live (Reply.Live l) (object m) → l ≡ m.live
-live-told m l (inl d) = d.0
-live-told m l (inr (_, is, _)) = cc
 
 -- one of the events
 events-at : (l : Live) (i t : ℕ) (e : Event) → slice_get l i ≡ Some (t, e) → slice_get (events l) i ≡ Some e
@@ -190,6 +182,5 @@ one-moved l places k n (g, c, s) (system, T, r) lines moved number =
     )
 
 -- the events of a machine run
-pub runs-listed : (m : AtMachine) (l k : Live) → k ≡ l → l ≡ m.live → Sound (object m) → (system : System) × (T : State) × Run (opening system) (events k) T
-runs-listed m l k same is s =
-    (m.checked, s.runs.0, subst (λ (h : Live). Run (opening m.checked) (events h) s.runs.0) (sym (same ∙ is)) s.runs.1)
+pub runs-listed : (m : AtMachine) (k : Live) → k ≡ m.live → Sound (object m) → (system : System) × (T : State) × Run (opening system) (events k) T
+runs-listed m k same s = (m.checked, s.runs.0, subst (λ (h : Live). Run (opening m.checked) (events h) s.runs.0) (sym same) s.runs.1)

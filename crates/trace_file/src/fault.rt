@@ -10,8 +10,8 @@ use thiserror::Error;
 pub enum Fault {
     #[error("out of memory")]
     Memory,
-    /// The first line is not the header.
-    #[error("the trace does not begin with its header")]
+    /// The first line is no header of a version.
+    #[error("the trace does not begin with a header")]
     BadHeader,
     /// The line has another form, a number past its type, or no end.
     #[error("line {0} of the trace is no step")]

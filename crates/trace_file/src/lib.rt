@@ -14,4 +14,3 @@ pub use fault::Fault;
 pub use laws::trace_laws;
 pub use loading::{load, load_text};
 pub use saving::{save, write_trace};
-pub use version::Version;

@@ -5,11 +5,11 @@ ghost use Rattle.trace_file.specs.Loading.{IsLoaded, IsRefused, StepsStop, Loads
 ghost use Rattle.trace_file.specs.walking.Fields.{HasNone};
 ghost use Rattle.trace_file.specs.walking.OneStep.{Loading, LineTaken, LineStops, Taken, StepStops, HeaderStops, outcome_of};
 
+use crate::Fault;
 use crate::line::{cut_at, read_step};
 use crate::long::refuse_long;
 use crate::order::refuse_disorder;
-use crate::version::version_of;
-use crate::{Fault, Version};
+use crate::version::{Version, version_of};
 use calculus::{Choice, Refusal, Reply};
 use devices::{Counted, ReadFault, read_all};
 use machine::Machine;
@@ -24,7 +24,7 @@ use std::io::Read;
 /// # Errors
 ///
 /// - `ReadFailed` exactly where the reader counts a failure;
-/// - `BadHeader` where the first line is not the header of a version;
+/// - `BadHeader` where the first line is no header;
 /// - `BadLine` for a line of another form, with a number past its type, or without an end, and `NotAStep` for a step that
 ///   cannot be taken there: whichever comes first, with the number of its line;
 /// - else, for version 2, `NotCanonical` with the number of the first line that differs from the trace of the same events;

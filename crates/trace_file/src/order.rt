@@ -1,5 +1,5 @@
-// The live events in their canonical order, and whether those of a loaded trace stand so.
-ghost use Rattle.std.specs.Prelude.{◌≡◌, ℕ, MatchOption, MatchResult, IfOk};
+// Whether the live events of a loaded trace stand in their canonical order.
+ghost use Rattle.std.specs.Prelude.{MatchOption, MatchResult};
 ghost use Rattle.syntax.specs.Lists.{Every};
 ghost use Rattle.system.specs.declared.system.System.{System};
 ghost use Rattle.calculus.specs.Choices.{choice_of};
@@ -9,22 +9,12 @@ ghost use Rattle.trace_file.specs.TraceText.{IsWritable, KeepsOrder};
 ghost use Rattle.trace_file.specs.walking.OneStep.{OrderStops, AllAtHome, FirstMoved};
 ghost use Rattle.trace_file.specs.declared.version.Version.TheVariants.{Second};
 
-use crate::{Fault, Version};
-use calculus::{Event, Reply};
+use crate::Fault;
+use crate::version::Version;
 use canonical_order::canonical_order;
+use dependence::Live;
 use machine::Machine;
-use std::alloc::{AllocError, Global};
-use syntax::Items;
-
-/// The live events with their tickets. It is an error if there is no memory.
-pub(crate) fn list_live(machine: &Machine) -> Result<Items<(u64, Event)>, AllocError>
-    ensures { IfOk result (λ live. live ≡ machine.now.live) }
-{
-    match machine.live() {
-        Reply::Live(live) => Ok(live),
-        _ => Err(AllocError),
-    }
-}
+use std::alloc::Global;
 
 /// Refuses a machine whose events do not stand as a trace of this version has to have them.
 pub(crate) fn refuse_disorder(
@@ -38,18 +28,15 @@ pub(crate) fn refuse_disorder(
     machine.is_sound();
     match version {
         Version::First => Ok(()),
-        Version::Second => {
-            let live = list_live(machine)?;
-            refuse_moved(alloc, live.as_slice())
-        }
+        Version::Second => refuse_moved(alloc, machine.live_events()),
     }
 }
 
 /// Refuses live events that do not stand in canonical order.
-fn refuse_moved(alloc: Global, live: &[(u64, Event)]) -> Result<(), Fault>
-    requires runs { (system : System) × (T : State) × Run (opening system) (events live.now) T }
-    requires lines { Every (λ e. IsWritable (choice_of e)) (events live.now) }
-    ensures { MatchResult result (λ _. KeepsOrder Second (events live.now)) (λ fault. OrderStops Second (events live.now) fault) }
+fn refuse_moved(alloc: Global, live: &Live) -> Result<(), Fault>
+    requires runs { (system : System) × (T : State) × Run (opening system) (events live.now.live) T }
+    requires lines { Every (λ e. IsWritable (choice_of e)) (events live.now.live) }
+    ensures { MatchResult result (λ _. KeepsOrder Second (events live.now.live)) (λ fault. OrderStops Second (events live.now.live) fault) }
 {
     let order = canonical_order(alloc, live)?;
     match first_moved(order.as_slice()) {

@@ -1,34 +1,38 @@
-ghost use Rattle.std.specs.Prelude.{Err, ℕ, ◌≡◌, ◌++◌, ◌<◌, ◌^◌, length, Some, slice_get, OnOk, IfOk};
+ghost use Rattle.std.specs.Prelude.{Err, ℕ, List, ◌≡◌, ◌++◌, ◌<◌, ◌^◌, length, Some, slice_get, OnOk, IfOk};
 ghost use Rattle.std.specs.Fmt.{decimal};
 ghost use Rattle.syntax.specs.Lists.{Every};
 ghost use Rattle.address.specs.Text.{entry_text, text_of};
 ghost use Rattle.address.specs.Reading.{EntryFits, NumbersFit};
 ghost use Rattle.calculus.specs.Choices.{choice_of};
+ghost use Rattle.calculus.specs.Dependence.{Respecting};
 ghost use Rattle.calculus.specs.Live.{events};
 ghost use Rattle.system.specs.declared.system.System.{System};
 ghost use Rattle.calculus.specs.Steps.{State, Run, opening};
+ghost use Rattle.calculus.specs.declared.event.Event.{Event};
 ghost use Rattle.devices.specs.Counting.{device, failures};
 ghost use Rattle.trace_file.specs.TraceText.{event_line, IsTrace, IsWritable};
 ghost use Rattle.trace_file.specs.Loading.{Saves, after_writing};
 
 use crate::Fault;
-use crate::order::list_live;
+use crate::version::SECOND;
 use address::{Address, Entry};
 use calculus::Event;
 use canonical_order::canonical_order;
+use dependence::Live;
 use devices::{Counted, write_out};
 use machine::Machine;
 use std::alloc::{AllocError, Global};
 use std::io::Write;
 
 /// Writes the trace of the live events: a header, and a line for the choice of each, in canonical order. So two machines whose
-/// live events are the same but for the order of independent ones write equal bytes (`trace_laws`). At `Memory` the writer was
+/// live events are the same but for the order of independent ones write equal bytes. At `Memory` the writer was
 /// not asked for anything, and at `WriteFailed`, which comes exactly where the writer counts a failure, a beginning is out.
 pub fn save<W: Write>(
     alloc: Global,
     machine: &Machine,
     writer: &mut Counted<W>,
 ) -> Result<(), Fault>
+    ensures equal { (k : List Event) → Respecting (events machine.now.live) k → Respecting k (events machine.now.live) → Saves k (W.contents (device writer.old)) (W.contents (device writer.new)) result }
     ensures saves { Saves (events machine.now.live) (W.contents (device writer.old)) (W.contents (device writer.new)) result }
     ensures lines { OnOk result (Every (λ e. IsWritable (choice_of e)) (events machine.now.live)) }
     ensures failures { failures writer.new ≡ after_writing result (failures writer.old) }
@@ -41,27 +45,29 @@ pub fn save<W: Write>(
     }
 }
 
-/// The trace of the live events, as `save` writes it. It is an error if there is no memory.
+/// The trace of the live events, as `save` writes it: the same for all orders in which they may have been taken. It is an error if there is no memory.
 pub fn write_trace(alloc: Global, machine: &Machine) -> Result<Vec<u8>, AllocError>
     ensures text { IfOk result (λ text. IsTrace (events machine.now.live) text.items) }
+    ensures equal { IfOk result (λ text. (k : List Event) → Respecting (events machine.now.live) k → Respecting k (events machine.now.live) → IsTrace k text.items) }
     ensures lines { OnOk result (Every (λ e. IsWritable (choice_of e)) (events machine.now.live)) }
 {
     machine.is_sound();
-    let live = list_live(machine)?;
-    write_events(alloc, live.as_slice())
+    write_events(alloc, machine.live_events())
 }
 
 /// The trace of these live events.
-fn write_events(alloc: Global, live: &[(u64, Event)]) -> Result<Vec<u8>, AllocError>
-    requires { (system : System) × (T : State) × Run (opening system) (events live.now) T }
-    ensures text { IfOk result (λ text. IsTrace (events live.now) text.items) }
-    ensures lines { OnOk result (Every (λ e. IsWritable (choice_of e)) (events live.now)) }
+fn write_events(alloc: Global, live: &Live) -> Result<Vec<u8>, AllocError>
+    requires { (system : System) × (T : State) × Run (opening system) (events live.now.live) T }
+    ensures text { IfOk result (λ text. IsTrace (events live.now.live) text.items) }
+    ensures lines { OnOk result (Every (λ e. IsWritable (choice_of e)) (events live.now.live)) }
 {
     let order = canonical_order(alloc, live)?;
+    let entries = live.as_slice();
     let mut out = Vec::new(alloc);
-    add_bytes(&mut out, b"balsadbg trace 2\n")?;
+    add_bytes(&mut out, SECOND)?;
+    add_bytes(&mut out, b"\n")?;
     for place in order.as_slice() {
-        add_line(&mut out, event_at(live, *place))?;
+        add_line(&mut out, event_at(entries, *place))?;
     }
     Ok(out)
 }

@@ -6,11 +6,11 @@ ghost use Rattle.trace_file.specs.declared.version.Version.{Version};
 const FIRST: &[u8] = b"balsadbg trace 1";
 
 /// The first line of a trace of version 2, without its end.
-const SECOND: &[u8] = b"balsadbg trace 2";
+pub(crate) const SECOND: &[u8] = b"balsadbg trace 2";
 
 /// The versions of a trace, by the order in which its lines have the steps.
 #[derive(Clone, Copy)]
-pub enum Version {
+pub(crate) enum Version {
     /// Any order in which the steps can be taken.
     First,
     /// The canonical order.

@@ -62,6 +62,9 @@ fn after_steps(rt: &impl Abort, alloc: Global) -> Result<Live, Fail> {
 fn events_have_followers_and_are_taken(rt: HostRuntime) -> Result<(), Fail> {
     let mut live = after_steps(&rt, rt.alloc())?;
     assert!(rt; live.followers(1) == [3].as_slice());
+    assert!(rt; live.leads(1).is_empty());
+    assert!(rt; live.leads(3) == [1].as_slice());
+    assert!(rt; live.leads(4) == [3, 2].as_slice());
     assert_eq!(rt; live.first_dependent(1), Some(3));
     assert_eq!(rt; live.count(1), 2);
     assert_eq!(rt; live.first_dependent(2), Some(4));
