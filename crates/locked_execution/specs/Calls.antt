@@ -1,7 +1,9 @@
 -- Calls of a shared execution.
 use Rattle.std.specs.Prelude.{◌≡◌, ◌⊎◌, ◌≤◌, ◌^◌, ℕ, List, length}
+use mathlib.Core.List.{IsPrefix}
 use Rattle.atomic_table.specs.Seated.{TableId}
 use Rattle.calculus.specs.declared.command.Refusal.TheVariants.{Spent}
+use Rattle.machine.specs.AtMachine.{AtMachine}
 use Rattle.recorded_calls.specs.History.{Replays}
 use Rattle.locked_object.specs.Passes as passes
 use Rattle.locked_object.specs.Passes.{number, seen, told}
@@ -37,8 +39,12 @@ WhyNotRecorded opening n command log reply =
     ⊎ ((reply ≡ Reply.Refused Spent) × (Legal opening log × (2 ^ 63 ≤ length log)))
 
 -- a call is recorded, behind all that the pass had seen: the pass has then seen a legal history that ends with it; or it is not: the
--- pass has seen and made what it had, and it was told the history that says why
+-- pass has seen and made what it had, and it was told the history that says why, which begins with what it had seen
 abbrev pub Answered : AtDesk → Pass AtDesk Command Reply → Command → Reply → Pass AtDesk Command Reply → Type 0
 Answered opening before command reply after =
     (Recorded before command reply after × Legal opening (seen after))
-    ⊎ (WhyNotRecorded opening (number before) command (told after) reply × SawNothing before after)
+    ⊎ (WhyNotRecorded opening (number before) command (told after) reply × SawNothing before after × IsPrefix (seen before) (told after))
+
+-- the machine of the desk after these calls
+abbrev pub Leaves : AtDesk → History → AtMachine → Type 0
+Leaves opening log machine = (d : AtDesk) × Replays Keeps opening log d × (machine ≡ d.machine)

@@ -3,19 +3,21 @@ ghost use Rattle.std.specs.Prelude.{◌≡◌, ◌≤◌, ◌<◌, ◌^◌, leng
 ghost use mathlib.Core.List.{IsPrefix};
 ghost use Rattle.machine.specs.Headline.{Headline};
 ghost use Rattle.branch_workers.specs.Runs.{WorkersRan, AllSawLegal};
+ghost use Rattle.locked_object.specs.Keepers.{IsKeeperOf};
 ghost use Rattle.locked_object.specs.Passes.{number, seen, own, told};
 ghost use Rattle.locked_object.specs.Sharing.{NewPasses};
 ghost use Rattle.locked_execution.specs.AtDesk.{execution, new_desk};
 ghost use Rattle.locked_execution.specs.Sharing.{Keeps, Legal, is_step};
-ghost use Rattle.locked_execution.specs.Calls.{IsPassOf, ArePassesOf, Answered, opening, table};
+ghost use Rattle.locked_execution.specs.Calls.{IsPassOf, ArePassesOf, Answered, Leaves, opening, table};
 ghost use Rattle.locked_execution.specs.declared.command.Command as any;
 ghost use Rattle.system_places.specs.SystemBranches.{branch_count};
 
 use crate::{Command, Desk, Pass, Reply, Shared};
 use branch_workers::{Gate, Ran, run_workers};
 use calculus::Refusal;
-use locked_object::NotRecorded;
+use locked_object::{Keeper, NotRecorded, Replies};
 use machine::Machine;
+use recorded_calls::Board;
 use std::alloc::{AllocError, Global};
 use std::sync::Wait;
 use std::thread::Threads;
@@ -108,8 +110,35 @@ impl Shared {
         run_workers(rt, alloc, &self.object, self.branches, passes, gate, turns)
     }
 
-    /// The execution, once no pass calls it any more.
+    /// The execution, once no pass calls it any more. It waits for nobody, so that no clause says which machine it is.
     pub fn finish(self) -> Machine {
         self.object.finish().into_machine()
+    }
+
+    /// The execution, once no pass calls it any more, with its recorded calls behind it, which the pass has then seen. It takes the
+    /// lock, for which it may wait.
+    pub fn finish_seen<W: Wait>(self, rt: &W, pass: &mut Pass) -> Machine
+        requires { IsPassOf self pass.old }
+        ensures pass { IsPassOf self pass.new × (number pass.new ≡ number pass.old) × (own pass.new ≡ own pass.old) }
+        ensures before { IsPrefix (seen pass.old) (seen pass.new) }
+        ensures left { Leaves (opening self) (seen pass.new) result }
+    {
+        let (board, mut keeper) = self.object.close(rt);
+        keeper.show(&board, pass);
+        keeper.into_object().into_machine()
+    }
+
+    /// The word of recorded calls and the keeper, once no pass calls it any more.
+    pub(crate) fn close<W: Wait>(
+        self,
+        rt: &W,
+    ) -> (
+        Board<Desk, Command, Reply, Replies<Desk>>,
+        Keeper<Desk, Command, Reply>,
+    )
+        ensures board { result.0 ≡ self.object.board }
+        ensures keeper { IsKeeperOf Keeps result.0.table.shared.table_id result.0.table.shared.key result.1 }
+    {
+        self.object.close(rt)
     }
 }

@@ -1,13 +1,16 @@
 // Workers in threads of their own over a system: how many steps they took, and what is live in the end.
 ghost use Rattle.std.specs.Prelude.{◌≡◌, ◌≤◌, ◌<◌, ◌⊎◌, length, IfOk, MatchOption};
-ghost use Rattle.machine.specs.AtMachine.{object};
-ghost use Rattle.machine.specs.Headline.{Headline};
-ghost use Rattle.locked_execution.specs.Working.{Worked};
+ghost use Rattle.branch_workers.specs.Runs.{PassesFit};
+ghost use Rattle.locked_object.specs.Keepers.{IsKeeperOf};
+ghost use Rattle.locked_execution.specs.Sharing.{Keeps};
+ghost use Rattle.locked_execution.specs.Working.{Worked, CountsLive};
 
-use crate::Shared;
+use crate::{Command, Desk, Pass, Reply, Shared};
 use branch_workers::Gate;
 use calculus::MOST_LIVE_EVENTS;
+use locked_object::{Keeper, Replies};
 use machine::Machine;
+use recorded_calls::Board;
 use sharing_check::Checked;
 use std::alloc::{AllocError, Global};
 use std::sync::Wait;
@@ -71,19 +74,38 @@ impl Crew {
         let machine = Machine::new(alloc, checked)?;
         let (execution, passes) = Shared::new(alloc, machine, self.workers)?;
         match execution.run_workers(rt, alloc, passes, &Open, self.turns) {
-            Ok(ran) => Ok(Tally {
-                stepped: ran.stepped,
-                live: live_count(&execution.finish()),
-            }),
+            Ok(ran) => {
+                let (board, keeper) = execution.close(rt);
+                Ok(Tally {
+                    stepped: ran.stepped,
+                    live: live_behind(&board, keeper, ran.passes),
+                })
+            }
             Err((_, want)) => Err(want),
         }
     }
 }
 
+/// How many events are live on the desk behind the calls of these passes.
+fn live_behind(
+    board: &Board<Desk, Command, Reply, Replies<Desk>>,
+    mut keeper: Keeper<Desk, Command, Reply>,
+    passes: Vec<Pass>,
+) -> u64
+    requires keeper { IsKeeperOf Keeps board.now.table.shared.table_id board.now.table.shared.key keeper }
+    requires passes { PassesFit board.now.table.shared.table_id board.now.table.shared.key passes.items }
+    ensures { CountsLive board.now.table.shared.key passes.items result }
+{
+    for mut pass in passes {
+        keeper.show(board, &mut pass);
+    }
+    let machine = keeper.into_object().into_machine();
+    live_count(&machine)
+}
+
 /// How many events of the machine are live.
 fn live_count(machine: &Machine) -> u64
-    ensures count { result ≡ length machine.now.live }
-    ensures sound { Headline (object machine.now) }
+    ensures { result ≡ length machine.now.live }
 {
     machine.is_sound();
     for place in 0..MOST_LIVE_EVENTS {

@@ -3,12 +3,12 @@ use Rattle.std.proofs.lemmas.Option.{slice_get_within}
 use Rattle.locked_execution.proofs.WorkLemmas.{counted_at}
 use Rattle.locked_execution.proofs.crew.live_count.Goals as goal
 
-pub returns-in_default-clause-count : goal.returns-in_default-clause-count
-returns-in_default-clause-count c = counted_at c.args.machine.now.live c.loop-place.place c.loop-place.invariant c.in_default.ensures
+pub returns-in_default : goal.returns-in_default
+returns-in_default c = counted_at c.args.machine.now.live c.loop-place.place c.loop-place.invariant c.in_default.ensures
 
 pub loop-place-preserved : goal.loop-place-preserved
 loop-place-preserved c = let within = slice_get_within c.args.machine.now.live c.loop-place.place _ c.in-Some.ensures in omega arith
 
-pub returns-clause-count : goal.returns-clause-count
-returns-clause-count c =
+pub returns : goal.returns
+returns c =
     let room = c.is_sound.ensures.sound.room in let passed = c.loop-place.invariant in let last = c.loop-place-test.false in omega arith
