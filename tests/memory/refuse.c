@@ -9,11 +9,10 @@
                               how it ended, puts the offsets of all files back, and goes on. So each request is refused once,
                               in the very state in which it is made. Behind EACH of them the steps between two grow by a 64th.
    flood FILE FIRST EACH 0    The same, and the child is refused all further requests too.
-   reads FILE FIRST EACH N    The same for reads, which fail with error N. Here each read and each write moves one byte.
+   reads FILE FIRST EACH N    The same for reads, which fail with error N. Each read and each write moves one byte then.
    writes FILE FIRST EACH N   The same for writes; where N is 0 the write takes no byte.
    one FILE NUMBER 0 0        That request for memory is refused in this process: for a program with threads, which a child
                               does not inherit.
-   little FILE 0 0 0          Nothing is refused, and each read and each write moves one byte.
 
    What is told of a child: its request, the file that it read or wrote, how many bytes stood on standard output when it was
    forked off, its status as waitpid gives it, how many bytes then stood on standard output and on standard error, each as eight
@@ -41,7 +40,7 @@ int *__errno_location(void);
 enum { READ = 0, WRITE = 1, EXIT_GROUP = 231, NO_MEMORY = 12, FROM_START = 0, FROM_HERE = 1, FROM_END = 2 };
 enum { FILES = 16, SECONDS = 20, SLOWER = 64, FAILED = 99, ALL_DONE = 1 << 30 };
 
-enum way { NOTHING, MEMORY, FLOOD, ONE, READS, WRITES, LITTLE };
+enum way { NOTHING, MEMORY, FLOOD, ONE, READS, WRITES };
 
 static enum way way;
 static int file;
@@ -95,8 +94,8 @@ static void tell_end(size_t number, size_t on, size_t before, int status)
 
 static enum way way_of(const char *said)
 {
-    static const char *const words[] = {"", "memory ", "flood ", "one ", "reads ", "writes ", "little "};
-    for (int at = MEMORY; at <= LITTLE; at++) {
+    static const char *const words[] = {"", "memory ", "flood ", "one ", "reads ", "writes "};
+    for (int at = MEMORY; at <= WRITES; at++) {
         size_t length = 0;
         while (words[at][length])
             length++;
@@ -209,7 +208,7 @@ static long failed(void)
 
 static size_t moved(size_t count)
 {
-    return (way == LITTLE || way == READS || way == WRITES) && count ? 1 : count;
+    return (way == READS || way == WRITES) && count ? 1 : count;
 }
 
 long read(int from, void *bytes, size_t count)
