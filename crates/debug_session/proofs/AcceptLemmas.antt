@@ -1,5 +1,5 @@
 -- How the words of the passes become a refusal of source and stimulus.
-use Rattle.std.proofs.Common.{◌≡◌, ◌≢◌, ◌⊎◌, inl, inr, ℕ, List, Result, Ok, Err, refl, sym, subst}
+use Rattle.std.proofs.Common.{◌≡◌, ◌≢◌, ◌⊎◌, ◌++◌, inl, inr, ℕ, List, Result, Ok, Err, refl, sym, subst}
 use Rattle.std.specs.Result.{IfErr, IsErrAnd}
 use Rattle.elaborate.specs.Elaboration as elaboration
 use Rattle.syntax.specs.Texts.{lines}
@@ -49,6 +49,12 @@ unparsed source stimulus tokens slice (no_description.Unexpected offset) cut sam
     (slice, subst (AreTokens source) (sym same) cut, second (λ e. cc) h)
 unparsed source stimulus tokens slice (no_description.TooDeep offset) cut same h =
     (slice, subst (AreTokens source) (sym same) cut, second (λ e. cc) h)
+
+-- the parser refuses the first tokens of the source
+pub unbegun : (source stimulus : List ℕ) (tokens : List Token) (fault : parser_fault.Fault) → (later : List Token) × AreTokens source (tokens ++ later)
+    → (fault ≡ no_description.Memory) ⊎ ((later : List Token) → parser.IsRefused (tokens ++ later) fault) → IsRefused source stimulus (of_parser fault)
+unbegun source stimulus tokens fault (later, cut) h =
+    unparsed source stimulus (tokens ++ later) (tokens ++ later) fault cut refl (elim h [ inl memory ↦ inl memory | inr refused ↦ inr (refused later) ])
 
 -- the tokens of the source are a description
 pub described : (source : List ℕ) (tokens slice : List Token) (description : Description) → AreTokens source tokens

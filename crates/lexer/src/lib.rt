@@ -9,6 +9,7 @@ ghost use Rattle.refusals.specs.declared.lexer.Fault.TheVariants.{Memory};
 ghost use Rattle.lexer.specs.declared.token.Token.{Token};
 
 mod class;
+mod front;
 mod name;
 mod number;
 mod piece;
@@ -16,6 +17,7 @@ mod position;
 mod table;
 mod token;
 
+pub use front::{Front, lex_front};
 pub use name::is_name;
 use piece::longest_piece;
 use position::Position;

@@ -7,6 +7,7 @@ pub mod DeclarationLaws
 pub mod ExpressionLaws
 pub mod FrontLemmas
 pub mod Halted
+pub mod InsideLemmas
 pub mod LastLemmas
 pub mod Laws
 pub mod Levels

@@ -1,5 +1,6 @@
 pub mod Answer
 pub mod BySign
+pub mod Inside
 pub mod Nests
 pub mod Readers
 pub mod Reading

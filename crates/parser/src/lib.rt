@@ -16,6 +16,7 @@ mod command;
 mod cursor;
 mod declaration;
 mod expression;
+mod front;
 mod halt;
 mod list;
 mod name;
@@ -23,6 +24,7 @@ mod rule;
 
 use cursor::{Cursor, LEVELS};
 use declaration::whole;
+pub use front::refusal_within;
 use lexer::Token;
 pub use refusals::parser::Fault;
 use std::alloc::Global;
