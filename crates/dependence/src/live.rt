@@ -168,8 +168,8 @@ impl Live {
         marked_at(self.pairs.as_slice(), self.marks.as_slice(), place)
     }
 
-    /// A place, counted from 0 in order of tickets, below which no live event is marked. It is less than 1,024 before that of the
-    /// first that is, or before the end.
+    /// A place, counted from 0 in order of tickets, below which no live event is marked. How near it is to the first that is, no
+    /// clause says: it is less than 1,024 before that one, or before the end.
     pub fn unmarked_below(&self) -> usize
         ensures within { result ≤ length self.now.live }
         ensures none { (i : ℕ) → i < result → NoneMarkedAt self.now.live self.now.marked i }
@@ -230,7 +230,7 @@ impl Live {
     }
 
     /// Takes out the marked live events with their marks, where what depends on a marked one is marked. It takes as long as to go
-    /// once through the live events from the first marked one on.
+    /// once through the marks, and through the live events from about the first marked one on.
     pub fn take_marked(&mut self)
         requires { MarksAllDependents self.old }
         ensures live { WithoutTickets (λ t. In t self.old.marked) self.old.live self.new.live }

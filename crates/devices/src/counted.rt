@@ -90,8 +90,8 @@ impl<R: Read> Counted<R> {
 }
 
 impl<R: BufRead> Counted<R> {
-    /// Reads behind the next byte 10, or to the end, and counts whether that failed: so many bytes. A line that is there whole
-    /// counts even where the reader then failed.
+    /// Reads behind the next byte 10, or to the end, and answers how many bytes it added to the line, which whoever asks empties first.
+    /// It counts whether that failed; a failure behind a line that is there whole is none.
     pub fn read_through(&mut self, line: &mut Vec<u8>) -> io::Result<usize>
         ensures count { IfOk result (λ n. vec_len line.new ≡ vec_len line.old + n) }
         ensures stops { StopsAt (appended_bytes line.old.items line.new.items) 10 }

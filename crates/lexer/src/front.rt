@@ -17,11 +17,11 @@ use crate::token::push_token;
 use crate::{Fault, Kind, Token};
 use std::alloc::{AllocError, Global};
 
-/// The tokens at the front of a source.
+/// Tokens at the front of a source.
 #[derive(Drop)]
 pub struct Front {
     pub tokens: Vec<Token>,
-    /// Whether more may stand behind them. Else the last one is of the kind `EndOfSource`.
+    /// Whether some may be missing behind them. Else they are all, and the last one is of the kind `EndOfSource`.
     pub is_cut: bool,
 }
 
@@ -80,7 +80,7 @@ impl Front {
     }
 }
 
-/// The tokens of `source` up to so many, whole as `lex` gives them where there are fewer than `most`.
+/// The first tokens of `source`: all, as `lex` gives them, or some `most`. How many they are no clause says.
 ///
 /// All of the source is read, and refused as `lex` refuses it.
 pub fn lex_front(alloc: Global, source: &[u8], most: usize) -> Result<Front, Fault>

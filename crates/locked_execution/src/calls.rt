@@ -49,7 +49,7 @@ impl Shared {
 
     /// Answers the command of a pass under the lock, for which it may wait. Want of memory is not recorded, nor is 26, where no
     /// ticket is left or 2^63 calls are recorded; all else is. Where the call is not recorded the pass is told the history that says
-    /// why, and `length` answers no less than its length from then on.
+    /// why; if it asks for the `length` next, it has seen at least that.
     pub fn call<W: Wait>(&self, rt: &W, pass: &mut Pass, command: &Command) -> Reply
         requires { IsPassOf self.now pass.old }
         ensures pass { IsPassOf self.now pass.new × (number pass.new ≡ number pass.old) }

@@ -1,4 +1,4 @@
-//! An object of one thread under a lock: several passes, each in a thread of its own, call it, and what each was told is a
+//! An object of one thread under a lock: several passes, each in a thread of its own, call it, and what each has seen is a
 //! beginning of one legal history.
 #![tactic(auto)]
 

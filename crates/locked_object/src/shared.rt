@@ -76,7 +76,7 @@ impl<C, R, D: Object<C, R>> Shared<C, R, D> {
     }
 
     /// Performs the command of a pass under the lock, for which it may wait, and records it with its reply. Where it is not recorded
-    /// the pass is told the history, after which that is so, and `length` answers no less than its length from then on.
+    /// the pass is told the history, after which that is so; if it asks for the `length` next, it has seen at least that.
     pub fn call<W: Wait>(
         &self,
         rt: &W,
@@ -157,7 +157,8 @@ impl<C, R, D: Object<C, R>> Shared<C, R, D> {
         (board, keeper)
     }
 
-    /// Waits until the vault's seat rests on the lock, and takes it: looks for a while, and then as the only one that does not sleep.
+    /// Waits until the vault's seat rests on the lock, and takes it: looks for a while, and then sleeps until no other who waits so
+    /// is awake.
     fn lock<W: Wait>(&self, rt: &W) -> (Mark<Hold>, Key<C, R, D>)
         ensures mark { (result.0.perch ≡ self.now.lock.name) × (result.0.view ≡ Held) }
         ensures seat { (result.1.table_id ≡ self.now.vault.shared.table_id) × (result.1.me ≡ (Home, [])) }

@@ -75,7 +75,7 @@ impl Machine {
         &self.system
     }
 
-    /// The live events with their tickets and followers, lent as they stand.
+    /// The live events with their tickets and followers, lent as they stand. No clause speaks of their marks.
     pub fn live_events(&self) -> &Live
         ensures { result.now.live ≡ self.now.live }
     {

@@ -20,7 +20,7 @@ fn is_inside(tokens: &[Token], fault: Fault) -> bool
     }
 }
 
-/// Why these tokens begin no description, whatever stands behind them; `Memory` is told too. `None` where a description may begin with them.
+/// Why these tokens begin no description, whatever stands behind them; `Memory` is told too. `None` says nothing.
 pub fn refusal_within(alloc: Global, tokens: &[Token]) -> Option<Fault>
     ensures { IfSome result (λ fault. (fault ≡ Memory) ⊎ ((later : List Token) → IsRefused (tokens.now ++ later) fault)) }
 {

@@ -115,6 +115,6 @@ module _ {O C R : Type 0} where
   abbrev pub Looks : (O → ℕ → C → R → O → Type 0) → Step ℕ → Me ℕ (View O C R) → ℕ → Me ℕ (View O C R) → Type 0
   Looks performs st m found n = LooksAt performs m.0 m.1 found n
 
-  -- the second of two that meet: it has seen what the first one saw
+  -- it takes what it was given, the history that the first of two that meet saw, or the keeper's: it has seen that
   abbrev pub Takes : Step ℕ → Me ℕ (View O C R) → ℕ → Me ℕ (View O C R) → Type 0
   Takes st m found n = (n ≡ (adopted m.0, m.1)) × OwnAreAll m.0

@@ -22,10 +22,9 @@ use Rattle.trace_file.specs.Loading.{IsFirstLine, IsNoEnd, IsStep, CannotStep}
 use Rattle.trace_file.specs.declared.version.Version.{Version}
 use Rattle.trace_file.specs.declared.version.Version.TheVariants.{First, Second}
 use Rattle.canonical_order.proofs.Canonicals.{canonical-rearranged, canonical-runs, is-its-own-order, orders-agree}
-use Rattle.canonical_order.proofs.Placing.{some-canonical-order}
 use Rattle.canonical_order.specs.Canonical.{IsCanonicalOrder}
 use Rattle.calculus.proofs.Elements.{in-rearranged}
-use Rattle.calculus.proofs.FromOpening.{one_state, respecting_orders}
+use Rattle.calculus.proofs.FromOpening.{one_state}
 use Rattle.calculus.proofs.Lists.{every-in, every-of}
 use Rattle.trace_file.specs.Laws.{OneList, EqualBytes, TraceStands, LoadsTheSame}
 use Rattle.trace_file.proofs.LineLemmas.{cut-same, has-one, step-same, clear-by-test}
@@ -197,13 +196,10 @@ pub equal-bytes : EqualBytes
 equal-bytes system h k T one other r there back (g, c, is) (f, o, too) =
     is ∙ (ap (λ (l : List Event). trace_text Second l) (orders-agree system h k g f T r there back c o) ∙ sym too)
 
--- the trace of a machine is that of each list of its events that is a respecting order of them, as they are of it
-pub respecting-trace : (m : AtMachine) (text : List ℕ) (k : List Event) → Sound (object m) → Respecting (events m.live) k → Respecting k (events m.live)
-    → IsTrace (events m.live) text → IsTrace k text
-respecting-trace m text k s there back (g, c, is) =
-    let other = some-canonical-order m.checked k s.runs.0 (respecting_orders m.checked (events m.live) k s.runs.0 s.runs.1 there) in
-    let same : g ≡ other.0 = orders-agree m.checked (events m.live) k g other.0 s.runs.0 s.runs.1 there back c other.1 in
-    (other.0, other.1, is ∙ ap (λ (h : List Event). trace_text Second h) same)
+-- no list of its events that is a respecting order of them, as they are of it, has another trace
+pub only-trace : (m : AtMachine) (text : List ℕ) (k : List Event) (other : List ℕ) → Sound (object m) → Respecting (events m.live) k → Respecting k (events m.live)
+    → IsTrace (events m.live) text → IsTrace k other → other ≡ text
+only-trace m text k other s there back trace too = sym (equal-bytes m.checked (events m.live) k s.runs.0 text other s.runs.1 there back trace too)
 
 -- the trace of a machine stands for its events in canonical order
 pub trace-stands : TraceStands

@@ -1,5 +1,6 @@
 ghost use Rattle.std.specs.Prelude.{Err, ℕ, List, ◌≡◌, ◌++◌, ◌<◌, ◌^◌, length, Some, slice_get, OnOk, IfOk};
 ghost use Rattle.std.specs.Fmt.{decimal};
+ghost use Rattle.std.specs.Io.KnownBytes.{Appends};
 ghost use Rattle.syntax.specs.Lists.{Every};
 ghost use Rattle.address.specs.Text.{entry_text, text_of};
 ghost use Rattle.address.specs.Reading.{EntryFits, NumbersFit};
@@ -32,7 +33,8 @@ pub fn save<W: Write>(
     machine: &Machine,
     writer: &mut Counted<W>,
 ) -> Result<(), Fault>
-    ensures equal { (k : List Event) → Respecting (events machine.now.live) k → Respecting k (events machine.now.live) → Saves k (W.contents (device writer.old)) (W.contents (device writer.new)) result }
+    ensures equal { (k : List Event) (other : List ℕ) → Respecting (events machine.now.live) k → Respecting k (events machine.now.live) → IsTrace k other
+        → OnOk result (Appends (W.contents (device writer.old)) (W.contents (device writer.new)) other) }
     ensures saves { Saves (events machine.now.live) (W.contents (device writer.old)) (W.contents (device writer.new)) result }
     ensures lines { OnOk result (Every (λ e. IsWritable (choice_of e)) (events machine.now.live)) }
     ensures failures { failures writer.new ≡ after_writing result (failures writer.old) }
@@ -48,7 +50,8 @@ pub fn save<W: Write>(
 /// The trace of the live events, as `save` writes it: the same for all orders in which they may have been taken. It is an error if there is no memory.
 pub fn write_trace(alloc: Global, machine: &Machine) -> Result<Vec<u8>, AllocError>
     ensures text { IfOk result (λ text. IsTrace (events machine.now.live) text.items) }
-    ensures equal { IfOk result (λ text. (k : List Event) → Respecting (events machine.now.live) k → Respecting k (events machine.now.live) → IsTrace k text.items) }
+    ensures equal { IfOk result (λ text. (k : List Event) (other : List ℕ) → Respecting (events machine.now.live) k → Respecting k (events machine.now.live) → IsTrace k other
+        → other ≡ text.items) }
     ensures lines { OnOk result (Every (λ e. IsWritable (choice_of e)) (events machine.now.live)) }
 {
     machine.is_sound();
