@@ -10,7 +10,7 @@ use Rattle.locked_object.specs.Sharing.{Recorded, SawNothing}
 use Rattle.locked_object.specs.declared.pass.Pass.{Pass}
 use Rattle.locked_object.specs.declared.object.NotRecorded.{NotRecorded}
 use Rattle.branch_workers.specs.Runs.{steps_in, AskBranches, PassRan, SawLegal}
-use Rattle.branch_workers.specs.walking.Workers.{WorkerRan}
+use Rattle.branch_workers.specs.walking.Workers.{WorkerRan, AskedFor}
 use Rattle.branch_workers.specs.declared.worker.Worker.{Worker}
 
 at_most_one : (b : Bool) → (if b then 1 else 0) ≤ 1
@@ -144,3 +144,8 @@ module _ {D C R : Type 0} (table : TableId) (opening : D) (asks : ℕ → C) (co
 pub first_branch : (count : ℕ) → (0 < count) ⊎ ((count ≡ 0) × (◌≡◌ {A = ℕ} 0 0))
 first_branch zero = inr (refl, refl)
 first_branch (suc count) = inl (omega arith)
+
+-- what a call asked for
+pub call_asked : {D C R : Type 0} (asks : ℕ → C) (p q r : Pass D C R) (c : C) (k : ℕ) (told : Result R (NotRecorded R)) → IfOk told (λ t. Recorded p c t q) → OnErr told (SawNothing p q) → c ≡ asks k → r ≡ q → AskedFor asks k p r
+call_asked asks p q r c k (Ok t) done same is here = inr (t, ap own here ∙ done.made ∙ ap (λ x. own p ++ entry_of (number p) x t ∷ []) is)
+call_asked asks p q r c k (Err why) done same is here = inl (ap own here ∙ same.1)

@@ -2,7 +2,7 @@
 ghost use Rattle.std.specs.Prelude.{ℕ, List, ◌-◌, ◌≡◌, ◌⊎◌, ◌≤◌, ◌<◌, ◌+◌, ◌^◌, ◌∷◌, if◌then◌else◌, MatchResult};
 ghost use Rattle.crossbeam_queue.specs.Passes as queue;
 ghost use Rattle.locked_object.specs.Passes as locked;
-ghost use Rattle.branch_workers.specs.walking.Workers.{WorkerFits, WorkerRan};
+ghost use Rattle.branch_workers.specs.walking.Workers.{WorkerFits, WorkerRan, InHands, AskedFor};
 
 use crate::dealing::{Branching, Gives, Hand, Queue, Takes};
 use crate::{Branches, Gate};
@@ -67,7 +67,7 @@ impl<C: Drop, R: Drop, D: Branches<C, R>> Worker<D, C, R> {
         }
     }
 
-    /// Asks for a step of the branch, and counts what it is told.
+    /// Asks for a step of the branch in its hands, of branch 0 where they are empty, and counts what it is told.
     fn call<W: Wait, G: Gate, B: Branching>(
         &mut self,
         rt: &W,
@@ -77,7 +77,9 @@ impl<C: Drop, R: Drop, D: Branches<C, R>> Worker<D, C, R> {
     )
         requires pass { locked.IsPassOf work.now.shared.now.board.table.shared.table_id work.now.shared.now.board.table.shared.key self.old.pass }
         requires branch { (branch < B.count) ⊎ ((B.count ≡ 0) × (branch ≡ 0)) }
+        requires held { InHands (queue.view self.old.seat).numbers branch }
         requires few { (self.old.stepped ≤ turn) × (self.old.lost ≤ turn) × (turn < 2 ^ 64 - 1) }
+        ensures asked { AskedFor D.asks branch self.old.pass self.new.pass }
         ensures seat { (self.new.seat ≡ self.old.seat) × (self.new.number ≡ self.old.number) }
         ensures ran { WorkerRan work.now.shared.now.board.table.shared.table_id work.now.shared.now.board.table.shared.key D.performs D.asks D.steps B.count 1 self.old self.new }
     {

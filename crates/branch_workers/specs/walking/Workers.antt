@@ -1,15 +1,24 @@
 -- What one worker is between its turns, and what some turns add to it.
-use Rattle.std.specs.Prelude.{◌≡◌, ℕ, suc, ◌+◌, ◌<◌, ◌^◌, Bool, List, [], ◌∷◌, map, length}
+use Rattle.std.specs.Prelude.{◌≡◌, ◌⊎◌, ℕ, suc, ◌+◌, ◌<◌, ◌^◌, Bool, List, [], ◌∷◌, ◌++◌, map, length}
 use Rattle.atomic_table.specs.Seated.{TableId}
 use Rattle.crossbeam_queue.specs.Passes as queue
+use Rattle.recorded_calls.specs.History.{entry_of}
 use Rattle.recorded_calls.specs.declared.entry.Entry.{Entry}
-use Rattle.locked_object.specs.Passes.{IsPassOf}
+use Rattle.locked_object.specs.Passes.{IsPassOf, number, own}
 use Rattle.locked_object.specs.declared.pass.Pass.{Pass}
 use Rattle.branch_workers.specs.Dealt.{hand, total}
 use Rattle.branch_workers.specs.Runs.{PassRan, SawLegal, steps_in}
 use Rattle.branch_workers.specs.declared.worker.Worker.{Worker}
 
+-- the branch of a turn: the only number in one's hands, or 0 where they are empty
+abbrev pub InHands : List ℕ → ℕ → Type 0
+InHands numbers k = (numbers ≡ k ∷ []) ⊎ ((numbers ≡ []) × (k ≡ 0))
+
 module _ {D C R : Type 0} where
+  -- the pass has made one call more, which asks for a step of this branch, or none: it was not recorded
+  abbrev pub AskedFor : (ℕ → C) → ℕ → Pass D C R → Pass D C R → Type 0
+  AskedFor asks k before after = (own after ≡ own before) ⊎ ((reply : R) × (own after ≡ own before ++ entry_of (number before) (asks k) reply ∷ []))
+
   -- its pass and its place at the queue fit, and its hands are empty
   pub record WorkerFits (table : TableId) (opening : D) (line : TableId) (w : Worker D C R) : Type 0 where
     pub pass : IsPassOf table opening w.pass
