@@ -57,7 +57,8 @@ standard input, and each line is answered as soon as it is read:
   rollvalue X     take that step back, with all that depend on it
   branch N        take the first step of branch N that can be taken now and is on
                   no line with a breakpoint: `step TICKET EVENT`. `stopped LINE`
-                  where all are on such lines, `idle` where there is none
+                  where all are on such lines, `idle` where there is none, or
+                  no branch N
   break LINE      set a breakpoint on this line of FILE, from 1: `ok`. A meeting
                   is on the line of its receive (of two syncs, of the first), so
                   a line with a send alone stops nothing
@@ -71,8 +72,9 @@ standard input, and each line is answered as soon as it is read:
                   What the environment takes at an output port is on no line
 
 A line that is none of these ends the run, and its steps are lost (copy what
-`trace` prints before): there are no comments, and no `quit`, which is Ctrl-D.
-`tee my.script | balsadbg debug ..` keeps what you type.
+`trace` prints before): there are no comments, no prompt, no `help`, and no
+`quit`, which is Ctrl-D; an arrow key ends the run too. `tee my.script |
+balsadbg debug ..` keeps what you type.
 
 A place is written like /0.1.0. /0 is the body of the last procedure, and /1,
 /2 and so on are the environment at its ports. Behind that, .N counts what comes
