@@ -13,7 +13,7 @@ from itertools import groupby
 from pathlib import Path
 
 from .expected import Expected, NoShape, expected
-from .running import Took, beginning, files_of, is_file, run
+from .running import Launcher, Took, beginning, files_of, is_file
 from .scripts import scripts
 from .sources import sources
 from .stimuli import stimuli
@@ -59,15 +59,14 @@ def faults_of(took: Took, wanted: Expected, size: int, times: float, folder: Pat
     return faults
 
 
-def judge(program: Path, text: Text, asked: argparse.Namespace, folder: Path) -> Judged:
+def judge(launcher: Launcher, text: Text, asked: argparse.Namespace, folder: Path) -> Judged:
     count = text.count(asked.size)
     size = text.size(count)
     try:
         wanted = expected(text, asked.size)
     except NoShape as found:
         return Judged(text.name, size, 0, 0, [f"no answer is known: {found}"])
-    words = files_of(text, count, folder)
-    took = run(program, words, folder, asked.room)
+    took = launcher.run(files_of(text, count, folder))
     faults = faults_of(took, wanted, size, asked.times, folder)
     for name in ("output", text.part):
         (folder / name).unlink()
@@ -110,11 +109,11 @@ def all_texts(asked: argparse.Namespace) -> list[Text]:
 
 
 def judged_texts(asked: argparse.Namespace, texts: list[Text], folder: Path) -> Iterator[tuple[Text, Judged]]:
-    kept = Kept(asked.program, asked.size, asked.kept)
+    kept, launcher = Kept(asked.program, asked.size, asked.kept), Launcher(asked.program, folder, asked.room)
     for text in texts:
         judged = kept.found(text)
         if judged is None:
-            judged = judge(asked.program, text, asked, folder)
+            judged = judge(launcher, text, asked, folder)
             kept.keep(text, judged)
         yield text, judged
 

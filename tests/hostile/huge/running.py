@@ -2,16 +2,17 @@
 
 from __future__ import annotations
 
+import json
 import os
-import resource
+import subprocess
+import sys
 from collections.abc import Iterable
 from dataclasses import dataclass
 from pathlib import Path
 
 from .text import CIRCUIT, STIMULUS, Text
 
-# Where a program is stopped, in seconds of a processor.
-MOST_SECONDS = 120
+LAUNCHER = Path(__file__).with_name("launcher.py")
 SCRIPT = b"live\n"
 
 
@@ -40,27 +41,18 @@ def files_of(text: Text, count: int, folder: Path) -> list[str]:
     return ["debug", "source", "stimulus"]
 
 
-def in_child(program: Path, words: list[str], folder: Path, room: int) -> None:
-    """What the new process does. It never comes back."""
-    try:
-        os.chdir(folder)
-        for handle, name, flags in ((0, "script", os.O_RDONLY), (1, "output", os.O_WRONLY), (2, "error", os.O_WRONLY)):
-            os.dup2(os.open(name, flags | os.O_CREAT | (os.O_TRUNC if handle else 0), 0o600), handle)
-        resource.setrlimit(resource.RLIMIT_AS, (room, room))
-        resource.setrlimit(resource.RLIMIT_CPU, (MOST_SECONDS, MOST_SECONDS + 1))
-        os.execv(program, [str(program), *words])
-    finally:
-        os._exit(127)
+class Launcher:
+    """Runs programs in a folder, where standard input is the file `script`, and output and error are files too."""
 
+    def __init__(self, program: Path, folder: Path, room: int) -> None:
+        self.program, self.folder, self.room = str(program), str(folder), room
+        self.process = subprocess.Popen([sys.executable, "-I", "-S", LAUNCHER], stdin=subprocess.PIPE, stdout=subprocess.PIPE, text=True)
 
-def run(program: Path, words: list[str], folder: Path, room: int) -> Took:
-    """Runs the program with at most so many bytes of addresses."""
-    child = os.fork()
-    if child == 0:
-        in_child(program, words, folder, room)
-    _, ended, usage = os.wait4(child, 0)
-    status = os.WEXITSTATUS(ended) if os.WIFEXITED(ended) else None
-    return Took(status, usage.ru_utime + usage.ru_stime, usage.ru_maxrss * 1024)
+    def run(self, words: list[str]) -> Took:
+        assert self.process.stdin and self.process.stdout
+        self.process.stdin.write(json.dumps([[self.program, *words], self.folder, self.room]) + "\n")
+        self.process.stdin.flush()
+        return Took(*json.loads(self.process.stdout.readline()))
 
 
 def is_file(path: Path, blocks: Iterable[bytes]) -> bool:
@@ -76,7 +68,3 @@ def beginning(path: Path, most: int = 120) -> str:
     with open(path, "rb") as file:
         text = file.read(most)
     return repr(text)[2:-1] + (" .." if os.path.getsize(path) > most else "")
-
-
-def signal_name(status: int | None) -> str:
-    return "a signal" if status is None else f"status {status}"

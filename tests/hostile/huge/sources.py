@@ -33,7 +33,9 @@ def good_texts() -> list[Text]:
     return [plain(f"{path.name} repeated", path.read_bytes()) for path in files] + [
         plain("a short procedure", b"procedure p is begin halt end\n"),
         numbered("procedures with names of their own", b"procedure p%07d is begin halt end\n"),
-        numbered("procedures that call the one before", b"procedure q%07d is begin p () end ", b"procedure p is begin halt end "),
+        numbered("procedures that call one", b"procedure q%07d is begin p () end ", b"procedure p is begin halt end "),
+        numbered("procedures that call one another", b"procedure a%07d is begin p () end procedure b%07d is begin a%07d () ; a%07d () end ",
+                 b"procedure p is begin halt end "),
         plain("a type", b"type t is 8 bits "),
         numbered("types with names of their own", b"type t%07d is 8 bits ", tail=b"procedure p is begin halt end"),
     ]
@@ -67,12 +69,10 @@ def deep() -> list[Text]:
     opened = [b"[", b"loop ", b"loop while 1 then ", b"if 1 then ", b"case 1 of 0 then ", b"select s then ", b"arbitrate s then ",
               b"s -> then ", b"[[", b"[halt;", b"[halt||"]
     values = [b"(", b"not ", b"(not ", b"1+(", b"(1 as 8 bits) + (", b"1 + ", b"1 and "]
-    calls = b"procedure p0000000 is begin halt end "
     return (
         [plain(f"{opening.decode()}in a body", opening, BODY) for opening in opened]
         + [plain(f"{opening.decode()}in an expression", opening, BODY + b"x := ") for opening in values]
         + [plain("if ( in a body", b"if (", BODY), plain("loop in one line", b"loop end ", BODY)]
-        + [numbered("calls around calls", b"procedure q%07d is begin p%07d () ; p%07d () end procedure r%07d is begin halt end ", calls)]
     )
 
 
