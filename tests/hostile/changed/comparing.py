@@ -26,7 +26,7 @@ from .quick import Program, Reference
 # So many changed texts are made of one good run, a quarter of them of each kind of text.
 OF_ONE = 200
 PARTS = ["source", "stimulus", "script", "trace"]
-MOST_SHOWN = 5
+MOST_SHOWN = 3
 # How often it is told how far things are, in seconds.
 TELLING = 60
 
@@ -63,6 +63,7 @@ class Worker:
         own = Path(tempfile.mkdtemp(dir=folder))
         self.program, self.reference = Program(program, own), Reference()
         self.slow = Comparison(program, Path(tempfile.mkdtemp(dir=folder)))
+        self.seen: Counter[tuple[str, str]] = Counter()
 
     def go_through(self, seed: int) -> Found:
         found = Found()
@@ -78,7 +79,10 @@ class Worker:
         return found
 
     def told(self, part: str, seed: int, case: Case, difference: Difference) -> str:
-        """The difference, made small."""
+        """The difference, made small where it is one of the first of its sort."""
+        self.seen[difference.sort()] += 1
+        if self.seen[difference.sort()] > MOST_SHOWN:
+            return f"FAILED {part}, seed {seed}: {difference.sort()} once more"
         with redirect_stdout(StringIO()) as said:
             report(self.slow, f"changed {part}", seed, case, difference)
         return said.getvalue().rstrip()
@@ -107,8 +111,7 @@ class Count:
     def add(self, found: Found) -> None:
         for failure in found.failures:
             self.failed += 1
-            if self.failed <= MOST_SHOWN:
-                print(failure, flush=True)
+            print(failure, flush=True)
         self.kinds += found.kinds
         self.seed += 1
         if time.monotonic() > self.told + TELLING:
