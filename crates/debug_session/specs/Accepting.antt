@@ -7,26 +7,13 @@ use Rattle.refusals.specs.declared.elaborate.Fault as elaborate
 use Rattle.refusals.specs.declared.elaborate.Fault.TheVariants as no_system
 use Rattle.stimulus.specs.declared.stimulus.Entry.{Entry}
 use Rattle.system.specs.declared.system.System.{System}
-use Rattle.lexer.specs.Refusal as lexer
-use Rattle.lexer.specs.Tokens.{AreTokens}
-use Rattle.lexer.specs.declared.token.Token.{Token}
-use Rattle.parser.specs.Accepted as parser
 use Rattle.sharing_check.specs.Refusal as sharing
 use Rattle.refusals.specs.declared.sharing_check.Fault.TheVariants as not_shared
-use Rattle.syntax.specs.declared.declaration.Description.{Description}
-use Rattle.types.specs.Declarations.{found_description}
-use Rattle.types.specs.Findings as types
-use Rattle.refusals.specs.declared.types.Fault.TheVariants as not_typed
 use Rattle.typed.specs.declared.tree.Procedure.{Procedure}
+use Rattle.typed_source.specs.Source as typed_source
+use Rattle.typed_source.specs.Source.{IsTyped}
+use Rattle.typed_source.specs.declared.fault.Fault.TheVariants as not_typed
 use Rattle.debug_session.specs.declared.fault.Fault.{Fault}
-
--- the source is this description
-abbrev pub Describes : List ℕ → Description → Type 0
-Describes source description = (tokens : List Token) × AreTokens source tokens × parser.Parses tokens description
-
--- the source is a description without a fault, and these are its procedures
-abbrev pub IsTyped : List ℕ → List Procedure → Type 0
-IsTyped source procedures = (description : Description) × Describes source description × (found_description description ≡ Ok procedures)
 
 -- source and stimulus make this system
 abbrev pub Makes : List ℕ → List ℕ → System → Type 0
@@ -49,12 +36,9 @@ MakesNone procedures stimulus fault =
 -- pass met it
 abbrev pub IsRefused : List ℕ → List ℕ → Fault → Type 0
 IsRefused source stimulus Fault.Memory = Unit {0}
-IsRefused source stimulus (Fault.Lexer fault) = lexer.IsRefused source fault
-IsRefused source stimulus (Fault.Parser fault) =
-    (tokens : List Token) × AreTokens source tokens × parser.IsRefused tokens fault
-IsRefused source stimulus (Fault.Types fault) =
-    (fault ≢ not_typed.Memory)
-    × ((description : Description) × Describes source description × types.IsRefused (found_description description) fault)
+IsRefused source stimulus (Fault.Lexer fault) = typed_source.IsRefused source (not_typed.Lexer fault)
+IsRefused source stimulus (Fault.Parser fault) = typed_source.IsRefused source (not_typed.Parser fault)
+IsRefused source stimulus (Fault.Types fault) = typed_source.IsRefused source (not_typed.Types fault)
 IsRefused source stimulus (Fault.Elaborate fault) =
     (procedures : List Procedure) × IsTyped source procedures × MakesNone procedures stimulus fault
 IsRefused source stimulus (Fault.Sharing fault) =

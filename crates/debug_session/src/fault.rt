@@ -1,6 +1,6 @@
 ghost use Rattle.std.specs.Prelude.{◌≡◌};
 ghost use Rattle.debug_session.specs.FaultNumbers.{fault_number, fault_field};
-ghost use Rattle.debug_session.specs.Wrapping.{of_lexer, of_parser, of_types, of_elaborate, of_sharing, of_trace};
+ghost use Rattle.debug_session.specs.Wrapping.{of_source, of_elaborate, of_sharing, of_trace};
 ghost use Rattle.debug_session.specs.declared.fault.Fault.TheVariants.{Memory};
 
 use std::alloc::{AllocError, AllocFailed};
@@ -13,13 +13,13 @@ pub enum Fault {
     Memory,
     /// The source has no tokens.
     #[error("{0}")]
-    Lexer(lexer::Fault),
+    Lexer(refusals::lexer::Fault),
     /// The tokens are no description.
     #[error("{0}")]
-    Parser(parser::Fault),
+    Parser(refusals::parser::Fault),
     /// The description is not typed.
     #[error("{0}")]
-    Types(types::Fault),
+    Types(refusals::types::Fault),
     /// Description and stimulus make no system.
     #[error("{0}")]
     Elaborate(elaborate::Fault),
@@ -76,35 +76,15 @@ impl Fault {
     }
 }
 
-impl From<lexer::Fault> for Fault {
-    ghost from_gives = { λ fault wrapped. wrapped ≡ of_lexer fault };
+impl From<typed_source::Fault> for Fault {
+    ghost from_gives = { λ fault wrapped. wrapped ≡ of_source fault };
 
-    fn from(fault: lexer::Fault) -> Fault {
+    fn from(fault: typed_source::Fault) -> Fault {
         match fault {
-            lexer::Fault::Memory => Fault::Memory,
-            refused => Fault::Lexer(refused),
-        }
-    }
-}
-
-impl From<parser::Fault> for Fault {
-    ghost from_gives = { λ fault wrapped. wrapped ≡ of_parser fault };
-
-    fn from(fault: parser::Fault) -> Fault {
-        match fault {
-            parser::Fault::Memory => Fault::Memory,
-            refused => Fault::Parser(refused),
-        }
-    }
-}
-
-impl From<types::Fault> for Fault {
-    ghost from_gives = { λ fault wrapped. wrapped ≡ of_types fault };
-
-    fn from(fault: types::Fault) -> Fault {
-        match fault {
-            types::Fault::Memory => Fault::Memory,
-            refused => Fault::Types(refused),
+            typed_source::Fault::Memory => Fault::Memory,
+            typed_source::Fault::Lexer(refused) => Fault::Lexer(refused),
+            typed_source::Fault::Parser(refused) => Fault::Parser(refused),
+            typed_source::Fault::Types(refused) => Fault::Types(refused),
         }
     }
 }

@@ -1,7 +1,5 @@
-ghost use Rattle.std.specs.Prelude.{◌≡◌, ◌++◌, ℕ, List, IfOk, IfErr};
-ghost use Rattle.lexer.specs.Tokens.{AreTokens};
-ghost use Rattle.lexer.specs.declared.token.Token.{Token};
-ghost use Rattle.debug_session.specs.Accepting.{Describes, IsTyped, Makes, AcceptedAs, IsRefused};
+ghost use Rattle.std.specs.Prelude.{◌≡◌, ℕ, List, IfOk, IfErr};
+ghost use Rattle.debug_session.specs.Accepting.{Makes, AcceptedAs, IsRefused};
 ghost use Rattle.devices.specs.Counting.{device, failures};
 ghost use Rattle.debug_session.specs.Counting.{after_reading, after_writing};
 ghost use Rattle.debug_session.specs.Transcript.{Debugged};
@@ -10,85 +8,21 @@ use crate::answer::answer_lines;
 use crate::sitting::Sitting;
 use crate::{Counted, Fault};
 use elaborate::{Stimulus, elaborate};
-use lexer::{Token, lex, lex_front};
 use locked_execution::Machine;
-use parser::{parse, refusal_within};
 use sharing_check::{Checked, check_sharing};
 use std::alloc::Global;
 use std::io::{BufRead, Write};
-use syntax::Description;
 use system::System;
-use types::{Typed, check_types};
-
-/// How many tokens of a source are made before it shows whether a description begins with them.
-const FIRST_TOKENS: usize = 65_536;
-
-/// The trees of these tokens, which are all of the source.
-fn parsed(alloc: Global, source: &[u8], tokens: &[Token]) -> Result<Description, Fault>
-    requires { AreTokens source.now tokens.now }
-    ensures description { IfOk result (λ description. Describes source.now description) }
-    ensures fault { (stimulus : List ℕ) → IfErr result (λ fault. IsRefused source.now stimulus fault) }
-{
-    Ok(parse(alloc, tokens)?)
-}
-
-/// The trees of the source, of which all tokens are made.
-fn described_whole(alloc: Global, source: &[u8]) -> Result<Description, Fault>
-    ensures description { IfOk result (λ description. Describes source.now description) }
-    ensures fault { (stimulus : List ℕ) → IfErr result (λ fault. IsRefused source.now stimulus fault) }
-{
-    let tokens = lex(alloc, source)?;
-    parsed(alloc, source, tokens.as_slice())
-}
-
-/// Refuses a source that begins with these tokens, where no description does.
-fn refuse_beginning(alloc: Global, source: &[u8], tokens: &[Token]) -> Result<(), Fault>
-    requires { (later : List Token) × AreTokens source.now (tokens.now ++ later) }
-    ensures { (stimulus : List ℕ) → IfErr result (λ fault. IsRefused source.now stimulus fault) }
-{
-    match refusal_within(alloc, tokens) {
-        Some(fault) => Err(Fault::from(fault)),
-        None => Ok(()),
-    }
-}
-
-/// The trees of the source. Its tokens are gone when the next pass begins; where no description begins with the first of
-/// them, the others are not made.
-fn described(alloc: Global, source: &[u8]) -> Result<Description, Fault>
-    ensures description { IfOk result (λ description. Describes source.now description) }
-    ensures fault { (stimulus : List ℕ) → IfErr result (λ fault. IsRefused source.now stimulus fault) }
-{
-    let front = lex_front(alloc, source, FIRST_TOKENS)?;
-    if !front.is_cut {
-        return parsed(alloc, source, front.tokens.as_slice());
-    }
-    refuse_beginning(alloc, source, front.tokens.as_slice())?;
-    described_whole(alloc, source)
-}
-
-/// The source with its names settled.
-fn typed(alloc: Global, source: &[u8]) -> Result<Typed, Fault>
-    ensures typed { IfOk result (λ typed. IsTyped source.now typed) }
-    ensures fault { (stimulus : List ℕ) → IfErr result (λ fault. IsRefused source.now stimulus fault) }
-{
-    match described(alloc, source) {
-        Ok(description) => Ok(check_types(alloc, &description)?),
-        Err(fault) => Err(fault),
-    }
-}
+use typed_source::typed_source;
 
 /// The system that source and stimulus make, whether or not it keeps the rule on sharing.
 fn made(alloc: Global, source: &[u8], stimulus: &[u8]) -> Result<System, Fault>
     ensures system { IfOk result (λ system. Makes source.now stimulus.now system) }
     ensures fault { IfErr result (λ fault. IsRefused source.now stimulus.now fault) }
 {
-    match typed(alloc, source) {
-        Ok(typed) => {
-            let stimulus = Stimulus::read(alloc, stimulus)?;
-            Ok(elaborate(alloc, &typed, &stimulus)?)
-        }
-        Err(fault) => Err(fault),
-    }
+    let typed = typed_source(alloc, source)?;
+    let stimulus = Stimulus::read(alloc, stimulus)?;
+    Ok(elaborate(alloc, &typed, &stimulus)?)
 }
 
 /// The system that the source and the stimulus describe, or the first fault of the first pass that refuses them:

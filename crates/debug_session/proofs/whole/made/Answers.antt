@@ -1,4 +1,0 @@
-use Rattle.debug_session.proofs.whole.made.Goals as goal
-
-pub returns-in-Err-clause-fault : goal.returns-in-Err-clause-fault
-returns-in-Err-clause-fault c = c.in-Err.ensures.fault c.args.stimulus.now

@@ -1,0 +1,132 @@
+-- From the parts to the whole source.
+use Rattle.std.proofs.Common.{◌≡◌, ◌≢◌, ◌⊎◌, inl, inr, ℕ, Bool, true, false, List, Ok, [], ◌∷◌, ◌++◌, refl, sym, ◌∙◌, ap, subst, append_assoc, append-nil}
+use Rattle.lexer.specs.Tokens.{AreTokens}
+use Rattle.lexer.specs.Refusal as lexer
+use Rattle.lexer.specs.declared.lexing.Lexing.{Lexing}
+use Rattle.lexer.specs.declared.token.Token.{Token}
+use Rattle.lexer.specs.walking.Parts.{HasRead, HasNoEnd, Goes, Ends, Refuses}
+use Rattle.parser.specs.Accepted as parser
+use Rattle.parser.specs.Input.{next}
+use Rattle.parser.specs.walking.Parts.{Opens, begins_procedure, joined}
+use Rattle.parser.proofs.PartLaws.{opens, opens_on}
+use Rattle.refusals.specs.declared.lexer.Fault as lexer_fault
+use Rattle.refusals.specs.declared.lexer.Fault.TheVariants as no_tokens
+use Rattle.refusals.specs.declared.parser.Fault as parser_fault
+use Rattle.refusals.specs.declared.parser.Fault.TheVariants as no_description
+use Rattle.refusals.specs.declared.types.Fault as types_fault
+use Rattle.refusals.specs.declared.types.Fault.TheVariants as not_typed
+use Rattle.syntax.specs.declared.declaration.Description.{Description}
+use Rattle.types.specs.Declarations.{found_description}
+use Rattle.types.specs.Findings as types
+use Rattle.types.specs.declared.typing.Typing.{Typing}
+use Rattle.types.specs.walking.Judged.{Judges}
+use Rattle.typed_source.specs.Source.{Describes, IsTyped, IsRefused}
+use Rattle.typed_source.specs.Wrapping.{of_lexer, of_parser, of_types}
+use Rattle.typed_source.specs.declared.fault.Fault.{Fault}
+use Rattle.typed_source.specs.declared.part.Part.{Part}
+use Rattle.typed_source.specs.walking.InParts.{ReadsPart, RefusesPart, RefusesNext, IsNext, Stands}
+
+-- a fault of typing is want of memory or another one
+other_than_memory : (fault : types_fault.Fault) → (of_types fault ≡ Fault.Memory) ⊎ ((of_types fault ≡ Fault.Types fault) × (fault ≢ not_typed.Memory))
+other_than_memory not_typed.Memory = inl refl
+other_than_memory (not_typed.UnknownName offset) = inr (refl, λ e. cc)
+other_than_memory (not_typed.NameTwice offset) = inr (refl, λ e. cc)
+other_than_memory (not_typed.WrongKind offset) = inr (refl, λ e. cc)
+other_than_memory (not_typed.TooWide offset) = inr (refl, λ e. cc)
+other_than_memory (not_typed.GuardNotOneBit offset) = inr (refl, λ e. cc)
+other_than_memory (not_typed.BadArm offset) = inr (refl, λ e. cc)
+other_than_memory (not_typed.PortMismatch offset) = inr (refl, λ e. cc)
+other_than_memory (not_typed.EnclosedTwice offset) = inr (refl, λ e. cc)
+
+second : {A B : Type 0} → (A → ⊥) → A ⊎ B → B
+second never h = elim h [ inl a ↦ absurd (never a) | inr b ↦ b ]
+
+-- typing refuses
+pub untyped : (source : List ℕ) (description : Description) (fault : types_fault.Fault) → Describes source description
+    → (fault ≡ not_typed.Memory) ⊎ types.IsRefused (found_description description) fault → IsRefused source (of_types fault)
+untyped source description fault described h =
+    elim (other_than_memory fault) [
+      | inl memory ↦ subst (IsRefused source) (sym memory) tt
+      | inr (same, other) ↦ subst (IsRefused source) (sym same) (other, (description, described, second other h))
+    ]
+
+-- the lexer refuses
+pub uncut : (source : List ℕ) (fault : lexer_fault.Fault) → (fault ≡ no_tokens.Memory) ⊎ lexer.IsRefused source fault → IsRefused source (of_lexer fault)
+uncut source no_tokens.Memory h = tt
+uncut source (no_tokens.BadCharacter offset) h = second (λ e. cc) h
+uncut source (no_tokens.OpenComment offset) h = second (λ e. cc) h
+uncut source (no_tokens.NumberTooLarge offset) h = second (λ e. cc) h
+
+-- the parser refuses
+pub unparsed : (source : List ℕ) (tokens slice : List Token) (fault : parser_fault.Fault) → AreTokens source tokens
+    → slice ≡ tokens → (fault ≡ no_description.Memory) ⊎ parser.IsRefused slice fault → IsRefused source (of_parser fault)
+unparsed source tokens slice no_description.Memory cut same h = tt
+unparsed source tokens slice (no_description.Unexpected offset) cut same h = (slice, subst (AreTokens source) (sym same) cut, second (λ e. cc) h)
+unparsed source tokens slice (no_description.TooDeep offset) cut same h = (slice, subst (AreTokens source) (sym same) cut, second (λ e. cc) h)
+
+-- ---- parts
+
+-- more tokens behind a part do not change how it begins
+begins_on : (part later : List Token) → begins_procedure part → begins_procedure (part ++ later)
+begins_on [] later e = absurd (cc)
+begins_on (token ∷ part) later e = e
+
+-- the first part refuses the source
+refused_part : (source : List ℕ) (old : Lexing) (part : List Token) (fault : Fault) → HasRead source [] old → RefusesPart old part fault → IsRefused source fault
+refused_part source old part Fault.Memory read refuses = tt
+refused_part source old part (Fault.Lexer fault) read refuses = refuses source [] read
+refused_part source old part (Fault.Parser fault) read refuses = let (later, tokens, refused) = refuses source [] read in (part ++ later, tokens, refused)
+refused_part source old part (Fault.Types fault) read refuses = absurd refuses
+
+pub refused_first : (source : List ℕ) (old : Lexing) (fault : Fault) → HasRead source [] old → RefusesNext true old fault → IsRefused source fault
+refused_first source old fault read (part, _, refuses) = refused_part source old part fault read refuses
+
+-- a later part refuses the source
+refused_behind : (source : List ℕ) (old : Lexing) (before : List Token) (given : Description) (part : List Token) (fault : Fault)
+    → HasRead source before old → Opens before given → begins_procedure part → RefusesPart old part fault → IsRefused source fault
+refused_behind source old before given part Fault.Memory read opens begins refuses = tt
+refused_behind source old before given part (Fault.Lexer fault) read opens begins refuses = refuses source before read
+refused_behind source old before given part (Fault.Parser fault) read opens begins refuses =
+    let (later, tokens, refused) = refuses source before read in
+    (before ++ (part ++ later), tokens, opens.refused (part ++ later) (begins_on part later begins) fault refused)
+refused_behind source old before given part (Fault.Types fault) read opens begins refuses = absurd refuses
+
+pub refused_next : (source : List ℕ) (old : Lexing) (typing : Typing) (fault : Fault) → Stands source false old typing → RefusesNext false old fault → IsRefused source fault
+refused_next source old typing fault stands (part, begins, refuses) =
+    refused_behind source old stands.before stands.given part fault (stands.some refl).0 (stands.some refl).1 (begins refl) refuses
+
+-- behind the first part
+pub stands_first : (source : List ℕ) (old new : Lexing) (part : Part) (typing : Typing) → HasRead source [] old → IsNext true old part new → Judges typing part.description
+    → Stands source part.is_last new typing
+stands_first source old new part typing read (tokens, _, reads, parses) judged = go part.is_last reads where
+  go : (is_last : Bool) → ReadsPart is_last old tokens new → Stands source is_last new typing
+  go true reads = record { before = tokens; given = part.description; all = λ e. (reads source [] read, parses); some = λ e. absurd (cc); judged = judged }
+  go false reads = record { before = tokens; given = part.description; all = λ e. absurd (cc); some = λ e. (reads.0 source [] read, opens tokens part.description parses reads.1); judged = judged }
+
+-- behind a further part
+pub stands_next : (source : List ℕ) (old new : Lexing) (part : Part) (typing typing' : Typing) → Stands source false old typing → IsNext false old part new
+    → ((d : Description) → Judges typing d → Judges typing' (joined d part.description)) → Stands source part.is_last new typing'
+stands_next source old new part typing typing' stands (tokens, begins, reads, parses) judges = go part.is_last reads where
+  both : List Token
+  both = stands.before ++ tokens
+  given : Description
+  given = joined stands.given part.description
+  go : (is_last : Bool) → ReadsPart is_last old tokens new → Stands source is_last new typing'
+  go true reads = record {
+    before = both;
+    given = given;
+    all = λ e. (reads source stands.before (stands.some refl).0, (stands.some refl).1.parses tokens (begins refl) part.description parses);
+    some = λ e. absurd (cc);
+    judged = judges stands.given stands.judged;
+  }
+  go false reads = record {
+    before = both;
+    given = given;
+    all = λ e. absurd (cc);
+    some = λ e. (reads.0 source stands.before (stands.some refl).0, opens_on stands.before stands.given tokens part.description (stands.some refl).1 (begins refl) parses reads.1);
+    judged = judges stands.given stands.judged;
+  }
+
+-- behind the last part
+pub described : (source : List ℕ) (lexing : Lexing) (typing : Typing) (stands : Stands source true lexing typing) → Describes source stands.given
+described source lexing typing stands = (stands.before, (stands.all refl).0, (stands.all refl).1)

@@ -1,0 +1,60 @@
+//! From a source to its description with names, kinds and widths settled. A long source is read part by part, so that
+//! neither its tokens nor its trees are ever all in memory.
+#![tactic(auto)]
+
+ghost use Rattle.std.specs.Prelude.{IfOk, IfErr, IfSome};
+ghost use Rattle.typed_source.specs.Source.{IsRefused, IsTyped};
+
+mod fault;
+mod part;
+
+pub use fault::Fault;
+use lexer::{Lexing, lex};
+use parser::parse;
+use part::next_part;
+use std::alloc::Global;
+use types::{Typed, Typing, check_types};
+
+/// The source with its names settled, of which all tokens and trees are made.
+fn typed_at_once(alloc: Global, source: &[u8]) -> Result<Typed, Fault>
+    ensures typed { IfOk result (λ typed. IsTyped source.now typed) }
+    ensures fault { IfErr result (λ fault. IsRefused source.now fault) }
+{
+    let tokens = lex(alloc, source)?;
+    let description = parse(alloc, tokens.as_slice())?;
+    Ok(check_types(alloc, &description)?)
+}
+
+/// The same, of which a part is made at a time. None: the parts alone do not tell.
+fn typed_in_parts(alloc: Global, source: &[u8]) -> Result<Option<Typed>, Fault>
+    ensures typed { IfOk result (λ found. IfSome found (λ typed. IsTyped source.now typed)) }
+    ensures fault { IfErr result (λ fault. IsRefused source.now fault) }
+{
+    let mut lexing = Lexing::new(source);
+    let Some(first) = next_part(alloc, &mut lexing, true)? else {
+        return Ok(None);
+    };
+    let mut typing = Typing::new(alloc, first.description.types.as_slice())?;
+    typing.add(alloc, first.description.procedures.as_slice())?;
+    let mut is_last = first.is_last;
+    while !is_last {
+        let Some(next) = next_part(alloc, &mut lexing, false)? else {
+            return Ok(None);
+        };
+        typing.add(alloc, next.description.procedures.as_slice())?;
+        is_last = next.is_last;
+    }
+    Ok(Some(typing.finish()?))
+}
+
+/// The source with its names, kinds and widths settled, or the first fault of the first pass that refuses it: it is cut
+/// into tokens, parsed and typed.
+pub fn typed_source(alloc: Global, source: &[u8]) -> Result<Typed, Fault>
+    ensures typed { IfOk result (λ typed. IsTyped source.now typed) }
+    ensures fault { IfErr result (λ fault. IsRefused source.now fault) }
+{
+    match typed_in_parts(alloc, source)? {
+        Some(typed) => Ok(typed),
+        None => typed_at_once(alloc, source),
+    }
+}

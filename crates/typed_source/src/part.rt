@@ -1,0 +1,111 @@
+//! One part of a source.
+
+ghost use Rattle.std.specs.Prelude.{◌≡◌, Bool, true, false, List, IfSome, IfOk, IfErr, IsTrue};
+ghost use Rattle.lexer.specs.declared.lexing.Lexing.{Lexing};
+ghost use Rattle.lexer.specs.declared.token.Token.{Token};
+ghost use Rattle.parser.specs.Accepted.{Parses};
+ghost use Rattle.parser.specs.walking.Parts.{begins_procedure};
+ghost use Rattle.typed_source.specs.walking.InParts.{IsNext, ReadsPart, RefusesPart, RefusesNext};
+
+use crate::Fault;
+use lexer::{Kind, Lexing, Stop, Token};
+use parser::{parse, refusal_within};
+use std::alloc::Global;
+use syntax::Description;
+
+/// How many tokens are made before it shows whether a description goes on with them.
+const FIRST_TOKENS: usize = 65_536;
+
+/// A part of a source in good form.
+#[derive(Drop)]
+pub(crate) struct Part {
+    pub(crate) description: Description,
+    /// Whether the source ends with it.
+    pub(crate) is_last: bool,
+}
+
+/// Whether the tokens begin with the word `procedure`.
+fn begins_procedure(tokens: &[Token]) -> bool
+    ensures { IsTrue result → begins_procedure tokens.now }
+{
+    match tokens.first() {
+        Some(token) => matches!(token.kind, Kind::ProcedureWord),
+        None => false,
+    }
+}
+
+/// Refuses the tokens that were read last where no description goes on with them. `lexing` stands behind them.
+fn refuse(
+    alloc: Global,
+    lexing: Lexing<'_>,
+    is_last: bool,
+    tokens: &[Token],
+) -> Result<(), Fault>
+    ensures { (old : Lexing) → ReadsPart is_last old tokens.now lexing → IfErr result (λ fault. RefusesPart old tokens.now fault) }
+{
+    let Some(fault) = refusal_within(alloc, tokens) else {
+        return Ok(());
+    };
+    if !is_last {
+        lexing.finish()?;
+    }
+    Err(Fault::from(fault))
+}
+
+/// Reads up to where the procedure ends that the tokens end in, if it ends.
+fn read_on(
+    alloc: Global,
+    lexing: &mut Lexing<'_>,
+    tokens: &mut Vec<Token>,
+) -> Result<bool, Fault>
+    ensures read { (old : Lexing) → ReadsPart false old tokens.old.items lexing.old → IfOk result (λ is_last. ReadsPart is_last old tokens.new.items lexing.new) }
+    ensures fault { (old : Lexing) → ReadsPart false old tokens.old.items lexing.old → IfErr result (λ fault. RefusesPart old tokens.old.items fault) }
+{
+    refuse(alloc, *lexing, false, tokens.as_slice())?;
+    let stop = lexing.add_part(alloc, tokens, usize::MAX)?;
+    Ok(matches!(stop, Stop::End))
+}
+
+/// The tree of the tokens that were read last. None: they alone do not tell.
+fn tree_of(
+    alloc: Global,
+    lexing: Lexing<'_>,
+    is_last: bool,
+    tokens: &[Token],
+) -> Result<Option<Part>, Fault>
+    ensures read { IfOk result (λ read. IfSome read (λ part. (part.is_last ≡ is_last) × Parses tokens.now part.description)) }
+    ensures fault { (old : Lexing) → ReadsPart is_last old tokens.now lexing → IfErr result (λ fault. RefusesPart old tokens.now fault) }
+{
+    match parse(alloc, tokens) {
+        Ok(description) => Ok(Some(Part { description, is_last })),
+        Err(parser::Fault::Memory) => Err(Fault::Memory),
+        Err(_) => {
+            refuse(alloc, lexing, is_last, tokens)?;
+            Ok(None)
+        }
+    }
+}
+
+/// The next part of the source, up to where a procedure begins. It begins with one itself, but for the first.
+///
+/// None: this part alone does not tell.
+pub(crate) fn next_part(
+    alloc: Global,
+    lexing: &mut Lexing<'_>,
+    is_first: bool,
+) -> Result<Option<Part>, Fault>
+    ensures read { IfOk result (λ read. IfSome read (λ part. IsNext is_first lexing.old part lexing.new)) }
+    ensures fault { IfErr result (λ fault. RefusesNext is_first lexing.old fault) }
+{
+    let mut tokens = Vec::new(alloc);
+    let stop = lexing.add_part(alloc, &mut tokens, FIRST_TOKENS)?;
+    if !is_first && !begins_procedure(tokens.as_slice()) {
+        return Ok(None);
+    }
+    let is_last = match stop {
+        Stop::Full => read_on(alloc, lexing, &mut tokens)?,
+        Stop::Procedure => false,
+        Stop::End => true,
+    };
+    tree_of(alloc, *lexing, is_last, tokens.as_slice())
+}
