@@ -1,6 +1,8 @@
 pub mod CommentLemmas
 pub mod FrontLemmas
+pub mod KindLemmas
 pub mod MarkLemmas
+pub mod PartLemmas
 pub mod PieceLemmas
 pub mod ReadingLemmas
 pub mod SymbolLemmas

@@ -13,24 +13,13 @@ use Rattle.syntax.specs.Texts.{Text}
 use Rattle.lexer.specs.Cut.{IsCut, Piece, joined}
 use Rattle.lexer.specs.Refusal.{IsDueAt, IsRefused}
 use Rattle.lexer.specs.walking.Fronts.{IsFront, IsPieceFault}
+use Rattle.lexer.specs.walking.Reached.{Reading, Reaches}
 use Rattle.lexer.specs.Tokens.{AreTokens, IsReadable, IsReadTo, behind, first_position, token_at, token_of, tokens_from}
 use Rattle.lexer.specs.declared.class.Class.{Class}
 use Rattle.refusals.specs.declared.lexer.Fault.{Fault}
 use Rattle.lexer.specs.declared.position.Position.{Position}
 use Rattle.lexer.specs.declared.token.Kind.TheVariants.{EndOfSource}
 use Rattle.lexer.specs.declared.token.Token.{Token}
-
--- The source is read to `end`, and its tokens are those given and then those of the later pieces, which begin
--- at the position.
-pub record Reading (source : Text) (tokens : List Token) (position : Position) (later : List Piece) (end : Text) : Type 0 where
-  pub pieces : List Piece
-  pub read : IsReadTo source pieces end
-  pub same : tokens_from first_position pieces ≡ tokens ++ tokens_from position later
-  pub offset : length (joined pieces) ≡ position.offset + length (joined later)
-
--- The source is read up to `rest`, with these tokens: to read on there is to read the source.
-pub record Reaches (source : Text) (tokens : List Token) (position : Position) (rest : Text) : Type 0 where
-  pub onward : (later : List Piece) (end : Text) → IsReadTo rest later end → Reading source tokens position later end
 
 -- at the beginning
 pub reaches_first : (source : Text) → Reaches source [] first_position source

@@ -10,10 +10,9 @@ ghost use Rattle.lexer.specs.declared.token.Token.{Token};
 ghost use Rattle.refusals.specs.declared.lexer.Fault.TheVariants.{Memory};
 
 use crate::class::Class;
-use crate::number::value;
 use crate::piece::longest_piece;
 use crate::position::Position;
-use crate::token::push_token;
+use crate::token::{push_token, refuse_piece};
 use crate::{Fault, Kind, Token};
 use std::alloc::{AllocError, Global};
 
@@ -23,22 +22,6 @@ pub struct Front {
     pub tokens: Vec<Token>,
     /// Whether some may be missing behind them. Else they are all, and the last one is of the kind `EndOfSource`.
     pub is_cut: bool,
-}
-
-/// Refuses a piece that begins at `position` and is a fault in itself.
-fn refuse_piece(position: Position, class: Class, text: &[u8]) -> Result<(), Fault>
-    ensures ok { OnOk result (IsReadable class text.now) }
-    ensures err { IfErr result (λ fault. IsPieceFault position.offset class text.now fault) }
-{
-    match class {
-        Class::OpenComment => Err(Fault::OpenComment(position.offset)),
-        Class::Number => match value(text) {
-            Some(_) => Ok(()),
-            None => Err(Fault::NumberTooLarge(position.offset)),
-        },
-        Class::Blank | Class::LineComment | Class::NestedComment | Class::Word | Class::Symbol =>
-            Ok(()),
-    }
 }
 
 impl Front {

@@ -10,6 +10,7 @@ ghost use Rattle.lexer.specs.declared.token.Token.{Token};
 
 mod class;
 mod front;
+mod lexing;
 mod name;
 mod number;
 mod piece;
@@ -18,6 +19,7 @@ mod table;
 mod token;
 
 pub use front::{Front, lex_front};
+pub use lexing::{Lexing, Stop};
 pub use name::is_name;
 use piece::longest_piece;
 use position::Position;

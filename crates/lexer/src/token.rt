@@ -196,3 +196,19 @@ pub(crate) fn push_token(
     }
     Ok(())
 }
+
+/// Refuses a piece that begins at `position` and is a fault in itself.
+pub(crate) fn refuse_piece(position: Position, class: Class, text: &[u8]) -> Result<(), Fault>
+    ensures ok { OnOk result (IsReadable class text.now) }
+    ensures err { IfErr result (λ fault. IsPieceFault position.offset class text.now fault) }
+{
+    match class {
+        Class::OpenComment => Err(Fault::OpenComment(position.offset)),
+        Class::Number => match value(text) {
+            Some(_) => Ok(()),
+            None => Err(Fault::NumberTooLarge(position.offset)),
+        },
+        Class::Blank | Class::LineComment | Class::NestedComment | Class::Word | Class::Symbol =>
+            Ok(()),
+    }
+}

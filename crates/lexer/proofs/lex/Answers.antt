@@ -7,10 +7,11 @@ use Rattle.syntax.specs.Texts.{is_end}
 use Rattle.lexer.specs.Refusal.{IsRefused}
 use Rattle.lexer.specs.Spelling.{NothingSpelled}
 use Rattle.lexer.specs.walking.Fronts.{IsFront, IsPieceFault}
+use Rattle.lexer.specs.walking.Reached.{Reaches}
 use Rattle.lexer.specs.Tokens.{AreTokens}
 use Rattle.refusals.specs.declared.lexer.Fault.TheVariants.{Memory, BadCharacter}
 use Rattle.lexer.specs.declared.position.Position.{Position}
-use Rattle.lexer.proofs.ReadingLemmas.{Reaches, reaches_next, reaches_end, reaches_fault, piece_fault_due}
+use Rattle.lexer.proofs.ReadingLemmas.{reaches_next, reaches_end, reaches_fault, piece_fault_due}
 use Rattle.lexer.proofs.UniqueLemmas.{some_front, tokens_unique, refused_unique, never_both}
 use Rattle.lexer.proofs.lex.Goals as goal
 use Rattle.lexer.proofs.lex.Goals.{In-Some, After-drop-tokens, After-drop-tokens-in_err-push_token, In_ok-push}

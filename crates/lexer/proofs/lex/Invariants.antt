@@ -1,5 +1,5 @@
 use Rattle.std.proofs.Common.{◌≡◌, ◌+◌, ◌≤◌, length}
-use Rattle.lexer.proofs.ReadingLemmas.{Reaches}
+use Rattle.lexer.specs.walking.Reached.{Reaches}
 use Rattle.lexer.proofs.lex.Given as goal
 
 abbrev pub invariant-loop-rest : goal.invariant-loop-rest

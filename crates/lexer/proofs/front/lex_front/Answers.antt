@@ -9,11 +9,12 @@ use Rattle.syntax.specs.Texts.{is_end}
 use Rattle.lexer.specs.Spelling.{NothingSpelled}
 use Rattle.lexer.specs.Tokens.{behind, token_at, token_of}
 use Rattle.lexer.specs.walking.Fronts.{IsFront, IsPieceFault}
+use Rattle.lexer.specs.walking.Reached.{Reaches}
 use Rattle.lexer.specs.declared.position.Position.{Position}
 use Rattle.lexer.specs.declared.token.Kind.TheVariants.{EndOfSource}
 use Rattle.lexer.specs.declared.token.Token.{Token}
 use Rattle.refusals.specs.declared.lexer.Fault.TheVariants.{BadCharacter}
-use Rattle.lexer.proofs.ReadingLemmas.{Reaches, reaches_next, reaches_end, reaches_fault, piece_fault_due}
+use Rattle.lexer.proofs.ReadingLemmas.{reaches_next, reaches_end, reaches_fault, piece_fault_due}
 use Rattle.lexer.proofs.UniqueLemmas.{some_front}
 use Rattle.lexer.proofs.front.lex_front.Goals as goal
 use Rattle.lexer.proofs.front.lex_front.Goals.{In-Some, After-behind-position, In_ok-end}

@@ -1,6 +1,6 @@
 use Rattle.std.proofs.Common.{◌≡◌, ◌+◌, ◌++◌, ◌≤◌, [], false, List, length}
 use Rattle.lexer.specs.declared.token.Token.{Token}
-use Rattle.lexer.proofs.ReadingLemmas.{Reaches}
+use Rattle.lexer.specs.walking.Reached.{Reaches}
 use Rattle.lexer.proofs.front.lex_front.Given as goal
 
 abbrev pub invariant-loop-rest : goal.invariant-loop-rest

@@ -1,0 +1,9 @@
+use Rattle.std.proofs.Common.{length}
+use Rattle.lexer.proofs.PartLemmas.{IsPartSoFar}
+use Rattle.lexer.proofs.lexing.Lexing.add_part.Given as goal
+
+abbrev pub invariant-loop-left : goal.invariant-loop-left
+invariant-loop-left l = IsPartSoFar l.fn.self l.fn.part.items l.most l.self l.part.items l.left
+
+abbrev pub decreases-loop-left : goal.decreases-loop-left
+decreases-loop-left l = length l.self.rest.now

@@ -1,0 +1,138 @@
+//! A source that is read part by part, so that its tokens are never all in memory.
+
+ghost use Rattle.std.specs.Prelude.{◌<◌, ◌+◌, ◌^◌, length};
+
+use crate::class::Class;
+use crate::piece::longest_piece;
+use crate::position::Position;
+use crate::token::{refuse_piece, token_of};
+use crate::{Fault, Kind, Token};
+use std::alloc::{AllocError, Global};
+
+/// A source of which a part is cut into tokens.
+#[derive(Clone, Copy)]
+pub struct Lexing<'a> {
+    position: Position,
+    rest: &'a [u8],
+    ghost offsets: { position.offset + length rest.now < 2 ^ 64 },
+    ghost lines: { position.line + length rest.now < 2 ^ 64 },
+}
+
+/// Where a part ends.
+#[derive(Clone, Copy, Debug)]
+pub enum Stop {
+    /// As many tokens were added as were asked for.
+    Full,
+    /// The next token is `procedure`, and there is one in the part already.
+    Procedure,
+    /// The source ends: the last token is of the kind `EndOfSource`.
+    End,
+}
+
+/// A piece of the source, and where it begins.
+#[derive(Clone, Copy)]
+pub(crate) struct Found<'a> {
+    pub(crate) position: Position,
+    pub(crate) class: Class,
+    pub(crate) text: &'a [u8],
+    ghost offsets: { position.offset + length text.now < 2 ^ 64 },
+}
+
+impl<'a> Lexing<'a> {
+    ghost use Rattle.std.specs.Prelude.{◌≡◌, ◌++◌, ◌⊎◌, [], List, IfOk, IfErr, OnOk, MatchOption};
+    ghost use Rattle.lexer.specs.Tokens.{token_at};
+    ghost use Rattle.lexer.specs.walking.Parts.{HasRead, IsCutOff, IsPart, IsRest, Refuses};
+    ghost use Rattle.lexer.specs.declared.token.Kind.TheVariants.{EndOfSource};
+    ghost use Rattle.lexer.specs.declared.token.Token.{Token};
+    ghost use Rattle.refusals.specs.declared.lexer.Fault.TheVariants.{Memory};
+
+    /// The source, of which nothing is read yet.
+    pub fn new(source: &'a [u8]) -> Lexing<'a>
+        ensures { HasRead source.now [] result }
+    {
+        Lexing {
+            position: Position { offset: 0, line: 1 },
+            rest: source,
+        }
+    }
+
+    /// Cuts off the longest piece at the front. None: nothing is left.
+    pub(crate) fn cut(&mut self) -> Result<Option<Found<'a>>, Fault>
+        ensures ok { IfOk result (λ found. MatchOption found (self.old.rest.now ≡ []) (λ found. IsCutOff self.old found self.new)) }
+        ensures err { IfErr result (λ fault. Refuses self.old fault) }
+    {
+        if self.rest.is_empty() {
+            return Ok(None);
+        }
+        let Some(piece) = longest_piece(self.rest) else {
+            return Err(Fault::BadCharacter(self.position.offset));
+        };
+        let (text, rest) = self.rest.split_at(piece.length);
+        let found = Found {
+            position: self.position,
+            class: piece.class,
+            text,
+        };
+        *self = Lexing {
+            position: self.position.behind(text),
+            rest,
+        };
+        Ok(Some(found))
+    }
+
+    /// The token that stands where nothing is left.
+    pub(crate) fn end(&self, alloc: Global) -> Result<Token, AllocError>
+        ensures { IfOk result (λ token. token ≡ token_at self.now.position EndOfSource [] 0) }
+    {
+        Token::new(alloc, self.position, Kind::EndOfSource, b"", 0)
+    }
+
+    /// Adds the tokens that follow to `part`: `most` of them, or those up to a `procedure` where there is one in the part
+    /// already, or all up to the end of the source.
+    ///
+    /// What `part` held before counts too where a `procedure` is looked for, and does not where `most` is.
+    pub fn add_part(
+        &mut self,
+        alloc: Global,
+        part: &mut Vec<Token>,
+        most: usize,
+    ) -> Result<Stop, Fault>
+        ensures part { IfOk result (λ stop. (added : List Token) × (part.new.items ≡ part.old.items ++ added) × IsPart stop most self.old added self.new) }
+        ensures fault { IfErr result (λ fault. (fault ≡ Memory) ⊎ Refuses self.old fault) }
+    {
+        let mut has_procedure = part
+            .iter()
+            .any(|token| matches!(token.kind, Kind::ProcedureWord));
+        let mut left = most;
+        while left > 0 {
+            let mut next = *self;
+            let Some(found) = next.cut()? else {
+                part.push(self.end(alloc)?)?;
+                return Ok(Stop::End);
+            };
+            if let Some(token) = token_of(alloc, found.position, found.class, found.text)? {
+                if matches!(token.kind, Kind::ProcedureWord) {
+                    if has_procedure {
+                        return Ok(Stop::Procedure);
+                    }
+                    has_procedure = true;
+                }
+                part.push(token)?;
+                left -= 1;
+            }
+            *self = next;
+        }
+        Ok(Stop::Full)
+    }
+
+    /// Reads what is left, of which no token is kept, for its faults.
+    pub fn finish(mut self) -> Result<(), Fault>
+        ensures read { OnOk result (IsRest self.entry) }
+        ensures fault { IfErr result (λ fault. Refuses self.entry fault) }
+    {
+        while let Some(found) = self.cut()? {
+            refuse_piece(found.position, found.class, found.text)?;
+        }
+        Ok(())
+    }
+}
