@@ -70,6 +70,8 @@ pub record IsPartSoFar (old : Lexing) (before : List Token) (most : ℕ) (here :
   pub goes : Goes old added here
   pub no_end : HasNoEnd added
   pub count : length added + left ≡ most
+  -- each token is a byte and more
+  pub bytes : length added + length here.rest.now ≤ length old.rest.now
 
 pub part_begun : (old : Lexing) (before : List Token) (most : ℕ) → IsPartSoFar old before most old before most
 part_begun old before most = record {
@@ -78,28 +80,30 @@ part_begun old before most = record {
   goes = goes_nowhere old;
   no_end = All-nil (λ (token : Token). token.kind ≢ EndOfSource);
   count = omega arith;
+  bytes = omega arith;
 }
 
 -- one piece on, which makes these tokens
-part_on : (old : Lexing) (before : List Token) (most : ℕ) (here new : Lexing) (part onward tokens : List Token) (left : ℕ) (found : Found) → IsPartSoFar old before most here part left → IsCutOff here found new → IsReadable found.class found.text.now → option_to_list (token_of found.position found.class found.text.now) ≡ tokens → onward ≡ part ++ tokens → length tokens ≤ left → IsPartSoFar old before most new onward (left - length tokens)
-part_on old before most here new part onward tokens left found so off readable token more some = record {
+part_on : (old : Lexing) (before : List Token) (most : ℕ) (here new : Lexing) (part onward tokens : List Token) (left : ℕ) (found : Found) → IsPartSoFar old before most here part left → IsCutOff here found new → IsReadable found.class found.text.now → option_to_list (token_of found.position found.class found.text.now) ≡ tokens → onward ≡ part ++ tokens → length tokens ≤ left → length tokens ≤ 1 → IsPartSoFar old before most new onward (left - length tokens)
+part_on old before most here new part onward tokens left found so off readable token more some one = record {
   added = so.added ++ tokens;
   same = more ∙ ap (λ (front : List Token). front ++ tokens) so.same ∙ append_assoc before so.added tokens;
   goes = goes_on old here new so.added tokens so.goes (subst (λ (made : List Token). Goes here made new) token (over_piece here new found off readable));
   no_end = All-append (λ (token : Token). token.kind ≢ EndOfSource) so.added tokens so.no_end (subst HasNoEnd token (piece_has_no_end found.position found.class found.text.now));
   count = let count = so.count in omega (arith, count, some, length-append so.added tokens);
+  bytes = let bytes = so.bytes in omega (arith, bytes, one, length-append so.added tokens, less_left here new found off);
 }
 
 -- one piece on, which makes no token
 pub part_on_blank : (old : Lexing) (before : List Token) (most : ℕ) (here new : Lexing) (part : List Token) (left : ℕ) (found : Found) → IsPartSoFar old before most here part left → IsCutOff here found new → IsReadable found.class found.text.now → token_of found.position found.class found.text.now ≡ None → IsPartSoFar old before most new part left
 part_on_blank old before most here new part left found so off readable none =
     let same : left - 0 ≡ left = omega arith in
-    rw same at (part_on old before most here new part part [] left found so off readable (ap option_to_list none) (sym (append-nil part)) (omega arith))
+    rw same at (part_on old before most here new part part [] left found so off readable (ap option_to_list none) (sym (append-nil part)) (omega arith) (omega arith))
 
 -- one piece on, which makes a token
 pub part_on_token : (old : Lexing) (before : List Token) (most : ℕ) (here new : Lexing) (part onward : List Token) (token : Token) (left : ℕ) (found : Found) → IsPartSoFar old before most here part left → IsCutOff here found new → IsReadable found.class found.text.now → token_of found.position found.class found.text.now ≡ Some token → onward ≡ part ++ token ∷ [] → 1 ≤ left → IsPartSoFar old before most new onward (left - 1)
 part_on_token old before most here new part onward token left found so off readable some more room =
-    part_on old before most here new part onward (token ∷ []) left found so off readable (ap option_to_list some) more room
+    part_on old before most here new part onward (token ∷ []) left found so off readable (ap option_to_list some) more room (omega arith)
 
 -- what a part holds where it ends
 abbrev pub EndsPart : Lexing → List Token → ℕ → Stop → Lexing → List Token → Type 0
@@ -107,11 +111,11 @@ EndsPart old before most stop new part = (added : List Token) × (part ≡ befor
 
 pub part_full : (old : Lexing) (before : List Token) (most : ℕ) (here : Lexing) (part : List Token) (left : ℕ) → IsPartSoFar old before most here part left → left ≡ 0 → EndsPart old before most Full here part
 part_full old before most here part left so none =
-    let count = so.count in (so.added, so.same, (so.goes, so.no_end, omega (arith, count, none)))
+    let count = so.count in (so.added, so.same, (so.goes, so.no_end, omega (arith, count, none), so.bytes))
 
 pub part_at_procedure : (old : Lexing) (before : List Token) (most : ℕ) (here : Lexing) (part : List Token) (left : ℕ) → IsPartSoFar old before most here part left → EndsPart old before most Procedure here part
 part_at_procedure old before most here part left so =
-    let count = so.count in (so.added, so.same, (so.goes, so.no_end, omega (arith, count)))
+    let count = so.count in (so.added, so.same, (so.goes, so.no_end, omega (arith, count), so.bytes))
 
 pub part_at_end : (old : Lexing) (before : List Token) (most : ℕ) (here new : Lexing) (part onward : List Token) (left : ℕ) → IsPartSoFar old before most here part left → here.rest.now ≡ [] → onward ≡ part ++ token_at here.position EndOfSource [] 0 ∷ [] → 1 ≤ left → EndsPart old before most End new onward
 part_at_end old before most here new part onward left so none more room =

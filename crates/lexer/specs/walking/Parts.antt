@@ -1,7 +1,7 @@
 -- A source whose tokens are made part by part.
 -- No reader has to believe it: `HasRead` holds of nothing read, and where the source ends the parts together are its tokens by `AreTokens` of
 -- `Tokens.antt`.
-use Rattle.std.specs.Prelude.{◌≡◌, ◌≢◌, ℕ, ◌≤◌, List, ◌++◌, length, take, drop}
+use Rattle.std.specs.Prelude.{◌≡◌, ◌≢◌, ℕ, ◌+◌, ◌≤◌, List, ◌++◌, length, take, drop}
 use Rattle.std.specs.List.{All}
 use Rattle.syntax.specs.Texts.{Text}
 use Rattle.lexer.specs.Refusal.{IsRefused}
@@ -49,8 +49,12 @@ pub record IsCutOff (old : Lexing) (found : Found) (new : Lexing) : Type 0 where
   pub behind : new.position ≡ behind old.position (take size old.rest.now)
   pub rest : new.rest.now ≡ drop size old.rest.now
 
+-- each of the tokens took a byte and more
+abbrev pub TakesBytes : Lexing → List Token → Lexing → Type 0
+TakesBytes old added new = length added + length new.rest.now ≤ length old.rest.now
+
 -- what is read in a part, by where it ends
 abbrev pub IsPart : Stop → ℕ → Lexing → List Token → Lexing → Type 0
-IsPart Full most old added new = Goes old added new × HasNoEnd added × (length added ≡ most)
-IsPart Procedure most old added new = Goes old added new × HasNoEnd added × (length added ≤ most)
+IsPart Full most old added new = Goes old added new × HasNoEnd added × (length added ≡ most) × TakesBytes old added new
+IsPart Procedure most old added new = Goes old added new × HasNoEnd added × (length added ≤ most) × TakesBytes old added new
 IsPart End most old added new = Ends old added × (length added ≤ most)
