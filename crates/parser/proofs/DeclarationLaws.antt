@@ -26,7 +26,7 @@ type_definition_full : Full r.type_definition r.type_definition g.type_definitio
 unfolding r.type_definition g.type_definition same_kind
 type_definition_full = declared (branch_full _ bits_full.laws enumeration_full refl refl) refl refl
 
-type_declaration_full : Full r.type_declaration r.type_declaration g.type_declaration g.type_declaration (kind.TypeWord ∷ []) false []
+pub type_declaration_full : Full r.type_declaration r.type_declaration g.type_declaration g.type_declaration (kind.TypeWord ∷ []) false []
 unfolding r.type_declaration g.type_declaration same_kind
 type_declaration_full =
     declared
@@ -104,11 +104,11 @@ procedure_of_full depth name =
     (λ locals. bind_full (block_full depth) (λ held. pure_full _) refl) refl) refl) refl)
     refl refl
 
-procedure_full : (depth : ℕ) → Full (r.procedure depth) (r.procedure (suc depth)) (g.procedure depth) (g.procedure (suc depth)) (kind.ProcedureWord ∷ []) false []
+pub procedure_full : (depth : ℕ) → Full (r.procedure depth) (r.procedure (suc depth)) (g.procedure depth) (g.procedure (suc depth)) (kind.ProcedureWord ∷ []) false []
 unfolding r.procedure g.procedure same_kind
 procedure_full depth = declared (bind_full (take_full _ _ refl refl) (λ _. bind_full identifier_full (λ name. procedure_of_full depth name) refl) refl) refl refl
 
-procedures_full : (depth : ℕ) → Full (r.procedures depth) (r.procedures (suc depth)) (g.procedures depth) (g.procedures (suc depth)) (kind.ProcedureWord ∷ []) false (kind.ProcedureWord ∷ [])
+pub procedures_full : (depth : ℕ) → Full (r.procedures depth) (r.procedures (suc depth)) (g.procedures depth) (g.procedures (suc depth)) (kind.ProcedureWord ∷ []) false (kind.ProcedureWord ∷ [])
 unfolding r.procedures g.procedures same_kind
 procedures_full depth = declared (bind_full (procedure_full depth) (λ first. several_full (procedure_full depth) _ refl refl refl _) refl) refl refl
 

@@ -1,4 +1,5 @@
 pub mod Answered
+pub mod BalanceLaws
 pub mod BindLaws
 pub mod ChoiceLaws
 pub mod Closed
@@ -15,6 +16,7 @@ pub mod ListLaws
 pub mod Membership
 pub mod OpenLaws
 pub mod Parsed
+pub mod PartLaws
 pub mod RepeatLaws
 pub mod TakeLaws
 pub mod Turns

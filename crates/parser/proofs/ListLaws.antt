@@ -16,7 +16,7 @@ use Rattle.parser.proofs.ChoiceLaws.{branch_full, declared}
 use Rattle.parser.proofs.RepeatLaws.{repeat_full, repeat_sentence}
 
 module _ {A : Type 0} {i i' : Reader A} {h h' : Rule A} {start follow : List Kind} (item : Full i i' h h' start false follow) where
-  one_more_full : (found : List A) → Full (r.one_more i found) (r.one_more i' found) (g.one_more h found) (g.one_more h' found) (start ++ []) false follow
+  pub one_more_full : (found : List A) → Full (r.one_more i found) (r.one_more i' found) (g.one_more h found) (g.one_more h' found) (start ++ []) false follow
   unfolding r.one_more g.one_more
   one_more_full found = bind_full item (λ another. pure_full _) refl
 

@@ -54,7 +54,7 @@ module _ {A : Type 0} (kinds : List Kind) (turn : A → Reader A) where
   unfolding bind
   from_turns n a i is = branch_first kinds (bind (turn a) (repeat_from kinds turn n)) (pure a) i is
 
-  repeat_stops : (a : A) (i : Input) → is_one_of kinds (next i.tokens) ≡ false → repeat kinds turn a i ≡ pure a i
+  pub repeat_stops : (a : A) (i : Input) → is_one_of kinds (next i.tokens) ≡ false → repeat kinds turn a i ≡ pure a i
   unfolding repeat pure
   repeat_stops a i other = from_stops (length i.tokens) a i other
 
@@ -85,7 +85,7 @@ module _ {A : Type 0} (kinds : List Kind) (turn : A → Reader A) where
         ∙ and_then_same (repeat_from kinds turn n) (λ b j. repeat_from kinds turn (length j.tokens) b j) (turn a i)
         (λ b j f. (let less : length j.tokens < length i.tokens = shrinks a i b j f in enough n (length j.tokens) b j (omega arith) (omega arith)))
 
-    repeat_turns : (a : A) (i : Input) → is_one_of kinds (next i.tokens) ≡ true → repeat kinds turn a i ≡ bind (turn a) (repeat kinds turn) i
+    pub repeat_turns : (a : A) (i : Input) → is_one_of kinds (next i.tokens) ≡ true → repeat kinds turn a i ≡ bind (turn a) (repeat kinds turn) i
     unfolding repeat bind
     repeat_turns a i is = turns_at (length i.tokens) a i refl is
 

@@ -2,6 +2,7 @@ pub mod Answer
 pub mod BySign
 pub mod Inside
 pub mod Nests
+pub mod Parts
 pub mod Readers
 pub mod Reading
 pub mod Reads
