@@ -13,8 +13,8 @@ use Rattle.syntax.specs.Texts.{Text}
 use Rattle.lexer.specs.Cut.{IsCut, Piece, joined}
 use Rattle.lexer.specs.Refusal.{IsDueAt, IsRefused}
 use Rattle.lexer.specs.walking.Fronts.{IsFront, IsPieceFault}
-use Rattle.lexer.specs.walking.Reached.{Reading, Reaches}
-use Rattle.lexer.specs.Tokens.{AreTokens, IsReadable, IsReadTo, behind, first_position, token_at, token_of, tokens_from}
+use Rattle.lexer.specs.walking.Reached.{Reaches}
+use Rattle.lexer.specs.Tokens.{AreTokens, IsReadable, behind, first_position, token_at, token_of, tokens_from}
 use Rattle.lexer.specs.declared.class.Class.{Class}
 use Rattle.refusals.specs.declared.lexer.Fault.{Fault}
 use Rattle.lexer.specs.declared.position.Position.{Position}

@@ -58,7 +58,7 @@ impl<'a> Lexing<'a> {
 
     /// Cuts off the longest piece at the front. None: nothing is left.
     pub(crate) fn cut(&mut self) -> Result<Option<Found<'a>>, Fault>
-        ensures ok { IfOk result (λ found. MatchOption found (self.old.rest.now ≡ []) (λ found. IsCutOff self.old found self.new)) }
+        ensures ok { IfOk result (λ found. MatchOption found ((self.old.rest.now ≡ []) × (self.new ≡ self.old)) (λ found. IsCutOff self.old found self.new)) }
         ensures err { IfErr result (λ fault. Refuses self.old fault) }
     {
         if self.rest.is_empty() {

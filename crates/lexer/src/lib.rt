@@ -21,8 +21,6 @@ mod token;
 pub use front::{Front, lex_front};
 pub use lexing::{Lexing, Stop};
 pub use name::is_name;
-use piece::longest_piece;
-use position::Position;
 pub use refusals::lexer::Fault;
 use std::alloc::Global;
 use syntax::Name;
@@ -41,18 +39,11 @@ pub fn lex(alloc: Global, source: &[u8]) -> Result<Vec<Token>, Fault>
     ensures every_fault { (due : Fault) → IsRefused source.now due
         → MatchResult result (λ _. ⊥) (λ fault. (fault ≡ Memory) ⊎ (fault ≡ due)) }
 {
+    let mut lexing = Lexing::new(source);
     let mut tokens = Vec::new(alloc);
-    let mut position = Position { offset: 0, line: 1 };
-    let mut rest = source;
-    while !rest.is_empty() {
-        let Some(found) = longest_piece(rest) else {
-            return Err(Fault::BadCharacter(position.offset));
-        };
-        let (text, after) = rest.split_at(found.length);
-        push_token(alloc, &mut tokens, position, found.class, text)?;
-        position = position.behind(text);
-        rest = after;
+    while let Some(found) = lexing.cut()? {
+        push_token(alloc, &mut tokens, found.position, found.class, found.text)?;
     }
-    tokens.push(Token::new(alloc, position, Kind::EndOfSource, b"", 0)?)?;
+    tokens.push(lexing.end(alloc)?)?;
     Ok(tokens)
 }

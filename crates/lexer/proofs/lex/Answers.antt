@@ -1,115 +1,90 @@
-use Rattle.std.proofs.Common.{◌≡◌, ◌≢◌, ◌+◌, ◌≤◌, [], Err, inl, inr, length, take, refl, ap, ◌⊎◌, arith, rules}
-use Rattle.std.specs.List.{count_by}
-use Rattle.std.proofs.lemmas.Bool.Decides.{nat_tests}
-use Rattle.std.proofs.lemmas.List.{nil_from_length}
-use Rattle.std.proofs.lemmas.List.Sums.{count_by-le-length}
-use Rattle.syntax.specs.Texts.{is_end}
+use Rattle.std.proofs.Common.{◌≡◌, Err, inl, inr, List, ◌⊎◌, rules}
+use Rattle.syntax.specs.Texts.{Text}
 use Rattle.lexer.specs.Refusal.{IsRefused}
-use Rattle.lexer.specs.Spelling.{NothingSpelled}
-use Rattle.lexer.specs.walking.Fronts.{IsFront, IsPieceFault}
-use Rattle.lexer.specs.walking.Reached.{Reaches}
 use Rattle.lexer.specs.Tokens.{AreTokens}
-use Rattle.refusals.specs.declared.lexer.Fault.TheVariants.{Memory, BadCharacter}
-use Rattle.lexer.specs.declared.position.Position.{Position}
-use Rattle.lexer.proofs.ReadingLemmas.{reaches_next, reaches_end, reaches_fault, piece_fault_due}
-use Rattle.lexer.proofs.UniqueLemmas.{some_front, tokens_unique, refused_unique, never_both}
+use Rattle.lexer.specs.walking.Fronts.{IsPieceFault}
+use Rattle.lexer.specs.walking.Parts.{IsCutOff}
+use Rattle.lexer.specs.declared.token.Token.{Token}
+use Rattle.refusals.specs.declared.lexer.Fault.{Fault}
+use Rattle.refusals.specs.declared.lexer.Fault.TheVariants.{Memory}
+use Rattle.lexer.proofs.PartLemmas.{at_end, bad_piece, less_left, over_piece}
+use Rattle.lexer.proofs.UniqueLemmas.{tokens_unique, refused_unique, never_both}
 use Rattle.lexer.proofs.lex.Goals as goal
-use Rattle.lexer.proofs.lex.Goals.{In-Some, After-drop-tokens, After-drop-tokens-in_err-push_token, In_ok-push}
+use Rattle.lexer.proofs.lex.Goals.{In-Some, In_ok-push}
 
--- the piece that was found is the longest at the front
-front : (c : In-Some) → IsFront c.in-Some.found.class c.in-Some.found.length c.loop-rest.rest.now
-front c = rw c.in-Some.is at c.longest_piece.ensures
+-- the piece is cut off
+cut_off : (c : In-Some) → IsCutOff c.loop-tokens.lexing c.in-Some.found c.cut.new.self
+cut_off c = rw c.in-Some.is at c.in_ok-found.ensures.ok
 
-pub loop-rest-smaller : goal.loop-rest-smaller
-loop-rest-smaller c =
-    let found = front (goal.at.loop-rest-smaller c).In-Some in
-    let some = some_front c.in-Some.found.class c.in-Some.found.length c.loop-rest.rest.now found in
-    let cut = c.split_at.ensures.back_len in
-    omega (arith, some, cut)
+pub loop-tokens-smaller : goal.loop-tokens-smaller
+loop-tokens-smaller c =
+    less_left c.loop-tokens.lexing c.cut.new.self c.in-Some.found (cut_off (goal.at.loop-tokens-smaller c).In-Some)
 
-pub loop-rest-preserved : goal.loop-rest-preserved
-loop-rest-preserved c =
-    let class = c.in-Some.found.class in
-    let n = c.in-Some.found.length in
-    let rest = c.loop-rest.rest.now in
-    let text = c.split_at.result.0.now in
-    let found = front (goal.at.loop-rest-preserved c).In-Some in
-    let readable = rw c.split_at.ensures.front at c.in_ok-push_token.ensures.readable in
-    let reached = reaches_next c.args.source.now c.loop-rest.tokens.items c.loop-rest.position rest class n c.loop-rest.invariant.reached found readable in
-    let offset : c.behind-position.result.offset ≡ c.loop-rest.position.offset + length text = ap (λ (position : Position). position.offset) c.behind-position.ensures in
-    let line : c.behind-position.result.line ≡ c.loop-rest.position.line + count_by is_end text = ap (λ (position : Position). position.line) c.behind-position.ensures in
-    let few = count_by-le-length is_end text in
-    let cut = c.split_at.ensures.back_len in
-    let front_len = c.split_at.ensures.front_len in
-    let before = c.loop-rest.invariant.offset in
-    let before_line = c.loop-rest.invariant.line in
-    record {
-      reached = rw (c.in_ok-push_token.ensures.tokens, c.behind-position.ensures, c.split_at.ensures.front, c.split_at.ensures.back) reached;
-      offset = omega (arith, offset, cut, front_len, before);
-      line = omega (arith, offset, line, few, before_line);
-    }
+pub loop-tokens-preserved : goal.loop-tokens-preserved
+loop-tokens-preserved c =
+    let over = over_piece c.loop-tokens.lexing c.cut.new.self c.in-Some.found (cut_off (goal.at.loop-tokens-preserved c).In-Some) c.in_ok-push_token.ensures.readable in
+    rw c.in_ok-push_token.ensures.tokens (over c.args.source.now c.loop-tokens.tokens.items c.loop-tokens.invariant)
 
--- nothing is spelled where no piece was found
-bad_due : (c : After-drop-tokens) → IsRefused c.args.source.now (BadCharacter c.loop-rest.position.offset)
-bad_due c =
-    let some : 1 ≤ length c.loop-rest.rest.now = grind (arith, nat_tests) in
-    let nonempty : c.loop-rest.rest.now ≢ [] = λ e. absurd (omega (arith, some, ap length e)) in
-    let nothing : NothingSpelled c.loop-rest.rest.now = c.in_default.ensures in
-    reaches_fault c.args.source.now c.loop-rest.tokens.items c.loop-rest.position c.loop-rest.rest.now (BadCharacter c.loop-rest.position.offset) c.loop-rest.invariant.reached (refl, nonempty, nothing)
+-- a fault that is told is memory's where the source has tokens
+no_other : (source : Text) (fault : Fault) → (fault ≡ Memory) ⊎ IsRefused source fault → (tokens : List Token) → AreTokens source tokens → fault ≡ Memory
+no_other source fault told tokens read = elim told [
+  | inl memory ↦ memory
+  | inr refused ↦ absurd (never_both source tokens fault read refused)
+]
 
-pub returns-in_default-clause-fault : goal.returns-in_default-clause-fault
-returns-in_default-clause-fault c = inr (bad_due c)
+-- and the one that is due where it has none
+the_due : (source : Text) (fault : Fault) → (fault ≡ Memory) ⊎ IsRefused source fault → (due : Fault) → IsRefused source due → (fault ≡ Memory) ⊎ (fault ≡ due)
+the_due source fault told due refused = elim told [
+  | inl memory ↦ inl memory
+  | inr here ↦ inr (refused_unique source fault due here refused)
+]
 
-pub returns-in_default-clause-every_source : goal.returns-in_default-clause-every_source
-returns-in_default-clause-every_source c tokens read =
-    absurd (never_both c.args.source.now tokens (BadCharacter c.loop-rest.position.offset) read (bad_due c))
+pub returns-in_err-found-clause-fault : goal.returns-in_err-found-clause-fault
+returns-in_err-found-clause-fault c =
+    let is : c.from_residual.result ≡ Err c.in_err-found.field-0.0 = search rules in
+    rw is (inr (c.in_err-found.ensures.err c.args.source.now c.loop-tokens.tokens.items c.loop-tokens.invariant))
 
-pub returns-in_default-clause-every_fault : goal.returns-in_default-clause-every_fault
-returns-in_default-clause-every_fault c due refused =
-    inr (refused_unique c.args.source.now (BadCharacter c.loop-rest.position.offset) due (bad_due c) refused)
+pub returns-in_err-found-clause-every_source : goal.returns-in_err-found-clause-every_source
+returns-in_err-found-clause-every_source c tokens read =
+    let is : c.from_residual.result ≡ Err c.in_err-found.field-0.0 = search rules in
+    rw is (no_other c.args.source.now c.in_err-found.field-0.0 (inr (c.in_err-found.ensures.err c.args.source.now c.loop-tokens.tokens.items c.loop-tokens.invariant)) tokens read)
+
+pub returns-in_err-found-clause-every_fault : goal.returns-in_err-found-clause-every_fault
+returns-in_err-found-clause-every_fault c due refused =
+    let is : c.from_residual.result ≡ Err c.in_err-found.field-0.0 = search rules in
+    rw is (the_due c.args.source.now c.in_err-found.field-0.0 (inr (c.in_err-found.ensures.err c.args.source.now c.loop-tokens.tokens.items c.loop-tokens.invariant)) due refused)
 
 -- a piece that is a fault is refused, unless memory is out
-piece_refused : (c : After-drop-tokens-in_err-push_token) → (c.in_err-push_token.field-0.0 ≡ Memory) ⊎ IsRefused c.args.source.now c.in_err-push_token.field-0.0
-piece_refused c = elim c.in_err-push_token.ensures.err [
+piece_refused : (c : In-Some) (fault : Fault) → (fault ≡ Memory) ⊎ IsPieceFault c.in-Some.found.position.offset c.in-Some.found.class c.in-Some.found.text.now fault → (fault ≡ Memory) ⊎ IsRefused c.args.source.now fault
+piece_refused c fault told = elim told [
   | inl memory ↦ inl memory
-  | inr piece ↦
-      let fault = c.in_err-push_token.field-0.0 in
-      let class = c.in-Some.found.class in
-      let n = c.in-Some.found.length in
-      let rest = c.loop-rest.rest.now in
-      let here : IsPieceFault c.loop-rest.position.offset class (take n rest) fault = rw c.split_at.ensures.front at piece in
-      let due = piece_fault_due c.loop-rest.position.offset class n rest fault c.in-Some.ensures here in
-      inr (reaches_fault c.args.source.now c.loop-rest.tokens.items c.loop-rest.position rest fault c.loop-rest.invariant.reached due)
+  | inr bad ↦ inr (bad_piece c.loop-tokens.lexing c.cut.new.self c.in-Some.found fault (cut_off c) bad c.args.source.now c.loop-tokens.tokens.items c.loop-tokens.invariant)
 ]
 
 pub returns-in_err-push_token-clause-fault : goal.returns-in_err-push_token-clause-fault
 returns-in_err-push_token-clause-fault c =
-    let is : c.from_residual.result ≡ Err c.in_err-push_token.field-0.0 = search rules in
-    rw is (piece_refused c)
+    let fault = c.in_err-push_token.field-0.0 in
+    let is : c.from_residual-in_err-push_token.result ≡ Err fault = search rules in
+    rw is (piece_refused (goal.at.returns-in_err-push_token-clause-fault c).In-Some fault c.in_err-push_token.ensures.err)
 
 pub returns-in_err-push_token-clause-every_source : goal.returns-in_err-push_token-clause-every_source
 returns-in_err-push_token-clause-every_source c tokens read =
-    let is : c.from_residual.result ≡ Err c.in_err-push_token.field-0.0 = search rules in
-    rw is (elim (piece_refused c) [
-      | inl memory ↦ memory
-      | inr refused ↦ absurd (never_both c.args.source.now tokens c.in_err-push_token.field-0.0 read refused)
-    ])
+    let fault = c.in_err-push_token.field-0.0 in
+    let is : c.from_residual-in_err-push_token.result ≡ Err fault = search rules in
+    rw is (no_other c.args.source.now fault (piece_refused (goal.at.returns-in_err-push_token-clause-every_source c).In-Some fault c.in_err-push_token.ensures.err) tokens read)
 
 pub returns-in_err-push_token-clause-every_fault : goal.returns-in_err-push_token-clause-every_fault
 returns-in_err-push_token-clause-every_fault c due refused =
-    let is : c.from_residual.result ≡ Err c.in_err-push_token.field-0.0 = search rules in
-    rw is (elim (piece_refused c) [
-      | inl memory ↦ inl memory
-      | inr here ↦ inr (refused_unique c.args.source.now c.in_err-push_token.field-0.0 due here refused)
-    ])
+    let fault = c.in_err-push_token.field-0.0 in
+    let is : c.from_residual-in_err-push_token.result ≡ Err fault = search rules in
+    rw is (the_due c.args.source.now fault (piece_refused (goal.at.returns-in_err-push_token-clause-every_fault c).In-Some fault c.in_err-push_token.ensures.err) due refused)
 
 -- at the end of the source the tokens are its own
 all_read : (c : In_ok-push) → AreTokens c.args.source.now c.push.new.self.items
 all_read c =
-    let none : length c.loop-rest.rest.now ≡ 0 = grind (arith, nat_tests) in
-    let end : c.loop-rest.rest.now ≡ [] = nil_from_length c.loop-rest.rest.now none in
-    let reached : Reaches c.args.source.now c.loop-rest.tokens.items c.loop-rest.position [] = rw end at c.loop-rest.invariant.reached in
-    rw (c.in_ok-push.ensures.items, c.in_ok-new.ensures) (reaches_end c.args.source.now c.loop-rest.tokens.items c.loop-rest.position reached)
+    let here = c.loop-tokens.lexing in
+    let stands = rw c.in_default.is at c.in_ok-found.ensures.ok in
+    rw (c.in_ok-push.ensures.items, c.in_ok-end.ensures, stands.1) (at_end here stands.0 c.args.source.now c.loop-tokens.tokens.items c.loop-tokens.invariant)
 
 pub returns-clause-tokens : goal.returns-clause-tokens
 returns-clause-tokens c = all_read c

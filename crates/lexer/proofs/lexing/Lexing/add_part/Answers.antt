@@ -1,4 +1,4 @@
-use Rattle.std.proofs.Common.{◌≡◌, ◌++◌, ◌≤◌, [], ◌∷◌, Err, Some, None, inl, inr, sym, ◌∙◌, arith, rules}
+use Rattle.std.proofs.Common.{◌≡◌, ◌++◌, [], ◌∷◌, Err, Some, None, inl, inr, sym, ◌∙◌, arith, rules}
 use Rattle.lexer.specs.Tokens.{IsReadable, token_at, token_of}
 use Rattle.lexer.specs.walking.Parts.{IsCutOff}
 use Rattle.lexer.specs.declared.token.Kind.TheVariants.{EndOfSource}
@@ -14,9 +14,9 @@ pub returns-in_default-clause-part : goal.returns-in_default-clause-part
 returns-in_default-clause-part c =
     let here = c.loop-left.self in
     let part = c.loop-left.part.items in
-    let none : here.rest.now ≡ [] = rw c.in_default.is at c.in_ok-found.ensures.ok in
+    let stands = rw c.in_default.is at c.in_ok-found.ensures.ok in
     let more : c.push.new.self.items ≡ part ++ token_at here.position EndOfSource [] 0 ∷ [] = rw c.in_ok-end.ensures at c.in_ok-push.ensures.items in
-    part_at_end c.args.self.now c.args.part.now.items c.args.most here here part c.push.new.self.items c.loop-left.left c.loop-left.invariant none more (omega arith)
+    part_at_end c.args.self.now c.args.part.now.items c.args.most here here part c.push.new.self.items c.loop-left.left c.loop-left.invariant stands.0 more (omega arith)
 
 pub returns-in_err-token-clause-fault : goal.returns-in_err-token-clause-fault
 returns-in_err-token-clause-fault c =

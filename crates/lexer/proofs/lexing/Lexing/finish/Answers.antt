@@ -32,6 +32,6 @@ returns-in_err-refuse_piece-clause-fault c =
 pub returns-clause-read : goal.returns-clause-read
 returns-clause-read c source before read =
     let here = c.loop-found.self in
-    let none : here.rest.now ≡ [] = rw c.in_default.is at c.in_ok-found.ensures.ok in
+    let stands = rw c.in_default.is at c.in_ok-found.ensures.ok in
     let last = token_at here.position EndOfSource [] 0 ∷ [] in
-    (c.loop-found.invariant.0 ++ last, goes_to_end c.args.self here c.loop-found.invariant.0 last c.loop-found.invariant.1 (at_end here none) source before read)
+    (c.loop-found.invariant.0 ++ last, goes_to_end c.args.self here c.loop-found.invariant.0 last c.loop-found.invariant.1 (at_end here stands.0) source before read)
