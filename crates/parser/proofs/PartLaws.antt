@@ -1,6 +1,6 @@
 -- That a description may be parsed part by part, for callers that do: `opens` for the first part, `opens_on` for each further one.
 -- Such a part is read behind the others as alone, since `procedure` ends what was read before it, and each procedure closes all its levels.
-use Rattle.std.proofs.Common.{◌≡◌, inl, inr, ℕ, zero, suc, ◌<◌, Bool, true, false, List, [], ◌∷◌, ◌++◌, length, refl, sym, ◌∙◌, ap, subst, append_assoc}
+use Rattle.std.proofs.Common.{◌≡◌, ◌≢◌, inl, inr, ℕ, zero, suc, ◌<◌, Bool, true, false, List, [], ◌∷◌, ◌++◌, length, refl, sym, ◌∙◌, ap, subst, append_assoc}
 use Rattle.std.specs.Prelude.{if◌then◌else◌}
 use Rattle.std.proofs.lemmas.Bool.{false≢true}
 use Rattle.std.proofs.lemmas.List.Elements.{All-head, All-tail}
@@ -17,7 +17,8 @@ use Rattle.parser.specs.Accepted.{most_levels, IsRefused, Parses, FirstUnexpecte
 use Rattle.parser.specs.Input.{Input, input, next, is_one_of, same_kind}
 use Rattle.parser.specs.Offsets.{end_of, offset_at}
 use Rattle.parser.specs.Rules.{Rule, bind as bind_rule, pure as pure_rule, turns, repeat as repeat_rule}
-use Rattle.parser.specs.walking.Parts.{begins_procedure, is_no_end, has_no_end, joined, Opens}
+use Rattle.parser.specs.walking.Parts.{BeginsProcedure, joined, Opens}
+use Rattle.lexer.specs.walking.Parts.{HasNoEnd}
 use Rattle.parser.specs.walking.Readers.{Outcome, Reader, read, unexpected, too_deep, and_then, bind, pure, branch, repeat, repeat_from, whole}
 use Rattle.parser.specs.Grammar as g
 use Rattle.parser.specs.walking.Reading as r
@@ -207,17 +208,17 @@ outcome_joined given (unexpected rest) = refl
 outcome_joined given (too_deep rest) = refl
 
 -- nothing is left where no token is an end
-nothing_left : (front rest : List Token) → has_no_end (front ++ rest) → next rest ≡ EndOfSource → rest ≡ []
+nothing_left : (front rest : List Token) → HasNoEnd (front ++ rest) → next rest ≡ EndOfSource → rest ≡ []
 nothing_left [] [] none e = refl
-nothing_left [] (token ∷ rest) none e = absurd (All-head is_no_end token rest none e)
-nothing_left (token ∷ front) rest none e = nothing_left front rest (All-tail is_no_end token (front ++ rest) none) e
+nothing_left [] (token ∷ rest) none e = absurd (All-head (λ (token : Token). token.kind ≢ EndOfSource) token rest none e)
+nothing_left (token ∷ front) rest none e = nothing_left front rest (All-tail (λ (token : Token). token.kind ≢ EndOfSource) token (front ++ rest) none) e
 
 -- a description with no end in it goes to its last token, and there as many levels may be opened as at the beginning
-whole_part : (before : List Token) (given : Description) → Parses before given → has_no_end before → g.description most_levels (input most_levels before) given (input most_levels [])
+whole_part : (before : List Token) (given : Description) → Parses before given → HasNoEnd before → g.description most_levels (input most_levels before) given (input most_levels [])
 whole_part before given s none =
     let stops : is_one_of (kind.ProcedureWord ∷ []) (next s.rest) ≡ false = ap (is_one_of (kind.ProcedureWord ∷ [])) s.at_end ∙ no_end_begins in
     let t = taken (description_full most_levels).laws (input most_levels before) given (input s.unclosed s.rest) s.spelled stops in
-    let nothing : s.rest ≡ [] = nothing_left t.front s.rest (subst has_no_end t.is_front none) s.at_end in
+    let nothing : s.rest ≡ [] = nothing_left t.front s.rest (subst HasNoEnd t.is_front none) s.at_end in
     let levels : most_levels ≡ s.unclosed = (description_balanced most_levels).levels (input most_levels before) given (input s.unclosed s.rest) s.spelled in
     subst (λ rest. g.description most_levels (input most_levels before) given (input most_levels rest)) nothing
     (subst (λ unclosed. g.description most_levels (input most_levels before) given (input unclosed s.rest)) (sym levels) s.spelled)
@@ -236,17 +237,17 @@ offset_behind before (first ∷ part) (token ∷ rest) begins = refl
 
 -- ---- the laws
 
-procedure_first : (part : List Token) → begins_procedure part → is_one_of (kind.ProcedureWord ∷ []) (next part) ≡ true
+procedure_first : (part : List Token) → BeginsProcedure part → is_one_of (kind.ProcedureWord ∷ []) (next part) ≡ true
 unfolding same_kind
 procedure_first part begins = ap (is_one_of (kind.ProcedureWord ∷ [])) begins
 
-module _ (part : List Token) (begins : begins_procedure part) where
+module _ (part : List Token) (begins : BeginsProcedure part) where
   part_outcome : outcome part ≡ and_then (and_then (r.procedures most_levels (input most_levels part)) (described [])) to_end
   unfolding whole
   part_outcome = ap (λ o. and_then o to_end) (description_alone most_levels part (procedure_first part begins) most_levels)
 
   -- reading goes on behind a description as in the part alone
-  outcome_on : (before : List Token) (given : Description) → Parses before given → has_no_end before → outcome (before ++ part) ≡ and_then (outcome part) (joining given)
+  outcome_on : (before : List Token) (given : Description) → Parses before given → HasNoEnd before → outcome (before ++ part) ≡ and_then (outcome part) (joining given)
   unfolding whole
   outcome_on before given s none =
       let first : is_one_of (kind.ProcedureWord ∷ []) (next part) ≡ true = procedure_first part begins in
@@ -272,11 +273,11 @@ no_types_in (read procedures j) = no_types_read (same_kind (next j.tokens) EndOf
 no_types_in (unexpected rest) = refl
 no_types_in (too_deep rest) = refl
 
-part_no_types : (part : List Token) → begins_procedure part → (more : Description) → Parses part more → more.types ≡ []
+part_no_types : (part : List Token) → BeginsProcedure part → (more : Description) → Parses part more → more.types ≡ []
 part_no_types part begins more s =
     ap types_of (sym (every_description part more s).1) ∙ ap types_of (part_outcome part begins) ∙ no_types_in (r.procedures most_levels (input most_levels part))
 
-refused_behind : (before part : List Token) (given : Description) → outcome (before ++ part) ≡ and_then (outcome part) (joining given) → begins_procedure part → (fault : Fault) → IsRefused part fault → IsRefused (before ++ part) fault
+refused_behind : (before part : List Token) (given : Description) → outcome (before ++ part) ≡ and_then (outcome part) (joining given) → BeginsProcedure part → (fault : Fault) → IsRefused part fault → IsRefused (before ++ part) fault
 refused_behind before part given same begins Memory refusal = absurd refusal
 refused_behind before part given same begins (Unexpected offset) refusal =
     let found = every_unexpected part offset refusal in
@@ -288,7 +289,7 @@ refused_behind before part given same begins (TooDeep offset) refusal =
     (too_deep_first (before ++ part) found.0 (same ∙ ap (λ o. and_then o (joining given)) found.1))
 
 -- Behind a description with no end in it a part is what it is alone.
-pub opens : (before : List Token) (given : Description) → Parses before given → has_no_end before → Opens before given
+pub opens : (before : List Token) (given : Description) → Parses before given → HasNoEnd before → Opens before given
 opens before given s none = record {
   parses = λ part begins more p.
       let found = every_description part more p in
@@ -297,7 +298,7 @@ opens before given s none = record {
   refused = λ part begins fault refusal. refused_behind before part given (outcome_on part begins before given s none) begins fault refusal;
 }
 
-pub begins_on : (part later : List Token) → begins_procedure part → begins_procedure (part ++ later)
+pub begins_on : (part later : List Token) → BeginsProcedure part → BeginsProcedure (part ++ later)
 begins_on [] later begins = absurd (false≢true (sym no_end_begins ∙ procedure_first [] begins))
 begins_on (token ∷ part) later begins = begins
 
@@ -308,7 +309,7 @@ joined_twice given more most =
 
 -- So it is with one part more.
 pub opens_on :
-    (before : List Token) (given : Description) (part : List Token) (more : Description) → Opens before given → begins_procedure part → Parses part more → has_no_end part →
+    (before : List Token) (given : Description) (part : List Token) (more : Description) → Opens before given → BeginsProcedure part → Parses part more → HasNoEnd part →
     Opens (before ++ part) (joined given more)
 opens_on before given part more opened begins p none =
     let last = opens part more p none in

@@ -52,12 +52,3 @@ refuses_last old part (no_description.Unexpected offset) ends h = λ source befo
 refuses_last old part (no_description.TooDeep offset) ends h = λ source before read.
     ([], AreTokens_by source (before ++ part) (before ++ (part ++ [])) (ap (λ (t : List Token). before ++ t) (sym (append-nil part))) (ends source before read),
     elim h [ inl e ↦ absurd (cc) | inr refused ↦ refused [] ])
-
--- two parts, one behind the other
-pub goes_on : (old mid new : Lexing) (first second : List Token) → Goes old first mid → Goes mid second new → Goes old (first ++ second) new
-goes_on old mid new first second goes more = λ source before read.
-    subst (λ tokens. HasRead source tokens new) (append_assoc before first second) (more source (before ++ first) (goes source before read))
-
-pub goes_to_end : (old mid : Lexing) (first second : List Token) → Goes old first mid → Ends mid second → Ends old (first ++ second)
-goes_to_end old mid first second goes ends = λ source before read.
-    AreTokens_by source ((before ++ first) ++ second) (before ++ (first ++ second)) (append_assoc before first second) (ends source (before ++ first) (goes source before read))

@@ -7,8 +7,8 @@ use Rattle.lexer.specs.declared.token.Token.{Token}
 use Rattle.lexer.specs.walking.Parts.{HasRead, HasNoEnd, Goes, Ends, Refuses}
 use Rattle.parser.specs.Accepted as parser
 use Rattle.parser.specs.Input.{next}
-use Rattle.parser.specs.walking.Parts.{Opens, begins_procedure, joined}
-use Rattle.parser.proofs.PartLaws.{opens, opens_on}
+use Rattle.parser.specs.walking.Parts.{Opens, BeginsProcedure, joined}
+use Rattle.parser.proofs.PartLaws.{begins_on, opens, opens_on}
 use Rattle.refusals.specs.declared.lexer.Fault as lexer_fault
 use Rattle.refusals.specs.declared.lexer.Fault.TheVariants as no_tokens
 use Rattle.refusals.specs.declared.parser.Fault as parser_fault
@@ -66,11 +66,6 @@ unparsed source tokens slice (no_description.TooDeep offset) cut same h = (slice
 
 -- ---- parts
 
--- more tokens behind a part do not change how it begins
-begins_on : (part later : List Token) → begins_procedure part → begins_procedure (part ++ later)
-begins_on [] later e = absurd (cc)
-begins_on (token ∷ part) later e = e
-
 -- the first part refuses the source
 refused_part : (source : List ℕ) (old : Lexing) (part : List Token) (fault : Fault) → HasRead source [] old → RefusesPart old part fault → IsRefused source fault
 refused_part source old part Fault.Memory read refuses = tt
@@ -83,7 +78,7 @@ refused_first source old fault read (part, _, refuses) = refused_part source old
 
 -- a later part refuses the source
 refused_behind : (source : List ℕ) (old : Lexing) (before : List Token) (given : Description) (part : List Token) (fault : Fault)
-    → HasRead source before old → Opens before given → begins_procedure part → RefusesPart old part fault → IsRefused source fault
+    → HasRead source before old → Opens before given → BeginsProcedure part → RefusesPart old part fault → IsRefused source fault
 refused_behind source old before given part Fault.Memory read opens begins refuses = tt
 refused_behind source old before given part (Fault.Lexer fault) read opens begins refuses = refuses source before read
 refused_behind source old before given part (Fault.Parser fault) read opens begins refuses =

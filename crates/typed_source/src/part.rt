@@ -4,7 +4,7 @@ ghost use Rattle.std.specs.Prelude.{◌≡◌, Bool, true, false, List, IfSome, 
 ghost use Rattle.lexer.specs.declared.lexing.Lexing.{Lexing};
 ghost use Rattle.lexer.specs.declared.token.Token.{Token};
 ghost use Rattle.parser.specs.Accepted.{Parses};
-ghost use Rattle.parser.specs.walking.Parts.{begins_procedure};
+ghost use Rattle.parser.specs.walking.Parts.{BeginsProcedure};
 ghost use Rattle.typed_source.specs.walking.InParts.{IsNext, ReadsPart, RefusesPart, RefusesNext};
 
 use crate::Fault;
@@ -26,7 +26,7 @@ pub(crate) struct Part {
 
 /// Whether the tokens begin with the word `procedure`.
 fn begins_procedure(tokens: &[Token]) -> bool
-    ensures { IsTrue result → begins_procedure tokens.now }
+    ensures { IsTrue result → BeginsProcedure tokens.now }
 {
     match tokens.first() {
         Some(token) => matches!(token.kind, Kind::ProcedureWord),

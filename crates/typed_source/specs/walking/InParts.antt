@@ -6,7 +6,7 @@ use Rattle.lexer.specs.declared.lexing.Lexing.{Lexing}
 use Rattle.lexer.specs.declared.token.Token.{Token}
 use Rattle.lexer.specs.walking.Parts.{HasRead, HasNoEnd, Goes, Ends, Refuses}
 use Rattle.parser.specs.Accepted as parser
-use Rattle.parser.specs.walking.Parts.{Opens, begins_procedure}
+use Rattle.parser.specs.walking.Parts.{Opens, BeginsProcedure}
 use Rattle.refusals.specs.declared.lexer.Fault as lexer_fault
 use Rattle.syntax.specs.declared.declaration.Description.{Description}
 use Rattle.types.specs.declared.typing.Typing.{Typing}
@@ -31,12 +31,12 @@ RefusesPart old part (Fault.Types fault) = ⊥
 -- the same of whatever part comes next, of which the first token is known where one has to be
 abbrev pub RefusesNext : Bool → Lexing → Fault → Type 0
 RefusesNext is_first old fault =
-    (part : List Token) × (is_first ≡ false → begins_procedure part) × RefusesPart old part fault
+    (part : List Token) × (is_first ≡ false → BeginsProcedure part) × RefusesPart old part fault
 
 -- the part is read between the two, and a first token is known where one has to be
 abbrev pub IsNext : Bool → Lexing → Part → Lexing → Type 0
 IsNext is_first old part new =
-    (tokens : List Token) × (is_first ≡ false → begins_procedure tokens) × ReadsPart part.is_last old tokens new × parser.Parses tokens part.description
+    (tokens : List Token) × (is_first ≡ false → BeginsProcedure tokens) × ReadsPart part.is_last old tokens new × parser.Parses tokens part.description
 
 -- the tokens read so far are this description, and its types and procedures are judged
 pub record Stands (source : List ℕ) (is_last : Bool) (lexing : Lexing) (typing : Typing) : Type 0 where
