@@ -1,13 +1,13 @@
 -- From the parts to the whole source.
-use Rattle.std.proofs.Common.{◌≡◌, ◌≢◌, ◌⊎◌, inl, inr, ℕ, Bool, true, false, List, Ok, [], ◌∷◌, ◌++◌, refl, sym, ◌∙◌, ap, subst, append_assoc, append-nil}
+use Rattle.std.proofs.Common.{◌≡◌, ◌≢◌, ◌⊎◌, inl, inr, ℕ, Bool, true, false, List, Result, Ok, Err, [], ◌++◌, refl, sym, subst}
+use Rattle.std.specs.Result.{IfErr, IsErrAnd}
 use Rattle.lexer.specs.Tokens.{AreTokens}
 use Rattle.lexer.specs.Refusal as lexer
 use Rattle.lexer.specs.declared.lexing.Lexing.{Lexing}
 use Rattle.lexer.specs.declared.token.Token.{Token}
-use Rattle.lexer.specs.walking.Parts.{HasRead, HasNoEnd, Goes, Ends, Refuses}
+use Rattle.lexer.specs.walking.Parts.{HasRead}
 use Rattle.parser.specs.Accepted as parser
-use Rattle.parser.specs.Input.{next}
-use Rattle.parser.specs.walking.Parts.{Opens, BeginsProcedure, joined}
+use Rattle.parser.specs.walking.Parts.{joined}
 use Rattle.parser.proofs.PartLaws.{begins_on, opens, opens_on}
 use Rattle.refusals.specs.declared.lexer.Fault as lexer_fault
 use Rattle.refusals.specs.declared.lexer.Fault.TheVariants as no_tokens
@@ -20,11 +20,11 @@ use Rattle.types.specs.Declarations.{found_description}
 use Rattle.types.specs.Findings as types
 use Rattle.types.specs.declared.typing.Typing.{Typing}
 use Rattle.types.specs.walking.Judged.{Judges}
-use Rattle.typed_source.specs.Source.{Describes, IsTyped, IsRefused}
+use Rattle.typed_source.specs.Source.{Describes, IsRefused}
 use Rattle.typed_source.specs.Wrapping.{of_lexer, of_parser, of_types}
 use Rattle.typed_source.specs.declared.fault.Fault.{Fault}
 use Rattle.typed_source.specs.declared.part.Part.{Part}
-use Rattle.typed_source.specs.walking.InParts.{ReadsPart, RefusesPart, RefusesNext, IsNext, Stands}
+use Rattle.typed_source.specs.walking.InParts.{ReadsPart, RefusesNext, IsNext, Stands}
 
 -- a fault of typing is want of memory or another one
 other_than_memory : (fault : types_fault.Fault) → (of_types fault ≡ Fault.Memory) ⊎ ((of_types fault ≡ Fault.Types fault) × (fault ≢ not_typed.Memory))
@@ -67,28 +67,20 @@ unparsed source tokens slice (no_description.TooDeep offset) cut same h = (slice
 -- ---- parts
 
 -- the first part refuses the source
-refused_part : (source : List ℕ) (old : Lexing) (part : List Token) (fault : Fault) → HasRead source [] old → RefusesPart old part fault → IsRefused source fault
-refused_part source old part Fault.Memory read refuses = tt
-refused_part source old part (Fault.Lexer fault) read refuses = refuses source [] read
-refused_part source old part (Fault.Parser fault) read refuses = let (later, tokens, refused) = refuses source [] read in (part ++ later, tokens, refused)
-refused_part source old part (Fault.Types fault) read refuses = absurd refuses
-
 pub refused_first : (source : List ℕ) (old : Lexing) (fault : Fault) → HasRead source [] old → RefusesNext true old fault → IsRefused source fault
-refused_first source old fault read (part, _, refuses) = refused_part source old part fault read refuses
+refused_first source old Fault.Memory read refuses = tt
+refused_first source old (Fault.Lexer fault) read refuses = refuses source [] read
+refused_first source old (Fault.Parser fault) read (part, _, refuses) = let (later, tokens, refused) = refuses source [] read in (part ++ later, tokens, refused)
+refused_first source old (Fault.Types fault) read refuses = absurd refuses
 
 -- a later part refuses the source
-refused_behind : (source : List ℕ) (old : Lexing) (before : List Token) (given : Description) (part : List Token) (fault : Fault)
-    → HasRead source before old → Opens before given → BeginsProcedure part → RefusesPart old part fault → IsRefused source fault
-refused_behind source old before given part Fault.Memory read opens begins refuses = tt
-refused_behind source old before given part (Fault.Lexer fault) read opens begins refuses = refuses source before read
-refused_behind source old before given part (Fault.Parser fault) read opens begins refuses =
-    let (later, tokens, refused) = refuses source before read in
-    (before ++ (part ++ later), tokens, opens.refused (part ++ later) (begins_on part later begins) fault refused)
-refused_behind source old before given part (Fault.Types fault) read opens begins refuses = absurd refuses
-
 pub refused_next : (source : List ℕ) (old : Lexing) (typing : Typing) (fault : Fault) → Stands source false old typing → RefusesNext false old fault → IsRefused source fault
-refused_next source old typing fault stands (part, begins, refuses) =
-    refused_behind source old stands.before stands.given part fault (stands.some refl).0 (stands.some refl).1 (begins refl) refuses
+refused_next source old typing Fault.Memory stands refuses = tt
+refused_next source old typing (Fault.Lexer fault) stands refuses = refuses source stands.before (stands.some refl).0
+refused_next source old typing (Fault.Parser fault) stands (part, begins, refuses) =
+    let (later, tokens, refused) = refuses source stands.before (stands.some refl).0 in
+    (stands.before ++ (part ++ later), tokens, (stands.some refl).1.refused (part ++ later) (begins_on part later (begins refl)) fault refused)
+refused_next source old typing (Fault.Types fault) stands refuses = absurd refuses
 
 -- behind the first part
 pub stands_first : (source : List ℕ) (old new : Lexing) (part : Part) (typing : Typing) → HasRead source [] old → IsNext true old part new → Judges typing part.description
@@ -104,8 +96,10 @@ pub stands_next : (source : List ℕ) (old new : Lexing) (part : Part) (typing t
 stands_next source old new part typing typing' stands (tokens, begins, reads, parses) judges = go part.is_last reads where
   both : List Token
   both = stands.before ++ tokens
+
   given : Description
   given = joined stands.given part.description
+
   go : (is_last : Bool) → ReadsPart is_last old tokens new → Stands source is_last new typing'
   go true reads = record {
     before = both;
@@ -125,3 +119,8 @@ stands_next source old new part typing typing' stands (tokens, begins, reads, pa
 -- behind the last part
 pub described : (source : List ℕ) (lexing : Lexing) (typing : Typing) (stands : Stands source true lexing typing) → Describes source stands.given
 described source lexing typing stands = (stands.before, (stands.all refl).0, (stands.all refl).1)
+
+-- a fault that was handed on is what it was made of
+pub told : {A : Type 0} (r : Result A Fault) (fault : Fault) (P : Fault → Type 0) → IsErrAnd r (λ given. given ≡ fault) → P fault → IfErr r P
+told (Ok a) fault P e p = tt
+told (Err given) fault P e p = subst P (sym e) p

@@ -20,6 +20,7 @@ pub enum Fault {
     #[error("{0}")]
     Types(types::Fault),
 }
+
 impl From<lexer::Fault> for Fault {
     ghost from_gives = { λ fault wrapped. wrapped ≡ of_lexer fault };
 

@@ -5,7 +5,7 @@ ghost use Rattle.lexer.specs.declared.lexing.Lexing.{Lexing};
 ghost use Rattle.lexer.specs.declared.token.Token.{Token};
 ghost use Rattle.parser.specs.Accepted.{Parses};
 ghost use Rattle.parser.specs.walking.Parts.{BeginsProcedure};
-ghost use Rattle.typed_source.specs.walking.InParts.{IsNext, ReadsPart, RefusesPart, RefusesNext};
+ghost use Rattle.typed_source.specs.walking.InParts.{IsNext, ReadsOn, ReadsPart, RefusesPart, RefusesNext, is_end};
 
 use crate::Fault;
 use lexer::{Kind, Lexing, Stop, Token};
@@ -35,13 +35,8 @@ fn begins_procedure(tokens: &[Token]) -> bool
 }
 
 /// Refuses the tokens that were read last where no description goes on with them. `lexing` stands behind them.
-fn refuse(
-    alloc: Global,
-    lexing: Lexing<'_>,
-    is_last: bool,
-    tokens: &[Token],
-) -> Result<(), Fault>
-    ensures { (old : Lexing) → ReadsPart is_last old tokens.now lexing → IfErr result (λ fault. RefusesPart old tokens.now fault) }
+fn refuse(alloc: Global, lexing: Lexing<'_>, is_last: bool, tokens: &[Token]) -> Result<(), Fault>
+    ensures { (old : Lexing) → ReadsPart is_last old tokens.now lexing.entry → IfErr result (λ fault. RefusesPart old tokens.now fault) }
 {
     let Some(fault) = refusal_within(alloc, tokens) else {
         return Ok(());
@@ -52,18 +47,33 @@ fn refuse(
     Err(Fault::from(fault))
 }
 
-/// Reads up to where the procedure ends that the tokens end in, if it ends.
-fn read_on(
-    alloc: Global,
-    lexing: &mut Lexing<'_>,
-    tokens: &mut Vec<Token>,
-) -> Result<bool, Fault>
-    ensures read { (old : Lexing) → ReadsPart false old tokens.old.items lexing.old → IfOk result (λ is_last. ReadsPart is_last old tokens.new.items lexing.new) }
+/// Adds what is missing of a part that was cut short, and tells whether it is the last.
+fn read_on(alloc: Global, lexing: &mut Lexing<'_>, tokens: &mut Vec<Token>) -> Result<bool, Fault>
+    ensures read { (old : Lexing) → ReadsPart false old tokens.old.items lexing.old
+        → IfOk result (λ is_last. ReadsOn is_last old tokens.old.items tokens.new.items lexing.new) }
     ensures fault { (old : Lexing) → ReadsPart false old tokens.old.items lexing.old → IfErr result (λ fault. RefusesPart old tokens.old.items fault) }
 {
     refuse(alloc, *lexing, false, tokens.as_slice())?;
     let stop = lexing.add_part(alloc, tokens, usize::MAX)?;
     Ok(matches!(stop, Stop::End))
+}
+
+/// Reads the part that begins with these tokens, behind which reading stopped so, and tells whether it is the last.
+fn read_whole(
+    alloc: Global,
+    lexing: &mut Lexing<'_>,
+    tokens: &mut Vec<Token>,
+    stop: Stop,
+) -> Result<bool, Fault>
+    ensures read { (old : Lexing) → ReadsPart (is_end stop) old tokens.old.items lexing.old
+        → IfOk result (λ is_last. ReadsOn is_last old tokens.old.items tokens.new.items lexing.new) }
+    ensures fault { (old : Lexing) → ReadsPart (is_end stop) old tokens.old.items lexing.old → IfErr result (λ fault. RefusesPart old tokens.old.items fault) }
+{
+    match stop {
+        Stop::Full => read_on(alloc, lexing, tokens),
+        Stop::Procedure => Ok(false),
+        Stop::End => Ok(true),
+    }
 }
 
 /// The tree of the tokens that were read last. None: they alone do not tell.
@@ -74,10 +84,13 @@ fn tree_of(
     tokens: &[Token],
 ) -> Result<Option<Part>, Fault>
     ensures read { IfOk result (λ read. IfSome read (λ part. (part.is_last ≡ is_last) × Parses tokens.now part.description)) }
-    ensures fault { (old : Lexing) → ReadsPart is_last old tokens.now lexing → IfErr result (λ fault. RefusesPart old tokens.now fault) }
+    ensures fault { (old : Lexing) → ReadsPart is_last old tokens.now lexing.entry → IfErr result (λ fault. RefusesPart old tokens.now fault) }
 {
     match parse(alloc, tokens) {
-        Ok(description) => Ok(Some(Part { description, is_last })),
+        Ok(description) => Ok(Some(Part {
+            description,
+            is_last,
+        })),
         Err(parser::Fault::Memory) => Err(Fault::Memory),
         Err(_) => {
             refuse(alloc, lexing, is_last, tokens)?;
@@ -102,10 +115,6 @@ pub(crate) fn next_part(
     if !is_first && !begins_procedure(tokens.as_slice()) {
         return Ok(None);
     }
-    let is_last = match stop {
-        Stop::Full => read_on(alloc, lexing, &mut tokens)?,
-        Stop::Procedure => false,
-        Stop::End => true,
-    };
+    let is_last = read_whole(alloc, lexing, &mut tokens, stop)?;
     tree_of(alloc, *lexing, is_last, tokens.as_slice())
 }

@@ -1,13 +1,14 @@
 -- A source that is typed part by part: what is known behind each part.
 -- No reader has to believe it: where the last part is read, it comes to `IsTyped` and `IsRefused` of `Source.antt`.
-use Rattle.std.specs.Prelude.{◌≡◌, ◌≢◌, ◌⊎◌, ℕ, Bool, true, false, List, [], ◌++◌}
+use Rattle.std.specs.Prelude.{◌≡◌, ℕ, Bool, true, false, List, ◌++◌}
 use Rattle.lexer.specs.Tokens.{AreTokens}
 use Rattle.lexer.specs.declared.lexing.Lexing.{Lexing}
+use Rattle.lexer.specs.declared.lexing.Stop.{Stop}
+use Rattle.lexer.specs.declared.lexing.Stop.TheVariants.{Full, Procedure, End}
 use Rattle.lexer.specs.declared.token.Token.{Token}
-use Rattle.lexer.specs.walking.Parts.{HasRead, HasNoEnd, Goes, Ends, Refuses}
+use Rattle.lexer.specs.walking.Parts.{HasRead, HasNoEnd, Goes, Ends, Refuses, TakesBytes}
 use Rattle.parser.specs.Accepted as parser
 use Rattle.parser.specs.walking.Parts.{Opens, BeginsProcedure}
-use Rattle.refusals.specs.declared.lexer.Fault as lexer_fault
 use Rattle.syntax.specs.declared.declaration.Description.{Description}
 use Rattle.types.specs.declared.typing.Typing.{Typing}
 use Rattle.types.specs.walking.Judged.{Judges}
@@ -17,7 +18,17 @@ use Rattle.typed_source.specs.declared.part.Part.{Part}
 -- between the two these tokens are read, up to the end or not
 abbrev pub ReadsPart : Bool → Lexing → List Token → Lexing → Type 0
 ReadsPart true old part new = Ends old part
-ReadsPart false old part new = Goes old part new × HasNoEnd part
+ReadsPart false old part new = Goes old part new × HasNoEnd part × TakesBytes old part new
+
+-- whether reading stopped where the source ends
+abbrev pub is_end : Stop → Bool
+is_end Full = false
+is_end Procedure = false
+is_end End = true
+
+-- the part is read, and it begins with these tokens
+abbrev pub ReadsOn : Bool → Lexing → List Token → List Token → Lexing → Type 0
+ReadsOn is_last old front part new = ((added : List Token) × (part ≡ front ++ added)) × ReadsPart is_last old part new
 
 -- no description begins with the part, where the source can be cut at all
 abbrev pub RefusesPart : Lexing → List Token → Fault → Type 0
@@ -28,10 +39,13 @@ RefusesPart old part (Fault.Parser fault) =
     → (later : List Token) × AreTokens source (before ++ (part ++ later)) × parser.IsRefused (part ++ later) fault
 RefusesPart old part (Fault.Types fault) = ⊥
 
--- the same of whatever part comes next, of which the first token is known where one has to be
+-- the same of the next part, of which the first token is known where one has to be
 abbrev pub RefusesNext : Bool → Lexing → Fault → Type 0
-RefusesNext is_first old fault =
-    (part : List Token) × (is_first ≡ false → BeginsProcedure part) × RefusesPart old part fault
+RefusesNext is_first old Fault.Memory = Unit {0}
+RefusesNext is_first old (Fault.Lexer fault) = Refuses old fault
+RefusesNext is_first old (Fault.Parser fault) =
+    (part : List Token) × (is_first ≡ false → BeginsProcedure part) × RefusesPart old part (Fault.Parser fault)
+RefusesNext is_first old (Fault.Types fault) = ⊥
 
 -- the part is read between the two, and a first token is known where one has to be
 abbrev pub IsNext : Bool → Lexing → Part → Lexing → Type 0
