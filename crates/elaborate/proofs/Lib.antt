@@ -3,3 +3,4 @@ pub mod Sizes
 pub mod Calls
 pub mod PlaceLemmas
 pub mod LookupLemmas
+pub mod MisfitLemmas

@@ -8,6 +8,7 @@ mod body;
 mod count;
 mod environment;
 mod forms;
+mod front;
 mod instance;
 mod lookups;
 mod made;
@@ -15,6 +16,7 @@ mod names;
 mod pass;
 mod ports;
 
+pub use front::refuse_front;
 pub use pass::elaborate;
 pub use refusals::elaborate::Fault;
-pub use stimulus::{Entry, Given, Stimulus};
+pub use stimulus::{Entry, Front, Given, Stimulus};

@@ -82,7 +82,7 @@ fn is_within_limits(
 }
 
 /// The ports of the root.
-fn root_ports(procedures: &[Procedure]) -> &[Port]
+pub(crate) fn root_ports(procedures: &[Procedure]) -> &[Port]
     ensures { result.now ≡ model.root_ports procedures.entry.now }
 {
     match procedures.get(procedures.len().saturating_sub(1)) {

@@ -3,3 +3,4 @@ pub mod Numbers
 pub mod Readings
 pub mod Entries
 pub mod Lines
+pub mod Fronts

@@ -40,7 +40,7 @@ fn read_given(alloc: Global, text: &[u8]) -> Result<Option<Given>, AllocError>
 }
 
 /// What stands behind the mark, where the text begins with it.
-fn behind<'a>(text: &'a [u8], mark: &[u8]) -> Option<&'a [u8]>
+pub fn behind<'a>(text: &'a [u8], mark: &[u8]) -> Option<&'a [u8]>
     ensures { MatchOption result ((rest : List ℕ) → text.entry.now ≢ mark.entry.now ++ rest) (λ rest. text.entry.now ≡ mark.entry.now ++ rest.now) }
 {
     text.strip_prefix(mark)
@@ -57,7 +57,7 @@ fn read_feed(alloc: Global, text: &[u8]) -> Result<Option<Given>, AllocError>
 }
 
 /// What ` * ` and this text give.
-fn read_syncs(digits: &[u8]) -> Option<Given>
+pub fn read_syncs(digits: &[u8]) -> Option<Given>
     ensures { MatchOption result (IsNoGiven (32 ∷ 42 ∷ 32 ∷ digits.now)) (λ given. ReadsGiven (32 ∷ 42 ∷ 32 ∷ digits.now) given) }
 {
     match read_number(digits) {
@@ -89,7 +89,7 @@ fn read_values(alloc: Global, text: &[u8]) -> Result<Option<Items<u64>>, AllocEr
 }
 
 /// The number at the start of the text, behind a space, and what follows it.
-fn read_next(text: &[u8]) -> Option<(u64, &[u8])>
+pub fn read_next(text: &[u8]) -> Option<(u64, &[u8])>
     ensures { MatchOption result (BeginsNoNumber text.entry.now) (λ r. ReadsNext text.entry.now r.0 r.1.now) }
 {
     let (mark, rest) = text.split_first()?;

@@ -2,8 +2,11 @@
 #![tactic(auto)]
 
 mod entry;
+mod form;
+mod front;
 mod line;
 mod stimulus;
 
+pub use front::Front;
 pub use refusals::elaborate::Fault;
 pub use stimulus::{Entry, Given, Stimulus};

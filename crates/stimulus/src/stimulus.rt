@@ -57,7 +57,7 @@ impl Stimulus {
 }
 
 /// What stands behind the first byte, if there is one.
-fn without_first(text: &[u8]) -> &[u8]
+pub fn without_first(text: &[u8]) -> &[u8]
     ensures { result.now ≡ drop 1 text.entry.now }
 {
     match text.split_first() {

@@ -1,7 +1,7 @@
 -- What reading the parts of a line of a stimulus finds.
 -- No reader has to believe it: `proofs/Entries.antt` ties it to `Gives`, and `proofs/Lines.antt` to `AreEntries` and `FirstOther`
 -- of `StimulusText.antt`.
-use Rattle.std.specs.Prelude.{◌≡◌, ℕ, ◌<◌, ◌^◌, List, [], ◌∷◌, ◌++◌, ◌⊎◌}
+use Rattle.std.specs.Prelude.{◌≡◌, ℕ, ◌<◌, ◌≤◌, ◌^◌, List, [], ◌∷◌, ◌++◌, ◌⊎◌, length, Bool, true}
 use Rattle.std.specs.Fmt.{decimal}
 use Rattle.syntax.specs.Lists.{Every}
 use Rattle.syntax.specs.Texts.{Text}
@@ -22,6 +22,10 @@ BeginsNoNumber text = (n : ℕ) (after : Text) → ReadsNext text n after → �
 abbrev pub ReadsNumbers : Text → List ℕ → Type 0
 ReadsNumbers text ns = (numbers_text ns ≡ text) × Every (λ n. n < 2 ^ 64) ns
 
+-- the text is some numbers, each behind a space
+abbrev pub IsNumbers : Text → Type 0
+IsNumbers text = (ns : List ℕ) × ReadsNumbers text ns
+
 -- the text is no numbers, each behind a space
 abbrev pub IsNoNumbers : Text → Type 0
 IsNoNumbers text = (ns : List ℕ) → ReadsNumbers text ns → ⊥
@@ -30,9 +34,17 @@ IsNoNumbers text = (ns : List ℕ) → ReadsNumbers text ns → ⊥
 abbrev pub ReadsGiven : Text → Given → Type 0
 ReadsGiven text given = IsWithin given × (given_text given ≡ text)
 
+-- the text gives something
+abbrev pub IsGiven : Text → Type 0
+IsGiven text = (given : Given) × ReadsGiven text given
+
 -- the text gives nothing
 abbrev pub IsNoGiven : Text → Type 0
 IsNoGiven text = (given : Given) → ReadsGiven text given → ⊥
+
+-- the line gives a port something
+abbrev pub IsEntry : Text → Type 0
+IsEntry line = (name : Text) × (given : Given) × Gives line name given
 
 -- the line gives no port anything
 abbrev pub IsNoEntry : Text → Type 0
@@ -44,3 +56,11 @@ IsAdded n line before after =
     ((line ≡ []) × (after ≡ before))
     ⊎ ((name : Text) × (given : Given) × Gives line name given
     × (after ≡ before ++ record { line = n; name = name; given = given } ∷ []))
+
+-- line n is passed by a reader that keeps `most` entries: its entry is added where fewer are kept, else it may be empty, or
+-- its entry is missing from then on
+abbrev pub IsPassed : ℕ → ℕ → Text → List Entry → Bool → List Entry → Bool → Type 0
+IsPassed most n line before was_cut after is_cut =
+    ((length before < most) × (is_cut ≡ was_cut) × IsAdded n line before after)
+    ⊎ (most ≤ length before) × (after ≡ before) × (line ≡ []) × (is_cut ≡ was_cut)
+    ⊎ (most ≤ length before) × (after ≡ before) × IsEntry line × (is_cut ≡ true)
