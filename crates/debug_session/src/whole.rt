@@ -5,9 +5,9 @@ ghost use Rattle.debug_session.specs.Counting.{after_reading, after_writing};
 ghost use Rattle.debug_session.specs.Transcript.{Debugged};
 
 use crate::answer::answer_lines;
+use crate::making::make_system;
 use crate::sitting::Sitting;
 use crate::{Counted, Fault};
-use elaborate::{Stimulus, elaborate};
 use locked_execution::Machine;
 use sharing_check::{Checked, check_sharing};
 use std::alloc::Global;
@@ -21,8 +21,7 @@ fn made(alloc: Global, source: &[u8], stimulus: &[u8]) -> Result<System, Fault>
     ensures fault { IfErr result (λ fault. IsRefused source.now stimulus.now fault) }
 {
     let typed = typed_source(alloc, source)?;
-    let stimulus = Stimulus::read(alloc, stimulus)?;
-    Ok(elaborate(alloc, &typed, &stimulus)?)
+    Ok(make_system(alloc, &typed, stimulus)?)
 }
 
 /// The system that the source and the stimulus describe, or the first fault of the first pass that refuses them:
