@@ -8,7 +8,7 @@ ghost use Rattle.refusals.specs.declared.elaborate.Fault.TheVariants.{Memory};
 use elaborate::{Fault, Front, Stimulus, elaborate, refuse_front};
 use std::alloc::Global;
 use system::System;
-use types::Typed;
+use typed::Typed;
 
 /// How many entries of a stimulus are made before it shows whether they fit the ports of the root.
 const FIRST_ENTRIES: usize = 65_536;
