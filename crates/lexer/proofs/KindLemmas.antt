@@ -1,5 +1,5 @@
 -- The token of a piece is not the end of the source.
-use Rattle.std.proofs.Common.{◌≡◌, ◌≢◌, ℕ, Bool, true, false, List, [], ◌∷◌, inl, inr, refl, Option, Some, None}
+use Rattle.std.proofs.Common.{◌≡◌, ◌≢◌, ℕ, Bool, true, false, List, [], ◌∷◌, inl, inr, refl, ◌∙◌, ap, Option, Some, None}
 use Rattle.std.specs.Prelude.{nat_eq, unwrap_or}
 use Rattle.std.specs.Cmp.Lexicographic.{pointwise}
 use Rattle.std.specs.List.{list_all}
@@ -14,7 +14,7 @@ use Rattle.lexer.specs.declared.class.Class.{Class}
 use Rattle.lexer.specs.declared.class.Class.TheVariants as class
 use Rattle.lexer.specs.declared.position.Position.{Position}
 use Rattle.lexer.specs.declared.token.Kind.{Kind}
-use Rattle.lexer.specs.declared.token.Kind.TheVariants.{Name, Number, EndOfSource}
+use Rattle.lexer.specs.declared.token.Kind.TheVariants.{Name, Number, ProcedureWord, EndOfSource}
 use Rattle.lexer.specs.declared.token.Token.{Token}
 
 abbrev goes_on : Kind → Bool
@@ -65,3 +65,37 @@ piece_has_no_end position class.Blank text = All-nil (λ (token : Token). token.
 piece_has_no_end position class.LineComment text = All-nil (λ (token : Token). token.kind ≢ EndOfSource)
 piece_has_no_end position class.NestedComment text = All-nil (λ (token : Token). token.kind ≢ EndOfSource)
 piece_has_no_end position class.OpenComment text = All-nil (λ (token : Token). token.kind ≢ EndOfSource)
+
+abbrev no_procedure : Kind → Bool
+no_procedure ProcedureWord = false
+no_procedure _ = true
+
+symbol_no_procedure : (text : Text) → symbol text ≢ Some ProcedureWord
+unfolding symbol
+symbol_no_procedure text found = false≢true (lookup_passes no_procedure symbols text refl ProcedureWord found)
+
+word_is : (found : Option Kind) → unwrap_or found Name ≡ ProcedureWord → found ≡ Some ProcedureWord
+word_is None is = absurd (cc)
+word_is (Some kind) is = ap Some is
+
+found_is : (position : Position) (text : Text) (number : ℕ) (found : Option Kind) (token : Token) → option_map (λ kind. token_at position kind text number) found ≡ Some token → token.kind ≡ ProcedureWord → found ≡ Some ProcedureWord
+found_is position text number None token made is = absurd (cc)
+found_is position text number (Some kind) token made is =
+    let same : token_at position kind text number ≡ token = cc in
+    ap Some (ap (λ (token : Token). token.kind) same ∙ is)
+
+-- a piece that makes the token `procedure` is the word
+pub piece_is_procedure : (position : Position) (spelled : Class) (text : Text) (token : Token) → token_of position spelled text ≡ Some token → token.kind ≡ ProcedureWord → (spelled ≡ class.Word) × (reserved_word text ≡ Some ProcedureWord)
+piece_is_procedure position class.Word text token made is =
+    let same : token_at position (unwrap_or (reserved_word text) Name) text 0 ≡ token = cc in
+    (refl, word_is (reserved_word text) (ap (λ (token : Token). token.kind) same ∙ is))
+piece_is_procedure position class.Number text token made is =
+    let same : token_at position Number text (token_number class.Number text) ≡ token = cc in
+    let kind : Number ≡ ProcedureWord = ap (λ (token : Token). token.kind) same ∙ is in
+    absurd (cc)
+piece_is_procedure position class.Symbol text token made is =
+    absurd (symbol_no_procedure text (found_is position text 0 (symbol text) token made is))
+piece_is_procedure position class.Blank text token made is = absurd (cc)
+piece_is_procedure position class.LineComment text token made is = absurd (cc)
+piece_is_procedure position class.NestedComment text token made is = absurd (cc)
+piece_is_procedure position class.OpenComment text token made is = absurd (cc)

@@ -1,22 +1,25 @@
 -- What a part of a source is, piece by piece.
-use Rattle.std.proofs.Common.{◌≡◌, ◌≢◌, ℕ, ◌+◌, ◌-◌, ◌<◌, ◌≤◌, List, [], ◌∷◌, ◌++◌, Some, None, length, take, sym, ◌∙◌, ap, subst, append_assoc, length-append, length-drop, arith}
+use Rattle.std.proofs.Common.{◌≡◌, ◌≢◌, ℕ, ◌+◌, ◌-◌, ◌<◌, ◌≤◌, List, [], ◌∷◌, ◌++◌, Some, None, inl, inr, ◌⊎◌, length, take, drop, refl, sym, ◌∙◌, ap, subst, append_assoc, length-append, length-drop, arith}
 use Rattle.std.specs.Option.{option_to_list}
-use Rattle.std.proofs.lemmas.List.{append-nil}
+use Rattle.std.proofs.lemmas.List.{append-nil, take-append-drop}
 use Rattle.std.proofs.lemmas.List.Elements.{All-nil, All-append}
+use Rattle.lexer.specs.Cut.{Piece}
+use Rattle.lexer.specs.Table.{reserved_word}
 use Rattle.lexer.specs.Tokens.{IsReadable, token_at, token_of}
 use Rattle.lexer.specs.walking.Fronts.{IsPieceFault}
-use Rattle.lexer.specs.walking.Parts.{Ends, Goes, HasNoEnd, HasRead, IsCutOff, IsPart, Refuses}
+use Rattle.lexer.specs.walking.Parts.{BeginsProcedure, Ends, Goes, HasNoEnd, HasRead, IsAtProcedure, IsCutOff, IsPart, Refuses}
 use Rattle.lexer.specs.walking.Reached.{Reaches}
+use Rattle.lexer.specs.declared.class.Class.TheVariants.{Word}
 use Rattle.lexer.specs.declared.lexing.Found.{Found}
 use Rattle.lexer.specs.declared.lexing.Lexing.{Lexing}
 use Rattle.lexer.specs.declared.lexing.Stop.{Stop}
 use Rattle.lexer.specs.declared.lexing.Stop.TheVariants.{Full, Procedure, End}
-use Rattle.lexer.specs.declared.token.Kind.TheVariants.{EndOfSource}
+use Rattle.lexer.specs.declared.token.Kind.TheVariants.{EndOfSource, ProcedureWord}
 use Rattle.lexer.specs.declared.token.Token.{Token}
 use Rattle.refusals.specs.declared.lexer.Fault.{Fault}
-use Rattle.lexer.proofs.KindLemmas.{piece_has_no_end}
+use Rattle.lexer.proofs.KindLemmas.{piece_has_no_end, piece_is_procedure}
 use Rattle.lexer.proofs.ReadingLemmas.{piece_fault_due, reaches_end, reaches_fault, reaches_next}
-use Rattle.lexer.proofs.UniqueLemmas.{some_front}
+use Rattle.lexer.proofs.UniqueLemmas.{longest_unique, some_front}
 
 -- nothing is read between a place and itself
 pub goes_nowhere : (here : Lexing) → Goes here [] here
@@ -63,6 +66,50 @@ pub at_end : (here : Lexing) → here.rest.now ≡ [] → Ends here (token_at he
 at_end here none source before read =
     reaches_end source before here.position (subst (λ rest. Reaches source before here.position rest) none read)
 
+-- a piece that makes the token `procedure` is the word
+pub at_procedure : (here new : Lexing) (found : Found) (token : Token) → IsCutOff here found new → token_of found.position found.class found.text.now ≡ Some token → token.kind ≡ ProcedureWord → IsAtProcedure here
+at_procedure here new found token off made is =
+    let word = piece_is_procedure found.position found.class found.text.now token made is in
+    record {
+      size = off.size;
+      front = rw word.0 at off.front;
+      word = rw off.text at word.1;
+    }
+
+-- at the word `procedure` it is what is cut off
+procedure_token : (here new : Lexing) (found : Found) → IsAtProcedure here → (off : IsCutOff here found new) → option_to_list (token_of found.position found.class found.text.now) ≡ token_at found.position ProcedureWord (take off.size here.rest.now) 0 ∷ []
+procedure_token here new found word off =
+    let rest = here.rest.now in
+    let one : Piece = record { class = found.class; text = take off.size rest } in
+    let other : Piece = record { class = Word; text = take word.size rest } in
+    let whole = take-append-drop off.size rest ∙ sym (take-append-drop word.size rest) in
+    let same = (longest_unique one other (drop off.size rest) (drop word.size rest) off.front.1 word.front.1 whole).0 in
+    let class : found.class ≡ Word = ap (λ (piece : Piece). piece.class) same in
+    let text : take off.size rest ≡ take word.size rest = ap (λ (piece : Piece). piece.text) same in
+    let reserved : reserved_word (take off.size rest) ≡ Some ProcedureWord = rw text word.word in
+    rw (off.text, class, reserved) refl
+
+-- What a part begins with that is begun at the word `procedure` and held nothing before: it holds nothing yet where
+-- nothing is read.
+abbrev pub Begun : Lexing → List Token → Lexing → List Token → Type 0
+Begun old before here part = IsAtProcedure old → before ≡ [] → ((part ≡ []) × (here.rest.now ≡ old.rest.now)) ⊎ BeginsProcedure part
+
+begins_still : (part more : List Token) → BeginsProcedure part → BeginsProcedure (part ++ more)
+begins_still [] more begins = absurd begins
+begins_still (token ∷ part) more begins = begins
+
+begun_on : (old : Lexing) (before : List Token) (here new : Lexing) (part onward tokens : List Token) (found : Found) → Begun old before here part → IsCutOff here found new → option_to_list (token_of found.position found.class found.text.now) ≡ tokens → onward ≡ part ++ tokens → Begun old before new onward
+begun_on old before here new part onward tokens found begun off token more word none = elim (begun word none) [
+  | inl fresh ↦
+      let front = rw (← fresh.1) at word.front in
+      let reserved = rw (← fresh.1) at word.word in
+      let still : IsAtProcedure here = record { size = word.size; front = front; word = reserved } in
+      let first : onward ≡ token_at found.position ProcedureWord (take off.size here.rest.now) 0 ∷ [] =
+      more ∙ ap (λ (front : List Token). front ++ tokens) fresh.0 ∙ sym token ∙ procedure_token here new found still off in
+      inr (subst BeginsProcedure (sym first) refl)
+  | inr begins ↦ inr (subst BeginsProcedure (sym more) (begins_still part tokens begins))
+]
+
 -- a part as far as it is read, of which so many tokens are left to add
 pub record IsPartSoFar (old : Lexing) (before : List Token) (most : ℕ) (here : Lexing) (part : List Token) (left : ℕ) : Type 0 where
   pub added : List Token
@@ -72,6 +119,7 @@ pub record IsPartSoFar (old : Lexing) (before : List Token) (most : ℕ) (here :
   pub count : length added + left ≡ most
   -- each token is a byte and more
   pub bytes : length added + length here.rest.now ≤ length old.rest.now
+  pub begun : Begun old before here part
 
 pub part_begun : (old : Lexing) (before : List Token) (most : ℕ) → IsPartSoFar old before most old before most
 part_begun old before most = record {
@@ -81,6 +129,7 @@ part_begun old before most = record {
   no_end = All-nil (λ (token : Token). token.kind ≢ EndOfSource);
   count = omega arith;
   bytes = omega arith;
+  begun = λ word none. inl (none, refl);
 }
 
 -- one piece on, which makes these tokens
@@ -92,6 +141,7 @@ part_on old before most here new part onward tokens left found so off readable t
   no_end = All-append (λ (token : Token). token.kind ≢ EndOfSource) so.added tokens so.no_end (subst HasNoEnd token (piece_has_no_end found.position found.class found.text.now));
   count = let count = so.count in omega (arith, count, some, length-append so.added tokens);
   bytes = let bytes = so.bytes in omega (arith, bytes, one, length-append so.added tokens, less_left here new found off);
+  begun = begun_on old before here new part onward tokens found so.begun off token more;
 }
 
 -- one piece on, which makes no token
@@ -113,12 +163,37 @@ pub part_full : (old : Lexing) (before : List Token) (most : ℕ) (here : Lexing
 part_full old before most here part left so none =
     let count = so.count in (so.added, so.same, (so.goes, so.no_end, omega (arith, count, none), so.bytes))
 
-pub part_at_procedure : (old : Lexing) (before : List Token) (most : ℕ) (here : Lexing) (part : List Token) (left : ℕ) → IsPartSoFar old before most here part left → EndsPart old before most Procedure here part
-part_at_procedure old before most here part left so =
-    let count = so.count in (so.added, so.same, (so.goes, so.no_end, omega (arith, count), so.bytes))
+pub part_at_procedure : (old : Lexing) (before : List Token) (most : ℕ) (here : Lexing) (part : List Token) (left : ℕ) → IsPartSoFar old before most here part left → IsAtProcedure here → EndsPart old before most Procedure here part
+part_at_procedure old before most here part left so word =
+    let count = so.count in (so.added, so.same, (so.goes, so.no_end, omega (arith, count), so.bytes, word))
 
 pub part_at_end : (old : Lexing) (before : List Token) (most : ℕ) (here new : Lexing) (part onward : List Token) (left : ℕ) → IsPartSoFar old before most here part left → here.rest.now ≡ [] → onward ≡ part ++ token_at here.position EndOfSource [] 0 ∷ [] → 1 ≤ left → EndsPart old before most End new onward
 part_at_end old before most here new part onward left so none more room =
     let last = token_at here.position EndOfSource [] 0 ∷ [] in
     let count = so.count in
     (so.added ++ last, more ∙ ap (λ (front : List Token). front ++ last) so.same ∙ append_assoc before so.added last, (goes_to_end old here so.added last so.goes (at_end here none), omega (arith, count, room, length-append so.added last)))
+
+-- a part that holds a token begins as it was begun
+pub part_begins : (old : Lexing) (before : List Token) (most : ℕ) (here : Lexing) (part : List Token) (left : ℕ) → IsPartSoFar old before most here part left → 1 ≤ length part → IsAtProcedure old → before ≡ [] → BeginsProcedure part
+part_begins old before most here part left so some word none = elim (so.begun word none) [
+  | inl fresh ↦ absurd (omega (arith, some, ap length fresh.0))
+  | inr begins ↦ begins
+]
+
+-- a part that is full holds a token
+pub full_begins : (old : Lexing) (before : List Token) (most : ℕ) (here : Lexing) (part : List Token) (left : ℕ) → IsPartSoFar old before most here part left → left ≡ 0 → IsAtProcedure old → before ≡ [] → 1 ≤ most → BeginsProcedure part
+full_begins old before most here part left so full word none some =
+    let count = so.count in
+    let size : length part ≡ length before + length so.added = ap length so.same ∙ length-append before so.added in
+    part_begins old before most here part left so (omega (arith, count, full, some, size)) word none
+
+-- where the source ends the word is behind
+pub end_begins : (old : Lexing) (before : List Token) (most : ℕ) (here : Lexing) (part onward last : List Token) (left : ℕ) → IsPartSoFar old before most here part left → here.rest.now ≡ [] → onward ≡ part ++ last → IsAtProcedure old → before ≡ [] → BeginsProcedure onward
+end_begins old before most here part onward last left so over more word none = elim (so.begun word none) [
+  | inl fresh ↦
+      let some = some_front Word word.size old.rest.now word.front in
+      let within = word.front.0 in
+      let empty : old.rest.now ≡ [] = sym fresh.1 ∙ over in
+      absurd (omega (arith, some, within, ap length empty))
+  | inr begins ↦ subst BeginsProcedure (sym more) (begins_still part last begins)
+]

@@ -39,9 +39,9 @@ pub(crate) struct Found<'a> {
 }
 
 impl<'a> Lexing<'a> {
-    ghost use Rattle.std.specs.Prelude.{◌≡◌, ◌++◌, ◌⊎◌, [], List, IfOk, IfErr, OnOk, MatchOption};
+    ghost use Rattle.std.specs.Prelude.{◌≡◌, ◌≤◌, ◌++◌, ◌⊎◌, [], List, IfOk, IfErr, OnOk, MatchOption};
     ghost use Rattle.lexer.specs.Tokens.{token_at};
-    ghost use Rattle.lexer.specs.walking.Parts.{HasRead, IsCutOff, IsPart, IsRest, Refuses};
+    ghost use Rattle.lexer.specs.walking.Parts.{BeginsProcedure, HasRead, IsAtProcedure, IsCutOff, IsPart, IsRest, Refuses};
     ghost use Rattle.lexer.specs.declared.token.Kind.TheVariants.{EndOfSource};
     ghost use Rattle.lexer.specs.declared.token.Token.{Token};
     ghost use Rattle.refusals.specs.declared.lexer.Fault.TheVariants.{Memory};
@@ -87,10 +87,11 @@ impl<'a> Lexing<'a> {
         Token::new(alloc, self.position, Kind::EndOfSource, b"", 0)
     }
 
-    /// Adds the tokens that follow to `part`: `most` of them, or those up to a `procedure` where there is one in the part
-    /// already, or all up to the end of the source.
+    /// Adds the tokens that follow to `part`: `most` of them, or those up to a `procedure` where one stands in `part`
+    /// already, or all up to the end of the source with one of the kind `EndOfSource`.
     ///
-    /// What `part` held before counts too where a `procedure` is looked for, and does not where `most` is.
+    /// A `procedure` that `part` held before counts too; other tokens that it held do not count against `most`. At an error
+    /// `part` has the tokens before it: `Memory` may come at any token, each other fault where the source is refused.
     pub fn add_part(
         &mut self,
         alloc: Global,
@@ -98,6 +99,8 @@ impl<'a> Lexing<'a> {
         most: usize,
     ) -> Result<Stop, Fault>
         ensures part { IfOk result (λ stop. (added : List Token) × (part.new.items ≡ part.old.items ++ added) × IsPart stop most self.old added self.new) }
+        // A part that is begun where the one before it stopped at a `procedure` begins with that word.
+        ensures begins { IfOk result (λ _. IsAtProcedure self.old → part.old.items ≡ [] → 1 ≤ most → BeginsProcedure part.new.items) }
         ensures fault { IfErr result (λ fault. (fault ≡ Memory) ⊎ Refuses self.old fault) }
     {
         let mut has_procedure = part
@@ -125,7 +128,7 @@ impl<'a> Lexing<'a> {
         Ok(Stop::Full)
     }
 
-    /// Reads what is left, of which no token is kept, for its faults.
+    /// Reads what is left for its faults, and keeps no token of it. This takes no memory: each fault is the source's.
     pub fn finish(mut self) -> Result<(), Fault>
         ensures read { OnOk result (IsRest self.entry) }
         ensures fault { IfErr result (λ fault. Refuses self.entry fault) }

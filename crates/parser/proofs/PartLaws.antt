@@ -17,8 +17,8 @@ use Rattle.parser.specs.Accepted.{most_levels, IsRefused, Parses, FirstUnexpecte
 use Rattle.parser.specs.Input.{Input, input, next, is_one_of, same_kind}
 use Rattle.parser.specs.Offsets.{end_of, offset_at}
 use Rattle.parser.specs.Rules.{Rule, bind as bind_rule, pure as pure_rule, turns, repeat as repeat_rule}
-use Rattle.parser.specs.walking.Parts.{BeginsProcedure, joined, Opens}
-use Rattle.lexer.specs.walking.Parts.{HasNoEnd}
+use Rattle.parser.specs.walking.Parts.{joined, Opens}
+use Rattle.lexer.specs.walking.Parts.{BeginsProcedure, HasNoEnd}
 use Rattle.parser.specs.walking.Readers.{Outcome, Reader, read, unexpected, too_deep, and_then, bind, pure, branch, repeat, repeat_from, whole}
 use Rattle.parser.specs.Grammar as g
 use Rattle.parser.specs.walking.Reading as r
@@ -239,7 +239,8 @@ offset_behind before (first ∷ part) (token ∷ rest) begins = refl
 
 procedure_first : (part : List Token) → BeginsProcedure part → is_one_of (kind.ProcedureWord ∷ []) (next part) ≡ true
 unfolding same_kind
-procedure_first part begins = ap (is_one_of (kind.ProcedureWord ∷ [])) begins
+procedure_first [] begins = absurd begins
+procedure_first (token ∷ rest) begins = ap (is_one_of (kind.ProcedureWord ∷ [])) begins
 
 module _ (part : List Token) (begins : BeginsProcedure part) where
   part_outcome : outcome part ≡ and_then (and_then (r.procedures most_levels (input most_levels part)) (described [])) to_end
@@ -299,7 +300,7 @@ opens before given s none = record {
 }
 
 pub begins_on : (part later : List Token) → BeginsProcedure part → BeginsProcedure (part ++ later)
-begins_on [] later begins = absurd (false≢true (sym no_end_begins ∙ procedure_first [] begins))
+begins_on [] later begins = absurd begins
 begins_on (token ∷ part) later begins = begins
 
 joined_twice : (given more most : Description) → joined given (joined more most) ≡ joined (joined given more) most

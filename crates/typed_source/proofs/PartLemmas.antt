@@ -10,7 +10,7 @@ use Rattle.lexer.specs.declared.token.Kind.TheVariants.{EndOfSource}
 use Rattle.lexer.specs.walking.Parts.{HasNoEnd, Goes, Ends, Refuses, IsRest, IsPart, TakesBytes}
 use Rattle.lexer.proofs.PartLemmas.{goes_on, goes_to_end}
 use Rattle.parser.specs.Accepted as parser
-use Rattle.parser.specs.walking.Parts.{BeginsProcedure}
+use Rattle.lexer.specs.walking.Parts.{BeginsProcedure}
 use Rattle.parser.proofs.PartLaws.{begins_on}
 use Rattle.refusals.specs.declared.lexer.Fault as lexer_fault
 use Rattle.refusals.specs.declared.lexer.Fault.TheVariants as no_tokens

@@ -4,7 +4,7 @@ ghost use Rattle.std.specs.Prelude.{◌≡◌, Bool, true, false, List, IfSome, 
 ghost use Rattle.lexer.specs.declared.lexing.Lexing.{Lexing};
 ghost use Rattle.lexer.specs.declared.token.Token.{Token};
 ghost use Rattle.parser.specs.Accepted.{Parses};
-ghost use Rattle.parser.specs.walking.Parts.{BeginsProcedure};
+ghost use Rattle.lexer.specs.walking.Parts.{BeginsProcedure};
 ghost use Rattle.typed_source.specs.walking.InParts.{IsNext, ReadsOn, ReadsPart, RefusesPart, RefusesNext, is_end};
 
 use crate::Fault;

@@ -1,6 +1,6 @@
 //! The tokens of a source text, and why it has none.
 
-use lexer::{Fault, Kind, Token, lex};
+use lexer::{Fault, Kind, Lexing, Stop, Token, lex};
 use std::alloc::Global;
 use std::test::Fail;
 use syntax::Span;
@@ -144,6 +144,64 @@ fn tokens_have_spans_texts_and_numbers(rt: HostRuntime) -> Result<(), Fail> {
         }
         _ => assert!(rt; false, "not four tokens"),
     }
+    Ok(())
+}
+
+#[test]
+fn a_part_ends_before_the_next_procedure(rt: HostRuntime) -> Result<(), Fail> {
+    let source: &[u8] = b"type t procedure p end -- x\n procedure q procedure ";
+    let mut reader = Lexing::new(source);
+    let mut part = Vec::new(rt.alloc());
+    assert!(rt;
+        matches!(
+            reader.add_part(rt.alloc(), &mut part, 100)?,
+            Stop::Procedure
+        )
+    );
+    assert_eq!(rt; part.len(), 5);
+    let mut part = Vec::new(rt.alloc());
+    assert!(rt; matches!(reader.add_part(rt.alloc(), &mut part, 1)?, Stop::Full));
+    assert_eq!(rt; part.len(), 1);
+    // The `procedure` that the part held before counts.
+    assert!(rt;
+        matches!(
+            reader.add_part(rt.alloc(), &mut part, 100)?,
+            Stop::Procedure
+        )
+    );
+    assert_eq!(rt; part.len(), 2);
+    assert!(rt; reader.finish().is_ok());
+    let mut part = Vec::new(rt.alloc());
+    assert!(rt; matches!(reader.add_part(rt.alloc(), &mut part, 2)?, Stop::End));
+    assert_eq!(rt; part.len(), 2);
+    assert!(rt; is_end(part.last(), source.len() as u64));
+    Ok(())
+}
+
+/// The fault of what stands behind the first token.
+fn fault_behind_one(alloc: Global, source: &[u8]) -> Result<Option<Fault>, Fault> {
+    let mut reader = Lexing::new(source);
+    reader.add_part(alloc, &mut Vec::new(alloc), 1)?;
+    Ok(reader.finish().err())
+}
+
+#[test]
+fn what_no_part_holds_is_read_for_its_faults(rt: HostRuntime) -> Result<(), Fail> {
+    let alloc = rt.alloc();
+    assert_eq!(rt; fault_behind_one(alloc, b"a b -- @")?, None);
+    assert_eq!(rt;
+        fault_behind_one(alloc, b"a b @")?,
+        Some(Fault::BadCharacter(4))
+    );
+    assert_eq!(rt;
+        fault_behind_one(alloc, b"a (-- b")?,
+        Some(Fault::OpenComment(2))
+    );
+    let large = b"a b 18446744073709551616";
+    assert_eq!(rt;
+        fault_behind_one(alloc, large)?,
+        Some(Fault::NumberTooLarge(4))
+    );
     Ok(())
 }
 

@@ -1,18 +1,20 @@
 -- A source whose tokens are made part by part.
 -- No reader has to believe it: `HasRead` holds of nothing read, and where the source ends the parts together are its tokens by `AreTokens` of
 -- `Tokens.antt`.
-use Rattle.std.specs.Prelude.{◌≡◌, ◌≢◌, ℕ, ◌+◌, ◌≤◌, List, ◌++◌, length, take, drop}
+use Rattle.std.specs.Prelude.{◌≡◌, ◌≢◌, ℕ, ◌+◌, ◌≤◌, List, [], ◌∷◌, ◌++◌, length, take, drop, Some}
 use Rattle.std.specs.List.{All}
 use Rattle.syntax.specs.Texts.{Text}
 use Rattle.lexer.specs.Refusal.{IsRefused}
+use Rattle.lexer.specs.Table.{reserved_word}
 use Rattle.lexer.specs.Tokens.{AreTokens, behind}
 use Rattle.lexer.specs.walking.Fronts.{IsFront}
 use Rattle.lexer.specs.walking.Reached.{Reaches}
+use Rattle.lexer.specs.declared.class.Class.TheVariants.{Word}
 use Rattle.lexer.specs.declared.lexing.Found.{Found}
 use Rattle.lexer.specs.declared.lexing.Lexing.{Lexing}
 use Rattle.lexer.specs.declared.lexing.Stop.{Stop}
 use Rattle.lexer.specs.declared.lexing.Stop.TheVariants.{Full, Procedure, End}
-use Rattle.lexer.specs.declared.token.Kind.TheVariants.{EndOfSource}
+use Rattle.lexer.specs.declared.token.Kind.TheVariants.{EndOfSource, ProcedureWord}
 use Rattle.lexer.specs.declared.token.Token.{Token}
 use Rattle.refusals.specs.declared.lexer.Fault.{Fault}
 
@@ -49,6 +51,17 @@ pub record IsCutOff (old : Lexing) (found : Found) (new : Lexing) : Type 0 where
   pub behind : new.position ≡ behind old.position (take size old.rest.now)
   pub rest : new.rest.now ≡ drop size old.rest.now
 
+-- what is left begins with the word `procedure`
+pub record IsAtProcedure (lexing : Lexing) : Type 0 where
+  pub size : ℕ
+  pub front : IsFront Word size lexing.rest.now
+  pub word : reserved_word (take size lexing.rest.now) ≡ Some ProcedureWord
+
+-- the first of the tokens is the word `procedure`
+abbrev pub BeginsProcedure : List Token → Type 0
+BeginsProcedure [] = ⊥
+BeginsProcedure (token ∷ _) = token.kind ≡ ProcedureWord
+
 -- each of the tokens took a byte and more
 abbrev pub TakesBytes : Lexing → List Token → Lexing → Type 0
 TakesBytes old added new = length added + length new.rest.now ≤ length old.rest.now
@@ -56,5 +69,5 @@ TakesBytes old added new = length added + length new.rest.now ≤ length old.res
 -- what is read in a part, by where it ends
 abbrev pub IsPart : Stop → ℕ → Lexing → List Token → Lexing → Type 0
 IsPart Full most old added new = Goes old added new × HasNoEnd added × (length added ≡ most) × TakesBytes old added new
-IsPart Procedure most old added new = Goes old added new × HasNoEnd added × (length added ≤ most) × TakesBytes old added new
+IsPart Procedure most old added new = Goes old added new × HasNoEnd added × (length added ≤ most) × TakesBytes old added new × IsAtProcedure new
 IsPart End most old added new = Ends old added × (length added ≤ most)

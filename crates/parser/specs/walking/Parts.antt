@@ -1,16 +1,11 @@
 -- Parts of a description: each begins with the word `procedure`, and the first one may begin with types.
 -- No reader has to believe it: `proofs/PartLaws.antt` ties it to `Parses` and `IsRefused` of `Accepted.antt`, for callers that parse part by part.
 use Rattle.std.specs.Prelude.{◌≡◌, List, [], ◌++◌}
-use Rattle.lexer.specs.declared.token.Kind.TheVariants.{ProcedureWord}
 use Rattle.lexer.specs.declared.token.Token.{Token}
+use Rattle.lexer.specs.walking.Parts.{BeginsProcedure}
 use Rattle.syntax.specs.declared.declaration.Description.{Description}
 use Rattle.parser.specs.Accepted.{IsRefused, Parses}
-use Rattle.parser.specs.Input.{next}
 use Rattle.refusals.specs.declared.parser.Fault.{Fault}
-
--- the first token is the word `procedure`
-abbrev pub BeginsProcedure : List Token → Type 0
-BeginsProcedure tokens = next tokens ≡ ProcedureWord
 
 -- the first description with the procedures of the second behind its own
 abbrev pub joined : Description → Description → Description

@@ -8,7 +8,8 @@ use Rattle.lexer.specs.declared.lexing.Stop.TheVariants.{Full, Procedure, End}
 use Rattle.lexer.specs.declared.token.Token.{Token}
 use Rattle.lexer.specs.walking.Parts.{HasRead, HasNoEnd, Goes, Ends, Refuses, TakesBytes}
 use Rattle.parser.specs.Accepted as parser
-use Rattle.parser.specs.walking.Parts.{Opens, BeginsProcedure}
+use Rattle.parser.specs.walking.Parts.{Opens}
+use Rattle.lexer.specs.walking.Parts.{BeginsProcedure}
 use Rattle.syntax.specs.declared.declaration.Description.{Description}
 use Rattle.types.specs.declared.typing.Typing.{Typing}
 use Rattle.types.specs.walking.Judged.{Judges}

@@ -1,5 +1,5 @@
 use Rattle.std.proofs.Common.{◌≡◌, false, Err, rules}
-use Rattle.parser.specs.walking.Parts.{BeginsProcedure}
+use Rattle.lexer.specs.walking.Parts.{BeginsProcedure}
 use Rattle.typed_source.specs.walking.InParts.{ReadsPart, is_end}
 use Rattle.typed_source.proofs.PartLemmas.{next_read, next_refused, reads_first, refuses_next}
 use Rattle.typed_source.proofs.part.next_part.Goals as goal

@@ -1,10 +1,11 @@
-use Rattle.std.proofs.Common.{◌≡◌, ◌++◌, [], ◌∷◌, Err, Some, None, inl, inr, sym, ◌∙◌, arith, rules}
+use Rattle.std.proofs.Common.{◌≡◌, ◌++◌, [], ◌∷◌, Err, Some, None, inl, inr, length, sym, ◌∙◌, ap, length-append, arith, rules}
+use Rattle.std.proofs.lemmas.Bool.{false≢true}
 use Rattle.lexer.specs.Tokens.{IsReadable, token_at, token_of}
-use Rattle.lexer.specs.walking.Parts.{IsCutOff}
-use Rattle.lexer.specs.declared.token.Kind.TheVariants.{EndOfSource}
-use Rattle.lexer.proofs.PartLemmas.{bad_piece, goes_to_fault, less_left, part_at_end, part_on_blank, part_on_token}
+use Rattle.lexer.specs.walking.Parts.{IsAtProcedure, IsCutOff}
+use Rattle.lexer.specs.declared.token.Kind.TheVariants.{EndOfSource, ProcedureWord}
+use Rattle.lexer.proofs.PartLemmas.{at_procedure, bad_piece, end_begins, goes_to_fault, less_left, part_at_end, part_at_procedure, part_on_blank, part_on_token}
 use Rattle.lexer.proofs.lexing.Lexing.add_part.Goals as goal
-use Rattle.lexer.proofs.lexing.Lexing.add_part.Goals.{In-Some}
+use Rattle.lexer.proofs.lexing.Lexing.add_part.Goals.{In-Some, In-Some-2, in-ProcedureWord, in_default-matches}
 
 -- the piece is cut off
 cut_off : (c : In-Some) → IsCutOff c.loop-left.self c.in-Some.found c.cut.new.self
@@ -16,7 +17,7 @@ returns-in_default-clause-part c =
     let part = c.loop-left.part.items in
     let stands = rw c.in_default.is at c.in_ok-found.ensures.ok in
     let more : c.push.new.self.items ≡ part ++ token_at here.position EndOfSource [] 0 ∷ [] = rw c.in_ok-end.ensures at c.in_ok-push.ensures.items in
-    part_at_end c.args.self.now c.args.part.now.items c.args.most here here part c.push.new.self.items c.loop-left.left c.loop-left.invariant stands.0 more (omega arith)
+    part_at_end c.args.self.now c.args.part.now.items c.args.most here here part c.push.new.self.items c.loop-left.left c.loop-left.invariant.so stands.0 more (omega arith)
 
 pub returns-in_err-token-clause-fault : goal.returns-in_err-token-clause-fault
 returns-in_err-token-clause-fault c =
@@ -27,7 +28,7 @@ returns-in_err-token-clause-fault c =
       | inr bad ↦
           let here = c.loop-left.self in
           let refused = bad_piece here c.cut.new.self c.in-Some.found fault (cut_off (goal.at.returns-in_err-token-clause-fault c).In-Some) bad in
-          inr (goes_to_fault c.args.self.now here c.loop-left.invariant.added fault c.loop-left.invariant.goes refused)
+          inr (goes_to_fault c.args.self.now here c.loop-left.invariant.so.added fault c.loop-left.invariant.so.goes refused)
     ])
 
 pub loop-left-smaller-in_ok-push-2 : goal.loop-left-smaller-in_ok-push-2
@@ -39,13 +40,43 @@ loop-left-preserved-in_ok-push-2 c =
     let found = c.in-Some.found in
     let readable : IsReadable found.class found.text.now = c.in_ok-token.ensures.ok.0 in
     let some : token_of found.position found.class found.text.now ≡ Some c.in-Some-2.token = sym c.in_ok-token.ensures.ok.1 ∙ c.in-Some-2.is in
-    part_on_token c.args.self.now c.args.part.now.items c.args.most c.loop-left.self c.cut.new.self c.loop-left.part.items c.push-in-Some-2.new.self.items c.in-Some-2.token c.loop-left.left found c.loop-left.invariant
-    (cut_off (goal.at.loop-left-preserved-in_ok-push-2 c).In-Some) readable some c.in_ok-push-2.ensures.items (omega arith)
+    let part = c.loop-left.part.items in
+    let items : c.push-in-Some-2.new.self.items ≡ part ++ c.in-Some-2.token ∷ [] = c.in_ok-push-2.ensures.items in
+    record {
+      so = part_on_token c.args.self.now c.args.part.now.items c.args.most c.loop-left.self c.cut.new.self part c.push-in-Some-2.new.self.items c.in-Some-2.token c.loop-left.left found c.loop-left.invariant.so
+          (cut_off (goal.at.loop-left-preserved-in_ok-push-2 c).In-Some) readable some items (omega arith);
+      some = λ _. omega (arith, ap length items, length-append part (c.in-Some-2.token ∷ []));
+    }
 
 pub loop-left-preserved : goal.loop-left-preserved
 loop-left-preserved c =
     let found = c.in-Some.found in
     let readable : IsReadable found.class found.text.now = c.in_ok-token.ensures.ok.0 in
     let none : token_of found.position found.class found.text.now ≡ None = sym c.in_ok-token.ensures.ok.1 ∙ c.in_default-2.is in
-    part_on_blank c.args.self.now c.args.part.now.items c.args.most c.loop-left.self c.cut.new.self c.loop-left.part.items c.loop-left.left found c.loop-left.invariant
-    (cut_off (goal.at.loop-left-preserved c).In-Some) readable none
+    record {
+      so = part_on_blank c.args.self.now c.args.part.now.items c.args.most c.loop-left.self c.cut.new.self c.loop-left.part.items c.loop-left.left found c.loop-left.invariant.so
+          (cut_off (goal.at.loop-left-preserved c).In-Some) readable none;
+      some = c.loop-left.invariant.some;
+    }
+
+pub returns-in_default-clause-begins : goal.returns-in_default-clause-begins
+returns-in_default-clause-begins c word none room =
+    let here = c.loop-left.self in
+    let stands = rw c.in_default.is at c.in_ok-found.ensures.ok in
+    end_begins c.args.self.now c.args.part.now.items c.args.most here c.loop-left.part.items c.push.new.self.items (c.in_ok-end.field-0 ∷ []) c.loop-left.left c.loop-left.invariant.so stands.0 c.in_ok-push.ensures.items word none
+
+-- the word at which the part ends
+at_word : (c : In-Some-2) → c.in-Some-2.token.kind ≡ ProcedureWord → IsAtProcedure c.loop-left.self
+at_word c is =
+    let found = c.in-Some.found in
+    let some : token_of found.position found.class found.text.now ≡ Some c.in-Some-2.token = sym c.in_ok-token.ensures.ok.1 ∙ c.in-Some-2.is in
+    at_procedure c.loop-left.self c.cut.new.self found c.in-Some-2.token (rw c.in-Some.is at c.in_ok-found.ensures.ok) some is
+
+pub returns-then-has_procedure-clause-part : goal.returns-then-has_procedure-clause-part
+returns-then-has_procedure-clause-part c =
+    let is : c.in-Some-2.token.kind ≡ ProcedureWord = elim c.match-matches.branch [
+      | in-ProcedureWord w ↦ w.in-ProcedureWord.is
+      | in_default-matches w ↦ absurd (false≢true (sym w.matches-is ∙ c.if-matches.true))
+    ] in
+    part_at_procedure c.args.self.now c.args.part.now.items c.args.most c.loop-left.self c.loop-left.part.items c.loop-left.left c.loop-left.invariant.so
+    (at_word (goal.at.returns-then-has_procedure-clause-part c).In-Some-2 is)
