@@ -1,10 +1,10 @@
 -- A procedure's declarations stand behind the names that are visible before it.
-use Rattle.std.proofs.Common.{◌≡◌, ℕ, List, [], ◌∷◌, ◌++◌, length, take, true, false, is_some, if◌then◌else◌, map, Ok, refl, ap, sym, subst, ◌∙◌, append_assoc, append-nil}
+use Rattle.std.proofs.Common.{◌≡◌, ℕ, List, [], ◌∷◌, ◌++◌, length, take, true, false, is_some, if◌then◌else◌, map, refl, ap, sym, subst, ◌∙◌, append_assoc, append-nil}
 use Rattle.std.proofs.Math.Seq.{take-append_seam}
 use Rattle.types.specs.Commands.{Scope, judged_command}
 use Rattle.types.specs.Findings.{Verdict, becomes, both, and}
 use Rattle.types.specs.Names.{VisibleNames, look_up, declared, is_fresh, port_meaning, local_meaning}
-use Rattle.types.specs.Declarations.{Declared, with_one, with_ports, with_locals, all_ports, all_locals, one_port, one_local, port_kind, local_kind, behind, port_types, local_types, judged_procedure, declarations_right, after_procedure, with_procedures, with_types, SoFar, types_of, judged_description}
+use Rattle.types.specs.Declarations.{Declared, with_one, with_ports, with_locals, all_ports, all_locals, one_port, one_local, port_kind, local_kind, behind, port_types, local_types, judged_procedure, declarations_right, after_procedure}
 use Rattle.types.specs.walking.Least.{least}
 use Rattle.types.specs.declared.scope.Meaning.{Meaning}
 use Rattle.types.specs.declared.scope.Meaning.TheVariants as meaning
@@ -15,7 +15,6 @@ use Rattle.typed.specs.declared.tree.LocalKind.{LocalKind}
 use Rattle.typed.specs.declared.tree.Port.{Port}
 use Rattle.typed.specs.declared.tree.PortKind.{PortKind}
 use Rattle.syntax.specs.declared.declaration.Local as tree_local
-use Rattle.syntax.specs.declared.declaration.Description.{Description}
 use Rattle.syntax.specs.declared.declaration.Port as tree_port
 use Rattle.syntax.specs.declared.declaration.Procedure as tree_procedure
 use Rattle.syntax.specs.declared.name.Identifier.{Identifier}
@@ -121,21 +120,3 @@ module _ (v : Scope) (p : tree_procedure.Procedure)
         let fresh : named ≡ is_fresh v.names p.name.name p.name.span.start =
         named_is ∙ ap (λ x. is_fresh x p.name.name p.name.span.start) (kept_is ∙ ap (λ n. take n ln) visible_is ∙ names_before) in
         rw (← ports_is, ← pr_is, ← pn_is, ← locals_is, ← lr_is, ← ln_is, ← types_are, ← body_is, ← fresh, ← right_is, ← name_is) result_is
-
--- what a description is, from what its types and its procedures are
-pub description_is :
-    (d : Description) (start names : VisibleNames) (signatures : List (List PortKind)) (types : Verdict (Unit {0})) (procedures : Verdict (List Procedure))
-    → start ≡ []
-    → signatures ≡ []
-    → ◌≡◌ {A = SoFar least} (record { names = names; right = types }) (with_types least (record { names = start; right = Ok tt }) d.types)
-    → procedures ≡ with_procedures least (record { names = names; procedures = signatures }) (Ok []) d.procedures
-    → becomes (λ p. p.1) (both least types procedures) ≡ judged_description least d
-unfolding judged_description
-description_is d start names signatures types procedures start_is none types_are procedures_are =
-    let all : ◌≡◌ {A = SoFar least} (record { names = names; right = types }) (types_of least d) =
-    types_are ∙ ap (λ x. with_types least (record { names = x; right = Ok tt }) d.types) start_is in
-    let names_is : names ≡ (types_of least d).names = ap (λ (s : SoFar least). s.names) all in
-    let types_is : types ≡ (types_of least d).right = ap (λ (s : SoFar least). s.right) all in
-    let all_procedures : procedures ≡ with_procedures least (record { names = names; procedures = [] }) (Ok []) d.procedures =
-    procedures_are ∙ ap (λ x. with_procedures least (record { names = names; procedures = x }) (Ok []) d.procedures) none in
-    rw (← names_is, ← types_is, ← all_procedures) refl

@@ -1,12 +1,11 @@
 -- What is answered of a description is the least of all its faults.
-use Rattle.std.proofs.Common.{◌≡◌, ℕ, suc, List, [], ◌∷◌, length, map, Ok, Err, IfOk, IfErr, ◌⊎◌, inr, refl, ap, sym, ◌∙◌}
+use Rattle.std.proofs.Common.{◌≡◌, ℕ, suc, List, [], ◌∷◌, length, map, Ok, Err, IfOk, IfErr, refl, ap, sym, ◌∙◌}
 use Rattle.types.specs.Commands.{Scope, judged_command}
 use Rattle.types.specs.Declarations.{SoFar, with_name, with_elements, with_definition, with_demand, with_types, enumeration_width, width_or_one, demanded, Declared, with_one, with_ports, with_locals, all_ports, all_locals, one_port, one_local, port_kind, local_kind, port_type, local_type, port_types, local_types, behind, ports_of, locals_of, scope_inside, after_procedure, types_of, declarations_right, judged_procedure, with_procedures, judged_description, found_description}
 use Rattle.types.specs.Expressions.{declared_width}
 use Rattle.types.specs.Findings.{Verdict, Findings, becomes, both, and, with_next, one_fault, every, IsRefused}
 use Rattle.types.specs.Names.{VisibleNames, declared, is_fresh, port_meaning, local_meaning}
 use Rattle.types.specs.walking.Least.{least}
-use Rattle.refusals.specs.declared.types.Fault.TheVariants.{Memory}
 use Rattle.types.specs.declared.scope.Meaning.{Meaning}
 use Rattle.types.specs.declared.scope.Meaning.TheVariants as meaning
 use Rattle.typed.specs.declared.tree.Local.{Local}
@@ -165,6 +164,6 @@ typed_from d (Err fault) e = tt
 
 -- else the answer is the least fault
 pub refused_with : (d : Description) (made : Verdict (List Procedure)) → made ≡ judged_description least d
-    → IfErr made (λ fault. (fault ≡ Memory) ⊎ IsRefused (found_description d) fault)
+    → IfErr made (λ fault. IsRefused (found_description d) fault)
 refused_with d (Ok typed) e = tt
-refused_with d (Err fault) e = inr (refused_from (found_description d) fault (description_agrees d ∙ sym e))
+refused_with d (Err fault) e = refused_from (found_description d) fault (description_agrees d ∙ sym e)

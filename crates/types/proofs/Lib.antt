@@ -1,5 +1,6 @@
 pub mod CallLemmas
 pub mod DeclarationLemmas
+pub mod JudgedLemmas
 pub mod Least
 pub mod LeastCommands
 pub mod LeastDescriptions

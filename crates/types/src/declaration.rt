@@ -2,6 +2,7 @@
 ghost use Rattle.std.specs.Prelude.{◌≡◌, ◌≤◌, ◌^◌, [], ◌∷◌, ◌++◌, length, map, Ok, IfOk, IfErr, OnOk};
 ghost use Rattle.types.specs.Declarations as spec;
 ghost use Rattle.types.specs.Findings as findings;
+ghost use Rattle.types.specs.walking.Judged.{scope_behind};
 ghost use Rattle.types.specs.walking.Scopes.{entries, scope_of};
 ghost use Rattle.types.specs.Names.{declared, is_fresh};
 ghost use Rattle.types.specs.walking.Least.{least};
@@ -118,15 +119,17 @@ fn width_or_one(width: Verdict<Width>) -> Width
     }
 }
 
-/// Settles the procedures, and makes each visible behind its end.
+/// Settles the procedures behind those that are settled already, and makes each visible behind its end.
 pub(crate) fn settled_procedures(
     alloc: Global,
     scope: &mut Scope,
     procedures: &[syntax::Procedure],
+    settled: Verdict<Items<Procedure>>,
 ) -> Settled<Items<Procedure>>
-    ensures { IfOk result (λ made. made ≡ spec.with_procedures least (scope_of scope.old) (Ok []) procedures.now) }
+    ensures made { IfOk result (λ made. made ≡ spec.with_procedures least (scope_of scope.old) settled procedures.now) }
+    ensures visible { OnOk result (scope_of scope.new ≡ scope_behind (scope_of scope.old) procedures.now) }
 {
-    let mut settled = Ok(Items::new(alloc));
+    let mut settled = settled;
     for procedure in procedures {
         let next = settled_procedure(alloc, scope, procedure)?;
         settled = with_next(settled, next)?;

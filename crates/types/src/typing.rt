@@ -1,0 +1,78 @@
+// A description that is typed part by part.
+ghost use Rattle.std.specs.Prelude.{◌≡◌, [], ◌++◌, Ok, IfOk, IfErr, OnOk};
+ghost use Rattle.types.specs.Declarations.{found_description};
+ghost use Rattle.types.specs.Findings.{IsRefused, becomes, both};
+ghost use Rattle.types.specs.walking.Judged.{Judges};
+ghost use Rattle.types.specs.walking.Least.{least};
+ghost use Rattle.syntax.specs.declared.declaration.Description.{Description};
+
+use crate::Fault;
+use crate::declaration::{declare_types, settled_procedures};
+use crate::scope::Scope;
+use crate::verdict::Verdict;
+use std::alloc::{AllocError, Global};
+use std::mem;
+use syntax::{Items, TypeDeclaration};
+use typed::{Procedure, Typed};
+
+/// A description of which the types and the first procedures are judged. Nothing of their tree is kept, and once a
+/// fault is found no procedures either.
+#[derive(Drop)]
+pub struct Typing {
+    scope: Scope,
+    /// the procedures so far, or the fault that would be answered of what was judged
+    found: Verdict<Items<Procedure>>,
+}
+
+impl Typing {
+    /// The types of a description, and no procedures yet. It is refused for want of memory alone: a fault of the types
+    /// is answered by `finish`.
+    pub fn new(alloc: Global, types: &[TypeDeclaration]) -> Result<Typing, AllocError>
+        ensures { IfOk result (λ typing. Judges typing (record { types = types.now; procedures = [] })) }
+    {
+        let mut scope = Scope::new(alloc);
+        let right = declare_types(alloc, &mut scope.names, types)?;
+        Ok(Typing {
+            scope,
+            found: without_procedures(alloc, right),
+        })
+    }
+
+    /// Judges the procedures that stand behind those judged before. It is refused for want of memory alone, and then
+    /// nothing is known of what it holds: it is to be dropped.
+    pub fn add(&mut self, alloc: Global, procedures: &[syntax::Procedure]) -> Result<(), AllocError>
+        ensures { (d : Description) → Judges self.old d → OnOk result (Judges self.new (record { types = d.types; procedures = d.procedures ++ procedures.now })) }
+    {
+        let found = mem::replace(&mut self.found, Err(Fault::Memory));
+        self.found = settled_procedures(alloc, &mut self.scope, procedures, found)?;
+        Ok(())
+    }
+
+    /// The description with its names, kinds and widths settled, or of all its faults that with the least offset, and
+    /// at one offset that with the least number.
+    pub fn finish(self) -> Result<Typed, Fault>
+        ensures typed { (d : Description) → Judges self d → IfOk result (λ typed. found_description d ≡ Ok typed) }
+        ensures fault { (d : Description) → Judges self d → IfErr result (λ fault. IsRefused (found_description d) fault) }
+    {
+        let Typing {
+            scope: _scope,
+            found,
+        } = self;
+        described(found)
+    }
+}
+
+/// A description with no procedures, whose types are right or not.
+fn without_procedures(alloc: Global, types: Verdict<()>) -> Verdict<Items<Procedure>>
+    ensures { result ≡ becomes (λ p. p.1) (both least types (Ok [])) }
+{
+    types?;
+    Ok(Items::new(alloc))
+}
+
+/// The typed description of these procedures, if they are right.
+fn described(found: Verdict<Items<Procedure>>) -> Verdict<Typed>
+    ensures { result ≡ found }
+{
+    Ok(Typed::new(found?))
+}
