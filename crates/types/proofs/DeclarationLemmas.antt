@@ -1,5 +1,5 @@
 -- A procedure's declarations stand behind the names that are visible before it.
-use Rattle.std.proofs.Common.{◌≡◌, ℕ, List, [], ◌∷◌, ◌++◌, length, take, true, false, is_some, if◌then◌else◌, map, Ok, refl, ap, sym, subst, ◌∙◌, append_assoc, append-nil}
+use Rattle.std.proofs.Common.{◌≡◌, ℕ, List, [], ◌∷◌, ◌++◌, length, take, true, false, is_some, if◌then◌else◌, map, refl, ap, sym, subst, ◌∙◌, append_assoc, append-nil}
 use Rattle.std.proofs.Math.Seq.{take-append_seam}
 use Rattle.types.specs.Commands.{Scope, judged_command}
 use Rattle.types.specs.Findings.{Verdict, becomes, both, and}

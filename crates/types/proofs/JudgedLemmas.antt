@@ -7,8 +7,6 @@ use Rattle.types.specs.Names.{VisibleNames}
 use Rattle.types.specs.walking.Judged.{scope_behind, last_scope, Judges}
 use Rattle.types.specs.walking.Least.{least}
 use Rattle.types.specs.walking.Scopes.{entries, scope_of}
-use Rattle.types.specs.declared.scope.Names.{Names}
-use Rattle.types.specs.declared.scope.Scope as code
 use Rattle.types.specs.declared.typing.Typing.{Typing}
 use Rattle.typed.specs.declared.tree.PortKind.{PortKind}
 use Rattle.typed.specs.declared.tree.Procedure.{Procedure}

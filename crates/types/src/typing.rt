@@ -40,11 +40,7 @@ impl Typing {
 
     /// Judges the procedures that stand behind those judged before. It is refused for want of memory alone, and then
     /// nothing is known of what it holds: it is to be dropped.
-    pub fn add(
-        &mut self,
-        alloc: Global,
-        procedures: &[syntax::Procedure],
-    ) -> Result<(), AllocError>
+    pub fn add(&mut self, alloc: Global, procedures: &[syntax::Procedure]) -> Result<(), AllocError>
         ensures { (d : Description) → Judges self.old d → OnOk result (Judges self.new (record { types = d.types; procedures = d.procedures ++ procedures.now })) }
     {
         let found = mem::replace(&mut self.found, Err(Fault::Memory));

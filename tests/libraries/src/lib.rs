@@ -5,6 +5,8 @@
 #[cfg(test)]
 mod addresses;
 #[cfg(test)]
+mod by_parts;
+#[cfg(test)]
 mod crowd;
 #[cfg(test)]
 mod examples;

@@ -1,5 +1,5 @@
--- What is held of a description whose types and first procedures are judged.
--- No reader has to believe it: `check_types` begins and ends such a description, and its clauses cite `found_description`.
+-- What `Typing` holds of a description whose types and first procedures are judged.
+-- No reader has to believe it: `check_types` goes through `new`, `add` and `finish`, and its clauses cite `found_description` alone.
 use Rattle.std.specs.Prelude.{◌≡◌, List, [], ◌∷◌}
 use Rattle.types.specs.Commands.{Scope}
 use Rattle.types.specs.Declarations.{after_procedure, types_of, judged_description}

@@ -1,6 +1,5 @@
 use Rattle.std.proofs.Common.{ap, ◌∙◌}
 use Rattle.types.specs.Declarations.{with_procedures}
-use Rattle.types.specs.walking.Judged.{Judges}
 use Rattle.types.specs.walking.Least.{least}
 use Rattle.types.specs.walking.Scopes.{scope_of}
 use Rattle.types.proofs.JudgedLemmas.{judges-more}

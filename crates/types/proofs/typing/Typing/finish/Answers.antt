@@ -1,5 +1,4 @@
 use Rattle.std.proofs.Common.{◌∙◌}
-use Rattle.types.specs.walking.Judged.{Judges}
 use Rattle.types.proofs.LeastDescriptions.{typed_from, refused_with}
 use Rattle.types.proofs.typing.Typing.finish.Goals as goal
 
