@@ -1,12 +1,15 @@
 -- The table of places: what is put and taken, and walks down the places.
 use Rattle.std.proofs.Common.{◌≡◌, ◌≢◌, ◌⊎◌, inl, inr, ℕ, zero, suc, ◌<◌, ◌≤◌, Bool, true, false, cond, List, [], ◌∷◌, ◌++◌, length, take, Vec, Option, Some, None, is_some, MatchOption, refl, sym, ap, subst, ◌∙◌, true≢false, arith, Ordering, Less, Equal, Greater, slice_get, append-nil, Global}
 use Rattle.std.specs.Ordering.{is_eq, is_lt}
+use Rattle.std.specs.Cmp.Lexicographic.{slice_cmp}
 use Rattle.std.specs.Map.{lookup}
 use Rattle.address.specs.declared.Entry.{Entry}
 use Rattle.address.specs.declared.Entry.TheVariants.{Ordered, Branch}
+use Rattle.address.specs.contracts.EntryOrd.TheImpl.{cmp-value}
 use Rattle.address.specs.Places.{Before, Apart}
 use Rattle.address.specs.Order.{order_of}
 use Rattle.address.specs.walking.OrderLaws.{less-not-equal}
+use Rattle.address.proofs.Entries.{entries_cmp-is}
 use Rattle.address.proofs.Places.{before-end, before-left, apart-left, ordered-injective}
 use Rattle.address.proofs.Total.{order-ties, order-itself, order-transitive, order-total, before-is-less}
 use Rattle.syntax.specs.Lists.{In}
@@ -20,6 +23,16 @@ use Rattle.last_events.proofs.ForkLaws.{shared-not-less, shares-back, shares-on,
 -- whether a key is this place
 abbrev pub is_key : List Entry → Vec Entry Global → Bool
 is_key a k = is_eq (order_of a k.items)
+
+-- as a map of places asks, which `equal_runs` has
+abbrev pub is_asked : List Entry → Vec Entry Global → Bool
+is_asked a k = is_eq (slice_cmp cmp-value.it a k.items)
+
+pub asked-is : (a : List Entry) → is_asked a ≡ is_key a
+asked-is a i k = is_eq (entries_cmp-is a k.items i)
+
+pub looked : (a : List Entry) (es : List (Vec Entry Global × ℕ)) → lookup (is_asked a) es ≡ lookup (is_key a) es
+looked a es = ap (λ (test : Vec Entry Global → Bool). lookup test es) (asked-is a)
 
 eq-of : (o : Ordering) → is_eq o ≡ true → o ≡ Equal
 eq-of Less h = absurd (true≢false (sym h))
@@ -359,13 +372,6 @@ all-before table a s t n floor old mid new o near is pushed c =
             ]
           ];
     }
-
--- ---- what an answer that there is, or is none, says
-pub at-some : {X : Type 0} (N : Type 0) (H : X → Type 0) (o : Option X) (x : X) → o ≡ Some x → MatchOption o N H → H x
-at-some {X} N H o x is h = subst (λ (q : Option X). MatchOption q N H) is h
-
-pub at-none : {X : Type 0} (N : Type 0) (H : X → Type 0) (o : Option X) → o ≡ None → MatchOption o N H → N
-at-none {X} N H o is h = subst (λ (q : Option X). MatchOption q N H) is h
 
 pub taken-length : (n : ℕ) (a : List Entry) → n ≤ length a → n ≡ length (take n a)
 taken-length zero a h = refl
