@@ -1,18 +1,16 @@
 -- Rows of seats: what stands before a spot and behind it, and what an edit of a row leaves.
-use Rattle.std.proofs.Common.{◌≡◌, ◌≢◌, ◌⊎◌, inl, inr, ℕ, zero, suc, ◌+◌, ◌<◌, ◌≤◌, Bool, true, false, cond, List, [], ◌∷◌, ◌++◌, length, take, drop, map, set, Vec, Option, Result, Ok, Err, OnErr, Some, None, is_some, slice_get, get_or, refl, sym, ap, subst, ◌∙◌, true≢false, arith, Ordering, Less, Equal, Greater, Global}
+use Rattle.std.proofs.Common.{◌≡◌, ◌≢◌, ◌⊎◌, inl, inr, ℕ, zero, suc, ◌<◌, ◌≤◌, Bool, true, false, cond, List, [], ◌∷◌, ◌++◌, length, take, drop, set, Vec, Option, Result, Ok, Err, OnErr, Some, None, slice_get, get_or, refl, sym, ap, subst, ◌∙◌, arith, Less, Global}
 use Rattle.std.specs.Ordering.{is_eq}
 use Rattle.std.specs.Map.{lookup}
 use Rattle.address.specs.declared.Entry.{Entry}
 use Rattle.address.specs.Order.{order_of}
-use Rattle.address.specs.walking.OrderLaws.{less-not-equal}
-use Rattle.address.proofs.Total.{order-itself, order-transitive, order-total}
-use Rattle.syntax.specs.Lists.{In, Every}
-use Rattle.last_events.specs.LastEvents.{IsAt, PutAt, RemovedAt}
-use Rattle.last_events.specs.walking.Search.{Rising, Splits, first_place}
-use Rattle.last_events.specs.walking.Rows.{Seat, Row, flat, places, Filled, IsTable, row_at, before, behind, Stands, HoldsAt, Absent, IsCut}
-use Rattle.last_events.specs.walking.Walks.{NoneBelow, LastBelow}
+use Rattle.address.proofs.Total.{order-itself}
+use Rattle.syntax.specs.Lists.{In}
+use Rattle.last_events.specs.LastEvents.{PutAt, RemovedAt}
+use Rattle.last_events.specs.walking.Search.{Rising}
+use Rattle.last_events.specs.walking.Rows.{Seat, Row, flat, places, Filled, row_at, before, behind, IsCut}
 use Rattle.last_events.proofs.PlaceLaws.{is_key, key-is, not-true, itself-not-less}
-use Rattle.last_events.proofs.SearchLaws.{in-at, some-is, none-some}
+use Rattle.last_events.proofs.SearchLaws.{some-is, none-some}
 
 -- ---- elements of lists
 pub in-left : {X : Type 0} (x : X) (xs ys : List X) → In x xs → In x (xs ++ ys)

@@ -1,4 +1,4 @@
-use Rattle.std.proofs.Common.{◌<◌, ◌≤◌, length, get_or, ap, sym, ◌∙◌, arith}
+use Rattle.std.proofs.Common.{get_or, ap, sym, ◌∙◌, arith}
 use Rattle.std.specs.Ordering.{is_lt}
 use Rattle.address.specs.declared.Entry.TheVariants.{Ordered}
 use Rattle.last_events.proofs.ForkLaws.{parted-second_end, parted-first_end, parted-inside, entry-cmp}

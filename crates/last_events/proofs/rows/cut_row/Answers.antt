@@ -1,4 +1,4 @@
-use Rattle.std.proofs.Common.{◌≡◌, ◌+◌, ◌<◌, ◌≤◌, List, length, get_or, subst, arith}
+use Rattle.std.proofs.Common.{◌≡◌, ◌+◌, List, get_or, subst, arith}
 use Rattle.last_events.specs.walking.Rows.{Row}
 use Rattle.last_events.proofs.RowLaws.{cut-done, row-count}
 use Rattle.last_events.proofs.rows.cut_row.Goals as goal

@@ -1,4 +1,4 @@
-use Rattle.std.proofs.Common.{◌≤◌, arith}
+use Rattle.std.proofs.Common.{arith}
 use Rattle.last_events.proofs.RowLaws.{insert-done, same-done, row-count, on-err}
 use Rattle.last_events.proofs.rows.insert_into.Goals as goal
 

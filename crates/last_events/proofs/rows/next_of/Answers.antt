@@ -1,4 +1,4 @@
-use Rattle.std.proofs.Common.{◌≡◌, ◌+◌, ◌<◌, ◌≤◌, ℕ, suc, slice_get, subst, arith}
+use Rattle.std.proofs.Common.{◌≡◌, ◌+◌, ℕ, suc, slice_get, subst, arith}
 use Rattle.last_events.specs.walking.Rows.{row_at, behind}
 use Rattle.last_events.proofs.RowLaws.{row-count}
 use Rattle.last_events.proofs.StandLaws.{next-here, next-row}

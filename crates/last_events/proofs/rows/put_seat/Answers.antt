@@ -1,6 +1,6 @@
-use Rattle.std.proofs.Common.{◌≡◌, ◌<◌, length, refl, sym, ◌∙◌, eqb-true, arith}
+use Rattle.std.proofs.Common.{◌<◌, length, refl, sym, ◌∙◌, eqb-true, arith}
 use Rattle.std.proofs.lemmas.Result.{on_ok_weaker}
-use Rattle.last_events.specs.walking.Rows.{HoldsAt, Stands, row_at}
+use Rattle.last_events.specs.walking.Rows.{row_at}
 use Rattle.last_events.proofs.RowLaws.{row-count, nil-of}
 use Rattle.last_events.proofs.StandLaws.{holds-as, stands-as, absent-as, holds-inside, holds-within, put-first, put-more, table-either, held-table, held-put}
 use Rattle.last_events.proofs.rows.put_seat.Goals as goal

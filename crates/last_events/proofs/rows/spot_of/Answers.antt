@@ -1,4 +1,4 @@
-use Rattle.std.proofs.Common.{◌≡◌, ◌⊎◌, inl, inr, ◌<◌, ℕ, suc, List, length, sym, subst, ◌∙◌, arith}
+use Rattle.std.proofs.Common.{◌≡◌, ◌⊎◌, inl, inr, ◌<◌, suc, List, length, sym, subst, ◌∙◌, arith}
 use Rattle.last_events.specs.walking.Search.{Rising, Splits}
 use Rattle.last_events.specs.walking.Rows.{Seat, places}
 use Rattle.last_events.proofs.RowLaws.{row-read}

@@ -1,4 +1,4 @@
-use Rattle.std.proofs.Common.{◌≡◌, ◌≤◌, ◌<◌, length, ap, sym, ◌∙◌, eqb-true, arith}
+use Rattle.std.proofs.Common.{ap, sym, ◌∙◌, eqb-true, arith}
 use Rattle.last_events.specs.walking.Rows.{flat}
 use Rattle.last_events.proofs.RowLaws.{row-count, take-done, gone-done, nil-of}
 use Rattle.last_events.proofs.rows.take_out.Goals as goal

@@ -1,4 +1,4 @@
-use Rattle.std.proofs.Common.{◌≡◌, ◌≤◌, ◌<◌, ◌+◌, ◌-◌, ◌/◌, ℕ, suc, Some, length, map, slice_get, subst, arith}
+use Rattle.std.proofs.Common.{◌≤◌, ◌<◌, ◌+◌, ◌-◌, ◌/◌, ℕ, length, map, subst, arith}
 use Rattle.last_events.proofs.SearchLaws.{narrowed-shares, narrowed-up, narrowed-down, place-read, length-places, min-first, min-second}
 use Rattle.last_events.proofs.search.count_less.Goals as goal
 

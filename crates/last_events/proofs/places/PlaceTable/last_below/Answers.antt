@@ -1,4 +1,4 @@
-use Rattle.std.proofs.Common.{◌≡◌, ◌<◌, ◌≤◌, ◌-◌, ℕ, suc, Some, List, length, slice_get, sym, ap, subst, arith}
+use Rattle.std.proofs.Common.{◌≡◌, ◌≤◌, ◌-◌, suc, Some, List, length, slice_get, sym, ap, subst, arith}
 use Rattle.address.specs.declared.Entry.{Entry}
 use Rattle.last_events.specs.walking.Rows.{Seat, Row, Stands, row_at, flat}
 use Rattle.last_events.specs.walking.Walks.{NoneBelow, LastBelow}
