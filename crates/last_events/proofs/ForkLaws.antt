@@ -1,6 +1,6 @@
 -- Where places part, and what that says of their order.
 use Rattle.std.proofs.Common.{◌≡◌, ◌⊎◌, inl, inr, ℕ, zero, suc, ◌<◌, ◌≤◌, Bool, true, false, List, [], ◌∷◌, ◌++◌, length, take, drop, get_or, slice_get, drop-cons, drop_of_length-le, refl, sym, ap, subst, ◌∙◌, true≢false, arith, Ordering, Less, Equal, Greater}
-use Rattle.std.specs.Ordering.{nat_cmp, ordering_then, MatchOrdering}
+use Rattle.std.specs.Ordering.{is_lt, nat_cmp, ordering_then, MatchOrdering}
 use Rattle.std.proofs.lemmas.Cmp.{nat_cmp_total, tied_itself, ranked}
 use Rattle.address.specs.declared.Entry.{Entry}
 use Rattle.address.specs.declared.Entry.TheVariants.{Ordered, Branch}
@@ -8,17 +8,21 @@ use Rattle.address.specs.Places.{Before, Apart}
 use Rattle.address.specs.Order.{entry_order, order_of}
 use Rattle.address.specs.walking.OrderLaws.{less-not-equal, greater-not-equal, greater-not-less}
 use Rattle.address.specs.walking.Common.{FirstsDiffer}
+use Rattle.address.specs.contracts.EntryOrd.TheImpl.{cmp-value}
 use Rattle.address.specs.contracts.EntryPartialEq.TheImpl.{eq-value}
 use Rattle.address.proofs.Entries.{entry_eq-Decides}
 use Rattle.address.proofs.Places.{before-end, ordered-injective, branch-injective, head-injective, tail-injective}
 use Rattle.last_events.specs.walking.Forks.{IsFork, Shares, is_ordered_entry}
 
 -- ---- the order, entry by entry
-number-less : (i j : ℕ) → nat_cmp i j ≡ Less → i < j
+pub number-less : (i j : ℕ) → nat_cmp i j ≡ Less → i < j
 number-less i j h = subst (λ o. MatchOrdering o (i < j) (i ≡ j) (j < i)) h (ranked i j (nat_cmp i j) refl)
 
-number-ties : (i j : ℕ) → nat_cmp i j ≡ Equal → i ≡ j
+pub number-ties : (i j : ℕ) → nat_cmp i j ≡ Equal → i ≡ j
 number-ties i j h = subst (λ o. MatchOrdering o (i < j) (i ≡ j) (j < i)) h (ranked i j (nat_cmp i j) refl)
+
+pub number-more : (i j : ℕ) → nat_cmp i j ≡ Greater → j < i
+number-more i j h = subst (λ o. MatchOrdering o (i < j) (i ≡ j) (j < i)) h (ranked i j (nat_cmp i j) refl)
 
 less-number-of : (i j : ℕ) (o : Ordering) → nat_cmp i j ≡ o → i < j → nat_cmp i j ≡ Less
 less-number-of i j Less e h = e
@@ -353,3 +357,73 @@ forked-differ a b k d r same in_a in_b test fails =
     fork-from k a b (omega arith) (omega arith) same
     (subst (λ c. FirstsDiffer c (drop k b)) (sym (drop-cons a k d in_a))
     (subst (λ c. FirstsDiffer (get_or a k d ∷ drop (suc k) a) c) (sym (drop-cons b k d in_b)) differ))
+
+-- ---- and how two places stand that part there
+then-differs : (o p : Ordering) → (o ≡ Equal → ⊥) → is_lt (ordering_then o p) ≡ is_lt o
+then-differs Less p h = refl
+then-differs Equal p h = absurd (h refl)
+then-differs Greater p h = refl
+
+order-behind : (x y : Entry) (a b : List Entry) → x ≡ y → order_of (x ∷ a) (y ∷ b) ≡ order_of a b
+order-behind x y a b is =
+    ap (λ o. ordering_then o (order_of a b)) (subst (λ (z : Entry). entry_order x z ≡ Equal) is (entry-itself x))
+
+pub parted-second_end : (n : ℕ) (a b : List Entry) → IsFork n a b → length b ≤ n → is_lt (order_of a b) ≡ false
+parted-second_end zero [] [] f h = refl
+parted-second_end zero (x ∷ a) [] f h = refl
+parted-second_end zero [] (y ∷ b) f h = absurd (omega arith)
+parted-second_end zero (x ∷ a) (y ∷ b) f h = absurd (omega arith)
+parted-second_end (suc n) [] b f h = absurd f
+parted-second_end (suc n) (x ∷ a) [] f h = absurd f
+parted-second_end (suc n) (x ∷ a) (y ∷ b) f h =
+    let short : length b ≤ n = omega arith in ap is_lt (order-behind x y a b f.0) ∙ parted-second_end n a b f.1 short
+
+pub parted-first_end : (n : ℕ) (a b : List Entry) → IsFork n a b → length a ≤ n → n < length b → is_lt (order_of a b) ≡ true
+parted-first_end zero [] [] f h k = absurd (omega arith)
+parted-first_end zero [] (y ∷ b) f h k = refl
+parted-first_end zero (x ∷ a) b f h k = absurd (omega arith)
+parted-first_end (suc n) [] b f h k = absurd f
+parted-first_end (suc n) (x ∷ a) [] f h k = absurd f
+parted-first_end (suc n) (x ∷ a) (y ∷ b) f h k =
+    let short : length a ≤ n = omega arith in
+    let long : n < length b = omega arith in
+    ap is_lt (order-behind x y a b f.0) ∙ parted-first_end n a b f.1 short long
+
+pub parted-inside : (n : ℕ) (a b : List Entry) (d e : Entry) → IsFork n a b → n < length a → n < length b →
+    is_lt (order_of a b) ≡ is_lt (entry_order (get_or a n d) (get_or b n e))
+parted-inside n [] b d e f h k = absurd (omega arith)
+parted-inside n (x ∷ a) [] d e f h k = absurd (omega arith)
+parted-inside zero (x ∷ a) (y ∷ b) d e f h k = then-differs (entry_order x y) (order_of a b) (λ is. f (entry-ties x y is))
+parted-inside (suc n) (x ∷ a) (y ∷ b) d e f h k =
+    let in_a : n < length a = omega arith in
+    let in_b : n < length b = omega arith in
+    ap is_lt (order-behind x y a b f.0) ∙ parted-inside n a b d e f.1 in_a in_b
+
+pub entry-cmp : (x y : Entry) → cmp-value.it x y ≡ entry_order x y
+entry-cmp (Ordered i) (Ordered j) = refl
+entry-cmp (Branch i) (Branch j) = refl
+entry-cmp (Ordered i) (Branch j) = refl
+entry-cmp (Branch i) (Ordered j) = refl
+
+-- ---- what both are known to share
+pub shares-fewer : (k n : ℕ) (a b : List Entry) → k ≤ n → Shares n a b → Shares k a b
+shares-fewer zero n a b h s = tt
+shares-fewer (suc k) zero a b h s = absurd (omega arith)
+shares-fewer (suc k) (suc n) [] b h s = absurd s
+shares-fewer (suc k) (suc n) (x ∷ a) [] h s = absurd s
+shares-fewer (suc k) (suc n) (x ∷ a) (y ∷ b) h s = let less : k ≤ n = omega arith in (s.0, shares-fewer k n a b less s.1)
+
+pub shares-first : (n : ℕ) (a b : List Entry) → Shares n a b → n ≤ length a
+shares-first zero a b s = omega arith
+shares-first (suc n) [] b s = absurd s
+shares-first (suc n) (x ∷ a) [] s = absurd s
+shares-first (suc n) (x ∷ a) (y ∷ b) s = let rest : n ≤ length a = shares-first n a b s.1 in omega arith
+
+pub shares-second : (n : ℕ) (a b : List Entry) → Shares n a b → n ≤ length b
+shares-second n a b s = shares-first n b a (shares-back n a b s)
+
+pub shares-same : (n : ℕ) (a b : List Entry) → Shares n a b → take n a ≡ take n b
+shares-same zero a b s = refl
+shares-same (suc n) [] b s = absurd s
+shares-same (suc n) (x ∷ a) [] s = absurd s
+shares-same (suc n) (x ∷ a) (y ∷ b) s = ap (λ (z : Entry). z ∷ take n a) s.0 ∙ ap (λ (c : List Entry). y ∷ c) (shares-same n a b s.1)

@@ -1,3 +1,6 @@
 pub mod ForkLaws
 pub mod PlaceLaws
+pub mod RowLaws
+pub mod SearchLaws
+pub mod StandLaws
 pub mod UseLaws

@@ -1,11 +1,8 @@
 -- The table of places: what is put and taken, and walks down the places.
-use Rattle.std.proofs.Common.{◌≡◌, ◌≢◌, ◌⊎◌, inl, inr, ℕ, zero, suc, ◌<◌, ◌≤◌, Bool, true, false, cond, List, [], ◌∷◌, ◌++◌, length, take, Vec, Option, Some, None, is_some, MatchOption, refl, sym, ap, subst, ◌∙◌, true≢false, arith, Ordering, Less, Equal, Greater, slice_get, append-nil, Global}
-use Rattle.std.specs.Ordering.{is_eq, is_lt, eq_by_cmp}
+use Rattle.std.proofs.Common.{◌≡◌, ◌⊎◌, inl, inr, ℕ, zero, suc, ◌<◌, ◌≤◌, Bool, true, false, cond, List, [], ◌∷◌, ◌++◌, length, take, Vec, Some, is_some, refl, sym, ap, subst, ◌∙◌, true≢false, arith, Ordering, Less, Equal, Greater, slice_get, append-nil, Global}
+use Rattle.std.specs.Ordering.{is_eq, is_lt}
 use Rattle.std.specs.Cmp.Lexicographic.{slice_cmp}
-use Rattle.std.specs.Map.{lookup, KeepsOthers, IsKeyTest, AreApart}
-use Rattle.std.specs.BTreeMap.{UpdatesBy}
-use Rattle.std.specs.BTreeMap.Range.{IsRangeOf}
-use Rattle.std.specs.declared.ops.Bound.TheVariants.{Unbounded, Excluded}
+use Rattle.std.specs.Map.{lookup}
 use Rattle.address.specs.declared.Entry.{Entry}
 use Rattle.address.specs.declared.Entry.TheVariants.{Ordered, Branch}
 use Rattle.address.specs.contracts.EntryOrd.TheImpl.{cmp-value}
@@ -17,7 +14,7 @@ use Rattle.address.proofs.Places.{before-end, before-left, apart-left, ordered-i
 use Rattle.address.proofs.Total.{order-ties, order-itself, order-transitive, order-total, before-is-less}
 use Rattle.syntax.specs.Lists.{In}
 use Rattle.last_events.specs.declared.places.PlaceTable.{PlaceTable}
-use Rattle.last_events.specs.LastEvents.{IsAt, Same, PutAt, RemovedAt, OneTree, Orderly, LastBefore}
+use Rattle.last_events.specs.LastEvents.{IsAt, OneTree, Orderly, LastBefore}
 use Rattle.last_events.specs.walking.Forks.{IsFork, Shares, is_ordered_entry}
 use Rattle.last_events.specs.walking.Walks.{NoneBelow, LastBelow, NoneBefore, NearestBefore, Collected}
 use Rattle.last_events.proofs.ForkLaws.{shared-not-less, shares-back, shares-on, fork-shares, fork-shares-no-more, fork-within, fork-below, less-longer, before-forks, apart-forks, before-near, shared-before, jump-branch, jump-ordered, between-shares}
@@ -27,7 +24,7 @@ use Rattle.last_events.proofs.ForkLaws.{shared-not-less, shares-back, shares-on,
 abbrev pub is_key : List Entry → Vec Entry Global → Bool
 is_key a k = is_eq (order_of a k.items)
 
--- as the map asks
+-- as a map of places asks, which `equal_runs` has
 abbrev pub is_asked : List Entry → Vec Entry Global → Bool
 is_asked a k = is_eq (slice_cmp cmp-value.it a k.items)
 
@@ -42,31 +39,12 @@ eq-of Less h = absurd (true≢false (sym h))
 eq-of Equal h = refl
 eq-of Greater h = absurd (true≢false (sym h))
 
-key-is : (a : List Entry) (k : Vec Entry Global) → is_key a k ≡ true → a ≡ k.items
+pub key-is : (a : List Entry) (k : Vec Entry Global) → is_key a k ≡ true → a ≡ k.items
 key-is a k h = order-ties a k.items (eq-of (order_of a k.items) h)
 
-abbrev cmp_keys : Vec Entry Global → Vec Entry Global → Ordering
-cmp_keys x y = slice_cmp cmp-value.it x.items y.items
-
-key-tests : (b : List Entry) → IsKeyTest (eq_by_cmp cmp_keys) (is_key b)
-key-tests b x y h =
-    let is : b ≡ x.items = key-is b x h in
-    ap (λ (c : List Entry). is_eq (order_of c y.items)) is ∙ sym (ap is_eq (entries_cmp-is x.items y.items))
-
-not-true : (b : Bool) → (b ≡ true → ⊥) → b ≡ false
+pub not-true : (b : Bool) → (b ≡ true → ⊥) → b ≡ false
 not-true true h = absurd (h refl)
 not-true false h = refl
-
-keys-apart : (a b : List Entry) → b ≢ a → AreApart (is_asked a) (is_key b)
-keys-apart a b differs k h =
-    let here : is_key a k ≡ true = ap (λ (test : Vec Entry Global → Bool). test k) (sym (asked-is a)) ∙ h in
-    not-true (is_key b k) (λ there. differs (key-is b k there ∙ sym (key-is a k here)))
-
--- at another place nothing has changed
-pub others-stay : (a : List Entry) (old new : List (Vec Entry Global × ℕ)) → KeepsOthers (eq_by_cmp cmp_keys) (is_asked a) old new → (b : List Entry) → b ≢ a →
-    lookup (is_key b) new ≡ lookup (is_key b) old
-unfolding KeepsOthers
-others-stay a old new keeps b differs = keeps (is_key b) (key-tests b) (keys-apart a b differs)
 
 -- ---- how many keys are less than a bound: the measure of a walk
 abbrev pub count_below : List Entry → List (Vec Entry Global × ℕ) → ℕ
@@ -127,74 +105,15 @@ count-falls b c s t h low high [] at = absurd (true≢false (ap is_some (sym at)
 count-falls b c s t h low high (e ∷ es) at =
     key-step b c s t h low high e es (is_key s e.0) refl at (λ there. count-falls b c s t h low high es there)
 
--- ---- the last place below a bound
-found-step : (a : List Entry) (u : ℕ) (e : Vec Entry Global × ℕ) (es : List (Vec Entry Global × ℕ)) (p : Bool) → is_key a e.0 ≡ p → cond p (Some e.1) (lookup (is_key a) es) ≡ Some u →
-    (lookup (is_key a) es ≡ Some u → (k : Vec Entry Global) × (a ≡ k.items)) → (k : Vec Entry Global) × (a ≡ k.items)
-found-step a u e es true is at rest = (e.0, key-is a e.0 is)
-found-step a u e es false is at rest = rest at
-
--- the key of a place in the table
-found-key : (a : List Entry) (u : ℕ) (es : List (Vec Entry Global × ℕ)) → lookup (is_key a) es ≡ Some u → (k : Vec Entry Global) × (a ≡ k.items)
-found-key a u [] at = absurd (true≢false (ap is_some (sym at)))
-found-key a u (e ∷ es) at = found-step a u e es (is_key a e.0) refl at (λ there. found-key a u es there)
-
-key-at : (table : PlaceTable) (a : List Entry) (u : ℕ) (k : Vec Entry Global) → a ≡ k.items → IsAt table a u → lookup (is_asked k.items) table.map.entries ≡ Some u
-key-at table a u k is at =
-    looked k.items table.map.entries ∙ subst (λ (b : List Entry). lookup (is_key b) table.map.entries ≡ Some u) is at
-
-pub last-found : (table : PlaceTable) (key : Vec Entry Global) (r t : List (Vec Entry Global × ℕ)) (e : Vec Entry Global × ℕ) →
-    IsRangeOf cmp_keys Unbounded (Excluded key) table.map r → r ≡ t ++ e ∷ [] → LastBelow table key.items e.0.items e.1
-last-found table key r t e h is =
-    let inside = h.3 e t is in
-    record {
-      at = sym (looked e.0.items table.map.entries) ∙ inside.1;
-      below = sym (entries_cmp-is e.0.items key.items) ∙ inside.0.1;
-      last = λ a u at low high.
-          let k = found-key a u table.map.entries at in
-          let there : lookup (is_asked k.0.items) table.map.entries ≡ Some u = key-at table a u k.0 k.1 at in
-          let under : cmp_keys k.0 key ≡ Less = entries_cmp-is k.0.items key.items ∙ subst (λ (b : List Entry). order_of b key.items ≡ Less) k.1 low in
-          let over : cmp_keys e.0 k.0 ≡ Less = entries_cmp-is e.0.items k.0.items ∙ subst (λ (b : List Entry). order_of e.0.items b ≡ Less) k.1 high in
-          let none : is_lt (cmp_keys e.0 k.0) ≡ false = h.4 e t is k.0 (tt, under) (ap is_some there) in
-          true≢false (sym (ap is_lt over) ∙ none);
-    }
-
-pub none-found : (table : PlaceTable) (key : Vec Entry Global) (r : List (Vec Entry Global × ℕ)) →
-    IsRangeOf cmp_keys Unbounded (Excluded key) table.map r → r ≡ [] → NoneBelow table key.items
-none-found table key r h is = λ a u at low.
-    let k = found-key a u table.map.entries at in
-    let there : lookup (is_asked k.0.items) table.map.entries ≡ Some u = key-at table a u k.0 k.1 at in
-    let under : cmp_keys k.0 key ≡ Less = entries_cmp-is k.0.items key.items ∙ subst (λ (b : List Entry). order_of b key.items ≡ Less) k.1 low in
-    true≢false (ap is_some (sym there ∙ h.5 is k.0 (tt, under)))
-
--- ---- what is put and taken
-pub put-at : (old new : PlaceTable) (key : Vec Entry Global) (t : ℕ) (a : List Entry) → key.items ≡ a → UpdatesBy cmp_keys (cmp_keys key) old.map new.map (Some t) → PutAt old a t new
-put-at old new key t a is h =
-    subst (λ (b : List Entry). PutAt old b t new) is
-    (record {
-      here = sym (looked key.items new.map.entries) ∙ h.1;
-      others = λ b differs. others-stay key.items old.map.entries new.map.entries h.3 b differs;
-    })
-
-pub removed-at : (old new : PlaceTable) (q a : List Entry) → q ≡ a → UpdatesBy cmp_keys (λ (k : Vec Entry Global). slice_cmp cmp-value.it q k.items) old.map new.map None → RemovedAt old a new
-removed-at old new q a is h =
-    subst (λ (b : List Entry). RemovedAt old b new) is
-    (record {
-      here = sym (looked q new.map.entries) ∙ h.1;
-      others = λ b differs. others-stay q old.map.entries new.map.entries h.3 b differs;
-    })
-
-pub same-entries : (old new : PlaceTable) → new.map.entries ≡ old.map.entries → Same old new
-same-entries old new is = λ a. ap (λ (es : List (Vec Entry Global × ℕ)). lookup (is_key a) es) is
-
 -- ---- the nearest place before one
 take-whole : (a : List Entry) → take (length a) a ≡ a
 take-whole [] = refl
 take-whole (x ∷ a) = ap (λ (b : List Entry). x ∷ b) (take-whole a)
 
-itself-not-less : (a : List Entry) → order_of a a ≡ Less → ⊥
+pub itself-not-less : (a : List Entry) → order_of a a ≡ Less → ⊥
 itself-not-less a h = less-not-equal (sym h ∙ order-itself a)
 
-less-both-ways : (a b : List Entry) → order_of a b ≡ Less → order_of b a ≡ Less → ⊥
+pub less-both-ways : (a b : List Entry) → order_of a b ≡ Less → order_of b a ≡ Less → ⊥
 less-both-ways a b h k = itself-not-less a (order-transitive a b a h k)
 
 less-whole : (n : ℕ) (s a : List Entry) → n ≤ length a → order_of s (take n a) ≡ Less → order_of s a ≡ Less
@@ -392,20 +311,20 @@ walked-apart table first last s n end m t e old found more o w low f near is pus
 
 -- the measure falls
 pub falls-ordered : (table : PlaceTable) (last s : List Entry) (end m t : ℕ) → end ≤ length last → LastBelow table (take end last) s t → IsFork m s last →
-    count_below (take m last) table.map.entries < count_below (take end last) table.map.entries
+    count_below (take m last) table < count_below (take end last) table
 falls-ordered table last s end m t short low f =
     let less : m < end = fork-below end m s last short low.below f in
     let within : m ≤ length last = omega arith in
     let upto : m ≤ end = omega arith in
     count-falls (take end last) (take m last) s t (λ a h. less-longer m end a last upto h) low.below
-    (λ h. let again : m < m = fork-below m m s last within h f in absurd (omega arith)) table.map.entries low.at
+    (λ h. let again : m < m = fork-below m m s last within h f in absurd (omega arith)) table low.at
 
 pub falls-apart : (table : PlaceTable) (last s : List Entry) (end t e : ℕ) → LastBelow table (take end last) s t → e ≡ length s →
-    count_below (take e s) table.map.entries < count_below (take end last) table.map.entries
+    count_below (take e s) table < count_below (take end last) table
 falls-apart table last s end t e low is =
     let whole : take e s ≡ s = ap (λ (k : ℕ). take k s) is ∙ take-whole s in
-    subst (λ (b : List Entry). count_below b table.map.entries < count_below (take end last) table.map.entries) (sym whole)
-    (count-falls (take end last) s s t (λ a h. order-transitive a s (take end last) h low.below) low.below (itself-not-less s) table.map.entries low.at)
+    subst (λ (b : List Entry). count_below b table < count_below (take end last) table) (sym whole)
+    (count-falls (take end last) s s t (λ a h. order-transitive a s (take end last) h low.below) low.below (itself-not-less s) table low.at)
 
 -- ---- both
 pub before-long : (n : ℕ) (s a : List Entry) → Before s a → IsFork n s a → n < length s
@@ -453,13 +372,6 @@ all-before table a s t n floor old mid new o near is pushed c =
             ]
           ];
     }
-
--- ---- what an answer that there is, or is none, says
-pub at-some : {X : Type 0} (N : Type 0) (H : X → Type 0) (o : Option X) (x : X) → o ≡ Some x → MatchOption o N H → H x
-at-some {X} N H o x is h = subst (λ (q : Option X). MatchOption q N H) is h
-
-pub at-none : {X : Type 0} (N : Type 0) (H : X → Type 0) (o : Option X) → o ≡ None → MatchOption o N H → N
-at-none {X} N H o is h = subst (λ (q : Option X). MatchOption q N H) is h
 
 pub taken-length : (n : ℕ) (a : List Entry) → n ≤ length a → n ≡ length (take n a)
 taken-length zero a h = refl

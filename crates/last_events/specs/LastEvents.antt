@@ -13,7 +13,7 @@ use Rattle.last_events.specs.declared.uses.UseTable.{UseTable}
 
 -- the ticket of the event that stands at the place a
 abbrev pub ticket_at : PlaceTable → List Entry → Option ℕ
-ticket_at table a = lookup (λ (k : Vec Entry Global). is_eq (order_of a k.items)) table.map.entries
+ticket_at table a = lookup (λ (k : Vec Entry Global). is_eq (order_of a k.items)) table
 
 -- the event of ticket t stands at the place a
 abbrev pub IsAt : PlaceTable → List Entry → ℕ → Type 0

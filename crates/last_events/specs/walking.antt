@@ -1,2 +1,4 @@
 pub mod Forks
+pub mod Rows
+pub mod Search
 pub mod Walks

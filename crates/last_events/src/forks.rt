@@ -1,14 +1,17 @@
 // Where two places part.
 ghost use Rattle.std.specs.Prelude.{◌≡◌, slice_get};
-ghost use Rattle.last_events.specs.walking.Forks.{IsFork, is_ordered_entry};
+ghost use Rattle.std.specs.Ordering.{is_lt};
+ghost use Rattle.address.specs.Order.{order_of};
+ghost use Rattle.last_events.specs.walking.Forks.{IsFork, Shares, is_ordered_entry};
 
 use address::Entry;
 
-/// How many entries both have in common at their beginning.
-pub(crate) fn fork(a: &[Entry], b: &[Entry]) -> usize
+/// How many entries both have in common at their beginning. The first `shared` are known to be.
+pub(crate) fn fork(a: &[Entry], b: &[Entry], shared: usize) -> usize
+    requires { Shares shared a.now b.now }
     ensures { IsFork result a.now b.now }
 {
-    let mut count = 0;
+    let mut count = shared;
     while count < a.len() && count < b.len() && a[count] == b[count] {
         count += 1;
     }
@@ -23,4 +26,18 @@ pub(crate) fn is_ordered(place: &[Entry], index: usize) -> bool
         Some(Entry::Ordered(_)) => true,
         _ => false,
     }
+}
+
+/// Whether the first place is less than the second, where they part at this index.
+pub(crate) fn is_less(a: &[Entry], b: &[Entry], fork: usize) -> bool
+    requires { IsFork fork a.now b.now }
+    ensures { result ≡ is_lt (order_of a.now b.now) }
+{
+    if fork >= b.len() {
+        return false;
+    }
+    if fork >= a.len() {
+        return true;
+    }
+    a[fork].cmp(&b[fork]).is_lt()
 }

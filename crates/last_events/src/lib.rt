@@ -4,6 +4,8 @@
 
 mod forks;
 mod places;
+mod rows;
+mod search;
 mod uses;
 
 pub use places::PlaceTable;

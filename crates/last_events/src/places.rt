@@ -1,20 +1,35 @@
 // The places of events in one order, in which what stands below a place follows it.
-ghost use Rattle.std.specs.Prelude.{◌≡◌, ◌<◌, ◌+◌, ℕ, List, length, Some, None, MatchOption, IfOk, OnOk, OnErr};
+ghost use Rattle.std.specs.Prelude.{◌≡◌, ◌<◌, ◌+◌, ℕ, List, length, None, MatchOption, IfOk, OnOk, OnErr};
 ghost use Rattle.address.specs.declared.Entry.{Entry};
 ghost use Rattle.last_events.specs.LastEvents.{ticket_at, Orderly, PutAt, RemovedAt, Same, LastBefore};
 ghost use Rattle.last_events.specs.walking.Forks.{Shares};
 ghost use Rattle.last_events.specs.walking.Walks.{NoneBelow, LastBelow, NoneBefore, NearestBefore, Collected};
 
 use crate::forks::{fork, is_ordered};
+use crate::rows::{put_seat, remove_seat, spot_of};
 use address::{Address, Entry};
 use std::alloc::{AllocError, Global};
-use std::collections::BTreeMap;
+use std::marker::Model;
 
-/// Which event stands at which place.
+/// Which event stands at which place. Contracts see the places with their tickets in ascending order.
 #[derive(Drop)]
 pub struct PlaceTable {
     alloc: Global,
-    map: BTreeMap<Vec<Entry>, u64>,
+    rows: Vec<Vec<(Vec<Entry>, u64)>>,
+}
+
+impl Model for PlaceTable {
+    ghost use Rattle.std.specs.Prelude.{ℕ, List, Vec};
+    ghost use Rattle.std.specs.Global.{Global};
+    ghost use Rattle.address.specs.declared.Entry.{Entry};
+
+    ghost Value = { List (Vec Entry Global × ℕ) };
+
+    ghost use Rattle.last_events.specs.walking.Rows.{flat, IsTable};
+
+    ghost view = { λ table. flat table.rows.items };
+
+    ghost invariant = { λ table. IsTable table.rows.items };
 }
 
 /// A place in the table, the ticket of its event, and how many entries it has in common with another place.
@@ -32,7 +47,7 @@ impl PlaceTable {
     {
         PlaceTable {
             alloc,
-            map: BTreeMap::new(alloc),
+            rows: Vec::new(alloc),
         }
     }
 
@@ -42,15 +57,14 @@ impl PlaceTable {
         ensures refused { OnErr result (Same self.old self.new) }
     {
         let key = Vec::from_slice(self.alloc, place.entries())?;
-        self.map.insert(key, ticket)?;
-        Ok(())
+        put_seat(self.alloc, &mut self.rows, key, ticket)
     }
 
     /// Takes out what stands at the place.
     pub fn remove(&mut self, place: &Address)
         ensures { RemovedAt self.old place.now self.new }
     {
-        self.map.remove(place.entries());
+        remove_seat(&mut self.rows, place.entries());
     }
 
     /// Adds the tickets of events that stand before this place, so that each other place before it comes before the place of
@@ -59,7 +73,7 @@ impl PlaceTable {
         requires { Orderly self.now place.now }
         ensures { IfOk result (λ _. LastBefore self.now place.now found.old.items found.new.items) }
     {
-        if let Some(nearest) = self.nearest(place.entries())? {
+        if let Some(nearest) = self.nearest(place.entries()) {
             found.push(nearest.ticket)?;
             self.collect(nearest.place, nearest.fork, found)?;
         }
@@ -67,23 +81,23 @@ impl PlaceTable {
     }
 
     /// The greatest of the places before this one. What stands in another branch is passed branch by branch.
-    fn nearest(&self, place: &[Entry]) -> Result<Option<Nearest<'_>>, AllocError>
+    fn nearest(&self, place: &[Entry]) -> Option<Nearest<'_>>
         requires { Orderly self.now place.now }
-        ensures { IfOk result (λ r. MatchOption r (NoneBefore self.now place.now) (λ n. NearestBefore self.now place.now n.place.now n.ticket n.fork)) }
+        ensures { MatchOption result (NoneBefore self.now place.now) (λ n. NearestBefore self.now place.now n.place.now n.ticket n.fork) }
     {
         let mut end = place.len();
-        while let Some((seat, ticket)) = self.last_below(&place[..end])? {
-            let fork = fork(seat, place);
+        while let Some((seat, ticket)) = self.last_below(&place[..end]) {
+            let fork = fork(seat, place, 0);
             if is_ordered(place, fork) {
-                return Ok(Some(Nearest {
+                return Some(Nearest {
                     place: seat,
                     ticket,
                     fork,
-                }));
+                });
             }
             end = fork;
         }
-        Ok(None)
+        None
     }
 
     /// Adds the tickets of the last places of other branches among those that are less than `first` and share its entries up to
@@ -103,8 +117,8 @@ impl PlaceTable {
         }
         let mut last = first;
         let mut end = first.len();
-        while let Some((seat, ticket)) = self.last_below(&last[..end])? {
-            let fork = fork(seat, last);
+        while let Some((seat, ticket)) = self.last_below(&last[..end]) {
+            let fork = fork(seat, last, 0);
             if fork <= parted {
                 return Ok(());
             }
@@ -120,14 +134,20 @@ impl PlaceTable {
     }
 
     /// The greatest place that is less than this one, and the ticket of its event.
-    fn last_below(&self, bound: &[Entry]) -> Result<Option<(&[Entry], u64)>, AllocError>
-        ensures { IfOk result (λ r. MatchOption r (NoneBelow self.now bound.now) (λ seat. LastBelow self.now bound.now seat.0.now seat.1)) }
+    fn last_below(&self, bound: &[Entry]) -> Option<(&[Entry], u64)>
+        ensures { MatchOption result (NoneBelow self.now bound.now) (λ seat. LastBelow self.now bound.now seat.0.now seat.1) }
     {
-        let key = Vec::from_slice(self.alloc, bound)?;
-        let mut below = self.map.range(..key);
-        match below.next_back() {
-            Some((place, ticket)) => Ok(Some((place.as_slice(), *ticket))),
-            None => Ok(None),
+        if self.rows.is_empty() {
+            return None;
+        }
+        let spot = spot_of(self.rows.as_slice(), bound);
+        if spot.index == 0 {
+            return None;
+        }
+        let row = self.rows[spot.row].as_slice();
+        match row.get(spot.index - 1) {
+            Some(seat) => Some((seat.0.as_slice(), seat.1)),
+            None => None,
         }
     }
 }

@@ -8,4 +8,4 @@ invariant-loop-seat l = record {
 }
 
 abbrev pub decreases-loop-seat : goal.decreases-loop-seat
-decreases-loop-seat l = count_below (take l.end l.last) l.self.map.entries
+decreases-loop-seat l = count_below (take l.end l.last) l.self

@@ -1,0 +1,60 @@
+// Looking for a place by halves.
+ghost use Rattle.std.specs.Prelude.{◌≡◌, map, List};
+ghost use Rattle.address.specs.declared.Entry.{Entry};
+ghost use Rattle.last_events.specs.walking.Search.{Rising, Splits, first_place};
+
+use crate::forks::{fork, is_less};
+use address::Entry;
+
+/// What stands at a place.
+pub(crate) trait Placed {
+    ghost place: { Self → List Entry };
+
+    /// The place.
+    fn place(&self) -> &[Entry]
+        ensures { result.now ≡ place self.now };
+}
+
+impl Placed for (Vec<Entry>, u64) {
+    ghost place = { λ seat. seat.0.items };
+
+    fn place(&self) -> &[Entry] {
+        self.0.as_slice()
+    }
+}
+
+impl Placed for Vec<(Vec<Entry>, u64)> {
+    ghost place = { λ row. first_place row.items };
+
+    fn place(&self) -> &[Entry] {
+        match self.first() {
+            Some(seat) => seat.0.as_slice(),
+            None => &[],
+        }
+    }
+}
+
+/// How many of these places, which rise, are less than this one. What lies between two places that share some entries with it
+/// shares them too, so no look begins at the first entry again.
+pub(crate) fn count_less<T: Placed>(seats: &[T], place: &[Entry]) -> usize
+    requires { Rising (map T.place seats.now) }
+    ensures { Splits (map T.place seats.now) place.now result }
+{
+    let mut low = 0;
+    let mut high = seats.len();
+    let mut low_shared = 0;
+    let mut high_shared = 0;
+    while low < high {
+        let middle = low + (high - low) / 2;
+        let seat = seats[middle].place();
+        let parted = fork(seat, place, low_shared.min(high_shared));
+        if is_less(seat, place, parted) {
+            low = middle + 1;
+            low_shared = parted;
+        } else {
+            high = middle;
+            high_shared = parted;
+        }
+    }
+    low
+}
