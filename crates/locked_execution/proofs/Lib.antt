@@ -2,6 +2,8 @@ pub mod AskedLists
 pub mod BackLaws
 pub mod BranchReplies
 pub mod BridgeLaws
+pub mod CallCounts
+pub mod CrewLaws
 pub mod Crossing
 pub mod ExpressionCrossing
 pub mod FrameLaws

@@ -69,6 +69,15 @@ module _ {D C R : Type 0} where
   ran_fit table opening asks count turns [] [] (l ∷ ls) ran = absurd ran
   ran_fit table opening asks count turns (p ∷ ps) (q ∷ qs) [] ran = absurd ran
 
+  -- and are as many
+  pub ran_many : (table : TableId) (opening : D) (asks : ℕ → C) (count turns : ℕ) (before after : List (Pass D C R)) (added : List (List (Entry C R))) → PassesRan table opening asks count turns before after added → length after ≡ length before
+  ran_many table opening asks count turns [] [] [] ran = refl
+  ran_many table opening asks count turns (p ∷ ps) (q ∷ qs) (l ∷ ls) ran = ap suc (ran_many table opening asks count turns ps qs ls ran.1)
+  ran_many table opening asks count turns [] (q ∷ qs) ls ran = absurd ran
+  ran_many table opening asks count turns (p ∷ ps) [] ls ran = absurd ran
+  ran_many table opening asks count turns [] [] (l ∷ ls) ran = absurd ran
+  ran_many table opening asks count turns (p ∷ ps) (q ∷ qs) [] ran = absurd ran
+
   -- new passes are of their object
   pub new_fit : (table : TableId) (opening : D) (count : ℕ) (ps : List (Pass D C R)) → NewPasses table opening count ps → PassesFit table opening ps
   new_fit table opening count ps new = fit table opening ps (λ i p e. (new.each i p e).0)

@@ -24,6 +24,10 @@ opening s = s.object.board.table.shared.key
 abbrev pub table : Shared → TableId
 table s = s.object.board.table.shared.table_id
 
+-- how many passes it has
+abbrev pub passes_of : Shared → ℕ
+passes_of s = s.object.passes
+
 -- a pass of this execution
 abbrev pub IsPassOf : Shared → Pass AtDesk Command Reply → Type 0
 IsPassOf s p = passes.IsPassOf (table s) (opening s) p

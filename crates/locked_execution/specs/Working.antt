@@ -3,7 +3,7 @@ use Rattle.std.specs.Prelude.{◌≡◌, ◌≤◌, ◌*◌, ℕ, List, [], ◌�
 use Rattle.atomic_table.specs.Seated.{TableId}
 use Rattle.system.specs.declared.system.System.{System}
 use Rattle.system_places.specs.SystemBranches.{branch_count}
-use Rattle.recorded_calls.specs.History.{calls_by, Replays}
+use Rattle.recorded_calls.specs.History.{calls_by, NoCallsFrom, Replays}
 use Rattle.locked_object.specs.Passes.{number, own}
 use Rattle.locked_object.specs.Sharing.{NewPasses}
 use Rattle.locked_object.specs.declared.pass.Pass.{Pass}
@@ -35,12 +35,14 @@ abbrev pub HasAllOf : History → List (Pass AtDesk Command Reply) → Type 0
 HasAllOf log [] = Unit {0}
 HasAllOf log (p ∷ ps) = (calls_by (number p) log ≡ own p) × HasAllOf log ps
 
--- so many events are live on the desk that is left: it is what the opening is after a history with all calls of these passes
+-- so many events are live on the desk that is left: it is what the opening is after a history with all calls of these
+-- passes, and with no others. The passes are numbered from 0
 pub record CountsLive (opening : AtDesk) (passes : List (Pass AtDesk Command Reply)) (live : ℕ) : Type 0 where
   pub log : History
   pub left : AtDesk
   pub replays : Replays Keeps opening log left
   pub all : HasAllOf log passes
+  pub no_others : NoCallsFrom (length passes) log
   pub counts : live ≡ length left.machine.live
 
 -- both, of the same passes
@@ -48,3 +50,7 @@ pub record Worked (system : System) (workers turns stepped live : ℕ) : Type 0 
   pub passes : List (Pass AtDesk Command Reply)
   pub steps : CountsSteps system workers turns stepped passes
   pub lives : CountsLive (unstepped system) passes live
+
+-- workers take nothing back, and nobody else made a call: each event that is live is that of one turn that was a step
+abbrev pub LiveAreStepped : Type 0
+LiveAreStepped = (system : System) (workers turns stepped live : ℕ) → Worked system workers turns stepped live → live ≡ stepped

@@ -2,13 +2,14 @@
 ghost use Rattle.std.specs.Prelude.{◌≡◌, ◌≤◌, ◌<◌, ◌^◌, length, IfOk, IfErr};
 ghost use mathlib.Core.List.{IsPrefix};
 ghost use Rattle.machine.specs.Headline.{Headline};
+ghost use Rattle.recorded_calls.specs.History.{NoCallsFrom};
 ghost use Rattle.branch_workers.specs.Runs.{WorkersRan, AllSawLegal};
-ghost use Rattle.locked_object.specs.Keepers.{IsKeeperOf};
+ghost use Rattle.locked_object.specs.Keepers.{IsKeeperOf, passes_made};
 ghost use Rattle.locked_object.specs.Passes.{number, seen, own, told};
 ghost use Rattle.locked_object.specs.Sharing.{NewPasses};
 ghost use Rattle.locked_execution.specs.AtDesk.{execution, new_desk};
 ghost use Rattle.locked_execution.specs.Sharing.{Keeps, Legal, is_step};
-ghost use Rattle.locked_execution.specs.Calls.{IsPassOf, ArePassesOf, Answered, Leaves, opening, table};
+ghost use Rattle.locked_execution.specs.Calls.{IsPassOf, ArePassesOf, Answered, Leaves, opening, table, passes_of};
 ghost use Rattle.locked_execution.specs.declared.command.Command as any;
 ghost use Rattle.system_places.specs.SystemBranches.{branch_count};
 
@@ -32,6 +33,7 @@ impl Shared {
         requires { count ≤ 16 }
         ensures opening { IfOk result (λ made. opening made.0 ≡ new_desk machine) }
         ensures sound { Headline (execution (new_desk machine)) }
+        ensures count { IfOk result (λ made. passes_of made.0 ≡ count) }
         ensures passes { IfOk result (λ made. NewPasses (table made.0) (opening made.0) count made.1.items) }
     {
         machine.is_sound();
@@ -115,13 +117,14 @@ impl Shared {
         self.object.finish().into_machine()
     }
 
-    /// The execution, once no pass calls it any more, with its recorded calls behind it, which the pass has then seen. It takes the
-    /// lock, for which it may wait.
+    /// The execution, once no pass calls it any more, with its recorded calls behind it, which the pass has then seen: calls of its
+    /// passes, and of nobody else. It takes the lock, for which it may wait.
     pub fn finish_seen<W: Wait>(self, rt: &W, pass: &mut Pass) -> Machine
         requires { IsPassOf self pass.old }
         ensures pass { IsPassOf self pass.new × (number pass.new ≡ number pass.old) × (own pass.new ≡ own pass.old) }
         ensures before { IsPrefix (seen pass.old) (seen pass.new) }
         ensures left { Leaves (opening self) (seen pass.new) result }
+        ensures no_others { NoCallsFrom (passes_of self) (seen pass.new) }
     {
         let (board, mut keeper) = self.object.close(rt);
         keeper.show(&board, pass);
@@ -138,6 +141,7 @@ impl Shared {
     )
         ensures board { result.0 ≡ self.object.board }
         ensures keeper { IsKeeperOf Keeps result.0.table.shared.table_id result.0.table.shared.key result.1 }
+        ensures passes { passes_made result.1 ≡ passes_of self }
     {
         self.object.close(rt)
     }

@@ -1,7 +1,7 @@
 // Workers in threads of their own over a system: how many steps they took, and what is live in the end.
 ghost use Rattle.std.specs.Prelude.{◌≡◌, ◌≤◌, ◌<◌, ◌⊎◌, length, IfOk, MatchOption};
 ghost use Rattle.branch_workers.specs.Runs.{PassesFit};
-ghost use Rattle.locked_object.specs.Keepers.{IsKeeperOf};
+ghost use Rattle.locked_object.specs.Keepers.{IsKeeperOf, passes_made};
 ghost use Rattle.locked_execution.specs.Sharing.{Keeps};
 ghost use Rattle.locked_execution.specs.Working.{Worked, CountsLive};
 
@@ -86,13 +86,14 @@ impl Crew {
     }
 }
 
-/// How many events are live on the desk behind the calls of these passes.
+/// How many events are live on the desk behind the calls of these passes, which are all there are.
 fn live_behind(
     board: &Board<Desk, Command, Reply, Replies<Desk>>,
     mut keeper: Keeper<Desk, Command, Reply>,
     passes: Vec<Pass>,
 ) -> u64
     requires keeper { IsKeeperOf Keeps board.now.table.shared.table_id board.now.table.shared.key keeper }
+    requires count { passes_made keeper ≡ length passes.items }
     requires passes { PassesFit board.now.table.shared.table_id board.now.table.shared.key passes.items }
     ensures { CountsLive board.now.table.shared.key passes.items result }
 {

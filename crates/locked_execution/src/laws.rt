@@ -4,6 +4,7 @@ ghost use Rattle.locked_execution.specs.Frames.{OnlyBreaksAndClears, OthersKeepT
 ghost use Rattle.locked_execution.specs.GoingBack.{NoneTakeLess, RollTakesNoOthers, ConsequencesTellRoll, ValueFromBefore, AllAmountToBackAndForth};
 ghost use Rattle.locked_execution.specs.Histories.{HistoryIsAnswered, HistoryKeepsHeadline};
 ghost use Rattle.locked_execution.specs.Replies.{OneReply, SomeReply, AnsweredJoins};
+ghost use Rattle.locked_execution.specs.Working.{LiveAreStepped};
 
 /// What sessions are answered is what their execution answers to its own commands, a step in a branch being the step of the
 /// event that it took. So each law on lists of commands of an execution holds of those of sessions.
@@ -49,4 +50,9 @@ pub fn rollback_laws()
 pub fn history_laws()
     ensures answered { HistoryIsAnswered }
     ensures headline { HistoryKeepsHeadline }
+{}
+
+/// As many events are live behind a crew as its turns were steps.
+pub fn crew_laws()
+    ensures live { LiveAreStepped }
 {}

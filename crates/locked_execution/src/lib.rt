@@ -18,6 +18,8 @@ pub use calculus::{Choice, Event, Kind, Refusal};
 pub use command::{Command, Reply};
 pub use crew::{Crew, MOST_TURNS, MOST_WORKERS, Tally};
 pub use desk::Desk;
-pub use laws::{breakpoint_laws, execution_laws, history_laws, reply_laws, rollback_laws};
+pub use laws::{
+    breakpoint_laws, crew_laws, execution_laws, history_laws, reply_laws, rollback_laws,
+};
 pub use machine::{Breaks, Machine};
 pub use shared::{Pass, Shared};

@@ -5,20 +5,21 @@ use Rattle.std.specs.Prelude.{◌≡◌, ℕ, List, [], ◌∷◌}
 use mathlib.Core.Option.{Option, none, some}
 use Rattle.atomic_table.specs.Table.{State, Me}
 use Rattle.atomic_table.specs.Seated.{TableId}
-use Rattle.locked_object.specs.Keepers.{IsKeeperOf}
+use Rattle.locked_object.specs.Keepers.{IsKeeperFor}
 use Rattle.locked_object.specs.declared.keeper.Keeper.{Keeper}
 use Rattle.locked_object.specs.declared.vault.Place.{Place}
 use Rattle.locked_object.specs.declared.vault.Place.TheVariants.{Home, Away}
 
 module _ {D C R : Type 0} where
-  -- while the seat at the vault knows the keeper at home, it is there, and stands for the recorded history
-  abbrev pub Stays : (D → ℕ → C → R → D → Type 0) → TableId → D → Place → List (Option (Keeper D C R)) → Type 0
-  Stays performs table opening Home homes = (k : Keeper D C R) × (homes ≡ some k ∷ []) × IsKeeperOf performs table opening k
-  Stays performs table opening Away homes = homes ≡ none ∷ []
+  -- while the seat at the vault knows the keeper at home, it is there, and stands for the recorded history of
+  -- so many passes
+  abbrev pub Stays : (D → ℕ → C → R → D → Type 0) → TableId → D → ℕ → Place → List (Option (Keeper D C R)) → Type 0
+  Stays performs table opening count Home homes = (k : Keeper D C R) × (homes ≡ some k ∷ []) × IsKeeperFor performs table opening count k
+  Stays performs table opening count Away homes = homes ≡ none ∷ []
 
   -- one seat, and one keeper
-  abbrev pub Guards : (D → ℕ → C → R → D → Type 0) → TableId → D → State (Keeper D C R) Place → Type 0
-  Guards performs table opening s = (v : Place) × (s.views ≡ v ∷ []) × Stays performs table opening v s.homes
+  abbrev pub Guards : (D → ℕ → C → R → D → Type 0) → TableId → D → ℕ → State (Keeper D C R) Place → Type 0
+  Guards performs table opening count s = (v : Place) × (s.views ≡ v ∷ []) × Stays performs table opening count v s.homes
 
   -- the seat has the keeper, of which this is known
   abbrev pub TakesKeeper : (Keeper D C R → Type 0) → Me (Keeper D C R) Place → Type 0

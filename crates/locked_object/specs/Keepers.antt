@@ -2,7 +2,7 @@
 use Rattle.std.specs.Prelude.{◌≡◌, ◌≤◌, ◌^◌, ℕ, List, length}
 use Rattle.atomic_table.specs.Seated.{TableId}
 use Rattle.recorded_calls.specs.History.{Replays}
-use Rattle.recorded_calls.specs.Seats.{IsScribeOf, noted}
+use Rattle.recorded_calls.specs.Seats.{IsScribeOf, noted, made}
 use Rattle.recorded_calls.specs.declared.entry.Entry.{Entry}
 use Rattle.locked_object.specs.declared.keeper.Keeper.{Keeper}
 use Rattle.locked_object.specs.declared.object.NotRecorded.{NotRecorded}
@@ -12,11 +12,20 @@ module _ {D C R : Type 0} where
   abbrev pub history : Keeper D C R → List (Entry C R)
   history k = noted k.scribe
 
-  -- the keeper at the word of this table: its object is what the opening is after the recorded history
+  -- how many passes there are
+  abbrev pub passes_made : Keeper D C R → ℕ
+  passes_made k = made k.scribe
+
+  -- the keeper at the word of this table: its object is what the opening is after the recorded history, which
+  -- has calls of the passes alone that were made
   pub record IsKeeperOf (performs : D → ℕ → C → R → D → Type 0) (table : TableId) (opening : D) (k : Keeper D C R) : Type 0 where
     pub notes : IsScribeOf table opening k.scribe
     pub replays : Replays performs opening (history k) k.object
     pub counted : k.calls ≡ length (history k)
+
+  -- the same, of so many passes
+  abbrev pub IsKeeperFor : (D → ℕ → C → R → D → Type 0) → TableId → D → ℕ → Keeper D C R → Type 0
+  IsKeeperFor performs table opening count k = IsKeeperOf performs table opening k × (passes_made k ≡ count)
 
   -- why a call was not recorded: the object refuses it, or there is no room for one more
   abbrev pub NotRecordedBy : (D → ℕ → C → R → Type 0) → Keeper D C R → ℕ → C → NotRecorded R → Type 0

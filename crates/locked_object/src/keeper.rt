@@ -17,7 +17,7 @@ impl<C, R, D: Object<C, R>> Keeper<D, C, R> {
     ghost use Rattle.std.specs.Prelude.{◌≡◌, ◌++◌, ◌∷◌, ◌^◌, ◌≤◌, [], length, IfOk, OnOk, IfErr, OnErr};
     ghost use mathlib.Core.List.{IsPrefix};
     ghost use Rattle.recorded_calls.specs.History.{entry_of};
-    ghost use Rattle.locked_object.specs.Keepers.{IsKeeperOf, history, NotRecordedBy};
+    ghost use Rattle.locked_object.specs.Keepers.{IsKeeperOf, history, passes_made, NotRecordedBy};
     ghost use Rattle.locked_object.specs.Passes.{IsPassOf, number, seen, own, told};
     ghost use Rattle.locked_object.specs.Sharing.{SawNothing};
 
@@ -32,6 +32,7 @@ impl<C, R, D: Object<C, R>> Keeper<D, C, R> {
         requires keeper { IsKeeperOf D.performs board.now.table.shared.table_id board.now.table.shared.key self.old }
         requires pass { IsPassOf board.now.table.shared.table_id board.now.table.shared.key pass.old }
         ensures keeper { IsKeeperOf D.performs board.now.table.shared.table_id board.now.table.shared.key self.new }
+        ensures passes { passes_made self.new ≡ passes_made self.old }
         ensures pass { IsPassOf board.now.table.shared.table_id board.now.table.shared.key pass.new × (number pass.new ≡ number pass.old) }
         ensures performed { IfOk result (λ reply. D.performs self.old.object (number pass.old) command.now reply self.new.object) }
         ensures noted { IfOk result (λ reply. history self.new ≡ history self.old ++ entry_of (number pass.old) command.now reply ∷ []) }
@@ -64,6 +65,7 @@ impl<C, R, D: Object<C, R>> Keeper<D, C, R> {
         requires keeper { IsKeeperOf D.performs board.now.table.shared.table_id board.now.table.shared.key self.old }
         requires pass { IsPassOf board.now.table.shared.table_id board.now.table.shared.key pass.old }
         ensures keeper { IsKeeperOf D.performs board.now.table.shared.table_id board.now.table.shared.key self.new }
+        ensures passes { passes_made self.new ≡ passes_made self.old }
         ensures pass { IsPassOf board.now.table.shared.table_id board.now.table.shared.key pass.new × (number pass.new ≡ number pass.old) }
         ensures same { (self.new.object ≡ self.old.object) × (history self.new ≡ history self.old) }
         ensures told { SawNothing pass.old pass.new × (told pass.new ≡ history self.old) }
@@ -77,6 +79,7 @@ impl<C, R, D: Object<C, R>> Keeper<D, C, R> {
         requires keeper { IsKeeperOf D.performs board.now.table.shared.table_id board.now.table.shared.key self.old }
         requires pass { IsPassOf board.now.table.shared.table_id board.now.table.shared.key pass.old }
         ensures keeper { IsKeeperOf D.performs board.now.table.shared.table_id board.now.table.shared.key self.new }
+        ensures passes { passes_made self.new ≡ passes_made self.old }
         ensures pass { IsPassOf board.now.table.shared.table_id board.now.table.shared.key pass.new × (number pass.new ≡ number pass.old) × (own pass.new ≡ own pass.old) }
         ensures same { (self.new.object ≡ self.old.object) × (history self.new ≡ history self.old) }
         ensures seen { seen pass.new ≡ history self.old }

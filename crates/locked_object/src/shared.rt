@@ -4,7 +4,7 @@ ghost use mathlib.Core.List.{IsPrefix};
 ghost use Rattle.recorded_calls.specs.History.{IsLegal};
 ghost use Rattle.recorded_calls.specs.Seats.{IsScribeOf, noted, made};
 ghost use Rattle.locked_object.specs.Guards.{TakesKeeper};
-ghost use Rattle.locked_object.specs.Keepers.{IsKeeperOf};
+ghost use Rattle.locked_object.specs.Keepers.{IsKeeperOf, IsKeeperFor, passes_made};
 ghost use Rattle.locked_object.specs.Passes.{IsPassOf, number, seen, own, told};
 ghost use Rattle.locked_object.specs.Sharing.{NewPasses, Recorded, Unrecorded, SawNothing};
 ghost use Rattle.locked_object.specs.declared.keeper.Keeper as any;
@@ -13,7 +13,7 @@ ghost use Rattle.locked_object.specs.declared.vault.Place.TheVariants.{Home};
 
 use crate::lock::{Hold, Locks, Looks, OneHolder, Unlocks};
 use crate::naming::Knowing;
-use crate::vault::{Gives, Guarded, Place, Takes};
+use crate::vault::{Gives, Guarded, Place, Register, Takes};
 use crate::{Keeper, NotRecorded, Object, Pass, Replies};
 use atomic_table::{Mark, RuledPerch, Seat, Table};
 use recorded_calls::{Board, Scribe};
@@ -24,7 +24,7 @@ use std::sync::{Mutex, Wait};
 use std::thread::yield_now;
 
 /// The keeper in its vault.
-type Vault<C, R, D> = Table<Keeper<D, C, R>, Place, Board<D, C, R, Replies<D>>, Guarded<D>, Global>;
+type Vault<C, R, D> = Table<Keeper<D, C, R>, Place, Register<C, R, D>, Guarded<D>, Global>;
 
 /// The vault's only seat.
 type Key<C, R, D> = Seat<Keeper<D, C, R>, Place>;
@@ -36,11 +36,13 @@ const LOOKS: u32 = 200;
 #[derive(Drop)]
 pub struct Shared<C, R, D: Object<C, R>> {
     board: Board<D, C, R, Replies<D>>,
+    /// how many passes there are
+    passes: u32,
     vault: Vault<C, R, D>,
     lock: RuledPerch<Keeper<D, C, R>, Place, Hold, OneHolder>,
     /// where those who wait for the lock sleep, but for one
     turn: Mutex<()>,
-    pub ghost guards: { vault.shared.key ≡ board },
+    pub ghost guards: { (vault.shared.key.board ≡ board) × (vault.shared.key.passes ≡ passes) },
     pub ghost one_keeper: { (vault.shared.table_id.words ≡ 1) × (vault.shared.table_id.slots ≡ 1) },
     pub ghost rests: { (lock.table_id ≡ vault.shared.table_id) × (lock.view ≡ Home) },
 }
@@ -54,6 +56,7 @@ impl<C, R, D: Object<C, R>> Shared<C, R, D> {
     ) -> Result<(Shared<C, R, D>, Vec<Pass<D, C, R>>), AllocError>
         requires { count ≤ 16 }
         ensures opening { IfOk result (λ s. s.0.board.table.shared.key ≡ object) }
+        ensures count { IfOk result (λ s. s.0.passes ≡ count) }
         ensures passes { IfOk result (λ s. NewPasses s.0.board.table.shared.table_id s.0.board.table.shared.key count s.1.items) }
     {
         let (board, mut scribe) = Board::new(alloc, &object)?;
@@ -63,10 +66,16 @@ impl<C, R, D: Object<C, R>> Shared<C, R, D> {
             calls: 0,
             scribe,
         };
-        let (vault, seat) = vault_of(alloc, &board, keeper)?;
+        let named = Register {
+            board,
+            passes: count,
+        };
+        let (vault, seat) = vault_of(alloc, &named, keeper)?;
+        let Register { board, passes: _ } = named;
         let (lock, mark) = RuledPerch::new(&seat, 0);
         let shared = Shared {
             board,
+            passes: count,
             vault,
             lock,
             turn: Mutex::new(()),
@@ -128,6 +137,7 @@ impl<C, R, D: Object<C, R>> Shared<C, R, D> {
     pub fn finish(self) -> D {
         let Shared {
             board: _board,
+            passes: _,
             vault,
             lock: _lock,
             turn: _turn,
@@ -139,14 +149,17 @@ impl<C, R, D: Object<C, R>> Shared<C, R, D> {
     }
 
     /// The word of recorded calls, and the keeper with the object, once no pass calls it any more. It takes the lock, for which it may
-    /// wait, so that the object is what the opening is after the recorded history; `Keeper::show` shows that history to a pass.
+    /// wait, so that the object is what the opening is after the recorded history, which has calls of the passes that `new` gave and
+    /// of no other; `Keeper::show` shows that history to a pass.
     pub fn close<W: Wait>(self, rt: &W) -> (Board<D, C, R, Replies<D>>, Keeper<D, C, R>)
         ensures board { result.0 ≡ self.board }
         ensures keeper { IsKeeperOf D.performs result.0.table.shared.table_id result.0.table.shared.key result.1 }
+        ensures passes { passes_made result.1 ≡ self.passes }
     {
         let (_mark, seat) = self.lock(rt);
         let Shared {
             board,
+            passes: _,
             vault,
             lock: _lock,
             turn: _turn,
@@ -243,7 +256,7 @@ impl<C, R, D: Object<C, R>> Shared<C, R, D> {
     /// Takes the keeper out of the vault.
     fn take<J: Knowing<Keeper<D, C, R>>>(&self, seat: &mut Key<C, R, D>)
         requires seat { (seat.old.table_id ≡ self.now.vault.shared.table_id) × (seat.old.me ≡ (Home, [])) }
-        requires known { (k : any.Keeper D C R) → IsKeeperOf D.performs self.now.board.table.shared.table_id self.now.board.table.shared.key k → J.known k }
+        requires known { (k : any.Keeper D C R) → IsKeeperFor D.performs self.now.board.table.shared.table_id self.now.board.table.shared.key self.now.passes k → J.known k }
         ensures seat { seat.new.table_id ≡ seat.old.table_id }
         ensures taken { TakesKeeper J.known seat.new.me }
     {
@@ -254,16 +267,16 @@ impl<C, R, D: Object<C, R>> Shared<C, R, D> {
 /// The keeper in a vault, whose seat knows it at home.
 fn vault_of<C, R, D: Object<C, R>>(
     alloc: Global,
-    board: &Board<D, C, R, Replies<D>>,
+    named: &Register<C, R, D>,
     keeper: Keeper<D, C, R>,
 ) -> Result<(Vault<C, R, D>, Key<C, R, D>), AllocError>
-    requires { IsKeeperOf D.performs board.now.table.shared.table_id board.now.table.shared.key keeper }
-    ensures vault { IfOk result (λ v. (v.0.shared.key ≡ board.now) × (v.0.shared.table_id.words ≡ 1) × (v.0.shared.table_id.slots ≡ 1)) }
+    requires { IsKeeperFor D.performs named.now.board.table.shared.table_id named.now.board.table.shared.key named.now.passes keeper }
+    ensures vault { IfOk result (λ v. (v.0.shared.key ≡ named.now) × (v.0.shared.table_id.words ≡ 1) × (v.0.shared.table_id.slots ≡ 1)) }
     ensures seat { IfOk result (λ v. (v.1.table_id ≡ v.0.shared.table_id) × (v.1.me ≡ (Home, []))) }
 {
     let mut slots = Vec::with_capacity(alloc, 1)?;
     slots.push_reserved(keeper);
-    match Table::new(alloc, &[0], slots, board) {
+    match Table::new(alloc, &[0], slots, named) {
         Ok(made) => Ok(made),
         Err(_) => Err(AllocError),
     }
@@ -278,7 +291,7 @@ fn new_passes<C, R, D: Object<C, R>>(
 ) -> Result<Vec<Pass<D, C, R>>, AllocError>
     requires few { count ≤ 16 }
     requires scribe { IsScribeOf board.now.table.shared.table_id board.now.table.shared.key scribe.old × (noted scribe.old ≡ []) × (made scribe.old ≡ 0) }
-    ensures scribe { IfOk result (λ _. IsScribeOf board.now.table.shared.table_id board.now.table.shared.key scribe.new × (noted scribe.new ≡ [])) }
+    ensures scribe { IfOk result (λ _. IsScribeOf board.now.table.shared.table_id board.now.table.shared.key scribe.new × (noted scribe.new ≡ []) × (made scribe.new ≡ count)) }
     ensures passes { IfOk result (λ passes. NewPasses board.now.table.shared.table_id board.now.table.shared.key count passes.items) }
 {
     let mut passes = Vec::with_capacity(alloc, count as usize)?;

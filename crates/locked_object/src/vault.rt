@@ -11,17 +11,23 @@ pub enum Place {
     Away,
 }
 
+/// What the rule names: the word of recorded calls, and how many passes there are.
+#[derive(Drop)]
+pub struct Register<C, R, D: Object<C, R>> {
+    pub(crate) board: Board<D, C, R, Replies<D>>,
+    pub(crate) passes: u32,
+}
+
 /// The rule: while the lock is free the keeper is at home, and its object is what the opening is after the recorded history.
 pub struct Guarded<D> {
     object: PhantomData<D>,
 }
 
-impl<C, R, D: Object<C, R>> TableRule<Keeper<D, C, R>, Place, Board<D, C, R, Replies<D>>>
-    for Guarded<D> {
+impl<C, R, D: Object<C, R>> TableRule<Keeper<D, C, R>, Place, Register<C, R, D>> for Guarded<D> {
     ghost use Rattle.locked_object.specs.Guards.{Guards};
     ghost use Rattle.locked_object.specs.declared.vault.Place.TheVariants.{Home};
 
-    ghost holds = { λ board. Guards D.performs board.table.shared.table_id board.table.shared.key };
+    ghost holds = { λ named. Guards D.performs named.board.table.shared.table_id named.board.table.shared.key named.passes };
 
     ghost first = { λ _. Home };
 }

@@ -336,7 +336,13 @@ module _ {O C R : Type 0} (performs : O → ℕ → C → R → O → Type 0) (o
               notes = ap (λ (l : List (Entry C R)). l ++ e ∷ []) f.notes;
               claim_holds = record { seen_before = (a.log ++ e ∷ [], refl); said_before = (a.said 0, refl) };
             }),
-        (refl, subst (λ (l : List (Entry C R)). IsPrefix seen l) (sym f.notes) f.claim_holds.seen_before),
+        (
+          refl,
+          subst (λ (l : List (Entry C R)). IsPrefix seen l) (sym f.notes) f.claim_holds.seen_before,
+          λ n le.
+              let nobody = others_none a own e f.claim_holds.said_before told' kept.no_others n (subst (λ (m : ℕ). m ≤ n) f.count le) in
+              subst (λ (l : List (Entry C R)). calls_by n (l ++ e ∷ []) ≡ []) (sym f.notes) nobody.1,
+        ),
       )
 
   -- confirm

@@ -1,5 +1,5 @@
 -- Histories of recorded calls, and which of them are legal.
-use Rattle.std.specs.Prelude.{◌≡◌, ℕ, List, [], ◌∷◌, Bool, true, false, ◌==◌}
+use Rattle.std.specs.Prelude.{◌≡◌, ℕ, ◌≤◌, List, [], ◌∷◌, Bool, true, false, ◌==◌}
 use Rattle.recorded_calls.specs.declared.entry.Entry.{Entry}
 
 -- a call of the pass of this number
@@ -15,6 +15,10 @@ kept_if false x xs = xs
 abbrev pub calls_by : {C R : Type 0} → ℕ → List (Entry C R) → List (Entry C R)
 calls_by n [] = []
 calls_by n (e ∷ es) = kept_if (n == e.pass) e (calls_by n es)
+
+-- no call is of a pass of this number or of a greater one
+abbrev pub NoCallsFrom : {C R : Type 0} → ℕ → List (Entry C R) → Type 0
+NoCallsFrom count log = (n : ℕ) → count ≤ n → calls_by n log ≡ []
 
 -- from the state s the object replies to each call what its entry says, and is then in the state t
 abbrev pub Replays : {O C R : Type 0} → (O → ℕ → C → R → O → Type 0) → O → List (Entry C R) → O → Type 0

@@ -1,7 +1,7 @@
 -- What a contract says of a pass and of the keeper's seat.
 use Rattle.std.specs.Prelude.{◌≡◌, ℕ, List, []}
 use Rattle.atomic_table.specs.Seated.{TableId}
-use Rattle.recorded_calls.specs.History.{calls_by}
+use Rattle.recorded_calls.specs.History.{calls_by, NoCallsFrom}
 use Rattle.recorded_calls.specs.Steps.{keeper_at, pass_at}
 use Rattle.recorded_calls.specs.declared.entry.Entry.{Entry}
 use Rattle.recorded_calls.specs.declared.view.View.{View}
@@ -63,7 +63,8 @@ module _ {O C R : Type 0} where
     pub rests : p.seat.me ≡ (pass_at opening (number p) (seen p) (own p) (told p), [])
     pub own_calls : calls_by (number p) (seen p) ≡ own p
 
-  -- the keeper's seat of this table between calls: it has heard no claim
+  -- the keeper's seat of this table between calls: it has heard no claim, and what it notes has calls of the passes alone that it has made
   pub record IsScribeOf (table : TableId) (opening : O) (s : Scribe O C R) : Type 0 where
     pub of_table : s.seat.table_id ≡ table
     pub rests : s.seat.me ≡ (keeper_at opening (made s) (noted s), [])
+    pub no_others : NoCallsFrom (made s) (noted s)

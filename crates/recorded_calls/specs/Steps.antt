@@ -2,7 +2,7 @@
 use Rattle.std.specs.Prelude.{◌≡◌, ℕ, ◌+◌, List, [], ◌++◌, length}
 use mathlib.Core.List.{IsPrefix}
 use Rattle.atomic_table.specs.Table.{Me, Step}
-use Rattle.recorded_calls.specs.History.{calls_by, IsLegal}
+use Rattle.recorded_calls.specs.History.{calls_by, NoCallsFrom, IsLegal}
 use Rattle.recorded_calls.specs.declared.entry.Entry.{Entry}
 use Rattle.recorded_calls.specs.declared.view.View.{View}
 use Rattle.recorded_calls.specs.declared.view.View.TheVariants.{Nobody, Keeper, Speaker, Letter, Claim}
@@ -89,13 +89,18 @@ module _ {O C R : Type 0} where
   SawNoMore (Keeper k) = IsPrefix k.claim.seen k.noted
   SawNoMore v = Unit {0}
 
+  -- with what is claimed, what is noted has calls of the passes alone that were made
+  abbrev pub NoOthers : View O C R → Type 0
+  NoOthers (Keeper k) = NoCallsFrom k.made (k.noted ++ k.claim.says)
+  NoOthers v = Unit {0}
+
   -- announce, of these entries: what the pass was told has its own calls alone
   abbrev pub Announces : List (Entry C R) → Step ℕ → Me ℕ (View O C R) → ℕ → Me ℕ (View O C R) → Type 0
   Announces entries st m found n = (n ≡ (announced entries m.0, m.1)) × OwnAreAll m.0
 
-  -- record, of what was claimed: the pass had seen no more than was noted
+  -- record, of what was claimed: the pass had seen no more than was noted, and is one of those that were made
   abbrev pub Records : Step ℕ → Me ℕ (View O C R) → ℕ → Me ℕ (View O C R) → Type 0
-  Records st m found n = (n ≡ (recorded m.0, m.1)) × SawNoMore m.0
+  Records st m found n = (n ≡ (recorded m.0, m.1)) × SawNoMore m.0 × NoOthers m.0
 
   -- confirm, of what was claimed: the pass had seen no more than is noted
   abbrev pub Confirms : Step ℕ → Me ℕ (View O C R) → ℕ → Me ℕ (View O C R) → Type 0

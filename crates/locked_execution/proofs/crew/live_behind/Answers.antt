@@ -1,6 +1,6 @@
 use Rattle.std.proofs.Common.{◌≡◌, ◌++◌, ◌∷◌, [], length, sym, ap, ◌∙◌, subst, append_assoc, append-nil, arith}
 use Rattle.std.specs.Vec.Iter.{into_iter_items}
-use Rattle.recorded_calls.specs.History.{calls_by}
+use Rattle.recorded_calls.specs.History.{calls_by, NoCallsFrom}
 use Rattle.locked_object.specs.Keepers.{history}
 use Rattle.locked_object.specs.Passes.{number, seen, own}
 use Rattle.locked_execution.specs.Working.{HasAllOf}
@@ -27,6 +27,7 @@ loop-pass-preserved c =
       rest = append_assoc at.yielded (c.in-Some.pass ∷ []) _ ∙ rw (← steps) at.invariant.rest;
       left = (let was = at.invariant.left in let gone = c.in-Some.ensures.steps.1 in let short = ap length steps in omega arith);
       keeper = shown.keeper;
+      count = shown.passes ∙ at.invariant.count;
       all = subst (λ log. HasAllOf log (at.yielded ++ c.in-Some.pass ∷ [])) (sym shown.same.1) (has_more (history at.keeper) at.yielded c.in-Some.pass at.invariant.all here);
     }
 
@@ -40,5 +41,6 @@ returns c =
       left = at.keeper.object;
       replays = at.invariant.keeper.replays;
       all = subst (HasAllOf (history at.keeper)) done at.invariant.all;
+      no_others = subst (λ n. NoCallsFrom n (history at.keeper)) at.invariant.count at.invariant.keeper.notes.no_others;
       counts = c.live_count.ensures ∙ ap (λ m. length m.live) (c.into_machine-machine.ensures ∙ ap (λ d. d.machine) c.into_object.ensures);
     }

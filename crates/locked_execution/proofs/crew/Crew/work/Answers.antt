@@ -1,8 +1,8 @@
-use Rattle.std.proofs.Common.{sym, subst}
+use Rattle.std.proofs.Common.{sym, ◌∙◌, subst}
 use Rattle.branch_workers.specs.Runs.{PassesFit}
 use Rattle.locked_execution.specs.Calls.{opening, table}
 use Rattle.locked_execution.specs.Working.{CountsLive}
-use Rattle.locked_execution.proofs.WorkLemmas.{new_fit, ran_fit, crew_ran}
+use Rattle.locked_execution.proofs.WorkLemmas.{new_fit, ran_fit, ran_many, crew_ran}
 use Rattle.locked_execution.proofs.crew.Crew.work.Goals as goal
 
 pub run_workers-requires-clause-passes : goal.run_workers-requires-clause-passes
@@ -15,6 +15,12 @@ live_behind-requires-clause-passes g c =
     let made = c.in_ok-execution in
     subst (λ b. PassesFit b.table.shared.table_id b.table.shared.key c.in-Ok.ran.passes.items) (sym c.close-board.ensures.board)
     (ran_fit (table made.execution) (opening made.execution) _ _ _ _ _ _ c.in-Ok.ensures.ran.each)
+
+pub live_behind-requires-clause-count : goal.live_behind-requires-clause-count
+live_behind-requires-clause-count g c =
+    let made = c.in_ok-execution in
+    let many = ran_many (table made.execution) (opening made.execution) _ _ _ _ _ _ c.in-Ok.ensures.ran.each in
+    c.close-board.ensures.passes ∙ made.ensures.count ∙ sym (many ∙ made.ensures.passes.many)
 
 pub returns-in-Ok : goal.returns-in-Ok
 returns-in-Ok g c =
