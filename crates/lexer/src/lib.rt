@@ -9,7 +9,6 @@ ghost use Rattle.refusals.specs.declared.lexer.Fault.TheVariants.{Memory};
 ghost use Rattle.lexer.specs.declared.token.Token.{Token};
 
 mod class;
-mod front;
 mod lexing;
 mod name;
 mod number;
@@ -18,7 +17,6 @@ mod position;
 mod table;
 mod token;
 
-pub use front::{Front, lex_front};
 pub use lexing::{Lexing, Stop};
 pub use name::is_name;
 pub use refusals::lexer::Fault;
