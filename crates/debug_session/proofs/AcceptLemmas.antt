@@ -1,12 +1,8 @@
 -- How the words of the passes become a refusal of source and stimulus.
 use Rattle.std.proofs.Common.{◌≡◌, ◌≢◌, ◌⊎◌, ◌++◌, inl, inr, ℕ, List, Result, Ok, Err, refl, sym, subst}
 use Rattle.std.specs.Result.{IfErr, IsErrAnd}
-use Rattle.elaborate.specs.Elaboration as elaboration
-use Rattle.syntax.specs.Texts.{lines}
-use Rattle.stimulus.specs.StimulusText.{AreEntries, FirstOther}
 use Rattle.refusals.specs.declared.elaborate.Fault as elaborate
 use Rattle.refusals.specs.declared.elaborate.Fault.TheVariants as no_system
-use Rattle.stimulus.specs.declared.stimulus.Entry.{Entry}
 use Rattle.system.specs.declared.system.System.{System}
 use Rattle.lexer.specs.Refusal as lexer
 use Rattle.lexer.specs.Tokens.{AreTokens}
@@ -84,26 +80,11 @@ untyped source stimulus description fault described h =
     ]
 
 -- procedures and stimulus make no system
-unmakable : (source stimulus : List ℕ) (procedures : List Procedure) (fault : elaborate.Fault) → IsTyped source procedures
+pub unmakable : (source stimulus : List ℕ) (procedures : List Procedure) (fault : elaborate.Fault) → IsTyped source procedures
     → (fault ≡ no_system.Memory) ⊎ MakesNone procedures stimulus fault → IsRefused source stimulus (of_elaborate fault)
 unmakable source stimulus procedures no_system.Memory typed h = tt
 unmakable source stimulus procedures no_system.TooManyNodes typed h = (procedures, typed, second (λ e. cc) h)
 unmakable source stimulus procedures (no_system.BadStimulus line) typed h = (procedures, typed, second (λ e. cc) h)
-
--- the stimulus has a line of another form
-pub unread : (source stimulus : List ℕ) (procedures : List Procedure) (fault : elaborate.Fault) → IsTyped source procedures
-    → (fault ≡ no_system.Memory) ⊎ ((n : ℕ) × (fault ≡ no_system.BadStimulus n) × FirstOther 1 (lines stimulus) n)
-    → IsRefused source stimulus (of_elaborate fault)
-unread source stimulus procedures fault typed h =
-    unmakable source stimulus procedures fault typed (elim h [ inl e ↦ inl e | inr r ↦ inr (inl r) ])
-
--- elaboration refuses
-pub unmade : (source stimulus : List ℕ) (procedures : List Procedure) (entries : List Entry) (fault : elaborate.Fault)
-    → IsTyped source procedures → AreEntries 1 (lines stimulus) entries
-    → (fault ≡ no_system.Memory) ⊎ elaboration.IsRefused procedures entries fault
-    → IsRefused source stimulus (of_elaborate fault)
-unmade source stimulus procedures entries fault typed given h =
-    unmakable source stimulus procedures fault typed (elim h [ inl e ↦ inl e | inr r ↦ inr (inr (entries, given, r)) ])
 
 -- the rule on sharing refuses
 pub unshared : (source stimulus : List ℕ) (system : System) (fault : sharing_check.Fault) → Makes source stimulus system

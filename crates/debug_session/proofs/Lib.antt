@@ -5,6 +5,7 @@ pub mod CountLemmas
 pub mod CutLemmas
 pub mod KeywordLemmas
 pub mod LineLemmas
+pub mod MakingLemmas
 pub mod NumberLemmas
 pub mod OneThingLemmas
 pub mod PieceLemmas

@@ -28,12 +28,15 @@ Describes source description = (tokens : List Token) × AreTokens source tokens 
 abbrev pub IsTyped : List ℕ → List Procedure → Type 0
 IsTyped source procedures = (description : Description) × Describes source description × (found_description description ≡ Ok procedures)
 
+-- the procedures and the stimulus make this system
+abbrev pub MakesOne : List Procedure → List ℕ → System → Type 0
+MakesOne procedures stimulus system =
+    (entries : List Entry) × AreEntries 1 (lines stimulus) entries
+    × elaboration.IsAccepted procedures entries × (system ≡ elaboration.system_of procedures entries)
+
 -- source and stimulus make this system
 abbrev pub Makes : List ℕ → List ℕ → System → Type 0
-Makes source stimulus system =
-    (procedures : List Procedure) × (entries : List Entry)
-    × IsTyped source procedures × AreEntries 1 (lines stimulus) entries
-    × elaboration.IsAccepted procedures entries × (system ≡ elaboration.system_of procedures entries)
+Makes source stimulus system = (procedures : List Procedure) × IsTyped source procedures × MakesOne procedures stimulus system
 
 -- source and stimulus are accepted: they make this system, and it keeps the rule on sharing
 abbrev pub AcceptedAs : List ℕ → List ℕ → System → Type 0

@@ -9,6 +9,7 @@ mod input;
 mod keyword;
 mod laws;
 mod line;
+mod making;
 mod output;
 mod read;
 mod replay_live;

@@ -7,9 +7,9 @@ ghost use Rattle.debug_session.specs.Counting.{after_reading, after_writing};
 ghost use Rattle.debug_session.specs.Transcript.{Debugged};
 
 use crate::answer::answer_lines;
+use crate::making::make_system;
 use crate::sitting::Sitting;
 use crate::{Counted, Fault};
-use elaborate::{Stimulus, elaborate};
 use lexer::{Token, lex, lex_front};
 use locked_execution::Machine;
 use parser::{parse, refusal_within};
@@ -83,10 +83,7 @@ fn made(alloc: Global, source: &[u8], stimulus: &[u8]) -> Result<System, Fault>
     ensures fault { IfErr result (λ fault. IsRefused source.now stimulus.now fault) }
 {
     match typed(alloc, source) {
-        Ok(typed) => {
-            let stimulus = Stimulus::read(alloc, stimulus)?;
-            Ok(elaborate(alloc, &typed, &stimulus)?)
-        }
+        Ok(typed) => Ok(make_system(alloc, &typed, stimulus)?),
         Err(fault) => Err(fault),
     }
 }
