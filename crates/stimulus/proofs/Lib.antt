@@ -4,3 +4,4 @@ pub mod Readings
 pub mod Entries
 pub mod Lines
 pub mod Fronts
+pub mod Fewness

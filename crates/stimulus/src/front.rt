@@ -1,5 +1,5 @@
 //! The first entries of a stimulus, where not all of them may be wanted.
-ghost use Rattle.std.specs.Prelude.{◌≡◌, ℕ, ◌≤◌, ◌⊎◌, List, [], ◌++◌, true, false, length, IfOk, IfErr, OnOk};
+ghost use Rattle.std.specs.Prelude.{◌≡◌, ℕ, ◌≤◌, ◌⊎◌, List, [], ◌++◌, true, false, drop, length, IfOk, IfErr, OnOk};
 ghost use Rattle.syntax.specs.Texts.{lines};
 ghost use Rattle.stimulus.specs.StimulusText.{AreEntries, FirstOther, HasForm};
 ghost use Rattle.stimulus.specs.walking.LineParts.{IsEntry, IsPassed};
@@ -10,7 +10,7 @@ use crate::Fault;
 use crate::entry::length_before;
 use crate::form::is_entry;
 use crate::line::add_line;
-use crate::stimulus::{Stimulus, without_first};
+use crate::stimulus::Stimulus;
 use std::alloc::Global;
 use syntax::Items;
 
@@ -76,5 +76,15 @@ impl Front {
         }
         self.is_cut = true;
         refuse_other(line, text)
+    }
+}
+
+/// What stands behind the first byte, if there is one.
+fn without_first(text: &[u8]) -> &[u8]
+    ensures { result.now ≡ drop 1 text.entry.now }
+{
+    match text.split_first() {
+        Some((_, rest)) => rest,
+        None => text,
     }
 }

@@ -1,9 +1,8 @@
-ghost use Rattle.std.specs.Prelude.{◌≡◌, ℕ, ◌⊎◌, drop, IfOk, IfErr};
+ghost use Rattle.std.specs.Prelude.{◌≡◌, ℕ, ◌⊎◌, IfOk, IfErr};
 ghost use Rattle.refusals.specs.declared.elaborate.Fault.TheVariants.{Memory, BadStimulus};
 
 use crate::Fault;
-use crate::entry::length_before;
-use crate::line::add_line;
+use crate::front::Front;
 use std::alloc::Global;
 use syntax::{Items, Name};
 
@@ -43,25 +42,8 @@ impl Stimulus {
         ensures entries { IfOk result (λ stimulus. AreEntries 1 (lines text.now) stimulus.entries) }
         ensures fault { IfErr result (λ fault. (fault ≡ Memory) ⊎ ((n : ℕ) × (fault ≡ BadStimulus n) × FirstOther 1 (lines text.now) n)) }
     {
-        let mut entries = Items::new(alloc);
-        let mut line: u64 = 1;
-        let mut rest = text;
-        while !rest.is_empty() {
-            let (first, behind) = rest.split_at(length_before(b'\n', rest));
-            add_line(alloc, &mut entries, line, first)?;
-            line += 1;
-            rest = without_first(behind);
-        }
-        Ok(Stimulus { entries })
-    }
-}
-
-/// What stands behind the first byte, if there is one.
-pub fn without_first(text: &[u8]) -> &[u8]
-    ensures { result.now ≡ drop 1 text.entry.now }
-{
-    match text.split_first() {
-        Some((_, rest)) => rest,
-        None => text,
+        // Each entry takes bytes, so none is missing.
+        let front = Front::read(alloc, text, text.len())?;
+        Ok(front.stimulus)
     }
 }
