@@ -21,12 +21,6 @@ MakesOne procedures stimulus system =
     (entries : List Entry) × AreEntries 1 (lines stimulus) entries
     × elaboration.IsAccepted procedures entries × (system ≡ elaboration.system_of procedures entries)
 
--- the procedures and the stimulus make this system
-abbrev pub MakesOne : List Procedure → List ℕ → System → Type 0
-MakesOne procedures stimulus system =
-    (entries : List Entry) × AreEntries 1 (lines stimulus) entries
-    × elaboration.IsAccepted procedures entries × (system ≡ elaboration.system_of procedures entries)
-
 -- source and stimulus make this system
 abbrev pub Makes : List ℕ → List ℕ → System → Type 0
 Makes source stimulus system = (procedures : List Procedure) × IsTyped source procedures × MakesOne procedures stimulus system
