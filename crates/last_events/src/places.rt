@@ -36,6 +36,13 @@ impl PlaceTable {
         }
     }
 
+    /// The ticket of the event that stands at the place. It takes no memory.
+    pub fn ticket(&self, place: &Address) -> Option<u64>
+        ensures { result ≡ ticket_at self.now place.now }
+    {
+        self.map.get(place.entries()).copied()
+    }
+
     /// Puts the event of this ticket at the place, where none stood. Without memory for it the table is as before.
     pub fn put(&mut self, place: &Address, ticket: u64) -> Result<(), AllocError>
         ensures put { OnOk result (PutAt self.old place.now ticket self.new) }
