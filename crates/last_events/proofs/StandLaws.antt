@@ -364,8 +364,8 @@ module _ (rows : List Row) (p : List Entry) (n i : ℕ) (r new : Row) (s : Seat)
 pub ticket-held : (rows : List Row) (p : List Entry) (n i : ℕ) (s : Seat) → IsTable rows → slice_get (row_at rows n) i ≡ Some s → s.0.items ≡ p → ticket_at (flat rows) p ≡ Some s.1
 ticket-held rows p n i s table at same =
     let differs : (t : Seat) → In t (before rows n i) → s.0.items ≢ t.0.items = λ t inside e.
-        less-differs t.0.items s.0.items
-        (rising-across (before rows n i) (s ∷ behind rows n (suc i)) t s (subst (λ (ss : List Seat). Rising (places ss)) (parted rows n i s at) table.rising) inside (inl refl)) (sym e) in
+    less-differs t.0.items s.0.items
+    (rising-across (before rows n i) (s ∷ behind rows n (suc i)) t s (subst (λ (ss : List Seat). Rising (places ss)) (parted rows n i s at) table.rising) inside (inl refl)) (sym e) in
     subst (λ (a : List Entry). ticket_at (flat rows) a ≡ Some s.1) same
     (ap (λ (ss : List Seat). ticket_at ss s.0.items) (parted rows n i s at)
     ∙ lookup-past s.0.items (before rows n i) (s ∷ behind rows n (suc i)) differs ∙ lookup-here s.0 s.1 (behind rows n (suc i)))
