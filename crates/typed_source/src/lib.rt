@@ -1,5 +1,5 @@
-//! From a source to its description with names, kinds and widths settled. A long source is read part by part, so that
-//! neither its tokens nor its trees are ever all in memory.
+//! From a source to its description with names, kinds and widths settled. It is read part by part, a procedure at a
+//! time, so that its tokens and trees need not all be in memory. Where the parts alone do not tell, all are made.
 #![tactic(auto)]
 
 ghost use Rattle.std.specs.Prelude.{IfOk, IfErr, IfSome};
@@ -15,7 +15,7 @@ use part::next_part;
 use std::alloc::Global;
 use types::{Typed, Typing, check_types};
 
-/// The source with its names settled, of which all tokens and trees are made.
+/// The source with its names, kinds and widths settled. All its tokens are made first, and then all its trees.
 fn typed_at_once(alloc: Global, source: &[u8]) -> Result<Typed, Fault>
     ensures typed { IfOk result (λ typed. IsTyped source.now typed) }
     ensures fault { IfErr result (λ fault. IsRefused source.now fault) }
@@ -25,7 +25,7 @@ fn typed_at_once(alloc: Global, source: &[u8]) -> Result<Typed, Fault>
     Ok(check_types(alloc, &description)?)
 }
 
-/// The same, of which a part is made at a time. None: the parts alone do not tell.
+/// The same, with the tokens and the trees of one part at a time. None: the parts alone do not tell.
 fn typed_in_parts(alloc: Global, source: &[u8]) -> Result<Option<Typed>, Fault>
     ensures typed { IfOk result (λ found. IfSome found (λ typed. IsTyped source.now typed)) }
     ensures fault { IfErr result (λ fault. IsRefused source.now fault) }

@@ -13,7 +13,7 @@ use parser::{parse, refusal_within};
 use std::alloc::Global;
 use syntax::Description;
 
-/// How many tokens are made before it shows whether a description goes on with them.
+/// How many tokens of a part are made before the parser is asked whether a description goes on with them.
 const FIRST_TOKENS: usize = 65_536;
 
 /// A part of a source in good form.
@@ -34,7 +34,8 @@ fn begins_procedure(tokens: &[Token]) -> bool
     }
 }
 
-/// Refuses the tokens that were read last where no description goes on with them. `lexing` stands behind them.
+/// Refuses these tokens, behind which `lexing` stands, where no description goes on with them. A fault of words in what
+/// is left goes before.
 fn refuse(alloc: Global, lexing: Lexing<'_>, is_last: bool, tokens: &[Token]) -> Result<(), Fault>
     ensures { (old : Lexing) → ReadsPart is_last old tokens.now lexing.entry → IfErr result (λ fault. RefusesPart old tokens.now fault) }
 {
@@ -47,7 +48,8 @@ fn refuse(alloc: Global, lexing: Lexing<'_>, is_last: bool, tokens: &[Token]) ->
     Err(Fault::from(fault))
 }
 
-/// Adds what is missing of a part that was cut short, and tells whether it is the last.
+/// Adds what is missing of a part that was cut short, and tells whether it is the last. Tokens with which no description
+/// goes on are refused before.
 fn read_on(alloc: Global, lexing: &mut Lexing<'_>, tokens: &mut Vec<Token>) -> Result<bool, Fault>
     ensures read { (old : Lexing) → ReadsPart false old tokens.old.items lexing.old
         → IfOk result (λ is_last. ReadsOn is_last old tokens.old.items tokens.new.items lexing.new) }
@@ -58,7 +60,8 @@ fn read_on(alloc: Global, lexing: &mut Lexing<'_>, tokens: &mut Vec<Token>) -> R
     Ok(matches!(stop, Stop::End))
 }
 
-/// Reads the part that begins with these tokens, behind which reading stopped so, and tells whether it is the last.
+/// Adds what is missing of the part that begins with these tokens, if reading stopped before its end, and tells whether
+/// it is the last.
 fn read_whole(
     alloc: Global,
     lexing: &mut Lexing<'_>,
@@ -76,7 +79,7 @@ fn read_whole(
     }
 }
 
-/// The tree of the tokens that were read last. None: they alone do not tell.
+/// The part that these tokens are, behind which `lexing` stands. None: they alone do not tell.
 fn tree_of(
     alloc: Global,
     lexing: Lexing<'_>,
@@ -99,7 +102,8 @@ fn tree_of(
     }
 }
 
-/// The next part of the source, up to where a procedure begins. It begins with one itself, but for the first.
+/// The next part of the source, up to where a further procedure begins, or to the end. But for the first it begins with a
+/// procedure itself.
 ///
 /// None: this part alone does not tell.
 pub(crate) fn next_part(
