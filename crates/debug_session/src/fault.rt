@@ -11,7 +11,7 @@ use thiserror::Error;
 pub enum Fault {
     #[error("out of memory")]
     Memory,
-    /// The source has no tokens.
+    /// The source cannot be cut into tokens.
     #[error("{0}")]
     Lexer(refusals::lexer::Fault),
     /// The tokens are no description.

@@ -1,4 +1,4 @@
-//! The system of a description and a stimulus, of which not all entries may be wanted.
+//! The system of a description and a stimulus. A long stimulus that does not fit is refused by its first entries.
 ghost use Rattle.std.specs.Prelude.{◌≡◌, ◌⊎◌, IfOk, IfErr};
 ghost use Rattle.debug_session.specs.Accepting.{MakesNone, MakesOne};
 ghost use Rattle.stimulus.specs.StimulusText.{AreEntries};
@@ -10,7 +10,7 @@ use std::alloc::Global;
 use system::System;
 use typed::Typed;
 
-/// How many entries of a stimulus are made before it shows whether they fit the ports of the root.
+/// How many entries of a stimulus are made before it is asked whether they fit the ports of the root.
 const FIRST_ENTRIES: usize = 65_536;
 
 /// The system that the description makes with a stimulus of this text.

@@ -24,9 +24,9 @@ fn made(alloc: Global, source: &[u8], stimulus: &[u8]) -> Result<System, Fault>
     Ok(make_system(alloc, &typed, stimulus)?)
 }
 
-/// The system that the source and the stimulus describe, or the first fault of the first pass that refuses them:
-/// the source is cut, parsed and typed, then the stimulus is read, then the system is
-/// made, and then the rule on sharing is checked.
+/// The system that the source and the stimulus describe, or the first fault of the first pass that refuses them: the
+/// source is cut, parsed and typed, then the stimulus is read, then the system is made, and then the rule on sharing is
+/// checked.
 pub fn accept(alloc: Global, source: &[u8], stimulus: &[u8]) -> Result<Checked, Fault>
     ensures system { IfOk result (λ checked. AcceptedAs source.now stimulus.now checked) }
     ensures fault { IfErr result (λ fault. IsRefused source.now stimulus.now fault) }
