@@ -1,4 +1,3 @@
-pub mod ActingPlaces
 pub mod AddedEvent
 pub mod Candidacy
 pub mod Counting

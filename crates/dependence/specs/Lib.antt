@@ -1,4 +1,3 @@
-pub mod Acting
 pub mod Behind
 pub mod Followers
 pub mod Laws

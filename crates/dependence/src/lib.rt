@@ -2,7 +2,6 @@
 #![tactic(auto)]
 
 mod accesses;
-mod acting;
 mod candidates;
 mod count;
 mod entries;

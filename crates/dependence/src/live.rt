@@ -1,14 +1,12 @@
 ghost use Rattle.std.specs.Prelude.{◌≡◌, ◌<◌, ◌≤◌, ℕ, [], length, Some, None, slice_get, MatchOption, IfErr, IfOk, OnOk};
 ghost use Rattle.calculus.specs.Dependence.{Without};
 ghost use Rattle.calculus.specs.Live.{LiveAt, NoneAt, NoDependent, FirstDependent, ConsequencesList, WithoutTickets, IsLive, LastWriter, NoWriter};
-ghost use Rattle.dependence.specs.Acting.{ActsAlone, NoneActs};
 ghost use Rattle.dependence.specs.Behind.{ComesBehind};
 ghost use Rattle.dependence.specs.Followers.{ListsFollowers, ListsLeads, CountsDirect};
 ghost use Rattle.dependence.specs.Shown.{with_newest, Greatest, IsSound};
 ghost use Rattle.dependence.specs.Taking.{MarksAllDependents, OneMarkedAt, NoneMarkedAt, StaysBeside};
 ghost use Rattle.syntax.specs.Lists.{In};
 
-use crate::acting::acting_at;
 use crate::count::count_direct;
 use crate::links::Links;
 use crate::marks::{
@@ -18,7 +16,6 @@ use crate::places::place_of;
 use crate::tables::Tables;
 use crate::taking::{keep_unmarked, take_marked};
 use crate::whole::{add_event, followers_of, last_writer, leads_at, least_dependent, take_event};
-use address::Address;
 use calculus::Event;
 use std::alloc::{AllocError, Global};
 use std::marker::Model;
@@ -129,13 +126,6 @@ impl Live {
         ensures { MatchOption result (NoWriter self.now.live variable) (λ t. LastWriter self.now.live variable t) }
     {
         last_writer(self.pairs.as_slice(), &self.tables, variable)
-    }
-
-    /// The live event that acts at the place. It takes no memory, and as long as to look for the place by halves.
-    pub fn acting_at(&self, place: &Address) -> Option<&Event>
-        ensures { MatchOption result (NoneActs self.now.live place.now) (λ e. ActsAlone self.now.live place.now e.now) }
-    {
-        acting_at(self.pairs.as_slice(), &self.tables, place)
     }
 
     /// How many live events depend directly on the live event of this ticket. It takes as long as to go through the live events

@@ -5,13 +5,13 @@ use Rattle.address.specs.declared.Entry.{Entry}
 use Rattle.address.specs.Order.{order_of}
 use Rattle.address.proofs.Total.{order-transitive, order-total}
 use Rattle.syntax.specs.Lists.{In}
-use Rattle.last_events.specs.LastEvents.{PutAt, RemovedAt, ticket_at}
+use Rattle.last_events.specs.LastEvents.{PutAt, RemovedAt}
 use Rattle.last_events.specs.walking.Search.{Rising, Splits, first_place}
 use Rattle.last_events.specs.walking.Rows.{Seat, Row, flat, places, Filled, IsTable, row_at, before, behind, Stands, HoldsAt, Absent}
 use Rattle.last_events.specs.walking.Walks.{NoneBelow, LastBelow}
 use Rattle.last_events.proofs.PlaceLaws.{is_key, itself-not-less, less-both-ways}
 use Rattle.last_events.proofs.SearchLaws.{length-places, some-is}
-use Rattle.last_events.proofs.RowLaws.{in-left, in-right, in-either, in-drop-less, place-of, place-taken, place-dropped, rising-left, rising-right, rising-across, rising-more, rising-less, same-places, lookup-past, lookup-here, found-seat, less-differs, put-between, put-over, removed-between, removed-none, get-first, get-dropped, get-cons, get-nil, dropped-all, filled-at, parts, parted, before-more, row-read, get-at, at-inside, at-within, row-count, set-done, filled-set, set-some}
+use Rattle.last_events.proofs.RowLaws.{in-left, in-right, in-either, in-drop-less, place-of, place-taken, place-dropped, rising-left, rising-right, rising-across, rising-more, rising-less, same-places, lookup-past, lookup-here, found-seat, less-differs, put-between, put-over, removed-between, get-first, get-dropped, get-cons, get-nil, dropped-all, filled-at, parts, parted, before-more, row-read, get-at, at-inside, at-within, row-count, set-done, filled-set, set-some}
 
 -- ---- the first places of rows
 abbrev pub firsts : List Row → List (List Entry)
@@ -359,20 +359,3 @@ module _ (rows : List Row) (p : List Entry) (n i : ℕ) (r new : Row) (s : Seat)
   held-put =
       put-again rows (set rows n new) p s.0 t s.1 n i table held-at
       (subst (λ (q : Seat). q.0.items ≡ p) (some-is held.seat s (sym held.at ∙ held-at)) held.same) held-flat
-
--- the ticket of a seat is that at its place
-pub ticket-held : (rows : List Row) (p : List Entry) (n i : ℕ) (s : Seat) → IsTable rows → slice_get (row_at rows n) i ≡ Some s → s.0.items ≡ p → ticket_at (flat rows) p ≡ Some s.1
-ticket-held rows p n i s table at same =
-    let differs : (t : Seat) → In t (before rows n i) → s.0.items ≢ t.0.items = λ t inside e.
-    less-differs t.0.items s.0.items
-    (rising-across (before rows n i) (s ∷ behind rows n (suc i)) t s (subst (λ (ss : List Seat). Rising (places ss)) (parted rows n i s at) table.rising) inside (inl refl)) (sym e) in
-    subst (λ (a : List Entry). ticket_at (flat rows) a ≡ Some s.1) same
-    (ap (λ (ss : List Seat). ticket_at ss s.0.items) (parted rows n i s at)
-    ∙ lookup-past s.0.items (before rows n i) (s ∷ behind rows n (suc i)) differs ∙ lookup-here s.0 s.1 (behind rows n (suc i)))
-
--- and there is none where the place does not stand
-pub ticket-none : (rows : List Row) (p : List Entry) → Absent rows p → ticket_at (flat rows) p ≡ None
-ticket-none rows p absent = (removed-none (flat rows) p absent).here
-
-pub ticket-held-at : (rows : List Row) (p : List Entry) (n i : ℕ) (s : Seat) → IsTable rows → HoldsAt rows p n i → slice_get (row_at rows n) i ≡ Some s → ticket_at (flat rows) p ≡ Some s.1
-ticket-held-at rows p n i s table held at = ticket-held rows p n i s table at (ap (λ (t : Seat). t.0.items) (some-is s held.seat (sym at ∙ held.at)) ∙ held.same)

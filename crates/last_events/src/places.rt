@@ -6,7 +6,7 @@ ghost use Rattle.last_events.specs.walking.Forks.{Shares};
 ghost use Rattle.last_events.specs.walking.Walks.{NoneBelow, LastBelow, NoneBefore, NearestBefore, Collected};
 
 use crate::forks::{fork, is_ordered};
-use crate::rows::{found, put_seat, remove_seat, spot_of};
+use crate::rows::{put_seat, remove_seat, spot_of};
 use address::{Address, Entry};
 use std::alloc::{AllocError, Global};
 use std::marker::Model;
@@ -48,22 +48,6 @@ impl PlaceTable {
         PlaceTable {
             alloc,
             rows: Vec::new(alloc),
-        }
-    }
-
-    /// The ticket of the event that stands at the place. It takes no memory.
-    pub fn ticket(&self, place: &Address) -> Option<u64>
-        ensures { result ≡ ticket_at self.now place.now }
-    {
-        if self.rows.is_empty() {
-            return None;
-        }
-        let place = place.entries();
-        let spot = spot_of(self.rows.as_slice(), place);
-        let held = found(self.rows.as_slice(), place, spot)?;
-        match self.rows[held.row].get(held.index) {
-            Some(seat) => Some(seat.1),
-            None => None,
         }
     }
 

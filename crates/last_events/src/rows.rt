@@ -30,7 +30,7 @@ pub(crate) fn spot_of(rows: &[Vec<(Vec<Entry>, u64)>], place: &[Entry]) -> Spot
 }
 
 /// Where the place itself stands, if this is the spot behind all lesser places.
-pub(crate) fn found(rows: &[Vec<(Vec<Entry>, u64)>], place: &[Entry], spot: Spot) -> Option<Spot>
+fn found(rows: &[Vec<(Vec<Entry>, u64)>], place: &[Entry], spot: Spot) -> Option<Spot>
     requires table { IsTable rows.now }
     requires stands { Stands rows.now place.now spot.row spot.index }
     ensures { MatchOption result (Absent rows.now place.now) (λ s. HoldsAt rows.now place.now s.row s.index) }

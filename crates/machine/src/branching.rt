@@ -55,9 +55,9 @@ impl History {
         ensures holds { Holds system.now self.new }
     {
         let events = self.ready_near(alloc, system, uses, branch)?;
-        match self.first_moving(alloc, system, events.as_slice(), branch, breaks) {
+        match self.first_moving(system, events.as_slice(), branch, breaks) {
             Some(place) => self.take_ready(alloc, system, events, place),
-            None => Ok(self.kept_back(alloc, system, events.as_slice(), branch)),
+            None => Ok(self.kept_back(system, events.as_slice(), branch)),
         }
     }
 
@@ -123,7 +123,6 @@ impl History {
     /// Where the first of these events stands that acts in the branch and whose line is not among these.
     fn first_moving(
         &self,
-        alloc: Global,
         system: &Checked,
         events: &[Event],
         branch: u32,
@@ -132,7 +131,7 @@ impl History {
         ensures { MatchOption result (Every (λ e. moves (at_machine system.now self.now) branch breaks.now e ≡ false) events.now) (λ i. FirstAt (moves (at_machine system.now self.now) branch breaks.now) events.now i) }
     {
         for (i, event) in events.iter().enumerate() {
-            if self.moves(alloc, system, event, branch, breaks) {
+            if self.moves(system, event, branch, breaks) {
                 return Some(i);
             }
         }
@@ -140,62 +139,43 @@ impl History {
     }
 
     /// Whether the event acts in the branch and its line is not among these.
-    fn moves(
-        &self,
-        alloc: Global,
-        system: &Checked,
-        event: &Event,
-        branch: u32,
-        breaks: &[u64],
-    ) -> bool
+    fn moves(&self, system: &Checked, event: &Event, branch: u32, breaks: &[u64]) -> bool
         ensures { result ≡ moves (at_machine system.now self.now) branch breaks.now event.now }
     {
-        acts_in(system, event, branch) && self.is_free(alloc, system, event, breaks)
+        acts_in(system, event, branch) && self.is_free(system, event, breaks)
     }
 
-    /// Whether the line of the event is not among these. It is looked for only where there are some, since each choice on the way
-    /// to the place is looked up.
-    fn is_free(&self, alloc: Global, system: &Checked, event: &Event, breaks: &[u64]) -> bool
+    /// Whether the line of the event is not among these. It is looked for only where there are some, since that goes through the
+    /// live events for each choice on the way to the place.
+    fn is_free(&self, system: &Checked, event: &Event, breaks: &[u64]) -> bool
         ensures { result ≡ is_free (at_machine system.now self.now) breaks.now event.now }
     {
         if breaks.is_empty() {
             return true;
         }
-        match line_after(alloc, system, &self.live, event.acting_place()) {
+        match line_after(system, self.live.as_slice(), event.acting_place()) {
             Some(line) => !is_among(breaks, line),
             None => true,
         }
     }
 
     /// The answer where no event of the branch is taken: the line of the first, or that there is none.
-    fn kept_back(
-        &self,
-        alloc: Global,
-        system: &Checked,
-        events: &[Event],
-        branch: u32,
-    ) -> BranchReply
+    fn kept_back(&self, system: &Checked, events: &[Event], branch: u32) -> BranchReply
         ensures { MatchOption (line_of_first (at_machine system.now self.now) (in_branch (at_machine system.now self.now) branch events.now)) (result ≡ BranchReply.Idle) (λ line. result ≡ BranchReply.Stopped line) }
     {
-        match self.first_line(alloc, system, events, branch) {
+        match self.first_line(system, events, branch) {
             Some(line) => BranchReply::Stopped(line),
             None => BranchReply::Idle,
         }
     }
 
     /// The line of the first of these events that acts in the branch.
-    fn first_line(
-        &self,
-        alloc: Global,
-        system: &Checked,
-        events: &[Event],
-        branch: u32,
-    ) -> Option<u64>
+    fn first_line(&self, system: &Checked, events: &[Event], branch: u32) -> Option<u64>
         ensures { result ≡ line_of_first (at_machine system.now self.now) (in_branch (at_machine system.now self.now) branch events.now) }
     {
         for event in events {
             if acts_in(system, event, branch) {
-                return line_after(alloc, system, &self.live, event.acting_place());
+                return line_after(system, self.live.as_slice(), event.acting_place());
             }
         }
         None

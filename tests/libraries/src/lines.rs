@@ -2,10 +2,13 @@
 
 use crate::sessions::reply_to;
 use crate::told::place;
+use address::Address;
 use calculus::Choice;
 use debug_session::accept;
-use locked_execution::{Command, Desk};
+use event_places::{line_after, select_after};
+use locked_execution::{Command, Desk, Reply};
 use machine::Machine;
+use sharing_check::Checked;
 use std::alloc::Global;
 use std::test::Fail;
 
@@ -34,11 +37,25 @@ fn desk(alloc: Global, source: &str) -> Result<Desk, Fail> {
     Ok(Desk::new(Machine::new(alloc, checked)?))
 }
 
-/// Takes a step.
-fn take(alloc: Global, desk: &mut Desk, step: &[u8]) -> Result<(), Fail> {
+/// Takes a step, and answers the live events.
+fn live_after(alloc: Global, desk: &mut Desk, step: &[u8]) -> Result<Reply, Fail> {
     let place = place(alloc, step)?;
     reply_to(desk, 0, &Command::Step(Choice { place, arm: 0 }))?;
-    Ok(())
+    reply_to(desk, 0, &Command::Live)
+}
+
+fn line_in(checked: &Checked, live: &Reply, place: &Address) -> Option<u64> {
+    match live {
+        Reply::Live(entries) => line_after(checked, entries.as_slice(), place),
+        _ => None,
+    }
+}
+
+fn is_select_in(checked: &Checked, live: &Reply, place: &Address) -> bool {
+    match live {
+        Reply::Live(entries) => select_after(checked, entries.as_slice(), place),
+        _ => false,
+    }
 }
 
 #[test]
@@ -46,10 +63,11 @@ fn a_place_has_the_line_in_the_arm_that_was_taken(rt: HostRuntime) -> Result<(),
     let mut desk = desk(rt.alloc(), IF_ON_2)?;
     let test = place(rt.alloc(), b"/0.0")?;
     let arm = place(rt.alloc(), b"/0.1")?;
-    assert_eq!(rt; desk.machine().line(&test), Some(2));
-    assert_eq!(rt; desk.machine().line(&arm), None);
-    take(rt.alloc(), &mut desk, b"/0.0")?;
-    assert_eq!(rt; desk.machine().line(&arm), Some(5));
+    let before = reply_to(&mut desk, 0, &Command::Live)?;
+    assert_eq!(rt; line_in(desk.machine().checked(), &before, &test), Some(2));
+    assert_eq!(rt; line_in(desk.machine().checked(), &before, &arm), None);
+    let after = live_after(rt.alloc(), &mut desk, b"/0.0")?;
+    assert_eq!(rt; line_in(desk.machine().checked(), &after, &arm), Some(5));
     assert_eq!(rt; desk.machine().checked().line(&arm), Some(3));
     Ok(())
 }
@@ -59,8 +77,11 @@ fn a_select_opens_where_its_arm_was_taken(rt: HostRuntime) -> Result<(), Fail> {
     let open = place(rt.alloc(), b"/0.1.0")?;
     for (source, is_select) in [(ARBITRATE_TAKEN, false), (SELECT_TAKEN, true)] {
         let mut desk = desk(rt.alloc(), source)?;
-        take(rt.alloc(), &mut desk, b"/0.0")?;
-        assert_eq!(rt; desk.machine().select(&open), is_select);
+        let live = live_after(rt.alloc(), &mut desk, b"/0.0")?;
+        assert_eq!(rt;
+            is_select_in(desk.machine().checked(), &live, &open),
+            is_select
+        );
         assert!(rt; desk.machine().checked().select(&open));
     }
     Ok(())
