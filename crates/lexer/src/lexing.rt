@@ -90,8 +90,8 @@ impl<'a> Lexing<'a> {
     /// Adds the tokens that follow to `part`: `most` of them, or those up to a `procedure` where one stands in `part`
     /// already, or all up to the end of the source with one of the kind `EndOfSource`.
     ///
-    /// A `procedure` that `part` held before counts too; other tokens that it held do not count against `most`. At an error
-    /// `part` has the tokens before it: `Memory` may come at any token, each other fault where the source is refused.
+    /// A `procedure` that `part` held before counts too; other tokens that it held do not count against `most`.
+    /// `Memory` may come at any token. At an error nothing is known of `part` and of what is left.
     pub fn add_part(
         &mut self,
         alloc: Global,

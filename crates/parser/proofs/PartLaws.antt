@@ -260,24 +260,6 @@ module _ (part : List Token) (begins : BeginsProcedure part) where
       ∙ outcome_joined given (and_then alone (described []))
       ∙ ap (λ o. and_then o (joining given)) (sym part_outcome)
 
-abbrev types_of : Outcome Description → List TypeDeclaration
-types_of (read given j) = given.types
-types_of (unexpected rest) = []
-types_of (too_deep rest) = []
-
-no_types_read : (c : Bool) (procedures : List Procedure) (j : Input) → types_of (if c then described [] procedures j else unexpected j.tokens) ≡ []
-no_types_read true procedures j = refl
-no_types_read false procedures j = refl
-
-no_types_in : (o : Outcome (List Procedure)) → types_of (and_then (and_then o (described [])) to_end) ≡ []
-no_types_in (read procedures j) = no_types_read (same_kind (next j.tokens) EndOfSource) procedures j
-no_types_in (unexpected rest) = refl
-no_types_in (too_deep rest) = refl
-
-part_no_types : (part : List Token) → BeginsProcedure part → (more : Description) → Parses part more → more.types ≡ []
-part_no_types part begins more s =
-    ap types_of (sym (every_description part more s).1) ∙ ap types_of (part_outcome part begins) ∙ no_types_in (r.procedures most_levels (input most_levels part))
-
 refused_behind : (before part : List Token) (given : Description) → outcome (before ++ part) ≡ and_then (outcome part) (joining given) → BeginsProcedure part → (fault : Fault) → IsRefused part fault → IsRefused (before ++ part) fault
 refused_behind before part given same begins Memory refusal = absurd refusal
 refused_behind before part given same begins (Unexpected offset) refusal =
@@ -295,7 +277,6 @@ opens before given s none = record {
   parses = λ part begins more p.
       let found = every_description part more p in
       parsed (before ++ part) (joined given more) found.0 (outcome_on part begins before given s none ∙ ap (λ o. and_then o (joining given)) found.1);
-  no_types = part_no_types;
   refused = λ part begins fault refusal. refused_behind before part given (outcome_on part begins before given s none) begins fault refusal;
 }
 
@@ -319,7 +300,6 @@ opens_on before given part more opened begins p none =
           subst (λ tokens. Parses tokens (joined (joined given more) most)) (sym (append_assoc before part later))
           (subst (Parses (before ++ (part ++ later))) (joined_twice given more most)
           (opened.parses (part ++ later) (begins_on part later begins) (joined more most) (last.parses later begins' most s)));
-      no_types = part_no_types;
       refused = λ later begins' fault refusal.
           subst (λ tokens. IsRefused tokens fault) (sym (append_assoc before part later))
           (opened.refused (part ++ later) (begins_on part later begins) fault (last.refused later begins' fault refusal));

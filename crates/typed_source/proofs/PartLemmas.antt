@@ -79,6 +79,26 @@ pub refuses_all : (is_last : Bool) (old new : Lexing) (part : List Token) (fault
 refuses_all true old new part fault e reads h = refuses_last old part fault reads h
 refuses_all false old new part fault e reads h = absurd (cc)
 
+-- a fault of the last part is due wherever it is
+end_refused : (old new : Lexing) (part : List Token) (fault : parser_fault.Fault) → Ends old part → (fault ≡ no_description.Memory) ⊎ parser.IsRefused part fault
+    → RefusesPart old part (of_parser fault)
+end_refused old new part no_description.Memory ends h = tt
+end_refused old new part (no_description.Unexpected offset) ends h = λ source before read. (
+  [],
+  AreTokens_by source (before ++ part) (before ++ (part ++ [])) (ap (λ (t : List Token). before ++ t) (sym (append-nil part))) (ends source before read),
+  elim h [ inl e ↦ absurd (cc) | inr refused ↦ subst (λ tokens. parser.IsRefused tokens (no_description.Unexpected offset)) (sym (append-nil part)) refused ],
+)
+end_refused old new part (no_description.TooDeep offset) ends h = λ source before read. (
+  [],
+  AreTokens_by source (before ++ part) (before ++ (part ++ [])) (ap (λ (t : List Token). before ++ t) (sym (append-nil part))) (ends source before read),
+  elim h [ inl e ↦ absurd (cc) | inr refused ↦ subst (λ tokens. parser.IsRefused tokens (no_description.TooDeep offset)) (sym (append-nil part)) refused ],
+)
+
+pub refuses_end : (is_last : Bool) (old new : Lexing) (part : List Token) (fault : parser_fault.Fault) → is_last ≡ true → ReadsPart is_last old part new
+    → (fault ≡ no_description.Memory) ⊎ parser.IsRefused part fault → RefusesPart old part (of_parser fault)
+refuses_end true old new part fault e reads h = end_refused old new part fault reads h
+refuses_end false old new part fault e reads h = absurd (cc)
+
 -- two parts, one behind the other
 goes_far : (old mid new : Lexing) (first second : List Token) → ReadsPart false old first mid → Goes mid second new → HasNoEnd second → TakesBytes mid second new
     → ReadsPart false old (first ++ second) new

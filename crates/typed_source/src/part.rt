@@ -95,6 +95,7 @@ fn tree_of(
             is_last,
         })),
         Err(parser::Fault::Memory) => Err(Fault::Memory),
+        Err(fault) if is_last => Err(Fault::from(fault)),
         Err(_) => {
             refuse(alloc, lexing, is_last, tokens)?;
             Ok(None)

@@ -1,6 +1,6 @@
 -- Parts of a description: each begins with the word `procedure`, and the first one may begin with types.
 -- No reader has to believe it: `proofs/PartLaws.antt` ties it to `Parses` and `IsRefused` of `Accepted.antt`, for callers that parse part by part.
-use Rattle.std.specs.Prelude.{◌≡◌, List, [], ◌++◌}
+use Rattle.std.specs.Prelude.{List, ◌++◌}
 use Rattle.lexer.specs.declared.token.Token.{Token}
 use Rattle.lexer.specs.walking.Parts.{BeginsProcedure}
 use Rattle.syntax.specs.declared.declaration.Description.{Description}
@@ -14,6 +14,4 @@ joined first second = record { types = first.types; procedures = first.procedure
 -- Behind these tokens, which are the description, a part that begins with `procedure` is what it is alone.
 pub record Opens (before : List Token) (given : Description) : Type 0 where
   pub parses : (part : List Token) → BeginsProcedure part → (more : Description) → Parses part more → Parses (before ++ part) (joined given more)
-  -- such a part has no types
-  pub no_types : (part : List Token) → BeginsProcedure part → (more : Description) → Parses part more → more.types ≡ []
   pub refused : (part : List Token) → BeginsProcedure part → (fault : Fault) → IsRefused part fault → IsRefused (before ++ part) fault
