@@ -93,7 +93,7 @@ fn take_steps(alloc: Global, machine: &mut Machine, steps: &[u8]) -> Result<(), 
         rest = take_line(alloc, machine, rest, number)?;
     }
     // Never so many: a machine takes no more steps than may be live.
-    Err(Fault::Memory)
+    unreachable!()
 }
 
 /// Takes the step of the first line, which has this number, and gives what is behind the line.

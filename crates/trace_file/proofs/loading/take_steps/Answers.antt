@@ -1,4 +1,4 @@
-use Rattle.std.proofs.Common.{ap, ◌∙◌, Err}
+use Rattle.std.proofs.Common.{ap, ◌∙◌, Err, arith}
 use Rattle.std.proofs.lemmas.Result.{err_from_is_err_and}
 use Rattle.trace_file.proofs.LineLemmas.{not-nil}
 use Rattle.trace_file.proofs.LoadLemmas.{fails, line-refused, loading-start, loading-more, number-start, number-more}
@@ -28,3 +28,6 @@ loop-number-preserved c =
           c.loop-number.rest.now c.in_ok-rest.rest.now c.loop-number.number c.loop-number.invariant.0 more c.in_ok-rest.ensures.line
           c.loop-number.invariant.1,
     )
+
+pub unreachable-requires : goal.unreachable-requires
+unreachable-requires c = omega (arith, c.loop-number.invariant.0.begins.room, c.loop-number.invariant.1, c.loop-number-test.false)
