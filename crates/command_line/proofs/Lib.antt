@@ -2,4 +2,5 @@ pub mod ReplayLemmas
 pub mod RunningLemmas
 pub mod ServingLemmas
 pub mod TellingLemmas
+pub mod WordLemmas
 pub mod WorkLemmas

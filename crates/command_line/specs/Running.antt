@@ -1,4 +1,4 @@
--- What a run does, whatever its words ask for: it serves a request, or says why there is none.
+-- What a run does: it serves the request that its words ask for, or says why there is none.
 use Rattle.std.specs.Prelude.{◌≡◌, ◌≢◌, ◌⊎◌, ℕ, List, [], Option, Ok, Err}
 use Rattle.command_line.specs.FaultLine.{fault_line}
 use Rattle.command_line.specs.Serving.{Outcome, Told, status_of, told_text, Serves}
@@ -28,9 +28,9 @@ Explains status unwritten untold written told wrote contents before behind =
     ⊎ (((status ≡ 2) × unwritten × TellsSome told before behind)
     ⊎ TellsHelp status untold written told wrote contents before behind)
 
--- some request is served, and a refusal of it is told on standard error
-abbrev pub ServesSome : (List ℕ → Option (List ℕ) → Type 0) → ℕ → Type 0 → Type 0 → (Outcome → Type 0) → (Outcome → Type 0) → (Outcome → Type 0) → Option (List ℕ) → Option (List ℕ) → Option (List ℕ) → Option (List ℕ) → Option (List ℕ) → Option (List ℕ) → Type 0
-ServesSome holds status unread unwritten written told caused read left wrote contents before behind =
-    (request : Request) × (done : Outcome) × (ended : Outcome)
+-- a request that is asked for is served, and a refusal of it is told on standard error
+abbrev pub ServesAsked : (Request → Type 0) → (List ℕ → Option (List ℕ) → Type 0) → ℕ → Type 0 → Type 0 → (Outcome → Type 0) → (Outcome → Type 0) → (Outcome → Type 0) → Option (List ℕ) → Option (List ℕ) → Option (List ℕ) → Option (List ℕ) → Option (List ℕ) → Option (List ℕ) → Type 0
+ServesAsked asked holds status unread unwritten written told caused read left wrote contents before behind =
+    (request : Request) × asked request × (done : Outcome) × (ended : Outcome)
     × Serves holds request unread unwritten written caused read left wrote contents done
     × (status ≡ status_of done) × Told (told_text done) before behind ended × told ended

@@ -1,5 +1,11 @@
 //! What the words of the command line ask for.
 
+ghost use Rattle.std.specs.Prelude.{◌≡◌, Some, map, codes, pos, IfOk, IfSome};
+ghost use Rattle.clap.specs.Words.{found_of, rows_of, subcommand_rows_of};
+ghost use Rattle.clap.specs.declared.builder.value_parser.ValueParser.TheVariants.{Signed, Unsigned};
+ghost use Rattle.command_line.specs.Words as spec;
+ghost use Rattle.command_line.specs.walking.Building.{IsArgument, IsCommand};
+
 use crate::help;
 use clap::error::ErrorKind;
 use clap::{Arg, ArgAction, ArgMatches, Command, Error, value_parser};
@@ -33,28 +39,36 @@ pub enum Request<'a> {
     },
 }
 
-fn file<'a>(alloc: Global) -> Arg<'a> {
+fn file<'a>(alloc: Global) -> Arg<'a>
+    ensures { IsArgument (spec.word (codes "FILE")) result }
+{
     Arg::new(alloc, "FILE")
         .required(true)
         .action(ArgAction::Set)
         .help(help::FILE)
 }
 
-fn stimulus<'a>(alloc: Global) -> Arg<'a> {
+fn stimulus<'a>(alloc: Global) -> Arg<'a>
+    ensures { IsArgument (spec.word (codes "STIMULUS")) result }
+{
     Arg::new(alloc, "STIMULUS")
         .required(true)
         .action(ArgAction::Set)
         .help(help::STIMULUS)
 }
 
-fn trace<'a>(alloc: Global) -> Arg<'a> {
+fn trace<'a>(alloc: Global) -> Arg<'a>
+    ensures { IsArgument (spec.word (codes "TRACE")) result }
+{
     Arg::new(alloc, "TRACE")
         .required(true)
         .action(ArgAction::Set)
         .help(help::TRACE)
 }
 
-fn workers<'a>(alloc: Global) -> Arg<'a> {
+fn workers<'a>(alloc: Global) -> Arg<'a>
+    ensures { IsArgument (spec.number (codes "workers") (Signed (pos 1) (pos 16))) result }
+{
     Arg::new(alloc, "workers")
         .long("workers")
         .value_name("N")
@@ -64,7 +78,9 @@ fn workers<'a>(alloc: Global) -> Arg<'a> {
         .help(help::WORKERS)
 }
 
-fn turns<'a>(alloc: Global) -> Arg<'a> {
+fn turns<'a>(alloc: Global) -> Arg<'a>
+    ensures { IsArgument (spec.number (codes "turns") (Unsigned 0 1000000)) result }
+{
     Arg::new(alloc, "turns")
         .long("turns")
         .value_name("M")
@@ -74,7 +90,9 @@ fn turns<'a>(alloc: Global) -> Arg<'a> {
         .help(help::TURNS)
 }
 
-fn check<'a>(alloc: Global) -> Result<Command<'a>, AllocError> {
+fn check<'a>(alloc: Global) -> Result<Command<'a>, AllocError>
+    ensures { IfOk result (IsCommand spec.check) }
+{
     Command::new(alloc, "check")
         .about(help::CHECK)
         .long_about(help::CHECK_LONG)
@@ -82,7 +100,9 @@ fn check<'a>(alloc: Global) -> Result<Command<'a>, AllocError> {
         .arg(file(alloc))
 }
 
-fn debug<'a>(alloc: Global) -> Result<Command<'a>, AllocError> {
+fn debug<'a>(alloc: Global) -> Result<Command<'a>, AllocError>
+    ensures { IfOk result (IsCommand spec.debug) }
+{
     Command::new(alloc, "debug")
         .about(help::DEBUG)
         .long_about(help::DEBUG_LONG)
@@ -91,7 +111,9 @@ fn debug<'a>(alloc: Global) -> Result<Command<'a>, AllocError> {
         .arg(stimulus(alloc))
 }
 
-fn replay<'a>(alloc: Global) -> Result<Command<'a>, AllocError> {
+fn replay<'a>(alloc: Global) -> Result<Command<'a>, AllocError>
+    ensures { IfOk result (IsCommand spec.replay) }
+{
     Command::new(alloc, "replay")
         .about(help::REPLAY)
         .long_about(help::REPLAY_LONG)
@@ -101,7 +123,9 @@ fn replay<'a>(alloc: Global) -> Result<Command<'a>, AllocError> {
         .arg(trace(alloc))
 }
 
-fn work<'a>(alloc: Global) -> Result<Command<'a>, AllocError> {
+fn work<'a>(alloc: Global) -> Result<Command<'a>, AllocError>
+    ensures { IfOk result (IsCommand spec.work) }
+{
     Command::new(alloc, "work")
         .about(help::WORK)
         .long_about(help::WORK_LONG)
@@ -112,7 +136,9 @@ fn work<'a>(alloc: Global) -> Result<Command<'a>, AllocError> {
         .arg(turns(alloc))
 }
 
-fn balsadbg<'a>(alloc: Global) -> Result<Command<'a>, AllocError> {
+fn balsadbg<'a>(alloc: Global) -> Result<Command<'a>, AllocError>
+    ensures { IfOk result (IsCommand spec.program) }
+{
     Command::new(alloc, "balsadbg")
         .bin_name("balsadbg")?
         .version(help::VERSION)
@@ -127,8 +153,18 @@ fn balsadbg<'a>(alloc: Global) -> Result<Command<'a>, AllocError> {
         .subcommand(work(alloc)?)
 }
 
-fn chosen<'a>(matches: &ArgMatches<'a>) -> Option<Request<'a>> {
-    let (name, words) = matches.subcommand()?;
+/// The request that the matches of the program's words make.
+fn chosen<'a>(matches: &ArgMatches<'a>) -> Option<Request<'a>>
+    ensures { IfSome result (λ request. (p : spec.Named) × (subcommand_rows_of matches.now ≡ Some p) × spec.IsRequest p.0 p.1 request) }
+{
+    let found = matches.subcommand()?;
+    request_of(found.0, found.1)
+}
+
+/// The request of the subcommand of this name with these matches.
+fn request_of<'a>(name: &str, words: &ArgMatches<'a>) -> Option<Request<'a>>
+    ensures { IfSome result (spec.IsRequest name.now (rows_of (found_of words.now))) }
+{
     let file = words.get_str("FILE")?;
     if name == "check" {
         return Some(Request::Check { file });
@@ -158,7 +194,9 @@ fn chosen<'a>(matches: &ArgMatches<'a>) -> Option<Request<'a>> {
 }
 
 /// What `words` ask for, of which the first is the program's name; or the text to show instead.
-pub fn requested<'a, S: AsStr>(alloc: Global, words: &'a [S]) -> Result<Request<'a>, Error> {
+pub fn requested<'a, S: AsStr>(alloc: Global, words: &'a [S]) -> Result<Request<'a>, Error>
+    ensures { IfOk result (spec.AskFor (map S.text words.entry.now)) }
+{
     let mut command = balsadbg(alloc)?;
     let matches = command.try_get_matches_from_mut(words)?;
     match chosen(&matches) {

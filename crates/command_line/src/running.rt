@@ -1,10 +1,11 @@
 //! One run of the program, over whatever reads and writes.
 
-ghost use Rattle.std.specs.Prelude.{◌≡◌, ◌≢◌, ◌≤◌, ◌⊎◌, [], IfOk};
+ghost use Rattle.std.specs.Prelude.{◌≡◌, ◌≢◌, ◌≤◌, ◌⊎◌, [], map, IfOk};
 ghost use Rattle.devices.specs.Counting.{device, failures};
 ghost use Rattle.debug_session.specs.Counting.{after_writing};
 ghost use Rattle.command_line.specs.Serving.{Outcome, Told, status_of, told_text, WriterBlamed, DevicesBlamed, ChecksSource, ChecksFile, DebugsFiles, Serves};
-ghost use Rattle.command_line.specs.Running.{TellsSome, TellsHelp, Explains, ServesSome};
+ghost use Rattle.command_line.specs.Running.{TellsSome, TellsHelp, Explains, ServesAsked};
+ghost use Rattle.command_line.specs.Words.{AskFor};
 
 use crate::files::Files;
 use crate::replaying::replay_files;
@@ -229,7 +230,7 @@ pub fn run<
     out: &mut Counted<O>,
     err: &mut Counted<E>,
 ) -> u8
-    ensures run { ServesSome (F.holds files.now) result (reader.new ≡ reader.old) (out.new ≡ out.old)
+    ensures run { ServesAsked (AskFor (map S.text words.now)) (F.holds files.now) result (reader.new ≡ reader.old) (out.new ≡ out.old)
         (WriterBlamed (failures out.old) (failures out.new)) (WriterBlamed (failures err.old) (failures err.new))
         (DevicesBlamed (failures reader.old) (failures reader.new) (failures out.old) (failures out.new))
         (I.remaining (device reader.old)) (I.remaining (device reader.new)) (O.contents (device out.old)) (O.contents (device out.new))

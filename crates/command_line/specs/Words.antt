@@ -1,0 +1,64 @@
+-- What the words of the command line ask for, of which the first is the program's name.
+use Rattle.std.specs.Prelude.{◌≡◌, ℕ, List, Option, Some, None, pos, codes, true}
+use Rattle.std.specs.Str.Parse.{digits_value, without_leading_plus}
+use Rattle.clap.specs.Words.{App, Row, Rule, Text, first_of, one_of, new_app, new_rule, subcommand_of, with_rule, with_subcommand}
+use Rattle.clap.specs.Simple.{on_top}
+use Rattle.clap.specs.declared.builder.action.ArgAction.TheVariants.{Set}
+use Rattle.clap.specs.declared.builder.value_parser.ValueParser.{ValueParser}
+use Rattle.clap.specs.declared.builder.value_parser.ValueParser.TheVariants.{Signed, Unsigned}
+use Rattle.command_line.specs.declared.request.Request.{Request}
+
+-- a word that has to be given
+abbrev pub word : Text → Rule
+word name = record (new_rule name) { action = Some Set; required = true }
+
+-- `--NAME N`, which has to be given
+abbrev pub number : Text → ValueParser → Rule
+number name parser = record (word name) { long = Some name; value_names = 1; parser = Some parser }
+
+-- the subcommands, with what stands behind their names
+abbrev pub check : App
+check = with_rule (new_app (codes "check")) (word (codes "FILE"))
+
+abbrev pub debug : App
+debug = with_rule (with_rule (new_app (codes "debug")) (word (codes "FILE"))) (word (codes "STIMULUS"))
+
+abbrev pub replay : App
+replay = with_rule (with_rule (with_rule (new_app (codes "replay")) (word (codes "FILE"))) (word (codes "STIMULUS"))) (word (codes "TRACE"))
+
+abbrev pub work : App
+work = with_rule (with_rule (with_rule (with_rule (new_app (codes "work")) (word (codes "FILE"))) (word (codes "STIMULUS")))
+    (number (codes "workers") (Signed (pos 1) (pos 16)))) (number (codes "turns") (Unsigned 0 1000000))
+
+-- the program without its subcommands: it has a version, and wants a subcommand
+abbrev pub bare : App
+bare = on_top (λ s. record s { has_version = true; subcommand_required = true; arg_required_else_help = true }) (new_app (codes "balsadbg"))
+
+-- the program
+abbrev pub program : App
+program = with_subcommand (with_subcommand (with_subcommand (with_subcommand bare check.top) debug.top) replay.top) work.top
+
+-- the name of a subcommand and its values
+abbrev pub Named : Type 0
+Named = Text × List Row
+
+-- the number that a text tells in decimal
+abbrev pub IsNumber : Option Text → ℕ → Type 0
+IsNumber None n = ⊥
+IsNumber (Some text) n = n ≡ digits_value 10 (without_leading_plus text)
+
+-- the subcommand of this name with these values is this request
+abbrev pub IsRequest : Text → List Row → Request → Type 0
+IsRequest name rows (Request.Check file) = (name ≡ codes "check") × (first_of (codes "FILE") rows ≡ Some file.now)
+IsRequest name rows (Request.Debug file stimulus) =
+    (name ≡ codes "debug") × (first_of (codes "FILE") rows ≡ Some file.now) × (first_of (codes "STIMULUS") rows ≡ Some stimulus.now)
+IsRequest name rows (Request.Replay file stimulus trace) =
+    (name ≡ codes "replay") × (first_of (codes "FILE") rows ≡ Some file.now) × (first_of (codes "STIMULUS") rows ≡ Some stimulus.now)
+    × (first_of (codes "TRACE") rows ≡ Some trace.now)
+IsRequest name rows (Request.Work file stimulus crew) =
+    (name ≡ codes "work") × (first_of (codes "FILE") rows ≡ Some file.now) × (first_of (codes "STIMULUS") rows ≡ Some stimulus.now)
+    × IsNumber (one_of (codes "workers") rows) crew.workers × IsNumber (one_of (codes "turns") rows) crew.turns
+
+-- the words ask for this request
+abbrev pub AskFor : List Text → Request → Type 0
+AskFor words request = (p : Named) × (subcommand_of program words ≡ Some p) × IsRequest p.0 p.1 request
