@@ -56,6 +56,8 @@ fn read_on(alloc: Global, lexing: &mut Lexing<'_>, tokens: &mut Vec<Token>) -> R
     ensures fault { (old : Lexing) → ReadsPart false old tokens.old.items lexing.old → IfErr result (λ fault. RefusesPart old tokens.old.items fault) }
 {
     refuse(alloc, *lexing, false, tokens.as_slice())?;
+    // A fault of words behind is found before the tokens are made.
+    lexing.finish()?;
     let stop = lexing.add_part(alloc, tokens, usize::MAX)?;
     Ok(matches!(stop, Stop::End))
 }
