@@ -1,16 +1,18 @@
 //! Devices that count how often they failed.
 
-ghost use Rattle.std.specs.Prelude.{◌≡◌, ◌≢◌, ◌⊎◌, ◌++◌, ◌<◌, ◌+◌, ◌-◌, ◌^◌, vec_len, IfOk, IfErr, OnOk, IfSome, MatchResult, [], false};
+ghost use Rattle.std.specs.Prelude.{◌≡◌, ◌≢◌, ◌⊎◌, ◌++◌, ◌<◌, ◌+◌, ◌-◌, ◌^◌, ◌==◌, vec_len, IfOk, IfErr, OnOk, IfSome, MatchResult, [], false};
+ghost use Rattle.std.specs.List.{list_any};
 ghost use Rattle.std.specs.IoError.{error_kind};
 ghost use Rattle.std.specs.Io.{WritesAtMost, StopsAt, appended_bytes};
 ghost use Rattle.std.specs.Io.KnownBytes.{Consumes, Keeps, IsAtEnd, WriteAppends};
 ghost use Rattle.std.specs.Io.BufRead.{take_through, ends_with_byte, DropsThrough};
+ghost use Rattle.std.specs.Io.Buffered.{reader_buffer};
 ghost use Rattle.devices.specs.Counting.{device, failures, patience, one_more, CountsIf, after_filling};
 ghost use Rattle.devices.specs.declared.failing.ReadFault.TheVariants.{Memory, Failed};
 
 use crate::ReadFault;
 use std::io;
-use std::io::{BufRead, Error, ErrorKind, Read, Write};
+use std::io::{BufRead, BufReader, Error, ErrorKind, Read, Write};
 
 /// A reader or a writer, and how often it failed.
 ///
@@ -111,6 +113,15 @@ impl<R: BufRead> Counted<R> {
             }
         }
         read
+    }
+}
+
+impl<R: Read> Counted<BufReader<R>> {
+    /// Whether the buffer has a whole line, which can then be taken without asking the device for more.
+    pub fn has_line(&self) -> bool
+        ensures { result ≡ list_any (λ byte. byte == 10) (reader_buffer (device self.now)) }
+    {
+        self.device.buffer().contains(&b'\n')
     }
 }
 
