@@ -1,5 +1,5 @@
 -- Devices that count how often they failed.
-use Rattle.std.specs.Prelude.{ℕ, ◌+◌, ◌%◌, ◌^◌, ◌≡◌, ◌⊎◌, ◌++◌, List, Result, Ok, Err}
+use Rattle.std.specs.Prelude.{ℕ, ◌+◌, ◌%◌, ◌^◌, ◌≡◌, ◌≢◌, ◌⊎◌, ◌++◌, List, Result, Ok, Err}
 use Rattle.devices.specs.declared.counted.Counted.{Counted}
 use Rattle.devices.specs.declared.failing.ReadFault.{ReadFault}
 
@@ -36,3 +36,7 @@ after_filling _ n = n
 -- what was given is a beginning of the bytes
 abbrev pub IsBeginning : List ℕ → List ℕ → Type 0
 IsBeginning bytes given = (missing : List ℕ) × (bytes ≡ given ++ missing)
+
+-- a byte that does not end a line
+abbrev pub IsNoEnd : ℕ → Type 0
+IsNoEnd byte = byte ≢ 10

@@ -1,16 +1,18 @@
 //! Devices that count how often they failed.
 
-ghost use Rattle.std.specs.Prelude.{◌≡◌, ◌≢◌, ◌⊎◌, ◌++◌, ◌<◌, ◌+◌, ◌-◌, ◌^◌, ◌==◌, vec_len, IfOk, IfErr, OnOk, IfSome, MatchResult, [], false};
-ghost use Rattle.std.specs.List.{list_any};
+ghost use Rattle.std.specs.Prelude.{◌≡◌, ◌≢◌, ◌⊎◌, ◌++◌, ◌<◌, ◌+◌, ◌-◌, ◌^◌, ◌∷◌, vec_len, IfOk, IfErr, OnOk, OnErr, IfSome, MatchResult, MatchBool, [], false};
+ghost use Rattle.std.specs.List.{All};
 ghost use Rattle.std.specs.IoError.{error_kind};
 ghost use Rattle.std.specs.Io.{WritesAtMost, StopsAt, appended_bytes};
 ghost use Rattle.std.specs.Io.KnownBytes.{Consumes, Keeps, IsAtEnd, WriteAppends};
 ghost use Rattle.std.specs.Io.BufRead.{take_through, ends_with_byte, DropsThrough};
-ghost use Rattle.std.specs.Io.Buffered.{reader_buffer};
-ghost use Rattle.devices.specs.Counting.{device, failures, patience, one_more, CountsIf, after_filling};
+ghost use Rattle.std.specs.Io.Buffered.{reader_buffer, reader_remaining};
+ghost use Rattle.devices.specs.Counting.{device, failures, patience, one_more, CountsIf, IsNoEnd, after_filling};
 ghost use Rattle.devices.specs.declared.failing.ReadFault.TheVariants.{Memory, Failed};
 
 use crate::ReadFault;
+use memchr::memchr;
+use std::alloc::AllocError;
 use std::io;
 use std::io::{BufRead, BufReader, Error, ErrorKind, Read, Write};
 
@@ -117,11 +119,23 @@ impl<R: BufRead> Counted<R> {
 }
 
 impl<R: Read> Counted<BufReader<R>> {
-    /// Whether the buffer has a whole line, which can then be taken without asking the device for more.
-    pub fn has_line(&self) -> bool
-        ensures { result ≡ list_any (λ byte. byte == 10) (reader_buffer (device self.now)) }
+    /// Takes the next line into `line`, in place of what was there, without byte 10 at its end, where the buffer has it whole,
+    /// and tells whether it has. The device is asked for nothing.
+    pub fn take_line(&mut self, line: &mut Vec<u8>) -> Result<bool, AllocError>
+        ensures taken { IfOk result (λ is_whole. MatchBool is_whole
+            (All IsNoEnd line.new.items × Consumes (reader_remaining R.remaining (device self.old)) (reader_remaining R.remaining (device self.new)) (line.new.items ++ 10 ∷ []))
+            (All IsNoEnd (reader_buffer (device self.old)) × (self.new ≡ self.old))) }
+        ensures memory { OnErr result (self.new ≡ self.old) }
+        ensures failures { failures self.new ≡ failures self.old }
+        ensures patience { patience self.new ≡ patience self.old }
     {
-        self.device.buffer().contains(&b'\n')
+        let Some(end) = memchr(b'\n', self.device.buffer()) else {
+            return Ok(false);
+        };
+        line.clear();
+        line.extend_from_slice(&self.device.buffer()[..end])?;
+        self.device.consume(end + 1);
+        Ok(true)
     }
 }
 
