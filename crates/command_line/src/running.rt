@@ -1,6 +1,7 @@
 //! One run of the program, over whatever reads and writes.
 
 ghost use Rattle.std.specs.Prelude.{◌≡◌, ◌≢◌, ◌≤◌, ◌⊎◌, [], map, IfOk};
+ghost use Rattle.std.specs.Io.Buffered.{reader_remaining};
 ghost use Rattle.devices.specs.Counting.{device, failures};
 ghost use Rattle.debug_session.specs.Counting.{after_writing};
 ghost use Rattle.command_line.specs.Serving.{Outcome, Told, status_of, told_text, WriterBlamed, DevicesBlamed, ChecksSource, ChecksFile, DebugsFiles, Serves};
@@ -17,7 +18,7 @@ use clap::error::ErrorKind;
 use debug_session::{Counted, Fault, accept, debug, write_out};
 use std::alloc::{AllocError, Global};
 use std::convert::AsStr;
-use std::io::{BufRead, Write};
+use std::io::{BufReader, Read, Write};
 use std::sync::Wait;
 use std::thread::Threads;
 
@@ -47,17 +48,17 @@ fn check<F: Files, O: Write>(
 }
 
 /// Answers a script over the description in `file`.
-fn answer_script<F: Files, I: BufRead, O: Write>(
+fn answer_script<F: Files, I: Read, O: Write>(
     alloc: Global,
     file: &str,
     stimulus: &str,
     files: &F,
-    reader: &mut Counted<I>,
+    reader: &mut Counted<BufReader<I>>,
     out: &mut Counted<O>,
 ) -> Result<(), Fault>
     ensures { DebugsFiles (F.holds files.now) file.now stimulus.now ((reader.new ≡ reader.old) × (out.new ≡ out.old))
         (DevicesBlamed (failures reader.old) (failures reader.new) (failures out.old) (failures out.new))
-        (I.remaining (device reader.old)) (I.remaining (device reader.new)) (O.contents (device out.old)) (O.contents (device out.new)) result }
+        (reader_remaining I.remaining (device reader.old)) (reader_remaining I.remaining (device reader.new)) (O.contents (device out.old)) (O.contents (device out.new)) result }
 {
     let source = files.read(alloc, file)?;
     let values = files.read(alloc, stimulus)?;
@@ -94,18 +95,18 @@ fn finish<E: Write>(done: Result<(), Fault>, err: &mut Counted<E>) -> Ended
 }
 
 /// Does what is asked for with the files that it names.
-fn perform<W: Threads + Wait + Sync, F: Files, I: BufRead, O: Write>(
+fn perform<W: Threads + Wait + Sync, F: Files, I: Read, O: Write>(
     rt: &W,
     alloc: Global,
     request: Request<'_>,
     files: &F,
-    reader: &mut Counted<I>,
+    reader: &mut Counted<BufReader<I>>,
     out: &mut Counted<O>,
 ) -> Result<(), Fault>
     ensures { Serves (F.holds files.now) request.entry (reader.new ≡ reader.old) (out.new ≡ out.old)
         (WriterBlamed (failures out.old) (failures out.new))
         (DevicesBlamed (failures reader.old) (failures reader.new) (failures out.old) (failures out.new))
-        (I.remaining (device reader.old)) (I.remaining (device reader.new)) (O.contents (device out.old)) (O.contents (device out.new)) result }
+        (reader_remaining I.remaining (device reader.old)) (reader_remaining I.remaining (device reader.new)) (O.contents (device out.old)) (O.contents (device out.new)) result }
 {
     match request {
         Request::Check { file } => check(alloc, file, files, out),
@@ -126,12 +127,12 @@ fn perform<W: Threads + Wait + Sync, F: Files, I: BufRead, O: Write>(
 }
 
 /// Does what is asked for with the files that it names, and tells on `err` why it ended early.
-pub fn serve<W: Threads + Wait + Sync, F: Files, I: BufRead, O: Write, E: Write>(
+pub fn serve<W: Threads + Wait + Sync, F: Files, I: Read, O: Write, E: Write>(
     rt: &W,
     alloc: Global,
     request: Request<'_>,
     files: &F,
-    reader: &mut Counted<I>,
+    reader: &mut Counted<BufReader<I>>,
     out: &mut Counted<O>,
     err: &mut Counted<E>,
 ) -> Ended
@@ -139,7 +140,7 @@ pub fn serve<W: Threads + Wait + Sync, F: Files, I: BufRead, O: Write, E: Write>
         × Serves (F.holds files.now) request.entry (reader.new ≡ reader.old) (out.new ≡ out.old)
         (WriterBlamed (failures out.old) (failures out.new))
         (DevicesBlamed (failures reader.old) (failures reader.new) (failures out.old) (failures out.new))
-        (I.remaining (device reader.old)) (I.remaining (device reader.new)) (O.contents (device out.old)) (O.contents (device out.new)) done
+        (reader_remaining I.remaining (device reader.old)) (reader_remaining I.remaining (device reader.new)) (O.contents (device out.old)) (O.contents (device out.new)) done
         × (result.status ≡ status_of done)
         × Told (told_text done) (E.contents (device err.old)) (E.contents (device err.new)) result.told }
     ensures failures { failures err.new ≡ after_writing result.told (failures err.old) }
@@ -219,21 +220,21 @@ pub fn run<
     R: AllocGlobal + Threads + Wait + Sync,
     S: AsStr,
     F: Files,
-    I: BufRead,
+    I: Read,
     O: Write,
     E: Write,
 >(
     rt: &R,
     words: &[S],
     files: &F,
-    reader: &mut Counted<I>,
+    reader: &mut Counted<BufReader<I>>,
     out: &mut Counted<O>,
     err: &mut Counted<E>,
 ) -> u8
     ensures run { ServesAsked (AskFor (map S.text words.now)) (F.holds files.now) result (reader.new ≡ reader.old) (out.new ≡ out.old)
         (WriterBlamed (failures out.old) (failures out.new)) (WriterBlamed (failures err.old) (failures err.new))
         (DevicesBlamed (failures reader.old) (failures reader.new) (failures out.old) (failures out.new))
-        (I.remaining (device reader.old)) (I.remaining (device reader.new)) (O.contents (device out.old)) (O.contents (device out.new))
+        (reader_remaining I.remaining (device reader.old)) (reader_remaining I.remaining (device reader.new)) (O.contents (device out.old)) (O.contents (device out.new))
         (E.contents (device err.old)) (E.contents (device err.new))
         ⊎ ((reader.new ≡ reader.old) × Explains result (out.new ≡ out.old) (err.new ≡ err.old)
         (WriterBlamed (failures out.old) (failures out.new)) (WriterBlamed (failures err.old) (failures err.new))

@@ -1,36 +1,41 @@
 -- What a fault says of the failures of reader and writer.
 use Rattle.std.proofs.Common.{◌≡◌, ◌⊎◌, inl, inr, ℕ, List, Result, Err, refl, sym, ap, ◌∙◌}
 use Rattle.system.specs.declared.system.System.{System}
-use Rattle.debug_session.specs.AtLine.{AtLine}
 use Rattle.debug_session.specs.Accepting.{IsRefused}
 use Rattle.debug_session.specs.Counting.{fault_reads, fault_writes, after_reading, after_writing}
 use Rattle.debug_session.specs.walking.OneLine.{LineStops}
 use Rattle.debug_session.specs.declared.fault.Fault.{Fault}
-use Rattle.debug_session.proofs.AskLemmas.{Unsaid}
 
 -- a fault of reading is none of writing
 pub unread-writes : (fault : Fault) (n : ℕ) → (fault ≡ Fault.Memory) ⊎ (fault ≡ Fault.ReadFailed) → fault_writes fault n ≡ n
 unread-writes fault n h =
     elim h [ inl e ↦ ap (λ (f : Fault). fault_writes f n) e | inr e ↦ ap (λ (f : Fault). fault_writes f n) e ]
 
--- a line that says nothing is no fault of writing
-pub unsaid-writes : (s : System) (line : List ℕ) (number : ℕ) (fault : Fault) (n : ℕ) → Unsaid s line number fault → fault_writes fault n ≡ n
-unsaid-writes s line number fault n h =
-    elim h [ inl e ↦ ap (λ (f : Fault). fault_writes f n) e.0 | inr e ↦ ap (λ (f : Fault). fault_writes f n) e.0 ]
-
 -- a line that is not answered is no fault of reading
-pub stops-reads : (s : System) (o : AtLine) (line : List ℕ) (number : ℕ) (given : List ℕ) (fault : Fault) (n : ℕ)
-    → LineStops s o line number given fault → fault_reads fault n ≡ n
-stops-reads s o line number given Fault.Memory n h = refl
-stops-reads s o line number given (Fault.Lexer f) n h = refl
-stops-reads s o line number given (Fault.Parser f) n h = refl
-stops-reads s o line number given (Fault.Types f) n h = refl
-stops-reads s o line number given (Fault.Elaborate f) n h = refl
-stops-reads s o line number given (Fault.Sharing f) n h = refl
-stops-reads s o line number given (Fault.Trace f) n h = refl
-stops-reads s o line number given Fault.ReadFailed n h = absurd h
-stops-reads s o line number given Fault.WriteFailed n h = refl
-stops-reads s o line number given (Fault.BadCommand k) n h = refl
+pub stops-reads : (s : System) (line : List ℕ) (number : ℕ) (fault : Fault) (n : ℕ) → LineStops s line number fault → fault_reads fault n ≡ n
+stops-reads s line number Fault.Memory n h = refl
+stops-reads s line number (Fault.Lexer f) n h = absurd h
+stops-reads s line number (Fault.Parser f) n h = absurd h
+stops-reads s line number (Fault.Types f) n h = absurd h
+stops-reads s line number (Fault.Elaborate f) n h = absurd h
+stops-reads s line number (Fault.Sharing f) n h = absurd h
+stops-reads s line number (Fault.Trace f) n h = absurd h
+stops-reads s line number Fault.ReadFailed n h = absurd h
+stops-reads s line number Fault.WriteFailed n h = absurd h
+stops-reads s line number (Fault.BadCommand k) n h = refl
+
+-- nor of writing
+pub stops-writes : (s : System) (line : List ℕ) (number : ℕ) (fault : Fault) (n : ℕ) → LineStops s line number fault → fault_writes fault n ≡ n
+stops-writes s line number Fault.Memory n h = refl
+stops-writes s line number (Fault.Lexer f) n h = absurd h
+stops-writes s line number (Fault.Parser f) n h = absurd h
+stops-writes s line number (Fault.Types f) n h = absurd h
+stops-writes s line number (Fault.Elaborate f) n h = absurd h
+stops-writes s line number (Fault.Sharing f) n h = absurd h
+stops-writes s line number (Fault.Trace f) n h = absurd h
+stops-writes s line number Fault.ReadFailed n h = absurd h
+stops-writes s line number Fault.WriteFailed n h = absurd h
+stops-writes s line number (Fault.BadCommand k) n h = refl
 
 -- a refusal of source and stimulus is no fault of reading
 pub refused-reads : (source stimulus : List ℕ) (fault : Fault) (n : ℕ) → IsRefused source stimulus fault → fault_reads fault n ≡ n

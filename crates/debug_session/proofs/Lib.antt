@@ -3,6 +3,7 @@ pub mod AskLemmas
 pub mod ChoiceLemmas
 pub mod CountLemmas
 pub mod CutLemmas
+pub mod EndLemmas
 pub mod KeywordLemmas
 pub mod LineLemmas
 pub mod MakingLemmas

@@ -9,7 +9,8 @@ use Rattle.std.proofs.lemmas.Bool.{false≢true, ltb-true, lt-ltb, cases_lt}
 use Rattle.std.proofs.lemmas.List.{get_or-take, take_more, take_all}
 use Rattle.std.proofs.lemmas.List.Elements.{All-head, All-tail, All-from_get_or}
 use Rattle.std.proofs.Math.Seq.{take-append_seam}
-use Rattle.debug_session.specs.Script.{IsNoEnd, IsLine}
+use Rattle.devices.specs.Counting.{IsNoEnd}
+use Rattle.debug_session.specs.Script.{IsLine}
 use Rattle.debug_session.specs.declared.fault.Fault.{Fault}
 use Rattle.debug_session.specs.walking.OneLine.{TakesLine, ReadingStops}
 

@@ -1,5 +1,5 @@
 -- How far a session has come, and how it goes on.
-use Rattle.std.proofs.Common.{◌≡◌, ℕ, suc, ◌+◌, List, [], ◌∷◌, ◌++◌, Bool, true, false, Option, Result, Ok, Err, length, add-one, refl, sym, ap, ◌∙◌, subst, inl, inr, append_assoc, append-nil}
+use Rattle.std.proofs.Common.{◌≡◌, ℕ, suc, ◌+◌, List, [], ◌∷◌, ◌++◌, Bool, true, false, Option, Result, Ok, Err, MatchResult, length, add-one, refl, sym, ap, ◌∙◌, subst, inl, inr, append_assoc, append-nil}
 use Rattle.std.specs.Option.{IfSome}
 use Rattle.std.specs.List.{flat_map}
 use Rattle.std.specs.Io.KnownBytes.{Appends, Consumes, IsAtEnd}
@@ -9,9 +9,11 @@ use Rattle.syntax.specs.Lists.{Every}
 use Rattle.system.specs.declared.system.System.{System}
 use Rattle.debug_session.specs.AtLine.{AtLine, first_line}
 use Rattle.debug_session.specs.declared.fault.Fault.{Fault}
-use Rattle.debug_session.specs.Script.{with_end, IsNoEnd, IsLine, IsEnding, EndWith}
-use Rattle.debug_session.specs.Transcript.{LineAnswered, Transcript, StoppedByFault, Ends}
-use Rattle.debug_session.specs.walking.OneLine.{TakesLine, ReadingStops, LineStops}
+use Rattle.debug_session.specs.Counting.{WritingStops}
+use Rattle.debug_session.specs.Script.{with_end, IsLine, IsEnding, AreLines, EndWith}
+use Rattle.debug_session.specs.Transcript.{LineAnswered, Transcript, Answered, BeginsToAnswer, StoppedByFault, Ends}
+use Rattle.debug_session.specs.walking.OneLine.{TakesLine, LineStops, AskingStops, StopsHolding, EndsHolding}
+use Rattle.devices.specs.Counting.{IsNoEnd}
 use Rattle.devices.proofs.KnownLemmas.{Appends-none, Consumes-none, Appends-then, Consumes-then, end-known}
 
 -- a transcript goes on with one more line
@@ -43,72 +45,152 @@ length-push : (lines : List (List ℕ)) (line : List ℕ) → length (lines ++ l
 length-push [] line = refl
 length-push (l ∷ lines) line = ap suc (length-push lines line)
 
--- the lines that were taken from the reader are answered, and the answers given to the writer
-pub record Progress (s : System) (o : AtLine) (read left wrote contents : Option (List ℕ)) (m : AtLine) (number : ℕ) : Type 0 where
+-- what is out and what is held, when some of what was held came out and an answer came in
+rejoin : (out held answer given held' : List ℕ) → given ++ held' ≡ held ++ answer → (out ++ held) ++ answer ≡ (out ++ given) ++ held'
+rejoin out held answer given held' e =
+    append_assoc out held answer ∙ (ap (λ t. out ++ t) (sym e) ∙ sym (append_assoc out given held'))
+
+-- the same without an answer
+pub rejoin-none : (out held given held' : List ℕ) → given ++ held' ≡ held → out ++ held ≡ (out ++ given) ++ held'
+rejoin-none out held given held' e = ap (λ t. out ++ t) (sym e) ∙ sym (append_assoc out given held')
+
+-- the lines that were taken from the reader are answered; the answers are out or held
+pub record Progress (s : System) (o : AtLine) (read left wrote contents : Option (List ℕ)) (held : List ℕ) (m : AtLine) (number : ℕ) : Type 0 where
   pub lines : List (List ℕ)
-  pub output : List ℕ
+  pub out : List ℕ
   pub each : Every IsLine lines
   pub taken : Consumes read left (flat_map with_end lines)
-  pub given : Appends wrote contents output
-  pub answered : Transcript s o lines output m
+  pub given : Appends wrote contents out
+  pub answered : Transcript s o lines (out ++ held) m
   pub counted : number ≡ suc (length lines)
 
 -- the beginning
-pub progress-start : (s : System) (o : AtLine) (read wrote : Option (List ℕ)) → Progress s o read read wrote wrote o 1
-progress-start s o read wrote = record {
+pub progress-start : (s : System) (o : AtLine) (read wrote : Option (List ℕ)) (held : List ℕ) → held ≡ [] → Progress s o read read wrote wrote held o 1
+progress-start s o read wrote held none = record {
   lines = [];
-  output = [];
+  out = [];
   each = tt;
   taken = Consumes-none read;
   given = Appends-none wrote;
-  answered = (refl, refl);
+  answered = (none, refl);
   counted = refl;
 }
 
--- one more line
-pub progress-more : (s : System) (o m o' : AtLine) (read left left' wrote contents contents' : Option (List ℕ)) (number next : ℕ) (line answer : List ℕ)
-    → Progress s o read left wrote contents m number → IsLine line → Consumes left left' (with_end line)
-    → Appends contents contents' answer → LineAnswered s m line answer o' → next ≡ suc number → Progress s o read left' wrote contents' o' next
-progress-more s o m o' read left left' wrote contents contents' number next line answer p one takes gives a e = record {
+-- some of what was held is out
+put-on : (s : System) (o m : AtLine) (read left wrote contents contents' : Option (List ℕ)) (held held' given : List ℕ) (number : ℕ)
+    → Progress s o read left wrote contents held m number → Appends contents contents' given → given ++ held' ≡ held
+    → Progress s o read left wrote contents' held' m number
+put-on s o m read left wrote contents contents' held held' given number p gives e = record {
+  lines = p.lines;
+  out = p.out ++ given;
+  each = p.each;
+  taken = p.taken;
+  given = Appends-then wrote contents contents' p.out given p.given gives;
+  answered = subst (λ t. Transcript s o p.lines t m) (rejoin-none p.out held given held' e) p.answered;
+  counted = p.counted;
+}
+
+-- one more line was taken and answered
+line-on : (s : System) (o m o' : AtLine) (read left left' wrote contents contents' : Option (List ℕ)) (held held' given : List ℕ) (number next : ℕ)
+    (line answer : List ℕ) → Progress s o read left wrote contents held m number → IsLine line → Consumes left left' (with_end line)
+    → Appends contents contents' given → given ++ held' ≡ held ++ answer → LineAnswered s m line answer o' → next ≡ suc number
+    → Progress s o read left' wrote contents' held' o' next
+line-on s o m o' read left left' wrote contents contents' held held' given number next line answer p one takes gives join a e = record {
   lines = p.lines ++ line ∷ [];
-  output = p.output ++ answer;
+  out = p.out ++ given;
   each = every-push p.lines line p.each one;
   taken = subst (Consumes read left') (joined-push p.lines line) (Consumes-then read left left' (flat_map with_end p.lines) (with_end line) p.taken takes);
-  given = Appends-then wrote contents contents' p.output answer p.given gives;
-  answered = transcript-push s o m o' p.lines p.output line answer p.answered a;
+  given = Appends-then wrote contents contents' p.out given p.given gives;
+  answered = subst (λ t. Transcript s o (p.lines ++ line ∷ []) t o') (rejoin p.out held answer given held' join)
+      (transcript-push s o m o' p.lines (p.out ++ held) line answer p.answered a);
   counted = e ∙ ap suc (p.counted ∙ sym (length-push p.lines line));
 }
 
--- the last line has no end
-pub session-done : (s : System) (o m o' : AtLine) (read left left' wrote contents contents' : Option (List ℕ)) (number : ℕ) (line answer : List ℕ)
-    → Progress s o read left wrote contents m number → IsLine line → Consumes left left' line → IfSome left (λ _. IsAtEnd left')
-    → Appends contents contents' answer → LineAnswered s m line answer o' → Ends s o read left' wrote contents' (Ok tt)
-session-done s o m o' read left left' wrote contents contents' number line answer p one takes ended gives a = (
+-- the last line, which has no end, was answered
+last-answered : (s : System) (o m o' : AtLine) (read left left' wrote contents contents' : Option (List ℕ)) (held held' given : List ℕ) (number : ℕ)
+    (line answer : List ℕ) → Progress s o read left wrote contents held m number → IsLine line → Consumes left left' line → IfSome left (λ _. IsAtEnd left')
+    → Appends contents contents' given → given ++ held' ≡ held ++ answer → LineAnswered s m line answer o'
+    → EndsHolding s o read left' wrote contents' held' (Ok tt)
+last-answered s o m o' read left left' wrote contents contents' held held' given number line answer p one takes ended gives join a = (
   flat_map with_end p.lines ++ line,
-  p.output ++ answer,
+  p.out ++ given,
   Consumes-then read left left' (flat_map with_end p.lines) line p.taken takes,
-  Appends-then wrote contents contents' p.output answer p.given gives,
+  Appends-then wrote contents contents' p.out given p.given gives,
   (
     end-known read left left' (flat_map with_end p.lines) p.taken ended,
-    (p.lines, line, record { joined = refl; each = p.each; unended = one }, (o', transcript-push s o m o' p.lines p.output line answer p.answered a)),
+    (
+      p.lines,
+      line,
+      record { joined = refl; each = p.each; unended = one },
+      (
+        o',
+        subst (λ t. Transcript s o (p.lines ++ line ∷ []) t o') (rejoin p.out held answer given held' join)
+            (transcript-push s o m o' p.lines (p.out ++ held) line answer p.answered a),
+      ),
+    ),
   ),
 )
 
--- reading stopped
-pub session-unread : (s : System) (o m : AtLine) (read left left' wrote contents : Option (List ℕ)) (number : ℕ) (line : List ℕ) (fault : Fault)
-    → Progress s o read left wrote contents m number → ReadingStops left left' line fault → Ends s o read left' wrote contents (Err fault)
-session-unread s o m read left left' wrote contents number line fault p (one, takes, which) = (
-  flat_map with_end p.lines ++ line,
-  p.output,
-  Consumes-then read left left' (flat_map with_end p.lines) line p.taken takes,
-  p.given,
-  elim which [
-    | inl memory ↦ subst (StoppedByFault s o (IfSome read (λ _. IsAtEnd left')) (flat_map with_end p.lines ++ line) p.output) (sym memory)
-        (p.lines, line, (m, p.answered), inl (record { joined = refl; each = p.each; unended = one }))
-    | inr failed ↦ subst (StoppedByFault s o (IfSome read (λ _. IsAtEnd left')) (flat_map with_end p.lines ++ line) p.output) (sym failed)
-        (p.lines, line, record { joined = refl; each = p.each; unended = one }, (m, p.answered))
-  ],
+-- the lines, and behind them a part of one
+lines-and-part : (lines : List (List ℕ)) (part : List ℕ) → Every IsLine lines → IsLine part → AreLines (flat_map with_end lines ++ part) lines part
+lines-and-part lines part each one = record { joined = refl; each = each; unended = one }
+
+-- the empty line
+no-bytes : IsLine []
+no-bytes = All-nil IsNoEnd
+
+-- no line was had
+unasked : (s : System) (o m : AtLine) (read left left' wrote contents contents' : Option (List ℕ)) (held held' given : List ℕ) (number : ℕ) (fault : Fault)
+    → Progress s o read left wrote contents held m number → Appends contents contents' given → AskingStops left left' held held' given fault
+    → EndsHolding s o read left' wrote contents' held' (Err fault)
+unasked s o m read left left' wrote contents contents' held held' given number Fault.Memory p gives ((part, one, takes), join) = (
+  flat_map with_end p.lines ++ part,
+  p.out ++ given,
+  Consumes-then read left left' (flat_map with_end p.lines) part p.taken takes,
+  Appends-then wrote contents contents' p.out given p.given gives,
+  (
+    p.lines,
+    part,
+    (m, subst (λ t. Transcript s o p.lines t m) (rejoin-none p.out held given held' join) p.answered),
+    inl (lines-and-part p.lines part p.each one),
+  ),
 )
+unasked s o m read left left' wrote contents contents' held held' given number Fault.ReadFailed p gives ((part, one, takes), (all, none)) = (
+  flat_map with_end p.lines ++ part,
+  p.out ++ given,
+  Consumes-then read left left' (flat_map with_end p.lines) part p.taken takes,
+  Appends-then wrote contents contents' p.out given p.given gives,
+  (
+    none,
+    (
+      p.lines,
+      part,
+      lines-and-part p.lines part p.each one,
+      (m, subst (λ t. Transcript s o p.lines (p.out ++ t) m) (sym all) p.answered),
+    ),
+  ),
+)
+unasked s o m read left left' wrote contents contents' held held' given number Fault.WriteFailed p gives (kept, (missing, e)) = (
+  flat_map with_end p.lines ++ [],
+  p.out ++ given,
+  Consumes-then read left left' (flat_map with_end p.lines) [] p.taken kept,
+  Appends-then wrote contents contents' p.out given p.given gives,
+  (
+    p.lines,
+    [],
+    inl (
+      lines-and-part p.lines [] p.each no-bytes,
+      (missing, (m, subst (λ t. Transcript s o p.lines t m) (rejoin-none p.out held given missing (sym e)) p.answered)),
+    ),
+  ),
+)
+unasked s o m read left left' wrote contents contents' held held' given number (Fault.Lexer fault) p gives stops = absurd stops
+unasked s o m read left left' wrote contents contents' held held' given number (Fault.Parser fault) p gives stops = absurd stops
+unasked s o m read left left' wrote contents contents' held held' given number (Fault.Types fault) p gives stops = absurd stops
+unasked s o m read left left' wrote contents contents' held held' given number (Fault.Elaborate fault) p gives stops = absurd stops
+unasked s o m read left left' wrote contents contents' held held' given number (Fault.Sharing fault) p gives stops = absurd stops
+unasked s o m read left left' wrote contents contents' held held' given number (Fault.Trace fault) p gives stops = absurd stops
+unasked s o m read left left' wrote contents contents' held held' given number (Fault.BadCommand n) p gives stops = absurd stops
 
 -- a line with its end, or without where the reader, whose bytes were known from `read` on, is at its end
 line-taken : (read left left' : Option (List ℕ)) (taken line : List ℕ) (complete : Bool) → Consumes read left taken
@@ -123,94 +205,111 @@ lines-and-line : (at_end : Type 0) (lines : List (List ℕ)) (line tail : List �
     → EndWith at_end (flat_map with_end lines ++ (line ++ tail)) lines line
 lines-and-line at_end lines line tail h k e = record { tail = tail; joined = refl; each = h; unended = k; ending = e }
 
--- the line that was taken is not answered, or only a part of its answer is out
-stopped-at : (s : System) (o m : AtLine) (at_end : Type 0) (lines : List (List ℕ)) (output line tail given : List ℕ) (number : ℕ) (fault : Fault)
-    → Every IsLine lines → IsLine line → IsEnding at_end tail → Transcript s o lines output m → number ≡ suc (length lines)
-    → LineStops s m line number given fault
-    → StoppedByFault s o at_end (flat_map with_end lines ++ (line ++ tail)) (output ++ given) fault
-stopped-at s o m at_end lines output line tail given number Fault.Memory h one e t c stops =
-    subst (λ g. StoppedByFault s o at_end (flat_map with_end lines ++ (line ++ tail)) g Fault.Memory)
-    (sym (append-nil output) ∙ ap (λ g. output ++ g) (sym stops.0))
-    (lines, line, (m, t), inr (lines-and-line at_end lines line tail h one e, stops.1))
-stopped-at s o m at_end lines output line tail given number (Fault.BadCommand n) h one e t c stops =
-    subst (λ g. StoppedByFault s o at_end (flat_map with_end lines ++ (line ++ tail)) g (Fault.BadCommand n))
-    (sym (append-nil output) ∙ ap (λ g. output ++ g) (sym stops.0))
-    (lines, line, lines-and-line at_end lines line tail h one e, (m, t), stops.1 ∙ c, stops.2, stops.3)
-stopped-at s o m at_end lines output line tail given number Fault.WriteFailed h one e t c (answer, missing, o', a, parts) = (
-  lines,
-  line,
-  lines-and-line at_end lines line tail h one e,
-  record {
-    answers = output;
-    before = m;
-    answered = t;
-    given = given;
-    missing = missing;
-    after = o';
-    last_answer = subst (λ text. LineAnswered s m line text o') parts a;
-    out = refl;
-  },
-)
-stopped-at s o m at_end lines output line tail given number Fault.ReadFailed h one e t c stops = absurd stops
-stopped-at s o m at_end lines output line tail given number (Fault.Lexer fault) h one e t c stops = absurd stops
-stopped-at s o m at_end lines output line tail given number (Fault.Parser fault) h one e t c stops = absurd stops
-stopped-at s o m at_end lines output line tail given number (Fault.Types fault) h one e t c stops = absurd stops
-stopped-at s o m at_end lines output line tail given number (Fault.Elaborate fault) h one e t c stops = absurd stops
-stopped-at s o m at_end lines output line tail given number (Fault.Sharing fault) h one e t c stops = absurd stops
-stopped-at s o m at_end lines output line tail given number (Fault.Trace fault) h one e t c stops = absurd stops
+-- why the line that was taken is not answered
+stops-at : (s : System) (o m : AtLine) (at_end : Type 0) (lines : List (List ℕ)) (out held line tail : List ℕ) (number : ℕ) (fault : Fault)
+    → Every IsLine lines → IsLine line → IsEnding at_end tail → Transcript s o lines (out ++ held) m → number ≡ suc (length lines)
+    → LineStops s line number fault
+    → StopsHolding s o at_end (flat_map with_end lines ++ (line ++ tail)) out held fault
+stops-at s o m at_end lines out held line tail number Fault.Memory h one e t c stops =
+    (lines, line, (m, t), inr (lines-and-line at_end lines line tail h one e, stops))
+stops-at s o m at_end lines out held line tail number (Fault.BadCommand n) h one e t c stops =
+    (lines, line, lines-and-line at_end lines line tail h one e, (m, t), stops.0 ∙ c, stops.1, stops.2)
+stops-at s o m at_end lines out held line tail number Fault.WriteFailed h one e t c stops = absurd stops
+stops-at s o m at_end lines out held line tail number Fault.ReadFailed h one e t c stops = absurd stops
+stops-at s o m at_end lines out held line tail number (Fault.Lexer fault) h one e t c stops = absurd stops
+stops-at s o m at_end lines out held line tail number (Fault.Parser fault) h one e t c stops = absurd stops
+stops-at s o m at_end lines out held line tail number (Fault.Types fault) h one e t c stops = absurd stops
+stops-at s o m at_end lines out held line tail number (Fault.Elaborate fault) h one e t c stops = absurd stops
+stops-at s o m at_end lines out held line tail number (Fault.Sharing fault) h one e t c stops = absurd stops
+stops-at s o m at_end lines out held line tail number (Fault.Trace fault) h one e t c stops = absurd stops
 
--- a line stopped the session
-pub session-stopped : (s : System) (o m : AtLine) (read left left' wrote contents contents' : Option (List ℕ)) (number : ℕ) (line given : List ℕ)
-    (complete : Bool) (fault : Fault) → Progress s o read left wrote contents m number → TakesLine left left' line complete
-    → Appends contents contents' given → LineStops s m line number given fault → Ends s o read left' wrote contents' (Err fault)
-session-stopped s o m read left left' wrote contents contents' number line given complete fault p takes gives stops =
+-- the line that was taken is not answered
+unanswered : (s : System) (o m : AtLine) (read left left' wrote contents : Option (List ℕ)) (held : List ℕ) (number : ℕ) (line : List ℕ)
+    (complete : Bool) (fault : Fault) → Progress s o read left wrote contents held m number → TakesLine left left' line complete
+    → LineStops s line number fault → EndsHolding s o read left' wrote contents held (Err fault)
+unanswered s o m read left left' wrote contents held number line complete fault p takes stops =
     let piece : (tail : List ℕ) × IsEnding (IfSome read (λ _. IsAtEnd left')) tail × Consumes left left' (line ++ tail) =
     line-taken read left left' (flat_map with_end p.lines) line complete p.taken takes in (
       flat_map with_end p.lines ++ (line ++ piece.0),
-      p.output ++ given,
+      p.out,
       Consumes-then read left left' (flat_map with_end p.lines) (line ++ piece.0) p.taken piece.2,
-      Appends-then wrote contents contents' p.output given p.given gives,
-      stopped-at s o m (IfSome read (λ _. IsAtEnd left')) p.lines p.output line piece.0 given number fault p.each takes.0 piece.1 p.answered p.counted stops,
+      p.given,
+      stops-at s o m (IfSome read (λ _. IsAtEnd left')) p.lines p.out held line piece.0 number fault p.each takes.0 piece.1 p.answered p.counted stops,
     )
 
--- the empty line
-no-bytes : IsLine []
-no-bytes = All-nil IsNoEnd
+-- writing failed behind the answer to the line
+unwritten : (s : System) (o m o' : AtLine) (read left left' wrote contents contents' : Option (List ℕ)) (held held' given : List ℕ) (number : ℕ)
+    (line answer : List ℕ) (complete : Bool) → Progress s o read left wrote contents held m number → TakesLine left left' line complete
+    → LineAnswered s m line answer o' → Appends contents contents' given → (missing : List ℕ) × (held ++ answer ≡ given ++ missing)
+    → EndsHolding s o read left' wrote contents' held' (Err Fault.WriteFailed)
+unwritten s o m o' read left left' wrote contents contents' held held' given number line answer complete p takes a gives (missing, e) =
+    let piece : (tail : List ℕ) × IsEnding (IfSome read (λ _. IsAtEnd left')) tail × Consumes left left' (line ++ tail) =
+    line-taken read left left' (flat_map with_end p.lines) line complete p.taken takes in (
+      flat_map with_end p.lines ++ (line ++ piece.0),
+      p.out ++ given,
+      Consumes-then read left left' (flat_map with_end p.lines) (line ++ piece.0) p.taken piece.2,
+      Appends-then wrote contents contents' p.out given p.given gives,
+      (
+        p.lines,
+        line,
+        inr (
+          lines-and-line (IfSome read (λ _. IsAtEnd left')) p.lines line piece.0 p.each takes.0 piece.1,
+          inr (
+            missing,
+            (
+              o',
+              subst (λ t. Transcript s o (p.lines ++ line ∷ []) t o') (rejoin p.out held answer given missing (sym e))
+                  (transcript-push s o m o' p.lines (p.out ++ held) line answer p.answered a),
+            ),
+          ),
+        ),
+      ),
+    )
 
 -- no line is left to count
-pub session-endless : (s : System) (o m : AtLine) (read left wrote contents : Option (List ℕ)) (number : ℕ)
-    → Progress s o read left wrote contents m number → Ends s o read left wrote contents (Err Fault.Memory)
-session-endless s o m read left wrote contents number p = (
+pub session-endless : (s : System) (o m : AtLine) (read left wrote contents : Option (List ℕ)) (held : List ℕ) (number : ℕ)
+    → Progress s o read left wrote contents held m number → EndsHolding s o read left wrote contents held (Err Fault.Memory)
+session-endless s o m read left wrote contents held number p = (
   flat_map with_end p.lines,
-  p.output,
+  p.out,
   p.taken,
   p.given,
   (p.lines, [], (m, p.answered), inl (record { joined = sym (append-nil (flat_map with_end p.lines)); each = p.each; unended = no-bytes })),
 )
 
 -- the end that the result is equal to
-pub ends-at : (s : System) (o : AtLine) (read left wrote contents : Option (List ℕ)) (r q : Result (Unit {0}) Fault) → r ≡ q
-    → Ends s o read left wrote contents q → Ends s o read left wrote contents r
-ends-at s o read left wrote contents r q e h = subst (λ x. Ends s o read left wrote contents x) (sym e) h
+ends-at : (s : System) (o : AtLine) (read left wrote contents : Option (List ℕ)) (held : List ℕ) (r q : Result (Unit {0}) Fault) → r ≡ q
+    → EndsHolding s o read left wrote contents held q → EndsHolding s o read left wrote contents held r
+ends-at s o read left wrote contents held r q e h = subst (λ x. EndsHolding s o read left wrote contents held x) (sym e) h
 
--- reading stopped, and the result is its fault
-pub unread-by-line : (s : System) (o m : AtLine) (read left left' wrote contents : Option (List ℕ)) (number : ℕ) (line : List ℕ) (fault : Fault)
-    (r : Result (Unit {0}) Fault) → Progress s o read left wrote contents m number → ReadingStops left left' line fault → r ≡ Err fault
-    → Ends s o read left' wrote contents r
-unread-by-line s o m read left left' wrote contents number line fault r p stops e =
-    ends-at s o read left' wrote contents r (Err fault) e (session-unread s o m read left left' wrote contents number line fault p stops)
+-- no line was had, and the result is its fault
+pub stopped-asking : (s : System) (o m : AtLine) (read left left' wrote contents contents' : Option (List ℕ)) (held held' : List ℕ) (number : ℕ)
+    (fault : Fault) (r : Result (Unit {0}) Fault) → Progress s o read left wrote contents held m number
+    → (given : List ℕ) × Appends contents contents' given × AskingStops left left' held held' given fault → r ≡ Err fault
+    → EndsHolding s o read left' wrote contents' held' r
+stopped-asking s o m read left left' wrote contents contents' held held' number fault r p (given, gives, stops) e =
+    ends-at s o read left' wrote contents' held' r (Err fault) e
+    (unasked s o m read left left' wrote contents contents' held held' given number fault p gives stops)
 
--- the line stopped the session, and the result is its fault
-pub stopped-by-line : (s t : System) (o m : AtLine) (read left left' wrote contents contents' : Option (List ℕ)) (number : ℕ) (line text : List ℕ)
-    (complete : Bool) (fault : Fault) (r : Result (Unit {0}) Fault) → t ≡ s → text ≡ line
-    → Progress s o read left wrote contents m number → TakesLine left left' line complete
-    → (given : List ℕ) × Appends contents contents' given × LineStops t m text number given fault → r ≡ Err fault
-    → Ends s o read left' wrote contents' r
-stopped-by-line s t o m read left left' wrote contents contents' number line text complete fault r same whole p takes stops e =
-    let here : LineStops s m line number stops.0 fault =
-    subst (λ x. LineStops s m x number stops.0 fault) whole (subst (λ x. LineStops x m text number stops.0 fault) same stops.2) in
-    ends-at s o read left' wrote contents' r (Err fault) e
-    (session-stopped s o m read left left' wrote contents contents' number line stops.0 complete fault p takes stops.1 here)
+-- a line was had, once some of what was held was written
+pub LineHad : Option (List ℕ) → Option (List ℕ) → Option (List ℕ) → Option (List ℕ) → List ℕ → List ℕ → List ℕ → Bool → Type 0
+LineHad left left' contents contents' held held' line complete =
+    (given : List ℕ) × Appends contents contents' given × (given ++ held' ≡ held) × TakesLine left left' line complete
+
+-- an answer was held or written
+pub AnswerHeld : Option (List ℕ) → Option (List ℕ) → List ℕ → List ℕ → List ℕ → Type 0
+AnswerHeld contents contents' held held' answer = (given : List ℕ) × Appends contents contents' given × (given ++ held' ≡ held ++ answer)
+
+-- the line is not answered, and the result is its fault
+pub stopped-by-line : (s t : System) (o m : AtLine) (read left left' wrote contents contents' : Option (List ℕ)) (held held' : List ℕ) (number : ℕ)
+    (line text : List ℕ) (complete : Bool) (fault : Fault) (r : Result (Unit {0}) Fault) → t ≡ s → text ≡ line
+    → Progress s o read left wrote contents held m number → LineHad left left' contents contents' held held' line complete
+    → LineStops t text number fault → r ≡ Err fault → EndsHolding s o read left' wrote contents' held' r
+stopped-by-line s t o m read left left' wrote contents contents' held held' number line text complete fault r same whole p (given, gives, join, takes) stops e =
+    ends-at s o read left' wrote contents' held' r (Err fault) e
+    (unanswered s o m read left left' wrote contents' held' number line complete fault
+    (put-on s o m read left wrote contents contents' held held' given number p gives join) takes
+    (subst (λ x. LineStops s x number fault) whole (subst (λ x. LineStops x text number fault) same stops)))
 
 -- an answer on the system and the line
 answered-here : (s t : System) (m o' : AtLine) (line text given : List ℕ) → t ≡ s → text ≡ line → LineAnswered t m text given o'
@@ -218,27 +317,44 @@ answered-here : (s t : System) (m o' : AtLine) (line text given : List ℕ) → 
 answered-here s t m o' line text given same whole a =
     subst (λ x. LineAnswered s m x given o') whole (subst (λ x. LineAnswered x m text given o') same a)
 
+-- writing failed behind the answer to the line, and the result is that
+pub stopped-by-writer : (s t : System) (o m o' : AtLine) (read left left' wrote contents contents' after : Option (List ℕ)) (held held' last : List ℕ)
+    (number : ℕ) (line text answer bytes : List ℕ) (complete : Bool) (fault : Fault) (r : Result (Unit {0}) Fault) → t ≡ s → text ≡ line → bytes ≡ answer
+    → Progress s o read left wrote contents held m number → LineHad left left' contents contents' held held' line complete
+    → LineAnswered t m text answer o' → (given : List ℕ) × Appends contents' after given × WritingStops (held' ++ bytes) given fault
+    → r ≡ Err fault → EndsHolding s o read left' wrote after last r
+stopped-by-writer s t o m o' read left left' wrote contents contents' after held held' last number line text answer bytes complete fault r same whole all p
+    (given, gives, join, takes) a (more, writes, failed, (missing, e)) is =
+    ends-at s o read left' wrote after last r (Err Fault.WriteFailed) (is ∙ ap Err failed)
+    (unwritten s o m o' read left left' wrote contents' after held' last more number line answer complete
+    (put-on s o m read left wrote contents contents' held held' given number p gives join) takes
+    (answered-here s t m o' line text answer same whole a) writes (missing, ap (λ x. held' ++ x) (sym all) ∙ e))
+
 -- the last line without an end was answered
-pub done-by-line : (s t : System) (o m o' : AtLine) (read left left' wrote contents contents' : Option (List ℕ)) (number : ℕ) (line text : List ℕ)
-    (complete : Bool) → t ≡ s → text ≡ line → complete ≡ false
-    → Progress s o read left wrote contents m number → TakesLine left left' line complete
-    → (given : List ℕ) × Appends contents contents' given × LineAnswered t m text given o'
-    → Ends s o read left' wrote contents' (Ok tt)
-done-by-line s t o m o' read left left' wrote contents contents' number line text complete same whole last p takes a =
-    let last_line : TakesLine left left' line false = subst (λ b. TakesLine left left' line b) last takes in
-    session-done s o m o' read left left' wrote contents contents' number line a.0 p last_line.0 last_line.1.0 last_line.1.1 a.1
-    (answered-here s t m o' line text a.0 same whole a.2)
+pub done-by-line : (s t : System) (o m o' : AtLine) (read left left' wrote contents contents' after : Option (List ℕ)) (held held' last : List ℕ)
+    (number : ℕ) (line text answer bytes : List ℕ) (complete : Bool) → t ≡ s → text ≡ line → bytes ≡ answer → complete ≡ false
+    → Progress s o read left wrote contents held m number → LineHad left left' contents contents' held held' line complete
+    → LineAnswered t m text answer o' → AnswerHeld contents' after held' last bytes
+    → EndsHolding s o read left' wrote after last (Ok tt)
+done-by-line s t o m o' read left left' wrote contents contents' after held held' last number line text answer bytes complete same whole all ended p
+    (given, gives, join, takes) a (more, writes, joins) =
+    let last_line : TakesLine left left' line false = subst (λ b. TakesLine left left' line b) ended takes in
+    last-answered s o m o' read left left' wrote contents' after held' last more number line answer
+    (put-on s o m read left wrote contents contents' held held' given number p gives join) last_line.0 last_line.1.0 last_line.1.1 writes
+    (joins ∙ ap (λ x. held' ++ x) all) (answered-here s t m o' line text answer same whole a)
 
 -- a line with its end was answered
-pub more-by-line : (s t : System) (o m o' : AtLine) (read left left' wrote contents contents' : Option (List ℕ)) (number : ℕ) (line text : List ℕ)
-    (complete : Bool) → t ≡ s → text ≡ line → complete ≡ true
-    → Progress s o read left wrote contents m number → TakesLine left left' line complete
-    → (given : List ℕ) × Appends contents contents' given × LineAnswered t m text given o'
-    → Progress s o read left' wrote contents' o' (number + 1)
-more-by-line s t o m o' read left left' wrote contents contents' number line text complete same whole ended p takes a =
+pub more-by-line : (s t : System) (o m o' : AtLine) (read left left' wrote contents contents' after : Option (List ℕ)) (held held' last : List ℕ)
+    (number : ℕ) (line text answer bytes : List ℕ) (complete : Bool) → t ≡ s → text ≡ line → bytes ≡ answer → complete ≡ true
+    → Progress s o read left wrote contents held m number → LineHad left left' contents contents' held held' line complete
+    → LineAnswered t m text answer o' → AnswerHeld contents' after held' last bytes
+    → Progress s o read left' wrote after last o' (number + 1)
+more-by-line s t o m o' read left left' wrote contents contents' after held held' last number line text answer bytes complete same whole all ended p
+    (given, gives, join, takes) a (more, writes, joins) =
     let whole_line : TakesLine left left' line true = subst (λ b. TakesLine left left' line b) ended takes in
-    progress-more s o m o' read left left' wrote contents contents' number (number + 1) line a.0 p whole_line.0 whole_line.1 a.1
-    (answered-here s t m o' line text a.0 same whole a.2) (add-one number)
+    line-on s o m o' read left left' wrote contents' after held' last more number (number + 1) line answer
+    (put-on s o m read left wrote contents contents' held held' given number p gives join) whole_line.0 whole_line.1 writes
+    (joins ∙ ap (λ x. held' ++ x) all) (answered-here s t m o' line text answer same whole a) (add-one number)
 
 -- the session on a new desk
 pub begun : (o : AtLine) (system : System) (source : List ℕ) (read left wrote contents : Option (List ℕ)) (r : Result (Unit {0}) Fault)

@@ -1,16 +1,13 @@
 -- The bytes of a script as lines.
-use Rattle.std.specs.Prelude.{ℕ, ◌≡◌, ◌≢◌, ◌⊎◌, List, [], ◌∷◌, ◌++◌}
+use Rattle.std.specs.Prelude.{ℕ, ◌≡◌, ◌⊎◌, List, [], ◌∷◌, ◌++◌}
 use Rattle.std.specs.List.{All, flat_map}
 use Rattle.syntax.specs.Lists.{Every}
 use Rattle.syntax.specs.Texts.{line_end}
+use Rattle.devices.specs.Counting.{IsNoEnd}
 
 -- a line and its end
 abbrev pub with_end : List ℕ → List ℕ
 with_end line = line ++ line_end ∷ []
-
--- a byte that does not end a line
-abbrev pub IsNoEnd : ℕ → Type 0
-IsNoEnd byte = byte ≢ line_end
 
 -- a line without its end
 abbrev pub IsLine : List ℕ → Type 0

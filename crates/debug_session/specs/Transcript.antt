@@ -44,16 +44,9 @@ Transcript system a (line ∷ lines) output a' =
 abbrev pub Answered : System → AtLine → List (List ℕ) → List ℕ → Type 0
 Answered system a lines output = (a' : AtLine) × Transcript system a lines output a'
 
--- the lines are answered in full, and a beginning of the answer to `last` is out
-pub record BreaksOff (system : System) (a : AtLine) (lines : List (List ℕ)) (last output : List ℕ) : Type 0 where
-  pub answers : List ℕ
-  pub before : AtLine
-  pub answered : Transcript system a lines answers before
-  pub given : List ℕ
-  pub missing : List ℕ
-  pub after : AtLine
-  pub last_answer : LineAnswered system before last (given ++ missing) after
-  pub out : output ≡ answers ++ given
+-- a beginning of the answers to the lines is out
+abbrev pub BeginsToAnswer : System → AtLine → List (List ℕ) → List ℕ → Type 0
+BeginsToAnswer system a lines output = (missing : List ℕ) × Answered system a lines (output ++ missing)
 
 -- the session took these bytes and came to their end: all lines are answered
 abbrev pub Completed : System → AtLine → List ℕ → List ℕ → Type 0
@@ -73,9 +66,12 @@ StoppedByFault system a at_end taken output Fault.Memory =
 StoppedByFault system a at_end taken output (Fault.BadCommand number) =
     (lines : List (List ℕ)) × (last : List ℕ) × EndWith at_end taken lines last × Answered system a lines output
     × (number ≡ suc (length lines)) × (last ≢ []) × AsksNothing system last
--- writing failed in the answer to the last line: nothing behind that line was taken
+-- writing failed: a beginning of the answers to the lines that were taken is out. The last of these may be cut off, or say nothing
+-- that can be answered
 StoppedByFault system a at_end taken output Fault.WriteFailed =
-    (lines : List (List ℕ)) × (last : List ℕ) × EndWith at_end taken lines last × BreaksOff system a lines last output
+    (lines : List (List ℕ)) × (last : List ℕ)
+    × ((AreLines taken lines last × BeginsToAnswer system a lines output)
+    ⊎ (EndWith at_end taken lines last × (BeginsToAnswer system a lines output ⊎ BeginsToAnswer system a (lines ++ last ∷ []) output)))
 -- no other fault comes once the session has begun
 StoppedByFault system a at_end taken output (Fault.Lexer fault) = ⊥
 StoppedByFault system a at_end taken output (Fault.Parser fault) = ⊥

@@ -1,37 +1,65 @@
-ghost use Rattle.std.specs.Prelude.{◌≡◌, ◌≢◌, List, ℕ, MatchResult, IfOk, OnErr};
-ghost use Rattle.std.specs.Io.KnownBytes.{Appends};
+ghost use Rattle.std.specs.Prelude.{◌≡◌, ◌≢◌, [], MatchResult, IfOk, OnErr};
+ghost use Rattle.std.specs.Io.Buffered.{reader_remaining};
 ghost use Rattle.devices.specs.Counting.{device, failures};
 ghost use Rattle.debug_session.specs.Counting.{after_reading, after_writing};
 ghost use Rattle.debug_session.specs.Lines.{SaysSession};
 ghost use Rattle.debug_session.specs.declared.line.Line.{Line};
-ghost use Rattle.debug_session.specs.walking.OneLine.{LineStops};
+ghost use Rattle.debug_session.specs.walking.OneLine.{LineStops, EndsHolding};
 ghost use Rattle.debug_session.specs.Transcript.{SaidAnswered, LineAnswered, Ends};
 
-use crate::input::read_line;
-use crate::output::write_out;
+use crate::held::{hold, put_out};
+use crate::input::next_line;
 use crate::sitting::Sitting;
 use crate::{Counted, Fault, Line, read_command, write_reply, write_session};
 use locked_execution::Command;
 use std::alloc::{AllocError, Global};
-use std::io::{BufRead, Write};
+use std::io::{BufReader, Read, Write};
 
 /// Answers each line of the reader as soon as it was read. It ends where the reader is at its end, or at the first
 /// fault: then the answers of the lines before are out, and where writing failed a beginning of the answers.
-pub(crate) fn answer_lines<R: BufRead, W: Write>(
+///
+/// Before the reader may wait for its device all answers are out: they are held back only while its buffer has another line.
+pub(crate) fn answer_lines<R: Read, W: Write>(
     alloc: Global,
     sitting: &mut Sitting<'_>,
-    reader: &mut Counted<R>,
+    reader: &mut Counted<BufReader<R>>,
     writer: &mut Counted<W>,
 ) -> Result<(), Fault>
-    ensures ends { Ends sitting.old.desk.machine.checked sitting.old (R.remaining (device reader.old)) (R.remaining (device reader.new))
+    ensures ends { Ends sitting.old.desk.machine.checked sitting.old (reader_remaining R.remaining (device reader.old)) (reader_remaining R.remaining (device reader.new))
         (W.contents (device writer.old)) (W.contents (device writer.new)) result }
+    ensures read_failures { failures reader.new ≡ after_reading result (failures reader.old) }
+    ensures write_failures { failures writer.new ≡ after_writing result (failures writer.old) }
+{
+    let mut held = Vec::new(alloc);
+    let ended = hold_answers(alloc, sitting, reader, writer, &mut held);
+    match ended {
+        Err(Fault::ReadFailed | Fault::WriteFailed) => ended,
+        Ok(()) | Err(_) => {
+            put_out(writer, &mut held)?;
+            ended
+        }
+    }
+}
+
+/// Answers the lines; some of the answers may still be held at the end.
+fn hold_answers<R: Read, W: Write>(
+    alloc: Global,
+    sitting: &mut Sitting<'_>,
+    reader: &mut Counted<BufReader<R>>,
+    writer: &mut Counted<W>,
+    held: &mut Vec<u8>,
+) -> Result<(), Fault>
+    requires { held.old.items ≡ [] }
+    ensures ends { EndsHolding sitting.old.desk.machine.checked sitting.old (reader_remaining R.remaining (device reader.old)) (reader_remaining R.remaining (device reader.new))
+        (W.contents (device writer.old)) (W.contents (device writer.new)) held.new.items result }
     ensures read_failures { failures reader.new ≡ after_reading result (failures reader.old) }
     ensures write_failures { failures writer.new ≡ after_writing result (failures writer.old) }
 {
     let mut line = Vec::new(alloc);
     for number in 1..u64::MAX {
-        let is_complete = read_line(reader, &mut line)?;
-        answer_line(alloc, sitting, writer, line.as_slice(), number)?;
+        let is_complete = next_line(reader, writer, held, &mut line)?;
+        let answer = answer_line(alloc, sitting, line.as_slice(), number)?;
+        hold(writer, held, answer.as_slice())?;
         if !is_complete {
             return Ok(());
         }
@@ -40,24 +68,20 @@ pub(crate) fn answer_lines<R: BufRead, W: Write>(
     Err(Fault::Memory)
 }
 
-/// Answers one line, without its end, and flushes the answer.
-fn answer_line<W: Write>(
+/// What is answered to one line, without its end.
+fn answer_line(
     alloc: Global,
     sitting: &mut Sitting<'_>,
-    writer: &mut Counted<W>,
     line: &[u8],
     number: u64,
-) -> Result<(), Fault>
+) -> Result<Vec<u8>, Fault>
     ensures checked { sitting.new.desk.machine.checked ≡ sitting.old.desk.machine.checked }
-    ensures answered { (given : List ℕ) × Appends (W.contents (device writer.old)) (W.contents (device writer.new)) given
-        × MatchResult result
-        (λ _. LineAnswered sitting.old.desk.machine.checked sitting.old line.now given sitting.new)
-        (λ fault. LineStops sitting.old.desk.machine.checked sitting.old line.now number given fault) }
-    ensures failures { failures writer.new ≡ after_writing result (failures writer.old) }
+    ensures answered { MatchResult result
+        (λ answer. LineAnswered sitting.old.desk.machine.checked sitting.old line.now answer.items sitting.new)
+        (λ fault. LineStops sitting.old.desk.machine.checked line.now number fault) }
 {
     let said = read_command(alloc, sitting.checked(), line, number)?;
-    let answer = answer_to(alloc, sitting, &said)?;
-    write_out(writer, answer.as_slice())
+    Ok(answer_to(alloc, sitting, &said)?)
 }
 
 /// What is answered to a line, once the desk has performed its command.

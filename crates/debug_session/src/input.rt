@@ -1,22 +1,45 @@
-ghost use Rattle.std.specs.Prelude.{◌≡◌, ◌≢◌, ◌⊎◌, ◌++◌, ◌∷◌, [], true, false, MatchResult, MatchBool};
+ghost use Rattle.std.specs.Prelude.{◌≡◌, ◌≢◌, ◌⊎◌, ◌++◌, ◌∷◌, List, ℕ, [], true, false, MatchResult, MatchBool};
 ghost use Rattle.std.specs.IoError.{error_kind};
+ghost use Rattle.std.specs.Io.KnownBytes.{Appends};
+ghost use Rattle.std.specs.Io.Buffered.{reader_remaining};
 ghost use Rattle.std.specs.Io.BufRead.{ends_with_byte};
 ghost use Rattle.syntax.specs.Texts.{line_end};
 ghost use Rattle.devices.specs.Counting.{device, failures};
-ghost use Rattle.debug_session.specs.Counting.{after_reading};
-ghost use Rattle.debug_session.specs.walking.OneLine.{TakesLine, ReadingStops};
+ghost use Rattle.debug_session.specs.Counting.{after_reading, after_writing};
+ghost use Rattle.debug_session.specs.walking.OneLine.{TakesLine, ReadingStops, AskingStops};
 ghost use Rattle.debug_session.specs.declared.fault.Fault.TheVariants.{Memory, ReadFailed};
 
 use crate::Fault;
+use crate::held::put_out;
 use devices::{Counted, ends_line};
-use std::io::{BufRead, Error, ErrorKind};
+use std::io::{BufRead, BufReader, Error, ErrorKind, Read, Write};
+
+/// Takes the next line into `line`, in place of what was there, without byte 10 at its end, and tells whether it was there.
+/// Unless the reader has all of it at hand, what is held is written out first, so nobody waits for an answer that is there.
+pub(crate) fn next_line<R: Read, W: Write>(
+    reader: &mut Counted<BufReader<R>>,
+    writer: &mut Counted<W>,
+    held: &mut Vec<u8>,
+    line: &mut Vec<u8>,
+) -> Result<bool, Fault>
+    ensures line { (given : List ℕ) × Appends (W.contents (device writer.old)) (W.contents (device writer.new)) given
+        × MatchResult result
+        (λ complete. (given ++ held.new.items ≡ held.old.items)
+        × TakesLine (reader_remaining R.remaining (device reader.old)) (reader_remaining R.remaining (device reader.new)) line.new.items complete)
+        (λ fault. AskingStops (reader_remaining R.remaining (device reader.old)) (reader_remaining R.remaining (device reader.new)) held.old.items held.new.items given fault) }
+    ensures read_failures { failures reader.new ≡ after_reading result (failures reader.old) }
+    ensures write_failures { failures writer.new ≡ after_writing result (failures writer.old) }
+{
+    if reader.take_line(line)? {
+        return Ok(true);
+    }
+    put_out(writer, held)?;
+    read_line(reader, line)
+}
 
 /// Takes the next line into `line`, in place of what was there, without byte 10 at its end, and tells whether it was
 /// there. A line that is there whole counts even where the reader then failed.
-pub(crate) fn read_line<R: BufRead>(
-    reader: &mut Counted<R>,
-    line: &mut Vec<u8>,
-) -> Result<bool, Fault>
+fn read_line<R: BufRead>(reader: &mut Counted<R>, line: &mut Vec<u8>) -> Result<bool, Fault>
     ensures line { MatchResult result
         (λ complete. TakesLine (R.remaining (device reader.old)) (R.remaining (device reader.new)) line.new.items complete)
         (λ fault. ReadingStops (R.remaining (device reader.old)) (R.remaining (device reader.new)) line.new.items fault) }

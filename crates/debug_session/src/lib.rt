@@ -5,6 +5,7 @@ mod answer;
 mod event;
 mod fault;
 mod fields;
+mod held;
 mod input;
 mod keyword;
 mod laws;

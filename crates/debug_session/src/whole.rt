@@ -1,4 +1,5 @@
 ghost use Rattle.std.specs.Prelude.{◌≡◌, ℕ, List, IfOk, IfErr};
+ghost use Rattle.std.specs.Io.Buffered.{reader_remaining};
 ghost use Rattle.debug_session.specs.Accepting.{Makes, AcceptedAs, IsRefused};
 ghost use Rattle.devices.specs.Counting.{device, failures};
 ghost use Rattle.debug_session.specs.Counting.{after_reading, after_writing};
@@ -11,7 +12,7 @@ use crate::{Counted, Fault};
 use locked_execution::Machine;
 use sharing_check::{Checked, check_sharing};
 use std::alloc::Global;
-use std::io::{BufRead, Write};
+use std::io::{BufReader, Read, Write};
 use system::System;
 use typed_source::typed_source;
 
@@ -39,17 +40,18 @@ pub fn accept(alloc: Global, source: &[u8], stimulus: &[u8]) -> Result<Checked, 
 
 /// Answers the lines of `reader` on `writer`, each as soon as it was read, over the system of source and stimulus.
 ///
-/// Source and stimulus are accepted before anything is read. The answers are out and flushed line by line; at a
+/// Source and stimulus are accepted before anything is read. Before the reader asks its device for more, the answers to all
+/// lines before are out and flushed; while its buffer has another line, answers may be held back, up to some 16 KB. At a
 /// fault the answers of the lines before are out, and where writing failed a beginning of the answers. `ReadFailed` and
 /// `WriteFailed` come exactly where reader and writer count a failure.
-pub fn debug<R: BufRead, W: Write>(
+pub fn debug<R: Read, W: Write>(
     alloc: Global,
-    reader: &mut Counted<R>,
+    reader: &mut Counted<BufReader<R>>,
     writer: &mut Counted<W>,
     source: &[u8],
     stimulus: &[u8],
 ) -> Result<(), Fault>
-    ensures debugged { Debugged source.now stimulus.now ((reader.new ≡ reader.old) × (writer.new ≡ writer.old)) (R.remaining (device reader.old)) (R.remaining (device reader.new))
+    ensures debugged { Debugged source.now stimulus.now ((reader.new ≡ reader.old) × (writer.new ≡ writer.old)) (reader_remaining R.remaining (device reader.old)) (reader_remaining R.remaining (device reader.new))
         (W.contents (device writer.old)) (W.contents (device writer.new)) result }
     ensures read_failures { failures reader.new ≡ after_reading result (failures reader.old) }
     ensures write_failures { failures writer.new ≡ after_writing result (failures writer.old) }

@@ -7,7 +7,7 @@ use crate::one::over;
 use crate::transcripts::has_memory;
 use debug_session::Fault;
 use std::io;
-use std::io::{BufRead, ErrorKind, Read, Write};
+use std::io::{ErrorKind, Read, Write};
 use std::test::Fail;
 
 /// Each line of the script with its end, and what is answered to it.
@@ -77,47 +77,29 @@ struct ByTheByte<'a> {
     rest: &'a [u8],
     /// how many reads there are before the one that fails, if one fails; those behind it find the end
     good: Option<usize>,
-    /// the byte that was read last, until it is taken
-    held: usize,
 }
 
 impl<'a> ByTheByte<'a> {
     fn new(rest: &'a [u8], good: Option<usize>) -> ByTheByte<'a> {
-        ByTheByte {
-            rest,
-            good,
-            held: 0,
-        }
+        ByTheByte { rest, good }
     }
 }
 
 impl Read for ByTheByte<'_> {
-    fn read(&mut self, _buf: &mut [u8]) -> io::Result<usize> {
-        Ok(0)
-    }
-}
-
-impl BufRead for ByTheByte<'_> {
-    fn fill_buf(&mut self) -> io::Result<&[u8]> {
-        if self.held == 0 {
-            match self.good {
-                Some(0) => {
-                    self.rest = b"";
-                    self.good = None;
-                    return Err(ErrorKind::Other.into());
-                }
-                Some(good) => self.good = Some(good - 1),
-                None => {}
+    fn read(&mut self, buf: &mut [u8]) -> io::Result<usize> {
+        match self.good {
+            Some(0) => {
+                self.rest = b"";
+                self.good = None;
+                return Err(ErrorKind::Other.into());
             }
-            self.held = self.rest.len().min(1);
+            Some(good) => self.good = Some(good - 1),
+            None => {}
         }
-        Ok(&self.rest[..self.held.min(self.rest.len())])
-    }
-
-    fn consume(&mut self, amount: usize) {
-        let count = amount.min(self.held).min(self.rest.len());
+        let count = self.rest.len().min(buf.len()).min(1);
+        buf[..count].copy_from_slice(&self.rest[..count]);
         self.rest = &self.rest[count..];
-        self.held -= count;
+        Ok(count)
     }
 }
 
@@ -265,7 +247,7 @@ fn a_writer_that_fails_at_any_flush_has_the_answers_so_far(rt: HostRuntime) -> R
     let mut lines = Vec::with_capacity(rt.alloc(), 256)?;
     script(&mut lines)?;
     for good in 0..LINES.len() {
-        let mut reader: &[u8] = lines.as_slice();
+        let mut reader = ByTheByte::new(lines.as_slice(), None);
         let mut writer = Takes {
             taken: Vec::with_capacity(rt.alloc(), 1024)?,
             way: Way::IsNotFlushed,

@@ -3,7 +3,7 @@
 use debug_session::{Counted, Fault, accept, debug};
 use sharing_check::Checked;
 use std::alloc::Global;
-use std::io::{BufRead, Write};
+use std::io::{BufReader, Read, Write};
 use std::test::Fail;
 
 pub const ONE: &[u8] = b"type byte is 8 bits procedure one (input i : byte; output o : byte) is \
@@ -17,14 +17,13 @@ pub fn checked(alloc: Global, source: &[u8]) -> Result<Checked, Fail> {
 }
 
 /// A session over the description, with devices that count their failures.
-pub fn over<R: BufRead, W: Write>(
-    alloc: Global,
-    reader: &mut R,
-    writer: &mut W,
-) -> Result<(), Fault> {
+pub fn over<R: Read, W: Write>(alloc: Global, reader: &mut R, writer: &mut W) -> Result<(), Fault> {
+    let Ok(buffered) = BufReader::new(alloc, reader) else {
+        return Err(Fault::Memory);
+    };
     debug(
         alloc,
-        &mut Counted::new(reader),
+        &mut Counted::new(buffered),
         &mut Counted::new(writer),
         ONE,
         FIVE,

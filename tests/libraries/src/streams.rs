@@ -5,7 +5,7 @@ use crate::transcripts::has_memory;
 use debug_session::Fault;
 use std::cell::Cell;
 use std::io;
-use std::io::{BufRead, BufWriter, ErrorKind, Read, Write};
+use std::io::{BufWriter, ErrorKind, Read, Write};
 use std::test::Fail;
 
 /// What reader and writer see of each other.
@@ -17,51 +17,42 @@ struct Log {
     taken: Cell<usize>,
     /// bytes of these that were flushed
     flushed: Cell<usize>,
+    /// how often the writer was asked
+    writes: Cell<usize>,
     /// whether a line was asked for before the answers to those before it were flushed
     is_early: Cell<bool>,
 }
 
-/// How long the answer to each line `live` is.
+/// How long each line `live` is, with its end.
+const LINE: usize = 5;
+
+/// How long the answer to it is.
 const ANSWER: usize = 7;
 
-/// A reader that is asked for one line at a time.
+/// A reader that gives so many lines at a time.
 #[derive(Drop)]
 struct Asked<'a> {
     rest: &'a [u8],
-    /// what is left of the line that was asked for
-    shown: usize,
+    lines: usize,
     log: &'a Log,
 }
 
-impl Asked<'_> {
-    /// Shows the next line.
-    fn show(&mut self) {
+impl Read for Asked<'_> {
+    fn read(&mut self, buf: &mut [u8]) -> io::Result<usize> {
         if self.log.flushed.get() < ANSWER.saturating_mul(self.log.given.get()) {
             self.log.is_early.set(true);
         }
-        self.shown = self.rest.len().min(5);
-        self.log.given.set(self.log.given.get().saturating_add(1));
-    }
-}
-
-impl Read for Asked<'_> {
-    fn read(&mut self, _buf: &mut [u8]) -> io::Result<usize> {
-        Ok(0)
-    }
-}
-
-impl BufRead for Asked<'_> {
-    fn fill_buf(&mut self) -> io::Result<&[u8]> {
-        if self.shown == 0 {
-            self.show();
-        }
-        Ok(&self.rest[..self.shown.min(self.rest.len())])
-    }
-
-    fn consume(&mut self, amount: usize) {
-        let count = amount.min(self.shown).min(self.rest.len());
+        let count = self
+            .rest
+            .len()
+            .min(LINE.saturating_mul(self.lines))
+            .min(buf.len());
+        buf[..count].copy_from_slice(&self.rest[..count]);
         self.rest = &self.rest[count..];
-        self.shown -= count;
+        self.log
+            .given
+            .set(self.log.given.get().saturating_add(count / LINE));
+        Ok(count)
     }
 }
 
@@ -76,6 +67,7 @@ impl Write for Counting<'_> {
         self.log
             .taken
             .set(self.log.taken.get().saturating_add(buf.len()));
+        self.log.writes.set(self.log.writes.get().saturating_add(1));
         Ok(buf.len())
     }
 
@@ -86,22 +78,26 @@ impl Write for Counting<'_> {
 }
 
 #[test]
-fn each_answer_is_flushed_before_the_next_line_is_asked_for(rt: HostRuntime) -> Result<(), Fail> {
-    let log = Log {
-        given: Cell::new(0),
-        taken: Cell::new(0),
-        flushed: Cell::new(0),
-        is_early: Cell::new(false),
-    };
-    let mut reader = Asked {
-        rest: b"live\nlive\nlive\n",
-        shown: 0,
-        log: &log,
-    };
-    let mut writer = Counting { log: &log };
-    over(rt.alloc(), &mut reader, &mut writer)?;
-    assert!(rt; !log.is_early.get());
-    assert_eq!(rt; log.flushed.get(), 3 * ANSWER);
+fn answers_are_flushed_before_more_lines_are_asked_for(rt: HostRuntime) -> Result<(), Fail> {
+    for lines in 1..4 {
+        let log = Log {
+            given: Cell::new(0),
+            taken: Cell::new(0),
+            flushed: Cell::new(0),
+            writes: Cell::new(0),
+            is_early: Cell::new(false),
+        };
+        let mut reader = Asked {
+            rest: b"live\nlive\nlive\nlive\nlive\nlive\n",
+            lines,
+            log: &log,
+        };
+        let mut writer = Counting { log: &log };
+        over(rt.alloc(), &mut reader, &mut writer)?;
+        assert!(rt; !log.is_early.get());
+        assert_eq!(rt; log.flushed.get(), 6 * ANSWER);
+        assert_eq!(rt; log.writes.get(), 6 / lines);
+    }
     Ok(())
 }
 
@@ -131,19 +127,11 @@ struct Failing {
 
 impl Read for Failing {
     fn read(&mut self, _buf: &mut [u8]) -> io::Result<usize> {
-        Ok(0)
-    }
-}
-
-impl BufRead for Failing {
-    fn fill_buf(&mut self) -> io::Result<&[u8]> {
         match self.first.take() {
             Some(kind) => Err(kind.into()),
-            None => Ok(b""),
+            None => Ok(0),
         }
     }
-
-    fn consume(&mut self, _amount: usize) {}
 }
 
 #[test]

@@ -4,7 +4,7 @@ use crate::one::over;
 use calculus::Refusal;
 use debug_session::Fault;
 use std::io;
-use std::io::{BufRead, ErrorKind, Read, Write};
+use std::io::{ErrorKind, Read, Write};
 use std::test::Fail;
 
 /// That the session ended with this fault, and not for want of memory or with none.
@@ -34,14 +34,6 @@ impl Read for Broken {
     fn read(&mut self, _buf: &mut [u8]) -> io::Result<usize> {
         Err(ErrorKind::Other.into())
     }
-}
-
-impl BufRead for Broken {
-    fn fill_buf(&mut self) -> io::Result<&[u8]> {
-        Err(ErrorKind::Other.into())
-    }
-
-    fn consume(&mut self, _amount: usize) {}
 }
 
 /// What there is of the script before it breaks off, and what is answered to that.

@@ -1,13 +1,14 @@
 -- One line taken from a reader, and why it was not answered.
 -- No reader has to believe it: `proofs/SessionLemmas.antt` ties it to `Ends` of `Transcript.antt`.
-use Rattle.std.specs.Prelude.{ℕ, ◌≡◌, ◌≢◌, ◌⊎◌, ◌++◌, List, [], Bool, Option, IfSome, MatchBool}
-use Rattle.std.specs.Io.KnownBytes.{Consumes, IsAtEnd}
+use Rattle.std.specs.Prelude.{ℕ, ◌≡◌, ◌≢◌, ◌⊎◌, ◌++◌, List, [], Bool, Option, Result, IfSome, MatchBool, MatchResult}
+use Rattle.std.specs.Io.KnownBytes.{Appends, Consumes, IsAtEnd}
+use Rattle.devices.specs.Counting.{IsBeginning}
 use Rattle.system.specs.declared.system.System.{System}
 use Rattle.debug_session.specs.declared.fault.Fault.{Fault}
 use Rattle.debug_session.specs.AtLine.{AtLine}
 use Rattle.debug_session.specs.Lines.{AsksNothing, LineMayWantMemory}
 use Rattle.debug_session.specs.Script.{IsLine, with_end}
-use Rattle.debug_session.specs.Transcript.{LineAnswered}
+use Rattle.debug_session.specs.Transcript.{Completed, StoppedByFault}
 
 -- the reader gave the line and its end, or a last line without one, behind which it is at its end
 abbrev pub TakesLine : Option (List ℕ) → Option (List ℕ) → List ℕ → Bool → Type 0
@@ -18,10 +19,35 @@ TakesLine old new line complete =
 abbrev pub ReadingStops : Option (List ℕ) → Option (List ℕ) → List ℕ → Fault → Type 0
 ReadingStops old new line fault = IsLine line × Consumes old new line × ((fault ≡ Fault.Memory) ⊎ (fault ≡ Fault.ReadFailed))
 
--- why the line of this number was not answered, and what was given of its answer
-abbrev pub LineStops : System → AtLine → List ℕ → ℕ → List ℕ → Fault → Type 0
-LineStops system a line number given Fault.Memory = (given ≡ []) × LineMayWantMemory system line
-LineStops system a line number given (Fault.BadCommand n) = (given ≡ []) × (n ≡ number) × (line ≢ []) × AsksNothing system line
-LineStops system a line number given Fault.WriteFailed =
-    (answer : List ℕ) × (missing : List ℕ) × (a' : AtLine) × LineAnswered system a line answer a' × (answer ≡ given ++ missing)
-LineStops system a line number given fault = ⊥
+-- why the line of this number was not answered
+abbrev pub LineStops : System → List ℕ → ℕ → Fault → Type 0
+LineStops system line number Fault.Memory = LineMayWantMemory system line
+LineStops system line number (Fault.BadCommand n) = (n ≡ number) × (line ≢ []) × AsksNothing system line
+LineStops system line number fault = ⊥
+
+-- the reader gave a part of a line, or nothing
+abbrev pub TakesPart : Option (List ℕ) → Option (List ℕ) → Type 0
+TakesPart old new = (part : List ℕ) × IsLine part × Consumes old new part
+
+-- why no line was had, and what was given of the bytes that were held: there was no memory for the line; reading failed, and then
+-- nothing is held; or writing failed, and then the reader was not asked
+abbrev pub AskingStops : Option (List ℕ) → Option (List ℕ) → List ℕ → List ℕ → List ℕ → Fault → Type 0
+AskingStops old new held held' given Fault.Memory = TakesPart old new × (given ++ held' ≡ held)
+AskingStops old new held held' given Fault.ReadFailed = TakesPart old new × (given ≡ held) × (held' ≡ [])
+AskingStops old new held held' given Fault.WriteFailed = Consumes old new [] × IsBeginning held given
+AskingStops old new held held' given fault = ⊥
+
+-- how a session ended that may still hold answers: where reading failed nothing is held, and where writing failed what is held is void
+abbrev pub StopsHolding : System → AtLine → Type 0 → List ℕ → List ℕ → List ℕ → Fault → Type 0
+StopsHolding system a at_end taken given held Fault.ReadFailed = (held ≡ []) × StoppedByFault system a at_end taken given Fault.ReadFailed
+StopsHolding system a at_end taken given held Fault.WriteFailed = StoppedByFault system a at_end taken given Fault.WriteFailed
+StopsHolding system a at_end taken given held fault = StoppedByFault system a at_end taken (given ++ held) fault
+
+-- what such a session took from its reader, gave to its writer and holds
+abbrev pub EndsHolding : System → AtLine → Option (List ℕ) → Option (List ℕ) → Option (List ℕ) → Option (List ℕ) → List ℕ
+    → Result (Unit {0}) Fault → Type 0
+EndsHolding system a read left wrote contents held result =
+    (taken : List ℕ) × (given : List ℕ) × Consumes read left taken × Appends wrote contents given
+    × MatchResult result
+    (λ _. IfSome read (λ _. IsAtEnd left) × Completed system a taken (given ++ held))
+    (λ fault. StopsHolding system a (IfSome read (λ _. IsAtEnd left)) taken given held fault)

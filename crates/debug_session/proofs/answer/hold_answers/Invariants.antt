@@ -1,12 +1,13 @@
 use Rattle.std.proofs.Common.{◌≡◌}
+use Rattle.std.specs.Io.Buffered.{reader_remaining}
 use Rattle.devices.specs.Counting.{failures}
 use Rattle.debug_session.proofs.SessionLemmas.{Progress}
-use Rattle.debug_session.proofs.answer.answer_lines.Given as goal
+use Rattle.debug_session.proofs.answer.hold_answers.Given as goal
 
 -- the lines so far are answered, and nothing failed
 abbrev pub invariant-loop-number : goal.invariant-loop-number
 invariant-loop-number g l =
     (l.sitting.desk.machine.checked ≡ l.initial.sitting.desk.machine.checked)
-    × Progress l.initial.sitting.desk.machine.checked l.initial.sitting (g.R.Read.remaining l.initial.reader.device) (g.R.Read.remaining l.reader.device)
-    (g.W.Write.contents l.initial.writer.device) (g.W.Write.contents l.writer.device) l.sitting l.number
+    × Progress l.initial.sitting.desk.machine.checked l.initial.sitting (reader_remaining g.R.Read.remaining l.initial.reader.device) (reader_remaining g.R.Read.remaining l.reader.device)
+    (g.W.Write.contents l.initial.writer.device) (g.W.Write.contents l.writer.device) l.held.items l.sitting l.number
     × (failures l.reader ≡ failures l.initial.reader) × (failures l.writer ≡ failures l.initial.writer)
