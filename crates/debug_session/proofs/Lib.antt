@@ -4,6 +4,7 @@ pub mod ChoiceLemmas
 pub mod CountLemmas
 pub mod CutLemmas
 pub mod EndLemmas
+pub mod HeldLemmas
 pub mod KeywordLemmas
 pub mod LineLemmas
 pub mod MakingLemmas
