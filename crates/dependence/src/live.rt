@@ -4,7 +4,7 @@ ghost use Rattle.calculus.specs.Live.{LiveAt, NoneAt, NoDependent, FirstDependen
 ghost use Rattle.dependence.specs.Behind.{ComesBehind};
 ghost use Rattle.dependence.specs.Followers.{ListsFollowers, ListsLeads, CountsDirect};
 ghost use Rattle.dependence.specs.Shown.{with_newest, Greatest, IsSound};
-ghost use Rattle.dependence.specs.Taking.{MarksAllDependents, OneMarkedAt, NoneMarkedAt, StaysBeside};
+ghost use Rattle.dependence.specs.Taking.{MarksAllDependents, OneMarkedAt, NoneMarkedAt, IsNearMarked, StaysBeside};
 ghost use Rattle.syntax.specs.Lists.{In};
 
 use crate::count::count_direct;
@@ -168,11 +168,12 @@ impl Live {
         marked_at(self.pairs.as_slice(), self.marks.as_slice(), place)
     }
 
-    /// A place, counted from 0 in order of tickets, below which no live event is marked. How near it is to the first that is, no
-    /// clause says: it is less than 1,024 before that one, or before the end.
+    /// A place, counted from 0 in order of tickets, below which no live event is marked. It is less than 1,024 before the first
+    /// that is, or before the end.
     pub fn unmarked_below(&self) -> usize
         ensures within { result ≤ length self.now.live }
         ensures none { (i : ℕ) → i < result → NoneMarkedAt self.now.live self.now.marked i }
+        ensures near { IsNearMarked self.now.live self.now.marked result }
     {
         unmarked_below(self.marks.as_slice())
     }
