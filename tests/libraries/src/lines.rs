@@ -65,3 +65,39 @@ fn a_select_opens_where_its_arm_was_taken(rt: HostRuntime) -> Result<(), Fail> {
     }
     Ok(())
 }
+
+/// The arms are taken in turn.
+const ARMS_IN_TURN: &str = "procedure p is variable x : 1 bits begin
+    loop
+        if x then
+            x := 0
+        else
+            x := 1
+        end
+    end end";
+
+/// The lines of two rounds: turn, test and assignment of each, and `else` is taken first.
+const TWO_ROUNDS: [u64; 6] = [2, 3, 6, 2, 3, 4];
+
+/// So many rounds that their places stand in several rows of the table.
+const ROUNDS: u64 = 200;
+
+#[test]
+fn each_round_of_a_loop_has_the_line_of_its_own_arm(rt: HostRuntime) -> Result<(), Fail> {
+    let mut desk = desk(rt.alloc(), ARMS_IN_TURN)?;
+    for _ in 0..3 * ROUNDS {
+        reply_to(&mut desk, 0, &Command::Branch(0))?;
+    }
+    let live = desk.machine().live_events().as_slice();
+    assert_eq!(rt; live.len() as u64, 3 * ROUNDS);
+    for (index, entry) in live.iter().enumerate() {
+        let line = TWO_ROUNDS[index % TWO_ROUNDS.len()];
+        assert_eq!(rt; desk.machine().line(entry.1.acting_place()), Some(line));
+    }
+    let earlier = place(rt.alloc(), b"/0.397.1")?;
+    let last = place(rt.alloc(), b"/0.399.1")?;
+    reply_to(&mut desk, 0, &Command::Roll(3 * ROUNDS - 1))?;
+    assert_eq!(rt; desk.machine().line(&earlier), Some(6));
+    assert_eq!(rt; desk.machine().line(&last), None);
+    Ok(())
+}
