@@ -1,3 +1,4 @@
+pub mod ActingPlaces
 pub mod AddedEvent
 pub mod Candidacy
 pub mod Counting

@@ -1,7 +1,7 @@
 -- Marks: what they stand for, and what the passes over them keep.
 use Rattle.std.proofs.Common.{◌≡◌, ◌⊎◌, ◌↔◌, inl, inr, ℕ, zero, suc, ◌+◌, ◌-◌, ◌<◌, ◌≤◌, List, [], ◌∷◌, ◌++◌, Bool, true, false, cond, length, take, drop, get_or, Some, refl, sym, ◌∙◌, ap, subst, arith}
 use Rattle.std.specs.Prelude.{slice_get, slice_set, MatchBool}
-use Rattle.std.specs.List.{count_by, between, AllWithin}
+use Rattle.std.specs.List.{count_by, between, AllWithin, HoldsAt}
 use Rattle.std.proofs.Math.Bool.{beq}
 use Rattle.std.proofs.lemmas.Bool.{cases_eq, cases_lt}
 use Rattle.std.proofs.lemmas.List.Sums.{sum_by-cons}
@@ -16,10 +16,10 @@ use Rattle.calculus.proofs.Options.{none-some}
 use Rattle.calculus.proofs.Tickets.{rising-in}
 use Rattle.dependence.specs.Followers.{Follower, ListsFollowers, Reached, here, along}
 use Rattle.dependence.specs.Shown.{tickets_marked, Greatest, IsSound}
-use Rattle.dependence.specs.Taking.{NoneMarkedAt}
+use Rattle.dependence.specs.Taking.{NoneMarkedAt, IsNearMarked}
 use Rattle.dependence.specs.walking.Tables.{IsRising}
-use Rattle.dependence.specs.walking.Marking.{MarkedAt, MarkedBelow, UnmarkedTo}
-use Rattle.dependence.proofs.ListPlaces.{in-at, at-one, take-next, set-here, set-other}
+use Rattle.dependence.specs.walking.Marking.{MarkedAt, MarkedBelow, UnmarkedTo, SomeMarked, MarkedNear}
+use Rattle.dependence.proofs.ListPlaces.{in-at, at-one, at-within, take-next, set-here, set-other}
 use Rattle.dependence.proofs.Linking.{one-place}
 use Rattle.dependence.proofs.Standing.{lesser-stands}
 use Rattle.dependence.proofs.Following.{follows-on}
@@ -84,7 +84,18 @@ none-set marks h i less on =
     let both : true ≡ false = ap (λ (m : Bool). beq m true) (sym (get_or_from_slice_get marks i true false on)) ∙ here in
     cc
 
--- of an answer that says which of two holds, the other
+is-set : (m : Bool) → beq m true ≡ true → m ≡ true
+is-set true h = refl
+is-set false h = cc
+
+-- one of the marks is set
+pub some-set : (marks : List Bool) → (k : ℕ) × (k < length marks) × HoldsAt (λ (m : Bool). beq m true ≡ true) marks k → SomeMarked marks 0 (length marks)
+some-set marks h = (h.0, omega arith, h.1, slice_get-get_or marks h.0 false h.1 ∙ ap (λ (m : Bool). Some m) (is-set (get_or marks h.0 false) (h.2 false)))
+
+-- of an answer that says which of two holds, the one and the other
+pub set-one : (r : Bool) (P Q : Type 0) → r ≡ true → MatchBool r P Q → P
+set-one r P Q on h = subst (λ (b : Bool). MatchBool b P Q) on h
+
 pub unset : (r : Bool) (P Q : Type 0) → r ≡ false → MatchBool r P Q → Q
 unset r P Q off h = subst (λ (b : Bool). MatchBool b P Q) off h
 
@@ -103,6 +114,19 @@ stretch-passed marks passed next up inside before more i less on = elim (cases_l
       get_or-between marks passed next k false there ∙ ap (λ (n : ℕ). get_or marks n false) at ∙ get_or_from_slice_get marks i true false on in
       more k within (slice_get-get_or (between passed next marks) k false within ∙ ap (λ (m : Bool). Some m) here)
 ]
+
+-- a mark within a stretch is one of all marks
+pub stretch-marked : (marks : List Bool) (low high : ℕ) → low ≤ high → high ≤ length marks →
+    SomeMarked (between low high marks) 0 (length (between low high marks)) → SomeMarked marks low high
+stretch-marked marks low high up inside one =
+    let k : ℕ = one.0 in
+    let size : length (between low high marks) ≡ high - low = length-between marks low high inside in
+    let within : k < length (between low high marks) = one.2 in
+    let there : low + k < high = omega arith in
+    let less : low + k < length marks = omega arith in
+    let here : get_or marks (low + k) false ≡ true =
+    sym (get_or-between marks low high k false there) ∙ get_or_from_slice_get (between low high marks) k true false one.3 in
+    (low + k, omega arith, there, slice_get-get_or marks (low + k) false less ∙ ap (λ (m : Bool). Some m) here)
 
 pub passed-first : (m : Bool) (marks : List Bool) (n : ℕ) → UnmarkedTo (m ∷ marks) (suc n) → UnmarkedTo marks n
 passed-first m marks n h i less on = h (suc i) (omega arith) on
@@ -283,6 +307,16 @@ none-here l marks place r off e one =
     let at = (is-marked l marks one.0).0 one.2 in
     let same : at.0 ≡ place = one-place 0 r.0 l one.0 at.1.0 e at.0 place r.1 at.1.1 one.1 in
     off (subst (λ (i : ℕ). slice_get marks i ≡ Some true) same at.2)
+
+-- what is near among the marks is near among the live events
+pub near-shown : (l : Live) (marks : List Bool) (place : ℕ) → length marks ≡ length l → MarkedNear marks place → IsNearMarked l (tickets_marked l marks) place
+near-shown l marks place size near = elim near [
+  | inl ends ↦ inl (omega arith)
+  | inr one ↦
+      let inside : one.0 < length marks = slice_get_within marks one.0 true one.3 in
+      let at = at-within l one.0 (omega arith) in
+      inr (one.0, at.0.1, one.1, one.2, (at.0.0, at.1, (is-marked l marks at.0.0).1 (one.0, (at.0.1, at.1), one.3)))
+]
 
 -- without marks there are no marked tickets
 pub none-at-all : (l : Live) (marks : List Bool) → ((k : ℕ) → 0 ≤ k → slice_get marks k ≡ Some true → ⊥) → tickets_marked l marks ≡ []

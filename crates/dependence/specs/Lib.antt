@@ -1,3 +1,4 @@
+pub mod Acting
 pub mod Behind
 pub mod Followers
 pub mod Laws

@@ -1,5 +1,5 @@
 -- The marked events, taken out all at once.
-use Rattle.std.specs.Prelude.{◌≡◌, ℕ, List, [], ◌∷◌, Some, slice_get}
+use Rattle.std.specs.Prelude.{◌≡◌, ◌⊎◌, ℕ, ◌+◌, ◌<◌, ◌≤◌, List, [], ◌∷◌, length, Some, slice_get}
 use Rattle.syntax.specs.Lists.{In}
 use Rattle.calculus.specs.Live.{Live, LiveAt, DependsOn}
 use Rattle.calculus.specs.declared.event.Event.{Event}
@@ -20,6 +20,14 @@ OneMarkedAt l tickets place e = (t : ℕ) × (slice_get l place ≡ Some (t, e))
 -- there is no such event
 abbrev pub NoneMarkedAt : Live → List ℕ → ℕ → Type 0
 NoneMarkedAt l tickets place = (e : Event) → OneMarkedAt l tickets place e → ⊥
+
+-- less than this many places behind a place is near it
+abbrev pub stride : ℕ
+stride = 1024
+
+-- the end is near the place, or a live event whose ticket is among these is, at the place itself or behind it
+abbrev pub IsNearMarked : Live → List ℕ → ℕ → Type 0
+IsNearMarked l tickets place = (length l < place + stride) ⊎ ((i : ℕ) × (e : Event) × (place ≤ i) × (i < place + stride) × OneMarkedAt l tickets i e)
 
 -- ys is what stays of xs, which stand beside the entries of l, without those beside an entry of whose ticket D holds
 pub data StaysBeside {X : Type 0} (D : ℕ → Type 0) : Live → List X → List X → Type 0 where

@@ -2,6 +2,7 @@
 #![tactic(auto)]
 
 mod accesses;
+mod acting;
 mod candidates;
 mod count;
 mod entries;

@@ -1,12 +1,15 @@
 ghost use Rattle.std.specs.Prelude.{◌≡◌, ◌<◌, ◌≤◌, ℕ, [], length, Some, None, slice_get, MatchOption, IfErr, IfOk, OnOk};
 ghost use Rattle.calculus.specs.Dependence.{Without};
 ghost use Rattle.calculus.specs.Live.{LiveAt, NoneAt, NoDependent, FirstDependent, ConsequencesList, WithoutTickets, IsLive, LastWriter, NoWriter};
+ghost use Rattle.last_events.specs.LastEvents.{first_child};
+ghost use Rattle.dependence.specs.Acting.{ActsAlone, NoneActs};
 ghost use Rattle.dependence.specs.Behind.{ComesBehind};
 ghost use Rattle.dependence.specs.Followers.{ListsFollowers, ListsLeads, CountsDirect};
 ghost use Rattle.dependence.specs.Shown.{with_newest, Greatest, IsSound};
-ghost use Rattle.dependence.specs.Taking.{MarksAllDependents, OneMarkedAt, NoneMarkedAt, StaysBeside};
+ghost use Rattle.dependence.specs.Taking.{MarksAllDependents, OneMarkedAt, NoneMarkedAt, IsNearMarked, StaysBeside};
 ghost use Rattle.syntax.specs.Lists.{In};
 
+use crate::acting::acting_at_first_child;
 use crate::count::count_direct;
 use crate::links::Links;
 use crate::marks::{
@@ -16,6 +19,7 @@ use crate::places::place_of;
 use crate::tables::Tables;
 use crate::taking::{keep_unmarked, take_marked};
 use crate::whole::{add_event, followers_of, last_writer, leads_at, least_dependent, take_event};
+use address::Entry;
 use calculus::Event;
 use std::alloc::{AllocError, Global};
 use std::marker::Model;
@@ -128,6 +132,14 @@ impl Live {
         last_writer(self.pairs.as_slice(), &self.tables, variable)
     }
 
+    /// The live event that acts at the first child of the place. It takes no memory, and as long as to look for the place by
+    /// halves.
+    pub fn acting_at_first_child(&self, place: &[Entry]) -> Option<&Event>
+        ensures { MatchOption result (NoneActs self.now.live (first_child place.now)) (λ e. ActsAlone self.now.live (first_child place.now) e.now) }
+    {
+        acting_at_first_child(self.pairs.as_slice(), &self.tables, place)
+    }
+
     /// How many live events depend directly on the live event of this ticket. It takes as long as to go through the live events
     /// from the first that depends on it on.
     pub fn count(&self, ticket: u64) -> u64
@@ -168,11 +180,12 @@ impl Live {
         marked_at(self.pairs.as_slice(), self.marks.as_slice(), place)
     }
 
-    /// A place, counted from 0 in order of tickets, below which no live event is marked. How near it is to the first that is, no
-    /// clause says: it is less than 1,024 before that one, or before the end.
+    /// A place, counted from 0 in order of tickets, below which no live event is marked. It is less than 1,024 before the first
+    /// that is, or before the end.
     pub fn unmarked_below(&self) -> usize
         ensures within { result ≤ length self.now.live }
         ensures none { (i : ℕ) → i < result → NoneMarkedAt self.now.live self.now.marked i }
+        ensures near { IsNearMarked self.now.live self.now.marked result }
     {
         unmarked_below(self.marks.as_slice())
     }

@@ -6,7 +6,7 @@ ghost use Rattle.calculus.specs.Live.{ConsequencesList, IsLive};
 ghost use Rattle.dependence.specs.Shown.{tickets_marked, Greatest};
 ghost use Rattle.dependence.specs.Taking.{OneMarkedAt, NoneMarkedAt};
 ghost use Rattle.dependence.specs.walking.Tables.{IsRising, Linked};
-ghost use Rattle.dependence.specs.walking.Marking.{MarkedAt, UnmarkedTo};
+ghost use Rattle.dependence.specs.walking.Marking.{MarkedAt, UnmarkedTo, SomeMarked, MarkedNear};
 
 use crate::links::Links;
 use crate::places::{place_of, place_of_live};
@@ -52,6 +52,7 @@ pub(crate) fn clear(marks: &mut [bool])
 pub(crate) fn unmarked_below(marks: &[bool]) -> usize
     ensures within { result ≤ length marks.now }
     ensures none { UnmarkedTo marks.now result }
+    ensures near { MarkedNear marks.now result }
 {
     let mut passed = 0;
     while STRIDE <= marks.len() - passed {
@@ -65,7 +66,8 @@ pub(crate) fn unmarked_below(marks: &[bool]) -> usize
 
 /// Whether one of the marks is set.
 fn is_any(marks: &[bool]) -> bool
-    ensures { result ≡ false → UnmarkedTo marks.now (length marks.now) }
+    ensures none { result ≡ false → UnmarkedTo marks.now (length marks.now) }
+    ensures one { result ≡ true → SomeMarked marks.now 0 (length marks.now) }
 {
     marks.contains(&true)
 }

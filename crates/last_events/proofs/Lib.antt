@@ -1,3 +1,4 @@
+pub mod ChildLaws
 pub mod ForkLaws
 pub mod PlaceLaws
 pub mod RowLaws

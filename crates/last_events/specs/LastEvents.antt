@@ -1,5 +1,5 @@
 -- What the tables of last events hold, and what they tell.
-use Rattle.std.specs.Prelude.{◌≡◌, ◌≢◌, ◌⊎◌, ℕ, ◌<◌, ◌≤◌, List, Vec, Option, Some, None, IsTrue}
+use Rattle.std.specs.Prelude.{◌≡◌, ◌≢◌, ◌⊎◌, ℕ, ◌<◌, ◌≤◌, List, [], ◌∷◌, ◌++◌, Vec, Option, Some, None, IsTrue}
 use Rattle.std.specs.Global.{Global}
 use Rattle.std.specs.Map.{lookup}
 use Rattle.std.specs.Ordering.{is_eq, nat_cmp, ordering_then}
@@ -7,6 +7,7 @@ use Rattle.std.specs.BTreeSet.{contains}
 use Rattle.address.specs.Places.{Before, Apart}
 use Rattle.address.specs.Order.{order_of}
 use Rattle.address.specs.declared.Entry.{Entry}
+use Rattle.address.specs.declared.Entry.TheVariants.{Ordered}
 use Rattle.syntax.specs.Lists.{In}
 use Rattle.last_events.specs.declared.places.PlaceTable.{PlaceTable}
 use Rattle.last_events.specs.declared.uses.UseTable.{UseTable}
@@ -14,6 +15,10 @@ use Rattle.last_events.specs.declared.uses.UseTable.{UseTable}
 -- the ticket of the event that stands at the place a
 abbrev pub ticket_at : PlaceTable → List Entry → Option ℕ
 ticket_at table a = lookup (λ (k : Vec Entry Global). is_eq (order_of a k.items)) table
+
+-- the place of the first child of what stands at a
+abbrev pub first_child : List Entry → List Entry
+first_child a = a ++ Ordered 0 ∷ []
 
 -- the event of ticket t stands at the place a
 abbrev pub IsAt : PlaceTable → List Entry → ℕ → Type 0

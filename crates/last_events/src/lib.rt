@@ -2,11 +2,13 @@
 //! back to what they were when an event is taken out.
 #![tactic(auto)]
 
+mod children;
 mod forks;
 mod places;
 mod rows;
 mod search;
 mod uses;
 
+pub use children::is_first_child;
 pub use places::PlaceTable;
 pub use uses::UseTable;

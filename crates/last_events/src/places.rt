@@ -1,12 +1,12 @@
 // The places of events in one order, in which what stands below a place follows it.
 ghost use Rattle.std.specs.Prelude.{◌≡◌, ◌<◌, ◌+◌, ℕ, List, length, None, MatchOption, IfOk, OnOk, OnErr};
 ghost use Rattle.address.specs.declared.Entry.{Entry};
-ghost use Rattle.last_events.specs.LastEvents.{ticket_at, Orderly, PutAt, RemovedAt, Same, LastBefore};
+ghost use Rattle.last_events.specs.LastEvents.{ticket_at, first_child, Orderly, PutAt, RemovedAt, Same, LastBefore};
 ghost use Rattle.last_events.specs.walking.Forks.{Shares};
 ghost use Rattle.last_events.specs.walking.Walks.{NoneBelow, LastBelow, NoneBefore, NearestBefore, Collected};
 
 use crate::forks::{fork, is_ordered};
-use crate::rows::{put_seat, remove_seat, spot_of};
+use crate::rows::{put_seat, remove_seat, spot_of, ticket_at_first_child};
 use address::{Address, Entry};
 use std::alloc::{AllocError, Global};
 use std::marker::Model;
@@ -49,6 +49,16 @@ impl PlaceTable {
             alloc,
             rows: Vec::new(alloc),
         }
+    }
+
+    /// The ticket of the event that stands at the first child of the place. It takes no memory.
+    pub fn at_first_child(&self, place: &[Entry]) -> Option<u64>
+        ensures { result ≡ ticket_at self.now (first_child place.now) }
+    {
+        if self.rows.is_empty() {
+            return None;
+        }
+        ticket_at_first_child(self.rows.as_slice(), place)
     }
 
     /// Puts the event of this ticket at the place, where none stood. Without memory for it the table is as before.

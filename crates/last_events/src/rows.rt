@@ -1,8 +1,9 @@
 // Places with their tickets in one order, in rows, so that what is put between two moves few others.
 ghost use Rattle.std.specs.Prelude.{◌≡◌, ◌<◌, ◌≤◌, ◌++◌, ◌∷◌, suc, length, take, drop, MatchOption, OnOk, OnErr, slice_get};
-ghost use Rattle.last_events.specs.LastEvents.{PutAt, RemovedAt};
+ghost use Rattle.last_events.specs.LastEvents.{ticket_at, first_child, PutAt, RemovedAt};
 ghost use Rattle.last_events.specs.walking.Rows.{IsTable, Filled, flat, row_at, before, behind, Stands, HoldsAt, Absent, IsCut};
 
+use crate::children::is_first_child;
 use crate::search::count_less;
 use address::Entry;
 use std::alloc::{AllocError, Global};
@@ -62,6 +63,43 @@ fn next_of(rows: &[Vec<(Vec<Entry>, u64)>], spot: Spot) -> Spot
             row: spot.row + 1,
             index: 0,
         }
+    }
+}
+
+/// The ticket at the first child of the place.
+pub(crate) fn ticket_at_first_child(rows: &[Vec<(Vec<Entry>, u64)>], place: &[Entry]) -> Option<u64>
+    requires table { IsTable rows.now }
+    requires some { 0 < length rows.now }
+    ensures { result ≡ ticket_at (flat rows.now) (first_child place.now) }
+{
+    let spot = spot_of_first_child(rows, place);
+    let next = next_of(rows, spot);
+    let Some(row) = rows.get(next.row) else {
+        return None;
+    };
+    let Some(seat) = row.get(next.index) else {
+        return None;
+    };
+    if is_first_child(seat.0.as_slice(), place) {
+        Some(seat.1)
+    } else {
+        None
+    }
+}
+
+/// Where the first child of the place stands or would stand: behind the place, with no other between.
+fn spot_of_first_child(rows: &[Vec<(Vec<Entry>, u64)>], place: &[Entry]) -> Spot
+    requires table { IsTable rows.now }
+    requires some { 0 < length rows.now }
+    ensures { Stands rows.now (first_child place.now) result.row result.index }
+{
+    let spot = spot_of(rows, place);
+    match found(rows, place, spot) {
+        Some(held) => Spot {
+            row: held.row,
+            index: held.index + 1,
+        },
+        None => spot,
     }
 }
 

@@ -145,15 +145,15 @@ impl History {
         acts_in(system, event, branch) && self.is_free(system, event, breaks)
     }
 
-    /// Whether the line of the event is not among these. It is looked for only where there are some, since that goes through the
-    /// live events for each choice on the way to the place.
+    /// Whether the line of the event is not among these. It is looked for only where there are some, since each choice on the way
+    /// to the place is looked up.
     fn is_free(&self, system: &Checked, event: &Event, breaks: &[u64]) -> bool
         ensures { result ≡ is_free (at_machine system.now self.now) breaks.now event.now }
     {
         if breaks.is_empty() {
             return true;
         }
-        match line_after(system, self.live.as_slice(), event.acting_place()) {
+        match line_after(system, &self.live, event.acting_place()) {
             Some(line) => !is_among(breaks, line),
             None => true,
         }
@@ -175,7 +175,7 @@ impl History {
     {
         for event in events {
             if acts_in(system, event, branch) {
-                return line_after(system, self.live.as_slice(), event.acting_place());
+                return line_after(system, &self.live, event.acting_place());
             }
         }
         None

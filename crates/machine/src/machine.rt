@@ -195,14 +195,14 @@ impl Machine {
     pub fn line(&self, place: &Address) -> Option<u64>
         ensures { result ≡ line_after (events self.now.live) self.now.checked place.now }
     {
-        line_after(&self.system, self.history.live.as_slice(), place)
+        line_after(&self.system, &self.history.live, place)
     }
 
     /// Whether a `select` opens at this place, after the live events.
     pub fn select(&self, place: &Address) -> bool
         ensures { result ≡ is_open_after (events self.now.live) self.now.checked place.now }
     {
-        select_after(&self.system, self.history.live.as_slice(), place)
+        select_after(&self.system, &self.history.live, place)
     }
 }
 

@@ -1,5 +1,5 @@
 -- What one part of a source tells of all of it.
-use Rattle.std.proofs.Common.{◌≡◌, ◌≢◌, ◌⊎◌, inl, inr, ℕ, Option, Some, None, Result, Ok, Err, IfOk, IfErr, IfSome, Bool, true, false, List, [], ◌++◌, sym, ap, subst, append_assoc, append-nil, length-append, arith}
+use Rattle.std.proofs.Common.{◌≡◌, ◌≢◌, ◌⊎◌, inl, inr, ℕ, Option, Some, None, Result, Ok, Err, IfOk, IfErr, IfSome, Bool, true, false, List, [], ◌++◌, refl, sym, ap, subst, append_assoc, append-nil, length-append, arith}
 use Rattle.std.proofs.lemmas.List.Elements.{All-append}
 use Rattle.lexer.specs.Tokens.{AreTokens}
 use Rattle.lexer.specs.declared.lexing.Lexing.{Lexing}
@@ -112,6 +112,33 @@ pub reads_on : (old mid new : Lexing) (first second part : List Token) (stop : S
 reads_on old mid new first second part Full most reads same h = ((second, same), subst (λ tokens. ReadsPart false old tokens new) (sym same) (goes_far old mid new first second reads h.0 h.1 h.3))
 reads_on old mid new first second part Procedure most reads same h = ((second, same), subst (λ tokens. ReadsPart false old tokens new) (sym same) (goes_far old mid new first second reads h.0 h.1 h.3))
 reads_on old mid new first second part End most reads same h = ((second, same), subst (λ tokens. ReadsPart true old tokens new) (sym same) (goes_to_end old mid first second reads.0 h.0))
+
+-- where reading did not stop at the end
+pub not_end : (stop : Stop) → (stop ≡ End → ⊥) → false ≡ is_end stop
+not_end Full other = refl
+not_end Procedure other = refl
+not_end End other = absurd (other refl)
+
+-- tokens are refused with more behind them, so they are
+refuses_front : (old : Lexing) (part more tokens : List Token) (fault : Fault) → tokens ≡ part ++ more → RefusesPart old tokens fault → RefusesPart old part fault
+refuses_front old part more tokens Fault.Memory same h = tt
+refuses_front old part more tokens (Fault.Lexer fault) same h = h
+refuses_front old part more tokens (Fault.Parser fault) same h = λ source before read.
+    let (later, cut, refused) = subst (λ tokens. RefusesPart old tokens (Fault.Parser fault)) same h source before read in (
+      more ++ later,
+      AreTokens_by source (before ++ ((part ++ more) ++ later)) (before ++ (part ++ (more ++ later))) (ap (λ (t : List Token). before ++ t) (append_assoc part more later)) cut,
+      subst (λ tokens. parser.IsRefused tokens fault) (append_assoc part more later) refused,
+    )
+refuses_front old part more tokens (Fault.Types fault) same h = h
+
+-- the same of what `refuse` answers about a part with the tokens that follow
+pub refuses_ahead : {A : Type 0} (is_last : Bool) (stop : Stop) (most : ℕ) (old mid new : Lexing) (part more tokens : List Token) → is_last ≡ is_end stop → ReadsPart false old part mid
+    → tokens ≡ part ++ more → IsPart stop most mid more new → (result : Result A Fault)
+    → (ReadsPart is_last old tokens new → IfErr result (λ fault. RefusesPart old tokens fault)) → IfErr result (λ fault. RefusesPart old part fault)
+refuses_ahead is_last stop most old mid new part more tokens which reads same h (Ok done) refused = tt
+refuses_ahead is_last stop most old mid new part more tokens which reads same h (Err fault) refused =
+    let on = reads_on old mid new part more tokens stop most reads same h in
+    refuses_front old part more tokens fault same (refused (subst (λ (b : Bool). ReadsPart b old tokens new) (sym which) on.1))
 
 -- the first tokens of a part
 pub reads_first : (old new : Lexing) (added part : List Token) (stop : Stop) (most : ℕ) → part ≡ [] ++ added → IsPart stop most old added new → ReadsPart (is_end stop) old part new

@@ -81,17 +81,32 @@ fn read_whole(
     }
 }
 
-/// The part that these tokens are, behind which `lexing` stands. None: they alone do not tell.
+/// Refuses these tokens, behind which `lexing` stands, where no description goes on with them and the token that follows:
+/// that a procedure lacks its last `end` shows only at the next one.
+fn refuse_with_next(
+    alloc: Global,
+    mut lexing: Lexing<'_>,
+    mut tokens: Vec<Token>,
+) -> Result<(), Fault>
+    ensures { (old : Lexing) → ReadsPart false old tokens.items lexing.entry → IfErr result (λ fault. RefusesPart old tokens.items fault) }
+{
+    let mut next = Vec::new(alloc);
+    let stop = lexing.add_part(alloc, &mut next, 1)?;
+    tokens.append(&mut next)?;
+    refuse(alloc, lexing, matches!(stop, Stop::End), tokens.as_slice())
+}
+
+/// The part that these tokens are, behind which `lexing` stands. None: they and the token that follows do not tell.
 fn tree_of(
     alloc: Global,
     lexing: Lexing<'_>,
     is_last: bool,
-    tokens: &[Token],
+    tokens: Vec<Token>,
 ) -> Result<Option<Part>, Fault>
-    ensures read { IfOk result (λ read. IfSome read (λ part. (part.is_last ≡ is_last) × Parses tokens.now part.description)) }
-    ensures fault { (old : Lexing) → ReadsPart is_last old tokens.now lexing.entry → IfErr result (λ fault. RefusesPart old tokens.now fault) }
+    ensures read { IfOk result (λ read. IfSome read (λ part. (part.is_last ≡ is_last) × Parses tokens.items part.description)) }
+    ensures fault { (old : Lexing) → ReadsPart is_last old tokens.items lexing.entry → IfErr result (λ fault. RefusesPart old tokens.items fault) }
 {
-    match parse(alloc, tokens) {
+    match parse(alloc, tokens.as_slice()) {
         Ok(description) => Ok(Some(Part {
             description,
             is_last,
@@ -99,7 +114,7 @@ fn tree_of(
         Err(parser::Fault::Memory) => Err(Fault::Memory),
         Err(fault) if is_last => Err(Fault::from(fault)),
         Err(_) => {
-            refuse(alloc, lexing, is_last, tokens)?;
+            refuse_with_next(alloc, lexing, tokens)?;
             Ok(None)
         }
     }
@@ -108,7 +123,7 @@ fn tree_of(
 /// The next part of the source, up to where a further procedure begins, or to the end. But for the first it begins with a
 /// procedure itself.
 ///
-/// None: this part alone does not tell.
+/// None: this part and the token behind it do not tell.
 pub(crate) fn next_part(
     alloc: Global,
     lexing: &mut Lexing<'_>,
@@ -123,5 +138,5 @@ pub(crate) fn next_part(
         return Ok(None);
     }
     let is_last = read_whole(alloc, lexing, &mut tokens, stop)?;
-    tree_of(alloc, *lexing, is_last, tokens.as_slice())
+    tree_of(alloc, *lexing, is_last, tokens)
 }

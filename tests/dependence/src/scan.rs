@@ -1,6 +1,6 @@
 // Who depends on whom, found by going through all live events.
 
-use address::compare;
+use address::{Entry, compare};
 use calculus::{Event, depends_directly, writes};
 use std::alloc::{AllocError, Global};
 use std::cmp::Ordering;
@@ -59,6 +59,18 @@ pub fn last_writer(live: &[(u64, Event)], variable: u32) -> Option<u64> {
         }
     }
     last
+}
+
+/// The event that acts at the first child of the place.
+pub fn acting_at_first_child<'a>(live: &'a [(u64, Event)], place: &[Entry]) -> Option<&'a Event> {
+    for entry in live {
+        let acting = entry.1.acting_place().entries();
+        let is_below = acting.len() == place.len() + 1 && acting[..place.len()] == place[..];
+        if is_below && acting[place.len()] == Entry::Ordered(0) {
+            return Some(&entry.1);
+        }
+    }
+    None
 }
 
 /// The places of the events in their canonical order: of those that depend on none that is left the one of the least acting

@@ -1,8 +1,9 @@
 // A `Live` and the plain list of its events.
 
 use crate::random::Random;
-use crate::scan::{canonical, dependents, direct, followers, last_writer};
+use crate::scan::{acting_at_first_child, canonical, dependents, direct, followers, last_writer};
 use crate::threads::Threads;
+use address::Entry;
 use calculus::Event;
 use canonical_order::canonical_order;
 use dependence::Live;
@@ -163,10 +164,23 @@ impl Session {
             None => true,
         };
         self.expect(is_writer, "last_writer", ticket)?;
+        let acting = plain[place].1.acting_place().entries();
+        let is_acting = (0..=acting.len()).all(|end| self.acts_alike(&acting[..end]));
+        self.expect(is_acting, "acting_at_first_child", ticket)?;
         let is_many = self.live.mark_consequences(ticket) == many;
         self.expect(is_many, "mark_consequences", ticket)?;
         let is_last = self.live.last_marked() == last;
         self.expect(is_last, "last_marked", ticket)
+    }
+
+    /// Whether the event that acts at the first child of the place is the one that the scan finds.
+    fn acts_alike(&self, place: &[Entry]) -> bool {
+        let scanned = acting_at_first_child(self.plain.as_slice(), place);
+        match (self.live.acting_at_first_child(place), scanned) {
+            (Some(event), Some(other)) => event.equals(other),
+            (None, None) => true,
+            _ => false,
+        }
     }
 
     /// Whether the event follows those of which it is a follower, and no others.

@@ -2,13 +2,10 @@
 
 use crate::sessions::reply_to;
 use crate::told::place;
-use address::Address;
 use calculus::Choice;
 use debug_session::accept;
-use event_places::{line_after, select_after};
-use locked_execution::{Command, Desk, Reply};
+use locked_execution::{Command, Desk};
 use machine::Machine;
-use sharing_check::Checked;
 use std::alloc::Global;
 use std::test::Fail;
 
@@ -37,25 +34,11 @@ fn desk(alloc: Global, source: &str) -> Result<Desk, Fail> {
     Ok(Desk::new(Machine::new(alloc, checked)?))
 }
 
-/// Takes a step, and answers the live events.
-fn live_after(alloc: Global, desk: &mut Desk, step: &[u8]) -> Result<Reply, Fail> {
+/// Takes a step.
+fn take(alloc: Global, desk: &mut Desk, step: &[u8]) -> Result<(), Fail> {
     let place = place(alloc, step)?;
     reply_to(desk, 0, &Command::Step(Choice { place, arm: 0 }))?;
-    reply_to(desk, 0, &Command::Live)
-}
-
-fn line_in(checked: &Checked, live: &Reply, place: &Address) -> Option<u64> {
-    match live {
-        Reply::Live(entries) => line_after(checked, entries.as_slice(), place),
-        _ => None,
-    }
-}
-
-fn is_select_in(checked: &Checked, live: &Reply, place: &Address) -> bool {
-    match live {
-        Reply::Live(entries) => select_after(checked, entries.as_slice(), place),
-        _ => false,
-    }
+    Ok(())
 }
 
 #[test]
@@ -63,11 +46,10 @@ fn a_place_has_the_line_in_the_arm_that_was_taken(rt: HostRuntime) -> Result<(),
     let mut desk = desk(rt.alloc(), IF_ON_2)?;
     let test = place(rt.alloc(), b"/0.0")?;
     let arm = place(rt.alloc(), b"/0.1")?;
-    let before = reply_to(&mut desk, 0, &Command::Live)?;
-    assert_eq!(rt; line_in(desk.machine().checked(), &before, &test), Some(2));
-    assert_eq!(rt; line_in(desk.machine().checked(), &before, &arm), None);
-    let after = live_after(rt.alloc(), &mut desk, b"/0.0")?;
-    assert_eq!(rt; line_in(desk.machine().checked(), &after, &arm), Some(5));
+    assert_eq!(rt; desk.machine().line(&test), Some(2));
+    assert_eq!(rt; desk.machine().line(&arm), None);
+    take(rt.alloc(), &mut desk, b"/0.0")?;
+    assert_eq!(rt; desk.machine().line(&arm), Some(5));
     assert_eq!(rt; desk.machine().checked().line(&arm), Some(3));
     Ok(())
 }
@@ -77,12 +59,45 @@ fn a_select_opens_where_its_arm_was_taken(rt: HostRuntime) -> Result<(), Fail> {
     let open = place(rt.alloc(), b"/0.1.0")?;
     for (source, is_select) in [(ARBITRATE_TAKEN, false), (SELECT_TAKEN, true)] {
         let mut desk = desk(rt.alloc(), source)?;
-        let live = live_after(rt.alloc(), &mut desk, b"/0.0")?;
-        assert_eq!(rt;
-            is_select_in(desk.machine().checked(), &live, &open),
-            is_select
-        );
+        take(rt.alloc(), &mut desk, b"/0.0")?;
+        assert_eq!(rt; desk.machine().select(&open), is_select);
         assert!(rt; desk.machine().checked().select(&open));
     }
+    Ok(())
+}
+
+/// The arms are taken in turn.
+const ARMS_IN_TURN: &str = "procedure p is variable x : 1 bits begin
+    loop
+        if x then
+            x := 0
+        else
+            x := 1
+        end
+    end end";
+
+/// The lines of two rounds: turn, test and assignment of each, and `else` is taken first.
+const TWO_ROUNDS: [u64; 6] = [2, 3, 6, 2, 3, 4];
+
+/// So many rounds that their places stand in several rows of the table.
+const ROUNDS: u64 = 200;
+
+#[test]
+fn each_round_of_a_loop_has_the_line_of_its_own_arm(rt: HostRuntime) -> Result<(), Fail> {
+    let mut desk = desk(rt.alloc(), ARMS_IN_TURN)?;
+    for _ in 0..3 * ROUNDS {
+        reply_to(&mut desk, 0, &Command::Branch(0))?;
+    }
+    let live = desk.machine().live_events().as_slice();
+    assert_eq!(rt; live.len() as u64, 3 * ROUNDS);
+    for (index, entry) in live.iter().enumerate() {
+        let line = TWO_ROUNDS[index % TWO_ROUNDS.len()];
+        assert_eq!(rt; desk.machine().line(entry.1.acting_place()), Some(line));
+    }
+    let earlier = place(rt.alloc(), b"/0.397.1")?;
+    let last = place(rt.alloc(), b"/0.399.1")?;
+    reply_to(&mut desk, 0, &Command::Roll(3 * ROUNDS - 1))?;
+    assert_eq!(rt; desk.machine().line(&earlier), Some(6));
+    assert_eq!(rt; desk.machine().line(&last), None);
     Ok(())
 }

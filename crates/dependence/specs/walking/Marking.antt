@@ -1,8 +1,10 @@
 -- Marks beside the live events, at the same places.
--- No reader has to believe it: the proof of `mark_dependents` ties it to `ConsequencesList` of `calculus`.
-use Rattle.std.specs.Prelude.{◌≡◌, ℕ, ◌<◌, List, Bool, true, Some, slice_get}
+-- No reader has to believe it: the proof of `mark_dependents` ties it to `ConsequencesList` of `calculus`, and that of
+-- `Live::unmarked_below` to what `specs/Taking.antt` has.
+use Rattle.std.specs.Prelude.{◌≡◌, ◌⊎◌, ℕ, ◌+◌, ◌<◌, ◌≤◌, List, Bool, true, length, Some, slice_get}
 use Rattle.calculus.specs.Live.{Live, DependsOn}
 use Rattle.dependence.specs.Followers.{Follower}
+use Rattle.dependence.specs.Taking.{stride}
 use Rattle.dependence.specs.walking.Tables.{StandsAt}
 
 -- the event of ticket t is marked
@@ -12,6 +14,14 @@ MarkedAt l marks t = (i : ℕ) × StandsAt l t i × (slice_get marks i ≡ Some 
 -- none of the first n marks is set
 abbrev pub UnmarkedTo : List Bool → ℕ → Type 0
 UnmarkedTo marks n = (i : ℕ) → i < n → slice_get marks i ≡ Some true → ⊥
+
+-- one of the marks from `low` on and below `high` is set
+abbrev pub SomeMarked : List Bool → ℕ → ℕ → Type 0
+SomeMarked marks low high = (i : ℕ) × (low ≤ i) × (i < high) × (slice_get marks i ≡ Some true)
+
+-- the end is near the place, or a mark that is set is, at the place itself or behind it
+abbrev pub MarkedNear : List Bool → ℕ → Type 0
+MarkedNear marks place = (length marks < place + stride) ⊎ SomeMarked marks place (place + stride)
 
 -- t and only what depends on it is marked, and the followers of all that is marked below the place
 pub record MarkedBelow (l : Live) (t place : ℕ) (marks : List Bool) : Type 0 where

@@ -31,7 +31,7 @@ returns-clause-read c =
     let reads : ReadsPart (is_end c.in_ok-stop.stop) c.args.lexing.now front c.add_part.new.self =
     reads_first c.args.lexing.now c.add_part.new.self part.0 front c.in_ok-stop.stop _ (rw c.new-tokens.ensures.items at part.1) part.2 in
     next_read c.args.is_first c.in_ok-is_last.is_last c.args.lexing.now c.read_whole.new.lexing front c.read_whole.new.tokens.items begins
-    (c.in_ok-is_last.ensures.read c.args.lexing.now reads) c.tree_of.result (rw c.as_slice-2.ensures.value at c.tree_of.ensures.read)
+    (c.in_ok-is_last.ensures.read c.args.lexing.now reads) c.tree_of.result c.tree_of.ensures.read
 
 pub returns-clause-fault : goal.returns-clause-fault
 returns-clause-fault c =
@@ -46,4 +46,4 @@ returns-clause-fault c =
     reads_first c.args.lexing.now c.add_part.new.self part.0 front c.in_ok-stop.stop _ (rw c.new-tokens.ensures.items at part.1) part.2 in
     let on = c.in_ok-is_last.ensures.read c.args.lexing.now reads in
     next_refused c.args.is_first c.in_ok-is_last.is_last c.args.lexing.now c.read_whole.new.lexing front c.read_whole.new.tokens.items begins on c.tree_of.result
-    (rw c.as_slice-2.ensures.value at (c.tree_of.ensures.fault c.args.lexing.now (rw c.as_slice-2.ensures.value on.1)))
+    (c.tree_of.ensures.fault c.args.lexing.now on.1)

@@ -2,8 +2,9 @@ use Rattle.std.proofs.Common.{◌≡◌, ℕ, ◌<◌, ◌≤◌, List, Bool, le
 use Rattle.std.specs.Prelude.{slice_get}
 use Rattle.calculus.specs.Live.{Live}
 use Rattle.dependence.specs.Shown.{Shown}
-use Rattle.dependence.specs.Taking.{NoneMarkedAt}
-use Rattle.dependence.proofs.Markings.{none-here}
+use Rattle.dependence.specs.Taking.{NoneMarkedAt, IsNearMarked}
+use Rattle.dependence.specs.walking.Marking.{MarkedNear}
+use Rattle.dependence.proofs.Markings.{none-here, near-shown}
 use Rattle.dependence.proofs.live.Live.unmarked_below.Goals as goal
 
 pub returns : goal.returns
@@ -19,4 +20,6 @@ returns c =
       none = subst (λ (s : Shown). (i : ℕ) → i < c.unmarked_below.result → NoneMarkedAt s.live s.marked i) c.self.view_is
           (λ i less. none-here l marks i c.self.invariant.0.rising
           (λ on. c.unmarked_below.ensures.none i less (subst (λ (ms : List Bool). slice_get ms i ≡ Some true) (sym c.as_slice.ensures.value) on)));
+      near = subst (λ (s : Shown). IsNearMarked s.live s.marked c.unmarked_below.result) c.self.view_is
+          (near-shown l marks c.unmarked_below.result size (subst (λ (ms : List Bool). MarkedNear ms c.unmarked_below.result) c.as_slice.ensures.value c.unmarked_below.ensures.near));
     }
