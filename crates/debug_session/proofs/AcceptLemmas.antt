@@ -1,5 +1,5 @@
 -- How the words of the passes become a refusal of source and stimulus.
-use Rattle.std.proofs.Common.{◌≡◌, ◌≢◌, ◌⊎◌, ◌++◌, inl, inr, ℕ, List, Result, Ok, Err, refl, sym, subst}
+use Rattle.std.proofs.Common.{◌≡◌, ◌⊎◌, inl, inr, ℕ, List, Result, Ok, Err, sym, subst}
 use Rattle.std.specs.Result.{IfErr, IsErrAnd}
 use Rattle.refusals.specs.declared.elaborate.Fault as elaborate
 use Rattle.refusals.specs.declared.elaborate.Fault.TheVariants as no_system

@@ -1,5 +1,5 @@
 -- How a session ends: what is held is written out, or it is not.
-use Rattle.std.proofs.Common.{◌≡◌, ℕ, List, [], ◌∷◌, ◌++◌, append-nil, Option, Result, Ok, Err, MatchResult, refl, sym, ap, ◌∙◌, subst, inl, inr}
+use Rattle.std.proofs.Common.{◌≡◌, ℕ, List, [], ◌∷◌, ◌++◌, append-nil, Option, Result, Ok, Err, refl, sym, ap, ◌∙◌, subst, inl, inr}
 use Rattle.std.specs.Option.{IfSome}
 use Rattle.std.specs.List.{flat_map}
 use Rattle.std.specs.Io.KnownBytes.{Appends, IsAtEnd}
@@ -7,16 +7,12 @@ use Rattle.devices.specs.Counting.{IsBeginning}
 use Rattle.system.specs.declared.system.System.{System}
 use Rattle.debug_session.specs.AtLine.{AtLine}
 use Rattle.debug_session.specs.declared.fault.Fault.{Fault}
-use Rattle.debug_session.specs.Counting.{fault_reads, fault_writes, WritingStops}
+use Rattle.debug_session.specs.Counting.{after_reading, after_writing, WritingStops}
 use Rattle.debug_session.specs.Script.{with_end}
 use Rattle.debug_session.specs.Transcript.{Transcript, Answered, BeginsToAnswer, Completed, StoppedByFault, Ends}
-use Rattle.debug_session.specs.walking.OneLine.{StopsHolding, EndsHolding}
+use Rattle.debug_session.specs.walking.OneLine.{IsNoDevice, EndsByDevice, EndsByNoDevice, StopsHolding, EndsHolding}
 use Rattle.debug_session.proofs.SessionLemmas.{rejoin-none}
 use Rattle.devices.proofs.KnownLemmas.{Appends-then}
-
--- neither reading nor writing failed
-abbrev pub IsNoDevice : Fault → Type 0
-IsNoDevice fault = (fault ≡ Fault.ReadFailed → ⊥) × (fault ≡ Fault.WriteFailed → ⊥)
 
 -- a beginning of the answers is out where a beginning of what was held came out
 begins : (s : System) (o : AtLine) (lines : List (List ℕ)) (given held more : List ℕ) → IsBeginning held more → Answered s o lines (given ++ held)
@@ -29,8 +25,8 @@ completed-unwritten : (s : System) (o : AtLine) (at_end : Type 0) (taken given h
     → Completed s o taken (given ++ held) → StoppedByFault s o at_end taken (given ++ more) Fault.WriteFailed
 completed-unwritten s o at_end taken given held more ended b (lines, last, are, answered) = (
   lines,
-  last,
   inr (
+    last,
     record {
       tail = [];
       joined = are.joined ∙ ap (λ t. flat_map with_end lines ++ t) (sym (append-nil last));
@@ -43,29 +39,33 @@ completed-unwritten s o at_end taken given held more ended b (lines, last, are, 
 )
 
 -- nor where the session was stopped
-stopped-unwritten : (s : System) (o : AtLine) (at_end : Type 0) (taken given held more : List ℕ) (fault : Fault) → IsNoDevice fault → IsBeginning held more
-    → StopsHolding s o at_end taken given held fault → StoppedByFault s o at_end taken (given ++ more) Fault.WriteFailed
-stopped-unwritten s o at_end taken given held more Fault.Memory not b (lines, last, answered, which) =
-    elim which [
-      | inl are ↦ (lines, last, inl (are, begins s o lines given held more b answered))
-      | inr ended ↦ (lines, last, inr (ended.0, inl (begins s o lines given held more b answered)))
-    ]
-stopped-unwritten s o at_end taken given held more (Fault.BadCommand n) not b (lines, last, ended, answered, rest) =
-    (lines, last, inr (ended, inl (begins s o lines given held more b answered)))
-stopped-unwritten s o at_end taken given held more Fault.ReadFailed not b stops = absurd (not.0 refl)
-stopped-unwritten s o at_end taken given held more Fault.WriteFailed not b stops = absurd (not.1 refl)
-stopped-unwritten s o at_end taken given held more (Fault.Lexer fault) not b stops = absurd stops
-stopped-unwritten s o at_end taken given held more (Fault.Parser fault) not b stops = absurd stops
-stopped-unwritten s o at_end taken given held more (Fault.Types fault) not b stops = absurd stops
-stopped-unwritten s o at_end taken given held more (Fault.Elaborate fault) not b stops = absurd stops
-stopped-unwritten s o at_end taken given held more (Fault.Sharing fault) not b stops = absurd stops
-stopped-unwritten s o at_end taken given held more (Fault.Trace fault) not b stops = absurd stops
+stopped-unwritten : (s : System) (o : AtLine) (at_end : Type 0) (taken given held more : List ℕ) (fault : Fault) → IsNoDevice fault → (held ≡ [] → ⊥)
+    → IsBeginning held more → StopsHolding s o at_end taken given held fault → StoppedByFault s o at_end taken (given ++ more) Fault.WriteFailed
+stopped-unwritten s o at_end taken given held more Fault.Memory not some b (inl (none, stops)) = absurd (some none)
+stopped-unwritten s o at_end taken given held more Fault.Memory not some b (inr (lines, answered, inl are)) =
+    (lines, inl (are, begins s o lines given held more b answered))
+stopped-unwritten s o at_end taken given held more Fault.Memory not some b (inr (lines, answered, inr (last, ended, wants))) =
+    (lines, inr (last, ended, inl (inr wants, begins s o lines given held more b answered)))
+stopped-unwritten s o at_end taken given held more (Fault.BadCommand n) not some b (lines, last, ended, answered, number, full, nothing) =
+    (lines, inr (last, ended, inl (inl nothing, begins s o lines given held more b answered)))
+stopped-unwritten s o at_end taken given held more Fault.ReadFailed not some b stops = absurd (not.0 refl)
+stopped-unwritten s o at_end taken given held more Fault.WriteFailed not some b stops = absurd (not.1 refl)
+stopped-unwritten s o at_end taken given held more (Fault.Lexer fault) not some b stops = absurd stops
+stopped-unwritten s o at_end taken given held more (Fault.Parser fault) not some b stops = absurd stops
+stopped-unwritten s o at_end taken given held more (Fault.Types fault) not some b stops = absurd stops
+stopped-unwritten s o at_end taken given held more (Fault.Elaborate fault) not some b stops = absurd stops
+stopped-unwritten s o at_end taken given held more (Fault.Sharing fault) not some b stops = absurd stops
+stopped-unwritten s o at_end taken given held more (Fault.Trace fault) not some b stops = absurd stops
 
 -- what was held is out
 stopped-written : (s : System) (o : AtLine) (at_end : Type 0) (taken given held more : List ℕ) (fault : Fault) → IsNoDevice fault → more ≡ held
     → StopsHolding s o at_end taken given held fault → StoppedByFault s o at_end taken (given ++ more) fault
-stopped-written s o at_end taken given held more Fault.Memory not e stops =
-    subst (λ t. StoppedByFault s o at_end taken (given ++ t) Fault.Memory) (sym e) stops
+stopped-written s o at_end taken given held more Fault.Memory not e (inl (none, stops)) =
+    subst (λ t. StoppedByFault s o at_end taken t Fault.Memory) (sym (ap (λ t. given ++ t) (e ∙ none) ∙ append-nil given)) stops
+stopped-written s o at_end taken given held more Fault.Memory not e (inr (lines, (m, t), inl are)) =
+    (lines, [], (m, subst (λ x. Transcript s o lines (given ++ x) m) (sym e) t), inl are)
+stopped-written s o at_end taken given held more Fault.Memory not e (inr (lines, (m, t), inr (last, ended, wants))) =
+    (lines, last, (m, subst (λ x. Transcript s o lines (given ++ x) m) (sym e) t), inr (ended, wants))
 stopped-written s o at_end taken given held more (Fault.BadCommand n) not e stops =
     subst (λ t. StoppedByFault s o at_end taken (given ++ t) (Fault.BadCommand n)) (sym e) stops
 stopped-written s o at_end taken given held more Fault.ReadFailed not e stops = absurd (not.0 refl)
@@ -77,15 +77,11 @@ stopped-written s o at_end taken given held more (Fault.Elaborate fault) not e s
 stopped-written s o at_end taken given held more (Fault.Sharing fault) not e stops = absurd stops
 stopped-written s o at_end taken given held more (Fault.Trace fault) not e stops = absurd stops
 
--- neither the end of the session is a failed device
-abbrev pub EndsByNoDevice : Result (Unit {0}) Fault → Type 0
-EndsByNoDevice r = MatchResult r (λ _. Unit {0}) IsNoDevice
-
 -- the end, where what was held is out
-pub ended-written : (s : System) (o : AtLine) (read left wrote contents after : Option (List ℕ)) (held more : List ℕ) (r : Result (Unit {0}) Fault)
+ended-written : (s : System) (o : AtLine) (read left wrote contents after : Option (List ℕ)) (held more : List ℕ) (r : Result (Unit {0}) Fault)
     → EndsHolding s o read left wrote contents held r → EndsByNoDevice r → Appends contents after more → more ≡ held
     → Ends s o read left wrote after r
-ended-written s o read left wrote contents after held more (Ok x) (taken, given, takes, gives, (ended, lines, last, are, m, t)) not writes e = (
+ended-written s o read left wrote contents after held more (Ok x) (taken, given, takes, gives, (ended, (lines, last, are, (m, t)))) not writes e = (
   taken,
   given ++ more,
   takes,
@@ -101,50 +97,86 @@ ended-written s o read left wrote contents after held more (Err fault) (taken, g
 )
 
 -- the end, where it could not be written
-pub ended-unwritten : (s : System) (o : AtLine) (read left wrote contents after : Option (List ℕ)) (held : List ℕ) (r : Result (Unit {0}) Fault)
-    → EndsHolding s o read left wrote contents held r → EndsByNoDevice r → (more : List ℕ) × Appends contents after more × IsBeginning held more
+ended-unwritten : (s : System) (o : AtLine) (read left wrote contents after : Option (List ℕ)) (held : List ℕ) (r : Result (Unit {0}) Fault)
+    → EndsHolding s o read left wrote contents held r → EndsByNoDevice r → (held ≡ [] → ⊥)
+    → (more : List ℕ) × Appends contents after more × IsBeginning held more
     → Ends s o read left wrote after (Err Fault.WriteFailed)
-ended-unwritten s o read left wrote contents after held (Ok x) (taken, given, takes, gives, (ended, all)) not (more, writes, b) = (
+ended-unwritten s o read left wrote contents after held (Ok x) (taken, given, takes, gives, (ended, all)) not some (more, writes, b) = (
   taken,
   given ++ more,
   takes,
   Appends-then wrote contents after given more gives writes,
   completed-unwritten s o (IfSome read (λ _. IsAtEnd left)) taken given held more ended b all,
 )
-ended-unwritten s o read left wrote contents after held (Err fault) (taken, given, takes, gives, stops) not (more, writes, b) = (
+ended-unwritten s o read left wrote contents after held (Err fault) (taken, given, takes, gives, stops) not some (more, writes, b) = (
   taken,
   given ++ more,
   takes,
   Appends-then wrote contents after given more gives writes,
-  stopped-unwritten s o (IfSome read (λ _. IsAtEnd left)) taken given held more fault not b stops,
+  stopped-unwritten s o (IfSome read (λ _. IsAtEnd left)) taken given held more fault not some b stops,
 )
 
--- the end, where reading failed
-pub ended-unread : (s : System) (o : AtLine) (read left wrote contents : Option (List ℕ)) (held : List ℕ)
-    → EndsHolding s o read left wrote contents held (Err Fault.ReadFailed) → Ends s o read left wrote contents (Err Fault.ReadFailed)
-ended-unread s o read left wrote contents held (taken, given, takes, gives, (none, stops)) = (taken, given, takes, gives, stops)
+-- the end, where a device failed
+pub ended-by-device : (s : System) (o : AtLine) (read left wrote contents : Option (List ℕ)) (held : List ℕ) (r : Result (Unit {0}) Fault)
+    → EndsByDevice r → EndsHolding s o read left wrote contents held r → Ends s o read left wrote contents r
+ended-by-device s o read left wrote contents held (Ok x) device h = absurd device
+ended-by-device s o read left wrote contents held (Err Fault.ReadFailed) device (taken, given, takes, gives, (none, stops)) = (taken, given, takes, gives, stops)
+ended-by-device s o read left wrote contents held (Err Fault.WriteFailed) device (taken, given, takes, gives, stops) = (taken, given, takes, gives, stops)
+ended-by-device s o read left wrote contents held (Err Fault.Memory) device h = absurd device
+ended-by-device s o read left wrote contents held (Err (Fault.Lexer f)) device h = absurd device
+ended-by-device s o read left wrote contents held (Err (Fault.Parser f)) device h = absurd device
+ended-by-device s o read left wrote contents held (Err (Fault.Types f)) device h = absurd device
+ended-by-device s o read left wrote contents held (Err (Fault.Elaborate f)) device h = absurd device
+ended-by-device s o read left wrote contents held (Err (Fault.Sharing f)) device h = absurd device
+ended-by-device s o read left wrote contents held (Err (Fault.Trace f)) device h = absurd device
+ended-by-device s o read left wrote contents held (Err (Fault.BadCommand k)) device h = absurd device
+
+-- the end, where what was held could not be written, and the result is that
+pub ended-unput : (s : System) (o : AtLine) (read left wrote contents after : Option (List ℕ)) (held : List ℕ) (r q : Result (Unit {0}) Fault) (fault : Fault)
+    → EndsHolding s o read left wrote contents held r → EndsByNoDevice r → (held ≡ [] → ⊥)
+    → (more : List ℕ) × Appends contents after more × WritingStops held more fault → q ≡ Err fault → Ends s o read left wrote after q
+ended-unput s o read left wrote contents after held r q fault h not some (more, writes, (failed, b)) is =
+    subst (Ends s o read left wrote after) (sym (is ∙ ap Err failed))
+    (ended-unwritten s o read left wrote contents after held r h not some (more, writes, b))
+
+-- what was held is out
+abbrev pub IsOut : List ℕ → List ℕ → List ℕ → Type 0
+IsOut held held' given = (given ≡ held) × (held' ≡ [])
+
+-- the end, where it was written
+pub ended-put : (s : System) (o : AtLine) (read left wrote contents after : Option (List ℕ)) (held held' : List ℕ) (r : Result (Unit {0}) Fault)
+    → EndsHolding s o read left wrote contents held r → EndsByNoDevice r → (more : List ℕ) × Appends contents after more × IsOut held held' more
+    → Ends s o read left wrote after r
+ended-put s o read left wrote contents after held held' r h not (more, writes, (all, none)) =
+    ended-written s o read left wrote contents after held more r h not writes all
 
 -- no device failed at the end
-pub no-reads : (fault : Fault) (n : ℕ) → IsNoDevice fault → fault_reads fault n ≡ n
-no-reads Fault.Memory n h = refl
-no-reads (Fault.Lexer f) n h = refl
-no-reads (Fault.Parser f) n h = refl
-no-reads (Fault.Types f) n h = refl
-no-reads (Fault.Elaborate f) n h = refl
-no-reads (Fault.Sharing f) n h = refl
-no-reads (Fault.Trace f) n h = refl
-no-reads Fault.ReadFailed n h = absurd (h.0 refl)
-no-reads Fault.WriteFailed n h = refl
-no-reads (Fault.BadCommand k) n h = refl
+pub quiet-reads : (r : Result (Unit {0}) Fault) (n : ℕ) → EndsByNoDevice r → after_reading r n ≡ n
+quiet-reads (Ok x) n h = refl
+quiet-reads (Err Fault.Memory) n h = refl
+quiet-reads (Err (Fault.Lexer f)) n h = refl
+quiet-reads (Err (Fault.Parser f)) n h = refl
+quiet-reads (Err (Fault.Types f)) n h = refl
+quiet-reads (Err (Fault.Elaborate f)) n h = refl
+quiet-reads (Err (Fault.Sharing f)) n h = refl
+quiet-reads (Err (Fault.Trace f)) n h = refl
+quiet-reads (Err Fault.ReadFailed) n h = absurd (h.0 refl)
+quiet-reads (Err Fault.WriteFailed) n h = refl
+quiet-reads (Err (Fault.BadCommand k)) n h = refl
 
-pub no-writes : (fault : Fault) (n : ℕ) → IsNoDevice fault → fault_writes fault n ≡ n
-no-writes Fault.Memory n h = refl
-no-writes (Fault.Lexer f) n h = refl
-no-writes (Fault.Parser f) n h = refl
-no-writes (Fault.Types f) n h = refl
-no-writes (Fault.Elaborate f) n h = refl
-no-writes (Fault.Sharing f) n h = refl
-no-writes (Fault.Trace f) n h = refl
-no-writes Fault.ReadFailed n h = refl
-no-writes Fault.WriteFailed n h = absurd (h.1 refl)
-no-writes (Fault.BadCommand k) n h = refl
+pub quiet-writes : (r : Result (Unit {0}) Fault) (n : ℕ) → EndsByNoDevice r → after_writing r n ≡ n
+quiet-writes (Ok x) n h = refl
+quiet-writes (Err Fault.Memory) n h = refl
+quiet-writes (Err (Fault.Lexer f)) n h = refl
+quiet-writes (Err (Fault.Parser f)) n h = refl
+quiet-writes (Err (Fault.Types f)) n h = refl
+quiet-writes (Err (Fault.Elaborate f)) n h = refl
+quiet-writes (Err (Fault.Sharing f)) n h = refl
+quiet-writes (Err (Fault.Trace f)) n h = refl
+quiet-writes (Err Fault.ReadFailed) n h = refl
+quiet-writes (Err Fault.WriteFailed) n h = absurd (h.1 refl)
+quiet-writes (Err (Fault.BadCommand k)) n h = refl
+
+-- a failed write says nothing of the reader
+pub unput-reads : (fault : Fault) (q : Result (Unit {0}) Fault) (n : ℕ) → fault ≡ Fault.WriteFailed → q ≡ Err fault → after_reading q n ≡ n
+unput-reads fault q n failed is = ap (λ (x : Result (Unit {0}) Fault). after_reading x n) (is ∙ ap Err failed)

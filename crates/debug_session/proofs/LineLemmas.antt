@@ -1,5 +1,5 @@
 -- One line taken from a reader.
-use Rattle.std.proofs.Common.{◌≡◌, ◌⊎◌, ℕ, ◌+◌, ◌-◌, ◌<◌, Bool, true, false, cond, ◌&&◌, eqb, ltb, List, [], ◌∷◌, ◌++◌, Option, Some, None, length, take, get_or, refl, sym, ap, ◌∙◌, subst, inl, inr, arith, eqb-true, length-append, length-take}
+use Rattle.std.proofs.Common.{◌≡◌, ◌⊎◌, ℕ, ◌+◌, ◌-◌, ◌<◌, Bool, true, false, cond, ◌&&◌, eqb, ltb, List, [], ◌∷◌, ◌++◌, Option, Some, None, MatchBool, length, take, get_or, refl, sym, ap, ◌∙◌, subst, inl, inr, arith, eqb-true, length-append, length-take}
 use Rattle.std.specs.Option.{IfSome}
 use Rattle.std.specs.List.{All}
 use Rattle.std.specs.Io.{StopsAt, appended_bytes}
@@ -120,3 +120,9 @@ takes-part old new start read line fault none e stops takes which =
       subst (Consumes old new) (all ∙ sym e.0) takes,
       which,
     )
+
+-- a line that was at hand
+pub taken-whole : (A B C : Type 0) (b : Bool) (old new : Option (List ℕ)) (line : List ℕ) → b ≡ true
+    → MatchBool b (IsLine line × Consumes old new (line ++ 10 ∷ []) × A × B) C → TakesLine old new line true
+taken-whole A B C true old new line e h = (h.0, h.1)
+taken-whole A B C false old new line e h = absurd (false≢true e)

@@ -1,5 +1,5 @@
 -- How one line is answered.
-use Rattle.std.proofs.Common.{◌≡◌, ℕ, List, refl, sym, subst, inl, inr}
+use Rattle.std.proofs.Common.{◌≡◌, ℕ, List, Result, Err, MatchResult, refl, sym, subst, inl, inr}
 use Rattle.system.specs.declared.system.System.{System}
 use Rattle.debug_session.specs.declared.line.Line.{Line}
 use Rattle.debug_session.specs.declared.fault.Fault.{Fault}
@@ -31,3 +31,8 @@ line-unmade s t line number said same (inr nothing) some = absurd (some nothing.
 pub line-answered : (s t : System) (o o' : AtLine) (line answer : List ℕ) (said : Line) → t ≡ s → Says t line said → SaidAnswered s o said answer o'
     → LineAnswered s o line answer o'
 line-answered s t o o' line answer said same says a = (said, subst (λ y. Says y line said) same says, a)
+
+-- the result is the fault that stopped the line
+pub stops-with : {A : Type 0} (P : A → Type 0) (s : System) (line : List ℕ) (number : ℕ) (fault : Fault) (r : Result A Fault) → r ≡ Err fault
+    → LineStops s line number fault → MatchResult r P (λ f. LineStops s line number f)
+stops-with {A} P s line number fault r e h = subst (λ q. MatchResult q P (λ f. LineStops s line number f)) (sym e) h

@@ -1,5 +1,5 @@
 -- The answer to a trace.
-use Rattle.std.proofs.Common.{◌≡◌, ◌≢◌, ℕ, List, Result, Ok, Err, MatchResult, refl, sym, ap, ◌∙◌, subst, inl, inr}
+use Rattle.std.proofs.Common.{◌≡◌, ℕ, List, Result, Ok, Err, MatchResult, sym, ap, ◌∙◌, subst, inl, inr}
 use Rattle.system.specs.declared.system.System.{System}
 use Rattle.calculus.specs.Does.{Answers}
 use Rattle.calculus.specs.Live.{Live}

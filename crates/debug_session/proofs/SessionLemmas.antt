@@ -1,5 +1,5 @@
 -- How far a session has come, and how it goes on.
-use Rattle.std.proofs.Common.{◌≡◌, ℕ, suc, ◌+◌, List, [], ◌∷◌, ◌++◌, Bool, true, false, Option, Result, Ok, Err, MatchResult, length, add-one, refl, sym, ap, ◌∙◌, subst, inl, inr, append_assoc, append-nil}
+use Rattle.std.proofs.Common.{◌≡◌, ℕ, suc, ◌+◌, List, [], ◌∷◌, ◌++◌, Bool, true, false, Option, Result, Ok, Err, length, add-one, refl, sym, ap, ◌∙◌, subst, inl, inr, append_assoc, append-nil}
 use Rattle.std.specs.Option.{IfSome}
 use Rattle.std.specs.List.{flat_map}
 use Rattle.std.specs.Io.KnownBytes.{Appends, Consumes, IsAtEnd}
@@ -11,7 +11,7 @@ use Rattle.debug_session.specs.AtLine.{AtLine, first_line}
 use Rattle.debug_session.specs.declared.fault.Fault.{Fault}
 use Rattle.debug_session.specs.Counting.{WritingStops}
 use Rattle.debug_session.specs.Script.{with_end, IsLine, IsEnding, AreLines, EndWith}
-use Rattle.debug_session.specs.Transcript.{LineAnswered, Transcript, Answered, BeginsToAnswer, StoppedByFault, Ends}
+use Rattle.debug_session.specs.Transcript.{LineAnswered, Transcript, Ends}
 use Rattle.debug_session.specs.walking.OneLine.{TakesLine, LineStops, AskingStops, StopsHolding, EndsHolding}
 use Rattle.devices.specs.Counting.{IsNoEnd}
 use Rattle.devices.proofs.KnownLemmas.{Appends-none, Consumes-none, Appends-then, Consumes-then, end-known}
@@ -143,19 +143,33 @@ no-bytes = All-nil IsNoEnd
 unasked : (s : System) (o m : AtLine) (read left left' wrote contents contents' : Option (List ℕ)) (held held' given : List ℕ) (number : ℕ) (fault : Fault)
     → Progress s o read left wrote contents held m number → Appends contents contents' given → AskingStops left left' held held' given fault
     → EndsHolding s o read left' wrote contents' held' (Err fault)
-unasked s o m read left left' wrote contents contents' held held' given number Fault.Memory p gives ((part, one, takes), join) = (
+unasked s o m read left left' wrote contents contents' held held' given number Fault.Memory p gives (inl (kept, join)) = (
+  flat_map with_end p.lines ++ [],
+  p.out ++ given,
+  Consumes-then read left left' (flat_map with_end p.lines) [] p.taken kept,
+  Appends-then wrote contents contents' p.out given p.given gives,
+  inr (
+    p.lines,
+    (m, subst (λ t. Transcript s o p.lines t m) (rejoin-none p.out held given held' join) p.answered),
+    inl (lines-and-part p.lines [] p.each no-bytes),
+  ),
+)
+unasked s o m read left left' wrote contents contents' held held' given number Fault.Memory p gives (inr ((part, one, takes), all, none)) = (
   flat_map with_end p.lines ++ part,
   p.out ++ given,
   Consumes-then read left left' (flat_map with_end p.lines) part p.taken takes,
   Appends-then wrote contents contents' p.out given p.given gives,
-  (
-    p.lines,
-    part,
-    (m, subst (λ t. Transcript s o p.lines t m) (rejoin-none p.out held given held' join) p.answered),
-    inl (lines-and-part p.lines part p.each one),
+  inl (
+    none,
+    (
+      p.lines,
+      part,
+      (m, subst (λ t. Transcript s o p.lines (p.out ++ t) m) (sym all) p.answered),
+      inl (lines-and-part p.lines part p.each one),
+    ),
   ),
 )
-unasked s o m read left left' wrote contents contents' held held' given number Fault.ReadFailed p gives ((part, one, takes), (all, none)) = (
+unasked s o m read left left' wrote contents contents' held held' given number Fault.ReadFailed p gives ((part, one, takes), all, none) = (
   flat_map with_end p.lines ++ part,
   p.out ++ given,
   Consumes-then read left left' (flat_map with_end p.lines) part p.taken takes,
@@ -177,7 +191,6 @@ unasked s o m read left left' wrote contents contents' held held' given number F
   Appends-then wrote contents contents' p.out given p.given gives,
   (
     p.lines,
-    [],
     inl (
       lines-and-part p.lines [] p.each no-bytes,
       (missing, (m, subst (λ t. Transcript s o p.lines t m) (rejoin-none p.out held given missing (sym e)) p.answered)),
@@ -211,7 +224,7 @@ stops-at : (s : System) (o m : AtLine) (at_end : Type 0) (lines : List (List ℕ
     → LineStops s line number fault
     → StopsHolding s o at_end (flat_map with_end lines ++ (line ++ tail)) out held fault
 stops-at s o m at_end lines out held line tail number Fault.Memory h one e t c stops =
-    (lines, line, (m, t), inr (lines-and-line at_end lines line tail h one e, stops))
+    inr (lines, (m, t), inr (line, lines-and-line at_end lines line tail h one e, stops))
 stops-at s o m at_end lines out held line tail number (Fault.BadCommand n) h one e t c stops =
     (lines, line, lines-and-line at_end lines line tail h one e, (m, t), stops.0 ∙ c, stops.1, stops.2)
 stops-at s o m at_end lines out held line tail number Fault.WriteFailed h one e t c stops = absurd stops
@@ -251,8 +264,8 @@ unwritten s o m o' read left left' wrote contents contents' held held' given num
       Appends-then wrote contents contents' p.out given p.given gives,
       (
         p.lines,
-        line,
         inr (
+          line,
           lines-and-line (IfSome read (λ _. IsAtEnd left')) p.lines line piece.0 p.each takes.0 piece.1,
           inr (
             missing,
@@ -274,7 +287,7 @@ session-endless s o m read left wrote contents held number p = (
   p.out,
   p.taken,
   p.given,
-  (p.lines, [], (m, p.answered), inl (record { joined = sym (append-nil (flat_map with_end p.lines)); each = p.each; unended = no-bytes })),
+  inr (p.lines, (m, p.answered), inl (record { joined = sym (append-nil (flat_map with_end p.lines)); each = p.each; unended = no-bytes })),
 )
 
 -- the end that the result is equal to
@@ -291,13 +304,17 @@ stopped-asking s o m read left left' wrote contents contents' held held' number 
     ends-at s o read left' wrote contents' held' r (Err fault) e
     (unasked s o m read left left' wrote contents contents' held held' given number fault p gives stops)
 
+-- a line was taken, and what was held is out or still held
+abbrev pub LineKept : Option (List ℕ) → Option (List ℕ) → List ℕ → List ℕ → List ℕ → Bool → List ℕ → Type 0
+LineKept left left' held held' line complete given = (given ++ held' ≡ held) × TakesLine left left' line complete
+
 -- a line was had, once some of what was held was written
-pub LineHad : Option (List ℕ) → Option (List ℕ) → Option (List ℕ) → Option (List ℕ) → List ℕ → List ℕ → List ℕ → Bool → Type 0
+abbrev pub LineHad : Option (List ℕ) → Option (List ℕ) → Option (List ℕ) → Option (List ℕ) → List ℕ → List ℕ → List ℕ → Bool → Type 0
 LineHad left left' contents contents' held held' line complete =
-    (given : List ℕ) × Appends contents contents' given × (given ++ held' ≡ held) × TakesLine left left' line complete
+    (given : List ℕ) × Appends contents contents' given × LineKept left left' held held' line complete given
 
 -- an answer was held or written
-pub AnswerHeld : Option (List ℕ) → Option (List ℕ) → List ℕ → List ℕ → List ℕ → Type 0
+abbrev pub AnswerHeld : Option (List ℕ) → Option (List ℕ) → List ℕ → List ℕ → List ℕ → Type 0
 AnswerHeld contents contents' held held' answer = (given : List ℕ) × Appends contents contents' given × (given ++ held' ≡ held ++ answer)
 
 -- the line is not answered, and the result is its fault
@@ -305,7 +322,7 @@ pub stopped-by-line : (s t : System) (o m : AtLine) (read left left' wrote conte
     (line text : List ℕ) (complete : Bool) (fault : Fault) (r : Result (Unit {0}) Fault) → t ≡ s → text ≡ line
     → Progress s o read left wrote contents held m number → LineHad left left' contents contents' held held' line complete
     → LineStops t text number fault → r ≡ Err fault → EndsHolding s o read left' wrote contents' held' r
-stopped-by-line s t o m read left left' wrote contents contents' held held' number line text complete fault r same whole p (given, gives, join, takes) stops e =
+stopped-by-line s t o m read left left' wrote contents contents' held held' number line text complete fault r same whole p (given, gives, (join, takes)) stops e =
     ends-at s o read left' wrote contents' held' r (Err fault) e
     (unanswered s o m read left left' wrote contents' held' number line complete fault
     (put-on s o m read left wrote contents contents' held held' given number p gives join) takes
@@ -324,7 +341,7 @@ pub stopped-by-writer : (s t : System) (o m o' : AtLine) (read left left' wrote 
     → LineAnswered t m text answer o' → (given : List ℕ) × Appends contents' after given × WritingStops (held' ++ bytes) given fault
     → r ≡ Err fault → EndsHolding s o read left' wrote after last r
 stopped-by-writer s t o m o' read left left' wrote contents contents' after held held' last number line text answer bytes complete fault r same whole all p
-    (given, gives, join, takes) a (more, writes, failed, (missing, e)) is =
+    (given, gives, (join, takes)) a (more, writes, (failed, (missing, e))) is =
     ends-at s o read left' wrote after last r (Err Fault.WriteFailed) (is ∙ ap Err failed)
     (unwritten s o m o' read left left' wrote contents' after held' last more number line answer complete
     (put-on s o m read left wrote contents contents' held held' given number p gives join) takes
@@ -337,7 +354,7 @@ pub done-by-line : (s t : System) (o m o' : AtLine) (read left left' wrote conte
     → LineAnswered t m text answer o' → AnswerHeld contents' after held' last bytes
     → EndsHolding s o read left' wrote after last (Ok tt)
 done-by-line s t o m o' read left left' wrote contents contents' after held held' last number line text answer bytes complete same whole all ended p
-    (given, gives, join, takes) a (more, writes, joins) =
+    (given, gives, (join, takes)) a (more, writes, joins) =
     let last_line : TakesLine left left' line false = subst (λ b. TakesLine left left' line b) ended takes in
     last-answered s o m o' read left left' wrote contents' after held' last more number line answer
     (put-on s o m read left wrote contents contents' held held' given number p gives join) last_line.0 last_line.1.0 last_line.1.1 writes
@@ -350,7 +367,7 @@ pub more-by-line : (s t : System) (o m o' : AtLine) (read left left' wrote conte
     → LineAnswered t m text answer o' → AnswerHeld contents' after held' last bytes
     → Progress s o read left' wrote after last o' (number + 1)
 more-by-line s t o m o' read left left' wrote contents contents' after held held' last number line text answer bytes complete same whole all ended p
-    (given, gives, join, takes) a (more, writes, joins) =
+    (given, gives, (join, takes)) a (more, writes, joins) =
     let whole_line : TakesLine left left' line true = subst (λ b. TakesLine left left' line b) ended takes in
     line-on s o m o' read left left' wrote contents' after held' last more number (number + 1) line answer
     (put-on s o m read left wrote contents contents' held held' given number p gives join) whole_line.0 whole_line.1 writes

@@ -1,5 +1,5 @@
 -- What it is for a source and a stimulus to be accepted, and to be refused.
-use Rattle.std.specs.Prelude.{◌≡◌, ◌≢◌, ◌⊎◌, ℕ, List, Ok}
+use Rattle.std.specs.Prelude.{◌≡◌, ◌≢◌, ◌⊎◌, ℕ, List}
 use Rattle.elaborate.specs.Elaboration as elaboration
 use Rattle.syntax.specs.Texts.{lines}
 use Rattle.stimulus.specs.StimulusText.{AreEntries, FirstOther}

@@ -66,12 +66,14 @@ StoppedByFault system a at_end taken output Fault.Memory =
 StoppedByFault system a at_end taken output (Fault.BadCommand number) =
     (lines : List (List ℕ)) × (last : List ℕ) × EndWith at_end taken lines last × Answered system a lines output
     × (number ≡ suc (length lines)) × (last ≢ []) × AsksNothing system last
--- writing failed: a beginning of the answers to the lines that were taken is out. The last of these may be cut off, or say nothing
--- that can be answered
+-- writing failed: a beginning of the answers to the lines that were taken is out; the last of them may be one that says nothing that
+-- can be answered, or for which there was no memory
 StoppedByFault system a at_end taken output Fault.WriteFailed =
-    (lines : List (List ℕ)) × (last : List ℕ)
-    × ((AreLines taken lines last × BeginsToAnswer system a lines output)
-    ⊎ (EndWith at_end taken lines last × (BeginsToAnswer system a lines output ⊎ BeginsToAnswer system a (lines ++ last ∷ []) output)))
+    (lines : List (List ℕ))
+    × ((AreLines taken lines [] × BeginsToAnswer system a lines output)
+    ⊎ ((last : List ℕ) × EndWith at_end taken lines last
+    × (((AsksNothing system last ⊎ LineMayWantMemory system last) × BeginsToAnswer system a lines output)
+    ⊎ BeginsToAnswer system a (lines ++ last ∷ []) output)))
 -- no other fault comes once the session has begun
 StoppedByFault system a at_end taken output (Fault.Lexer fault) = ⊥
 StoppedByFault system a at_end taken output (Fault.Parser fault) = ⊥

@@ -1,10 +1,10 @@
-ghost use Rattle.std.specs.Prelude.{◌≡◌, ◌≢◌, [], MatchResult, IfOk, OnErr};
+ghost use Rattle.std.specs.Prelude.{◌≡◌, ◌≢◌, [], MatchBool, MatchResult, IfOk, OnErr};
 ghost use Rattle.std.specs.Io.Buffered.{reader_remaining};
 ghost use Rattle.devices.specs.Counting.{device, failures};
 ghost use Rattle.debug_session.specs.Counting.{after_reading, after_writing};
 ghost use Rattle.debug_session.specs.Lines.{SaysSession};
 ghost use Rattle.debug_session.specs.declared.line.Line.{Line};
-ghost use Rattle.debug_session.specs.walking.OneLine.{LineStops, EndsHolding};
+ghost use Rattle.debug_session.specs.walking.OneLine.{LineStops, EndsByDevice, EndsByNoDevice, EndsHolding};
 ghost use Rattle.debug_session.specs.Transcript.{SaidAnswered, LineAnswered, Ends};
 
 use crate::held::{hold, put_out};
@@ -15,10 +15,9 @@ use locked_execution::Command;
 use std::alloc::{AllocError, Global};
 use std::io::{BufReader, Read, Write};
 
-/// Answers each line of the reader as soon as it was read. It ends where the reader is at its end, or at the first
-/// fault: then the answers of the lines before are out, and where writing failed a beginning of the answers.
-///
-/// Before the reader may wait for its device all answers are out: they are held back only while its buffer has another line.
+/// Answers each line of the reader. It ends where the reader is at its end, or at the first fault: then the answers of the
+/// lines before are out, and where writing failed a beginning of the answers. Before the reader asks its device for more, all
+/// answers are out: they are held back only while its buffer has another line.
 pub(crate) fn answer_lines<R: Read, W: Write>(
     alloc: Global,
     sitting: &mut Sitting<'_>,
@@ -32,13 +31,18 @@ pub(crate) fn answer_lines<R: Read, W: Write>(
 {
     let mut held = Vec::new(alloc);
     let ended = hold_answers(alloc, sitting, reader, writer, &mut held);
-    match ended {
-        Err(Fault::ReadFailed | Fault::WriteFailed) => ended,
-        Ok(()) | Err(_) => {
-            put_out(writer, &mut held)?;
-            ended
-        }
+    if has_failed(&ended) {
+        return ended;
     }
+    put_out(writer, &mut held)?;
+    ended
+}
+
+/// Whether the session ended since a device failed. Then nothing that is held is to be written.
+fn has_failed(ended: &Result<(), Fault>) -> bool
+    ensures { MatchBool result (EndsByDevice ended.now) (EndsByNoDevice ended.now) }
+{
+    matches!(ended, Err(Fault::ReadFailed | Fault::WriteFailed))
 }
 
 /// Answers the lines; some of the answers may still be held at the end.

@@ -1,5 +1,5 @@
 //! Answers that are held back while further lines are at hand, so that many of them take one write.
-ghost use Rattle.std.specs.Prelude.{◌≡◌, ◌++◌, [], List, ℕ, MatchResult};
+ghost use Rattle.std.specs.Prelude.{◌≡◌, ◌≢◌, ◌≤◌, ◌⊎◌, ◌++◌, [], List, ℕ, length, MatchBool, MatchResult, IfOk, IfErr};
 ghost use Rattle.std.specs.Io.KnownBytes.{Appends};
 ghost use Rattle.devices.specs.Counting.{device, failures};
 ghost use Rattle.debug_session.specs.Counting.{after_writing, WritingStops};
@@ -15,6 +15,7 @@ const ROOM: usize = 8_192;
 pub(crate) fn put_out<W: Write>(writer: &mut Counted<W>, held: &mut Vec<u8>) -> Result<(), Fault>
     ensures bytes { (given : List ℕ) × Appends (W.contents (device writer.old)) (W.contents (device writer.new)) given
         × MatchResult result (λ _. (given ≡ held.old.items) × (held.new.items ≡ [])) (λ fault. WritingStops held.old.items given fault) }
+    ensures some { IfErr result (λ _. held.old.items ≢ []) }
     ensures failures { failures writer.new ≡ after_writing result (failures writer.old) }
 {
     if held.is_empty() {
@@ -33,12 +34,21 @@ pub(crate) fn hold<W: Write>(
 ) -> Result<(), Fault>
     ensures bytes { (given : List ℕ) × Appends (W.contents (device writer.old)) (W.contents (device writer.new)) given
         × MatchResult result (λ _. given ++ held.new.items ≡ held.old.items ++ answer.now) (λ fault. WritingStops (held.old.items ++ answer.now) given fault) }
+    ensures bound { IfOk result (λ _. (held.new.items ≡ []) ⊎ ((length held.old.items ≤ 8192) × (length answer.now ≤ 8192))) }
     ensures failures { failures writer.new ≡ after_writing result (failures writer.old) }
 {
-    let is_short = held.len() <= ROOM && answer.len() <= ROOM;
-    if is_short && held.extend_from_slice(answer).is_ok() {
+    if is_held(held, answer) {
         return Ok(());
     }
     put_out(writer, held)?;
     write_out(writer, answer)
+}
+
+/// Whether the answer is held now: neither it nor what was held before it is long, and there was memory for it.
+fn is_held(held: &mut Vec<u8>, answer: &[u8]) -> bool
+    ensures { MatchBool result
+        ((held.new.items ≡ held.old.items ++ answer.now) × (length held.old.items ≤ 8192) × (length answer.now ≤ 8192))
+        (held.new.items ≡ held.old.items) }
+{
+    held.len() <= ROOM && answer.len() <= ROOM && held.extend_from_slice(answer).is_ok()
 }

@@ -1,13 +1,13 @@
 ghost use Rattle.std.specs.Prelude.{◌≡◌, ◌≢◌, ◌⊎◌, ◌++◌, ◌∷◌, List, ℕ, [], true, false, MatchResult, MatchBool};
 ghost use Rattle.std.specs.IoError.{error_kind};
 ghost use Rattle.std.specs.Io.KnownBytes.{Appends};
-ghost use Rattle.std.specs.Io.Buffered.{reader_remaining};
+ghost use Rattle.std.specs.Io.Buffered.{reader_inner, reader_remaining};
 ghost use Rattle.std.specs.Io.BufRead.{ends_with_byte};
 ghost use Rattle.syntax.specs.Texts.{line_end};
 ghost use Rattle.devices.specs.Counting.{device, failures};
 ghost use Rattle.debug_session.specs.Counting.{after_reading, after_writing};
 ghost use Rattle.debug_session.specs.walking.OneLine.{TakesLine, ReadingStops, AskingStops};
-ghost use Rattle.debug_session.specs.declared.fault.Fault.TheVariants.{Memory, ReadFailed};
+ghost use Rattle.debug_session.specs.declared.fault.Fault.TheVariants.{Memory, ReadFailed, WriteFailed};
 
 use crate::Fault;
 use crate::held::put_out;
@@ -15,7 +15,7 @@ use devices::{Counted, ends_line};
 use std::io::{BufRead, BufReader, Error, ErrorKind, Read, Write};
 
 /// Takes the next line into `line`, in place of what was there, without byte 10 at its end, and tells whether it was there.
-/// Unless the reader has all of it at hand, what is held is written out first, so nobody waits for an answer that is there.
+/// Unless the reader has all of it at hand, what is held is written out before its device is asked.
 pub(crate) fn next_line<R: Read, W: Write>(
     reader: &mut Counted<BufReader<R>>,
     writer: &mut Counted<W>,
@@ -27,6 +27,9 @@ pub(crate) fn next_line<R: Read, W: Write>(
         (λ complete. (given ++ held.new.items ≡ held.old.items)
         × TakesLine (reader_remaining R.remaining (device reader.old)) (reader_remaining R.remaining (device reader.new)) line.new.items complete)
         (λ fault. AskingStops (reader_remaining R.remaining (device reader.old)) (reader_remaining R.remaining (device reader.new)) held.old.items held.new.items given fault) }
+    ensures asked { MatchResult result
+        (λ _. (reader_inner (device reader.new) ≡ reader_inner (device reader.old)) ⊎ (held.new.items ≡ []))
+        (λ fault. fault ≡ WriteFailed → reader.new ≡ reader.old) }
     ensures read_failures { failures reader.new ≡ after_reading result (failures reader.old) }
     ensures write_failures { failures writer.new ≡ after_writing result (failures writer.old) }
 {

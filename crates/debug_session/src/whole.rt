@@ -38,10 +38,11 @@ pub fn accept(alloc: Global, source: &[u8], stimulus: &[u8]) -> Result<Checked, 
     }
 }
 
-/// Answers the lines of `reader` on `writer`, each as soon as it was read, over the system of source and stimulus.
+/// Answers the lines of `reader` on `writer`, over the system of source and stimulus.
 ///
 /// Source and stimulus are accepted before anything is read. Before the reader asks its device for more, the answers to all
-/// lines before are out and flushed; while its buffer has another line, answers may be held back, up to some 16 KB. At a
+/// lines before are out and flushed; while its buffer has another line, answers may be held back, up to 16 KB. The buffer has
+/// to have room for a byte at least, or the script looks empty. At a
 /// fault the answers of the lines before are out, and where writing failed a beginning of the answers. `ReadFailed` and
 /// `WriteFailed` come exactly where reader and writer count a failure.
 pub fn debug<R: Read, W: Write>(

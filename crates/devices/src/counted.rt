@@ -6,7 +6,7 @@ ghost use Rattle.std.specs.IoError.{error_kind};
 ghost use Rattle.std.specs.Io.{WritesAtMost, StopsAt, appended_bytes};
 ghost use Rattle.std.specs.Io.KnownBytes.{Consumes, Keeps, IsAtEnd, WriteAppends};
 ghost use Rattle.std.specs.Io.BufRead.{take_through, ends_with_byte, DropsThrough};
-ghost use Rattle.std.specs.Io.Buffered.{reader_buffer, reader_remaining};
+ghost use Rattle.std.specs.Io.Buffered.{reader_buffer, reader_inner, reader_remaining};
 ghost use Rattle.devices.specs.Counting.{device, failures, patience, one_more, CountsIf, IsNoEnd, after_filling};
 ghost use Rattle.devices.specs.declared.failing.ReadFault.TheVariants.{Memory, Failed};
 
@@ -123,7 +123,8 @@ impl<R: Read> Counted<BufReader<R>> {
     /// and tells whether it has. The device is asked for nothing.
     pub fn take_line(&mut self, line: &mut Vec<u8>) -> Result<bool, AllocError>
         ensures taken { IfOk result (λ is_whole. MatchBool is_whole
-            (All IsNoEnd line.new.items × Consumes (reader_remaining R.remaining (device self.old)) (reader_remaining R.remaining (device self.new)) (line.new.items ++ 10 ∷ []))
+            (All IsNoEnd line.new.items × Consumes (reader_remaining R.remaining (device self.old)) (reader_remaining R.remaining (device self.new)) (line.new.items ++ 10 ∷ [])
+            × (reader_buffer (device self.old) ≡ line.new.items ++ 10 ∷ reader_buffer (device self.new)) × (reader_inner (device self.new) ≡ reader_inner (device self.old)))
             (All IsNoEnd (reader_buffer (device self.old)) × (self.new ≡ self.old))) }
         ensures memory { OnErr result (self.new ≡ self.old) }
         ensures failures { failures self.new ≡ failures self.old }

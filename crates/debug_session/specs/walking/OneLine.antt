@@ -7,8 +7,8 @@ use Rattle.system.specs.declared.system.System.{System}
 use Rattle.debug_session.specs.declared.fault.Fault.{Fault}
 use Rattle.debug_session.specs.AtLine.{AtLine}
 use Rattle.debug_session.specs.Lines.{AsksNothing, LineMayWantMemory}
-use Rattle.debug_session.specs.Script.{IsLine, with_end}
-use Rattle.debug_session.specs.Transcript.{Completed, StoppedByFault}
+use Rattle.debug_session.specs.Script.{IsLine, AreLines, EndWith, with_end}
+use Rattle.debug_session.specs.Transcript.{Answered, Completed, StoppedByFault}
 
 -- the reader gave the line and its end, or a last line without one, behind which it is at its end
 abbrev pub TakesLine : Option (List ℕ) → Option (List ℕ) → List ℕ → Bool → Type 0
@@ -29,17 +29,40 @@ LineStops system line number fault = ⊥
 abbrev pub TakesPart : Option (List ℕ) → Option (List ℕ) → Type 0
 TakesPart old new = (part : List ℕ) × IsLine part × Consumes old new part
 
--- why no line was had, and what was given of the bytes that were held: there was no memory for the line; reading failed, and then
--- nothing is held; or writing failed, and then the reader was not asked
+-- why no line was had, and what was given of the bytes that were held: there was no memory for a line that is at hand, which was not
+-- taken; or reading stopped, and then nothing is held; or writing failed, and then the reader was not asked
 abbrev pub AskingStops : Option (List ℕ) → Option (List ℕ) → List ℕ → List ℕ → List ℕ → Fault → Type 0
-AskingStops old new held held' given Fault.Memory = TakesPart old new × (given ++ held' ≡ held)
+AskingStops old new held held' given Fault.Memory =
+    (Consumes old new [] × (given ++ held' ≡ held)) ⊎ (TakesPart old new × (given ≡ held) × (held' ≡ []))
 AskingStops old new held held' given Fault.ReadFailed = TakesPart old new × (given ≡ held) × (held' ≡ [])
 AskingStops old new held held' given Fault.WriteFailed = Consumes old new [] × IsBeginning held given
 AskingStops old new held held' given fault = ⊥
 
--- how a session ended that may still hold answers: where reading failed nothing is held, and where writing failed what is held is void
+-- neither reading nor writing failed
+abbrev pub IsNoDevice : Fault → Type 0
+IsNoDevice fault = (fault ≢ Fault.ReadFailed) × (fault ≢ Fault.WriteFailed)
+
+-- reading or writing failed
+abbrev pub IsDevice : Fault → Type 0
+IsDevice Fault.ReadFailed = Unit {0}
+IsDevice Fault.WriteFailed = Unit {0}
+IsDevice fault = ⊥
+
+-- a session ended since a device failed
+abbrev pub EndsByDevice : Result (Unit {0}) Fault → Type 0
+EndsByDevice r = MatchResult r (λ _. ⊥) IsDevice
+
+-- it did not end for that
+abbrev pub EndsByNoDevice : Result (Unit {0}) Fault → Type 0
+EndsByNoDevice r = MatchResult r (λ _. Unit {0}) IsNoDevice
+
+-- how a session ended that may still hold answers: where reading stopped nothing is held, and where writing failed what is held is void
 abbrev pub StopsHolding : System → AtLine → Type 0 → List ℕ → List ℕ → List ℕ → Fault → Type 0
 StopsHolding system a at_end taken given held Fault.ReadFailed = (held ≡ []) × StoppedByFault system a at_end taken given Fault.ReadFailed
+StopsHolding system a at_end taken given held Fault.Memory =
+    ((held ≡ []) × StoppedByFault system a at_end taken given Fault.Memory)
+    ⊎ ((lines : List (List ℕ)) × Answered system a lines (given ++ held)
+    × (AreLines taken lines [] ⊎ ((last : List ℕ) × EndWith at_end taken lines last × LineMayWantMemory system last)))
 StopsHolding system a at_end taken given held Fault.WriteFailed = StoppedByFault system a at_end taken given Fault.WriteFailed
 StopsHolding system a at_end taken given held fault = StoppedByFault system a at_end taken (given ++ held) fault
 
