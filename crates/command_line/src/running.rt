@@ -216,14 +216,7 @@ fn explain<O: Write, E: Write>(
 ///
 /// Answers the status to end with: 0 where it was done, 1 where it was refused, 2 where `words`
 /// could not be read.
-pub fn run<
-    R: AllocGlobal + Threads + Wait + Sync,
-    S: AsStr,
-    F: Files,
-    I: Read,
-    O: Write,
-    E: Write,
->(
+pub fn run<R: AllocGlobal + Threads + Wait + Sync, S: AsStr, F: Files, I: Read, O: Write, E: Write>(
     rt: &R,
     words: &[S],
     files: &F,
