@@ -1,6 +1,6 @@
 -- The search of the next child that uses a channel.
-use Rattle.std.proofs.Common.{◌≡◌, ◌⊎◌, ◌↔◌, inl, inr, ℕ, zero, suc, ◌+◌, ◌<◌, ◌≤◌, List, [], ◌∷◌, ◌++◌, length, Some, None, Option, slice_get, get_or, true, Bor, refl, sym, ap, ◌∙◌, subst, arith}
-use Rattle.std.proofs.lemmas.Bool.{cases_lt, leb-true, le-leb}
+use Rattle.std.proofs.Common.{◌≡◌, ◌⊎◌, ◌↔◌, inl, inr, ℕ, zero, suc, ◌+◌, ◌<◌, ◌≤◌, List, [], ◌∷◌, ◌++◌, length, length-append, Some, None, Option, slice_get, get_or, true, false, Bor, refl, sym, ap, ◌∙◌, subst, arith}
+use Rattle.std.proofs.lemmas.Bool.{cases_lt, leb-true, leb-false, le-leb}
 use Rattle.std.proofs.lemmas.Option.{slice_get-get_or}
 use Rattle.std.specs.Option.{option_copied}
 use Rattle.syntax.specs.Lists.{In}
@@ -9,7 +9,7 @@ use Rattle.process_tree.specs.Code.{Codes, no_code, code, code_at}
 use Rattle.last_events.specs.LastEvents.{Uses, FirstUse}
 use Rattle.last_events.specs.declared.uses.UseTable.{UseTable}
 use Rattle.channel_uses.specs.Uses.{HoldsExactly, used, all_used}
-use Rattle.channel_uses.specs.walking.Parts.{first, end, ends_before, AreParts, EndAt, InTable, UnusedFrom, UnusedBetween}
+use Rattle.channel_uses.specs.walking.Parts.{first, end, ends_before, AreParts, EndAt, InTable, LiesIn, UnusedFrom, UnusedBetween, UsedIn}
 use Rattle.channel_uses.specs.declared.part.Part.{Part}
 use Rattle.channel_uses.proofs.Parts.{part-spans}
 
@@ -174,14 +174,87 @@ ends-parted cs n u ps i j d h l m e =
     le-leb (end (get_or ps i d)) u (omega arith)
 
 -- by their numbers
-pub ended-at : (u k : ℕ) (ps : List Part) → ((j : ℕ) (d : Part) → 0 ≤ j → j < k → ends_before u (get_or ps j d) ≡ true) → EndAt ps u k
-ended-at u k ps h = record {
+pub ended-at : (u k : ℕ) (ps : List Part) → ((j : ℕ) (d : Part) → 0 ≤ j → j < k → ends_before u (get_or ps j d) ≡ true)
+    → ((j : ℕ) (d : Part) → k ≤ j → j < length ps → ends_before u (get_or ps j d) ≡ false) → EndAt ps u k
+ended-at u k ps h later = record {
   before = λ j p less is.
       let within : j < length ps = get-within ps j p is in
       let at : get_or ps j p ≡ p = some-injective (get_or ps j p) p (sym (slice_get-get_or ps j p within) ∙ is) in
       let low : end (get_or ps j p) ≤ u = leb-true (end (get_or ps j p)) u (h j p (omega arith) less) in
       subst (λ q. end q ≤ u) at low;
+  behind = λ p is.
+      let within : k < length ps = get-within ps k p is in
+      let at : get_or ps k p ≡ p = some-injective (get_or ps k p) p (sym (slice_get-get_or ps k p within) ∙ is) in
+      let high : u < end (get_or ps k p) = leb-false (end (get_or ps k p)) u (later k p (omega arith) within) in
+      subst (λ q. u < end q) at high;
 }
+
+-- ---- the child that is found
+-- a use of the row lies in one of the parts
+part-with : (cs : Codes) (n u : ℕ) (ps : List Part) → AreParts cs n ps → n ≤ u → u < n + length (all_used cs) → (k : ℕ) × LiesIn ps u k
+part-with no_code n u ps h low high = absurd (omega arith)
+part-with (code c cs) n u [] h low high = absurd h
+part-with (code c cs) n u (p ∷ ps) h low high =
+    let spans = part-spans c n p h.0 in
+    let begins : first p ≡ n = spans.0 in
+    let ends : end p ≡ n + length (used c) = spans.1 in
+    let long : length (used c ++ all_used cs) ≡ length (used c) + length (all_used cs) = length-append (used c) (all_used cs) in
+    elim (cases_lt u (n + length (used c))) [
+      | inl below ↦ (zero, record { part = p; there = refl; from = omega arith; below = omega arith })
+      | inr above ↦
+          let rest = part-with cs (n + length (used c)) u ps h.1 above (omega arith) in
+          (suc rest.0, record { part = rest.1.part; there = rest.1.there; from = rest.1.from; below = rest.1.below })
+    ]
+
+-- of two parts the first ends before the second begins
+apart : (cs : Codes) (n : ℕ) (ps : List Part) (i j : ℕ) (p q : Part) → AreParts cs n ps → slice_get ps i ≡ Some p → slice_get ps j ≡ Some q → i < j → end p ≤ first q
+apart no_code n ps i j p q h is at l = none-some p (subst (λ rs. slice_get rs i ≡ Some p) h is)
+apart (code c cs) n [] i j p q h is at l = absurd h
+apart (code c cs) n (r ∷ ps) zero zero p q h is at l = absurd (omega arith)
+apart (code c cs) n (r ∷ ps) zero (suc j) p q h is at l =
+    let ends : end r ≡ n + length (used c) = (part-spans c n r h.0).1 in
+    let later : n + length (used c) ≤ first q = begins-from cs (n + length (used c)) ps j q h.1 at in
+    subst (λ x. end x ≤ first q) (some-injective r p is) (omega arith)
+apart (code c cs) n (r ∷ ps) (suc i) zero p q h is at l = absurd (omega arith)
+apart (code c cs) n (r ∷ ps) (suc i) (suc j) p q h is at l = apart cs (n + length (used c)) ps i j p q h.1 is at (omega arith)
+
+-- the part behind those that end at a use or before it has the use
+lies-there : (cs : Codes) (n u k i : ℕ) (ps : List Part) → AreParts cs n ps → EndAt ps u k → LiesIn ps u i → i ≡ k
+lies-there cs n u k i ps h ended w = elim (cases_lt i k) [
+  | inl less ↦ let over : end w.part ≤ u = ended.before i w.part less w.there in let below : u < end w.part = w.below in absurd (omega arith)
+  | inr above ↦ elim (cases_lt k i) [
+    | inl less ↦
+        let last : i < length ps = get-within ps i w.part w.there in
+        let is : slice_get ps k ≡ Some (get_or ps k w.part) = slice_get-get_or ps k w.part (omega arith) in
+        let behind : u < end (get_or ps k w.part) = ended.behind (get_or ps k w.part) is in
+        let gap : end (get_or ps k w.part) ≤ first w.part = apart cs n ps k i (get_or ps k w.part) w.part h is w.there less in
+        let from : first w.part ≤ u = w.from in absurd (omega arith)
+    | inr below ↦ omega arith
+  ]
+]
+
+-- the first use from a child on lies in the part that is found
+lies-found : (table : UseTable) (cs : Codes) (n : ℕ) (ps : List Part) (e child below found k : ℕ) (q : Part) → AreParts cs n ps → below ≡ n + length (all_used cs)
+    → slice_get ps child ≡ Some q → FirstUse table e (first q) below found → EndAt ps found k → LiesIn ps found k
+lies-found table cs n ps e child below found k q h is there hit ended =
+    let low : n ≤ first q = begins-from cs n ps child q h there in
+    let from : first q ≤ found = hit.starts in
+    let high : found < below = hit.less in
+    let one = part-with cs n found ps h (omega arith) (omega arith) in
+    subst (λ i. LiesIn ps found i) (lies-there cs n found k one.0 ps h ended one.1) one.1
+
+pub used-found : (table : UseTable) (cs : Codes) (n : ℕ) (ps : List Part) (e child below found k : ℕ) (q : Part) → AreParts cs n ps → below ≡ n + length (all_used cs)
+    → slice_get ps child ≡ Some q → FirstUse table e (first q) below found → EndAt ps found k → UsedIn table e ps k
+used-found table cs n ps e child below found k q h is there hit ended = (found, hit.uses, lies-found table cs n ps e child below found k q h is there hit ended)
+
+-- and that is no earlier child
+pub none-earlier : (table : UseTable) (cs : Codes) (n : ℕ) (ps : List Part) (e child below found k : ℕ) (q : Part) → AreParts cs n ps → below ≡ n + length (all_used cs)
+    → slice_get ps child ≡ Some q → FirstUse table e (first q) below found → EndAt ps found k → k < child → ⊥
+none-earlier table cs n ps e child below found k q h is there hit ended less =
+    let at = lies-found table cs n ps e child below found k q h is there hit ended in
+    let gap : end at.part ≤ first q = apart cs n ps k child at.part q h at.there there less in
+    let in_it : found < end at.part = at.below in
+    let from : first q ≤ found = hit.starts in omega arith
 
 -- what is not there is past the last
 pub none-past : (ps : List Part) (i : ℕ) (o : Option (Bor Part)) → o ≡ None → option_copied o ≡ slice_get ps i → length ps ≤ i

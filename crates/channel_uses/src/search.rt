@@ -3,7 +3,7 @@ ghost use Rattle.std.specs.Prelude.{◌≡◌, ℕ, ◌≤◌, ◌<◌, ◌+◌,
 ghost use Rattle.process_tree.specs.Code.{Codes};
 ghost use Rattle.last_events.specs.LastEvents.{Uses, FirstUse};
 ghost use Rattle.channel_uses.specs.Uses.{HoldsExactly, all_used};
-ghost use Rattle.channel_uses.specs.walking.Parts.{parts as parts_of, end as end_of, ends_before, AreParts, EndAt, InTable, UnusedFrom, UnusedBetween};
+ghost use Rattle.channel_uses.specs.walking.Parts.{parts as parts_of, end as end_of, ends_before, AreParts, EndAt, InTable, UnusedFrom, UnusedBetween, UsedIn};
 
 use crate::part::Part;
 use last_events::UseTable;
@@ -47,6 +47,8 @@ pub(crate) fn next_child(table: &UseTable, channel: u32, part: &Part, child: usi
     ensures later { IfSome result (λ k. child ≤ k) }
     ensures unused { (cs : Codes) (n : ℕ) → InTable table.now n (all_used cs) → AreParts cs n (parts_of part.now) → end_of part.now ≡ n + length (all_used cs) →
         MatchOption result (UnusedFrom channel cs child) (λ k. UnusedBetween channel cs child k) }
+    ensures used { (cs : Codes) (n : ℕ) → AreParts cs n (parts_of part.now) → end_of part.now ≡ n + length (all_used cs) →
+        IfSome result (λ k. UsedIn table.now channel (parts_of part.now) k) }
 {
     let from = part.parts.get(child)?.first;
     let found = first_use(table, channel, from, part.end)?;

@@ -69,9 +69,21 @@ InTable table n channels = (c i : ℕ) → slice_get channels i ≡ Some c → U
 abbrev pub ends_before : ℕ → Part → Bool
 ends_before u p = nat_le (end p) u
 
--- the first k parts end at the use or before it
+-- the first k parts end at the use or before it, and the next one behind it
 pub record EndAt (ps : List Part) (u k : ℕ) : Type 0 where
   pub before : (j : ℕ) (p : Part) → j < k → slice_get ps j ≡ Some p → end p ≤ u
+  pub behind : (p : Part) → slice_get ps k ≡ Some p → u < end p
+
+-- the use lies in the part of number k
+pub record LiesIn (ps : List Part) (u k : ℕ) : Type 0 where
+  pub part : Part
+  pub there : slice_get ps k ≡ Some part
+  pub from : first part ≤ u
+  pub below : u < end part
+
+-- a use of the channel lies there
+abbrev pub UsedIn : UseTable → ℕ → List Part → ℕ → Type 0
+UsedIn table e ps k = (u : ℕ) × Uses table e u × LiesIn ps u k
 
 -- the commands of a row from number j on and before number k do not use the channel
 abbrev pub UnusedBetween : ℕ → Codes → ℕ → ℕ → Type 0

@@ -1,6 +1,6 @@
 use Rattle.std.proofs.Common.{MatchOption, subst, sym}
 use Rattle.channel_uses.specs.walking.Parts.{end, parts, AreParts, EndAt, UnusedFrom, UnusedBetween}
-use Rattle.channel_uses.proofs.Searches.{unused-past, unused-none, unused-before, none-past}
+use Rattle.channel_uses.proofs.Searches.{unused-past, unused-none, unused-before, none-past, used-found, none-earlier}
 use Rattle.channel_uses.proofs.search.next_child.Goals as goal
 
 pub returns-in_err-from-clause-unused : goal.returns-in_err-from-clause-unused
@@ -19,3 +19,19 @@ returns-clause-unused c cs n told h e =
     told h e (sym c.in_ok-from.ensures.value) c.in_ok-found.ensures
     (subst (λ ps. EndAt ps c.in_ok-found.found c.ended_before-next.result) c.as_slice.ensures
     (c.ended_before-next.ensures.counted cs n (subst (AreParts cs n) (sym c.as_slice.ensures) h)))
+
+pub returns-clause-used : goal.returns-clause-used
+returns-clause-used c cs n h e =
+    used-found c.args.table.now cs n (parts c.args.part.now) c.args.channel c.args.child (end c.args.part.now) c.in_ok-found.found c.ended_before-next.result c.in_ok-from.field-0.now
+    h e (sym c.in_ok-from.ensures.value) c.in_ok-found.ensures
+    (subst (λ ps. EndAt ps c.in_ok-found.found c.ended_before-next.result) c.as_slice.ensures
+    (c.ended_before-next.ensures.counted cs n (subst (AreParts cs n) (sym c.as_slice.ensures) h)))
+
+pub returns-then-next-child-clause-used : goal.returns-then-next-child-clause-used
+returns-then-next-child-clause-used c cs n h e =
+    absurd
+    (none-earlier c.args.table.now cs n (parts c.args.part.now) c.args.channel c.args.child (end c.args.part.now) c.in_ok-found.found c.ended_before-next.result c.in_ok-from.field-0.now
+    h e (sym c.in_ok-from.ensures.value) c.in_ok-found.ensures
+    (subst (λ ps. EndAt ps c.in_ok-found.found c.ended_before-next.result) c.as_slice.ensures
+    (c.ended_before-next.ensures.counted cs n (subst (AreParts cs n) (sym c.as_slice.ensures) h)))
+    c.if-next-child.true)
