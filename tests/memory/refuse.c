@@ -14,6 +14,9 @@
    one FILE NUMBER 0 0        That request for memory is refused in this process: for a program with threads, which a child
                               does not inherit.
 
+   Where REFUSE_BY_LINE stands in the environment a read of standard input moves one byte in any case, so that each line is read
+   alone, and answered before the next.
+
    What is told of a child: its request, the file that it read or wrote, how many bytes stood on standard output when it was
    forked off, its status as waitpid gives it, how many bytes then stood on standard output and on standard error, each as eight
    bytes, and then these bytes. In the end the number of requests is told in the same form, without bytes and with a status that
@@ -43,6 +46,7 @@ enum { FILES = 16, SECONDS = 20, SLOWER = 64, FAILED = 99, ALL_DONE = 1 << 30 };
 enum way { NOTHING, MEMORY, FLOOD, ONE, READS, WRITES };
 
 static enum way way;
+static int by_line;
 static int file;
 static size_t first, each;
 static int error_number;
@@ -110,6 +114,7 @@ __attribute__((constructor)) static void begin(void)
     char *said = getenv("REFUSE");
     if (!said)
         return;
+    by_line = getenv("REFUSE_BY_LINE") != 0;
     way = way_of(said);
     while (*said && *said != ' ')
         said++;
@@ -206,19 +211,19 @@ static long failed(void)
     return -1;
 }
 
-static size_t moved(size_t count)
+static size_t moved(int file_read, size_t count)
 {
-    return (way == READS || way == WRITES) && count ? 1 : count;
+    return (way == READS || way == WRITES || (by_line && file_read == 0)) && count ? 1 : count;
 }
 
 long read(int from, void *bytes, size_t count)
 {
-    return way == READS && is_next(from) ? failed() : syscall(READ, from, bytes, moved(count));
+    return way == READS && is_next(from) ? failed() : syscall(READ, from, bytes, moved(from, count));
 }
 
 long write(int to, const void *bytes, size_t count)
 {
-    return way == WRITES && is_next(to) ? failed() : syscall(WRITE, to, bytes, moved(count));
+    return way == WRITES && is_next(to) ? failed() : syscall(WRITE, to, bytes, moved(to, count));
 }
 
 long __write(int to, const void *bytes, size_t count)
