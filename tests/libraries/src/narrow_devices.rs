@@ -246,7 +246,11 @@ fn a_writer_that_fails_at_any_write_has_a_beginning(rt: HostRuntime) -> Result<(
 fn a_writer_that_fails_at_any_flush_has_the_answers_so_far(rt: HostRuntime) -> Result<(), Fail> {
     let mut lines = Vec::with_capacity(rt.alloc(), 256)?;
     script(&mut lines)?;
-    for good in 0..LINES.len() {
+    let mut good = 0;
+    for count in 1..LINES.len() + 1 {
+        if LINES[count - 1].1.is_empty() {
+            continue;
+        }
         let mut reader = ByTheByte::new(lines.as_slice(), None);
         let mut writer = Takes {
             taken: Vec::with_capacity(rt.alloc(), 1024)?,
@@ -254,11 +258,12 @@ fn a_writer_that_fails_at_any_flush_has_the_answers_so_far(rt: HostRuntime) -> R
             good: Some(good),
         };
         let mut expected = Vec::with_capacity(rt.alloc(), 1024)?;
-        answers_to(good + 1, &mut expected)?;
+        answers_to(count, &mut expected)?;
         let done = over(rt.alloc(), &mut reader, &mut writer);
         let taken = writer.taken.as_slice();
         assert!(rt; ended(done, Err(Fault::WriteFailed), taken)?, "{good}");
         assert!(rt; taken == expected.as_slice(), "{good}");
+        good += 1;
     }
     Ok(())
 }

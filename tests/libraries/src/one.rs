@@ -18,7 +18,7 @@ pub fn checked(alloc: Global, source: &[u8]) -> Result<Checked, Fail> {
 
 /// A session over the description, with devices that count their failures.
 pub fn over<R: Read, W: Write>(alloc: Global, reader: &mut R, writer: &mut W) -> Result<(), Fault> {
-    let Ok(buffered) = BufReader::new(alloc, reader) else {
+    let Ok(buffered) = BufReader::with_capacity(alloc, 256, reader) else {
         return Err(Fault::Memory);
     };
     debug(

@@ -83,13 +83,30 @@ impl Write for Narrow {
     }
 }
 
+/// A reader that gives a line of five bytes at a time.
+#[derive(Drop)]
+struct ByLine<'a> {
+    rest: &'a [u8],
+}
+
+impl Read for ByLine<'_> {
+    fn read(&mut self, buf: &mut [u8]) -> io::Result<usize> {
+        let count = self.rest.len().min(buf.len()).min(5);
+        buf[..count].copy_from_slice(&self.rest[..count]);
+        self.rest = &self.rest[count..];
+        Ok(count)
+    }
+}
+
 /// How many bytes are taken, and how many of the script are left then, which is read line by line.
 const FULL_AT: [(usize, usize); 5] = [(0, 10), (1, 10), (7, 5), (12, 5), (20, 0)];
 
 #[test]
 fn a_writer_fails_with_a_beginning_out(rt: HostRuntime) -> Result<(), Fail> {
     for (room, left) in FULL_AT {
-        let mut reader: &[u8] = b"live\nlive\nlive\n";
+        let mut reader = ByLine {
+            rest: b"live\nlive\nlive\n",
+        };
         let taken = Vec::with_capacity(rt.alloc(), 20)?;
         let mut out = Narrow { taken, room };
         let ended = over(rt.alloc(), &mut reader, &mut out);
@@ -98,7 +115,7 @@ fn a_writer_fails_with_a_beginning_out(rt: HostRuntime) -> Result<(), Fail> {
             b"live 0\nlive 0\nlive 0\n".starts_with(out.taken.as_slice()),
             "{room}"
         );
-        assert_eq!(rt; (out.taken.len(), reader.len()), (room, left));
+        assert_eq!(rt; (out.taken.len(), reader.rest.len()), (room, left));
     }
     Ok(())
 }
