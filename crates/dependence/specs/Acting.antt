@@ -1,4 +1,4 @@
--- The live event that acts at a place. No two of them act at one place.
+-- The live event that acts at a place: all that act there are equal to it.
 use Rattle.std.specs.Prelude.{◌≡◌, ℕ}
 use Rattle.calculus.specs.Events.{acting}
 use Rattle.calculus.specs.Live.{Live, LiveAt}
