@@ -91,7 +91,7 @@ fn add_free<'a>(live: &'a Live, place: usize, free: &mut Queue<'a>) -> Result<()
     requires { place < length live.now.live }
     ensures { IfOk result (λ _. Joins live.now.live place (heap_items free.old) (heap_items free.new)) }
 {
-    let acting = live.as_slice()[place].1.acting_place().entries();
+    let acting = live.as_slice()[place].1.get().acting_place().entries();
     free.push(Reverse(Free { acting, place }))?;
     Ok(())
 }

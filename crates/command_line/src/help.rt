@@ -39,7 +39,8 @@ pub const DEBUG: &str = "Step a description forwards and backwards, as a script 
 
 pub const DEBUG_LONG: &str = "\
 Step a description forwards and backwards, as a script says. It comes from
-standard input, and each line is answered as soon as it is read:
+standard input, and each line is answered as soon as it is read; lines that come
+together, as from a file, may have their answers together:
 
   ready           list the steps that can be taken now. The last word of each is
                   its place; behind `sync` it is the first of the two. `open`

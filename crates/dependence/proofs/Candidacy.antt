@@ -1,5 +1,5 @@
 -- What is found by places and by variables are candidates for what a new event follows.
-use Rattle.std.proofs.Common.{◌≡◌, ◌⊎◌, ◌↔◌, inl, inr, ℕ, ◌<◌, ◌≤◌, List, [], ◌∷◌, ◌++◌, Bool, true, false, not, cond, Some, None, IsTrue, refl, sym, ◌∙◌, subst, arith}
+use Rattle.std.proofs.Common.{◌≡◌, ◌⊎◌, ◌↔◌, inl, inr, ℕ, ◌+◌, ◌<◌, ◌≤◌, List, [], ◌∷◌, ◌++◌, Bool, true, false, not, cond, Some, None, IsTrue, length, take, get_or, refl, sym, ◌∙◌, subst, arith}
 use Rattle.std.specs.Prelude.{slice_get}
 use Rattle.std.proofs.lemmas.Bool.{cases_lt}
 use Rattle.address.specs.Places.{Before}
@@ -9,7 +9,7 @@ use Rattle.last_events.specs.LastEvents.{IsAt, Uses, LastUse, LastBefore}
 use Rattle.last_events.specs.declared.places.PlaceTable.{PlaceTable}
 use Rattle.calculus.specs.Dependence.{SomeBefore}
 use Rattle.calculus.specs.Events.{places}
-use Rattle.calculus.specs.Live.{Live, Rising, LiveAt, DependsOn, same, later, LastWriter}
+use Rattle.calculus.specs.Live.{Live, Rising, LiveAt, IsLive, DependsOn, same, later, LastWriter}
 use Rattle.calculus.specs.Moves.{Place}
 use Rattle.calculus.specs.declared.event.Event.{Event}
 use Rattle.calculus.proofs.Decisions.{last-writer?}
@@ -19,12 +19,12 @@ use Rattle.calculus.proofs.Tickets.{rising-in, rising-one}
 use Rattle.dependence.specs.Behind.{ComesBehind}
 use Rattle.dependence.specs.declared.accesses.Newcomer.{Newcomer}
 use Rattle.dependence.specs.declared.tables.Tables.{Tables}
-use Rattle.dependence.specs.walking.Found.{FoundByPlace, AccessesFound, IsDirect, ReaderSince, WritesOneRead, UsesWritten, IsNewcomer}
+use Rattle.dependence.specs.walking.Found.{FoundByPlace, AccessesFound, IsBefore, LeadsBefore, IsReadBefore, IsDirect, ReaderSince, WritesOneRead, UsesWritten, IsNewcomer}
 use Rattle.dependence.specs.walking.Tabled.{IsTabled}
-use Rattle.dependence.specs.walking.Tables.{IsRising, Candidates}
+use Rattle.dependence.specs.walking.Tables.{Candidates}
 use Rattle.dependence.proofs.Following.{follows-on}
 use Rattle.dependence.proofs.ListPlaces.{in-at}
-use Rattle.dependence.proofs.Tabling.{place-is, one-at}
+use Rattle.dependence.proofs.Tabling.{place-is, one-at, read-next}
 
 -- by the one address
 pub places-one : (table : PlaceTable) (f : Event) (old new : List ℕ) → f.second ≡ None → LastBefore table f.first old new → FoundByPlace table (places f) old new
@@ -75,19 +75,16 @@ pub found-some : (l : Live) (f : Event) (P Q : ℕ → Type 0) (old new : List �
     AccessesFound l f Q old new
 found-some l f P Q old new all h = record { kept = h.kept; sound = h.sound; complete = λ t e i q. h.complete t e i (all t e i q) }
 
--- one event, unless it has a place before one of f
-pub found-one : (l : Live) (f : Event) (t place : ℕ) (e : Event) (b : Bool) (old new : List ℕ) → IsRising l → slice_get l place ≡ Some (t, e) → IsTrue b ↔ SomeBefore e f →
-    IsDirect l f t → new ≡ cond (not b) (old ++ t ∷ []) old → AccessesFound l f (λ u. u ≡ t) old new
-found-one l f t place e b old new r at told direct now = pick b refl now
+-- one event, unless it leads to one with a place before one of f
+pub found-one : (l : Live) (f : Event) (t : ℕ) (b : Bool) (old new : List ℕ) → (IsTrue b → LeadsBefore l f t) → IsDirect l f t →
+    new ≡ cond (not b) (old ++ t ∷ []) old → AccessesFound l f (λ u. u ≡ t) old new
+found-one l f t b old new leads direct now = pick b refl now
   where
-    one : (u : ℕ) (g : Event) → LiveAt l u g → u ≡ t → g ≡ e
-    one u g i is = rising-one 0 r.0 l t g e r.1 (subst (λ (v : ℕ). LiveAt l v g) is i) (in-at l place (t, e) at)
-
     pick : (c : Bool) → b ≡ c → new ≡ cond (not c) (old ++ t ∷ []) old → AccessesFound l f (λ u. u ≡ t) old new
     pick true on is = subst (λ (k : List ℕ). AccessesFound l f (λ u. u ≡ t) old k) (sym is) (record {
       kept = λ u i. i;
       sound = λ u i. inl i;
-      complete = λ u g i p. inl (subst (λ (x : Event). SomeBefore x f) (sym (one u g i p)) (told.0 on));
+      complete = λ u g i p. inl (subst (λ (v : ℕ). LeadsBefore l f v) (sym p) (leads on));
     })
     pick false off is = subst (λ (k : List ℕ). AccessesFound l f (λ u. u ≡ t) old k) (sym is) (record {
       kept = λ u i. in-left u old (t ∷ []) i;
@@ -98,6 +95,41 @@ found-one l f t place e b old new r at told direct now = pick b refl now
       ];
       complete = λ u g i p. inr (in-right u old (t ∷ []) (inl p));
     })
+
+-- a place of the event itself is before one of f
+pub leads-itself : (l : Live) (f : Event) (t : ℕ) → IsBefore l f t → LeadsBefore l f t
+leads-itself l f t before = (t, before, same)
+
+-- one that reads what the event wrote has a place before one of f
+pub leads-reader : (l : Live) (f : Event) (x w below : ℕ) → LastWriter l x w → IsReadBefore l f x w below → LeadsBefore l f w
+leads-reader l f x w below last read =
+    (read.ticket, (read.event, read.live, read.before), later last.event read.event same last.live read.live read.behind (inr (inr (inl (x, last.writes, inl read.reads)))))
+
+-- whether the live event at a place has a place before one of f
+pub one-before : (new : Newcomer) → IsNewcomer new → (t place : ℕ) (e : Event) (b : Bool) → slice_get new.live.now place ≡ Some (t, e) → IsTrue b ↔ SomeBefore e new.event.now →
+    IsTrue b ↔ IsBefore new.live.now new.event.now t
+one-before new h t place e b at told =
+    let here : LiveAt new.live.now t e = in-at new.live.now place (t, e) at in (
+      (λ on. (e, here, told.0 on)),
+      (λ k. told.1 (subst (λ (g : Event). SomeBefore g new.event.now) (rising-one 0 new.ticket new.live.now t k.0 e h.rising k.1 here) k.2)),
+    )
+
+-- none of the tickets that are passed is greater than `end`
+pub all-behind : (ts : List ℕ) (index old end : ℕ) → index < length ts → old ≤ end → get_or ts index 0 ≤ end → ((t : ℕ) → In t (take index ts) → t ≤ old) →
+    (t : ℕ) → In t (take (index + 1) ts) → t ≤ end
+all-behind ts index old end more low one passed t i =
+    elim (in-parts t (take index ts) (get_or ts index 0 ∷ []) (subst (λ (k : List ℕ). In t k) (read-next ts index more) i)) [
+      | inl before ↦ let was : t ≤ old = passed t before in omega arith
+      | inr (inl is) ↦ subst (λ (k : ℕ). k ≤ end) (sym is) one
+      | inr (inr none) ↦ absurd none
+    ]
+
+-- from the ticket `end` on and below `below` no event that reads x has a place before one of f
+abbrev pub NoneBetween : Newcomer → ℕ → ℕ → ℕ → Type 0
+NoneBetween new x end below = (u : ℕ) (g : Event) → LiveAt new.live.now u g → In x g.read → end ≤ u → u < below → SomeBefore g new.event.now → ⊥
+
+pub none-yet : (new : Newcomer) (x below : ℕ) → NoneBetween new x below below
+none-yet new x below u g i reads high low before = omega arith
 
 module _ (new : Newcomer) (h : IsNewcomer new) (x : ℕ) where
   abbrev pub l : Live
@@ -126,6 +158,57 @@ module _ (new : Newcomer) (h : IsNewcomer new) (x : ℕ) where
 
   pub no-writer : ((t : ℕ) → Uses new.tables.now.writers x t → t < new.ticket → ⊥) → (t : ℕ) → LastWriter l x t → ⊥
   no-writer none t w = none t ((h.tables.writers x t).1 (w.event, w.live, w.writes)) (below-new t w.event w.live)
+
+  -- f depends directly on the last writer of a variable that it uses
+  pub writer-direct : (w : ℕ) → LastUse new.tables.now.writers x new.ticket w → In x new.event.now.read ⊎ (new.event.now.written ≡ Some x) → IsDirect l new.event.now w
+  writer-direct w last uses =
+      let this = last-write w last in
+      (this.event, this.live, inr (inr (inl (x, this.writes, uses))))
+
+  use-of : (u : ℕ) (g : Event) → LiveAt l u g → In x g.read → Uses new.tables.now.readers x u
+  use-of u g i reads = (h.tables.readers x u).1 (g, i, reads)
+
+  pub reader-live : (r below : ℕ) → LastUse new.tables.now.readers x below r → IsLive l r
+  reader-live r below last = let at = (h.tables.readers x r).0 last.uses in (at.0, at.1)
+
+  -- nor from the last reader on, where that one has none
+  pub none-from : (r end below : ℕ) → LastUse new.tables.now.readers x end r → NoneBetween new x end below → (IsBefore l new.event.now r → ⊥) → NoneBetween new x r below
+  none-from r end below last none not_one u g i reads high low before = elim (cases_lt u end) [
+    | inl less ↦
+        let up : u ≤ r = last.last u (use-of u g i reads) less in
+        let is : u ≡ r = omega arith in
+        not_one (subst (λ (v : ℕ). IsBefore l new.event.now v) is (g, i, before))
+    | inr far ↦ none u g i reads far low before
+  ]
+
+  pub none-behind : (r end below w : ℕ) → LastUse new.tables.now.readers x end r → NoneBetween new x end below → r ≤ w → IsReadBefore l new.event.now x w below → ⊥
+  none-behind r end below w last none le read = elim (cases_lt read.ticket end) [
+    | inl less ↦
+        let up : read.ticket ≤ r = last.last read.ticket (use-of read.ticket read.event read.live read.reads) less in
+        let over : w < read.ticket = read.behind in
+        omega arith
+    | inr far ↦ none read.ticket read.event read.live read.reads far read.within read.before
+  ]
+
+  pub none-left : (end below w : ℕ) → ((t : ℕ) → Uses new.tables.now.readers x t → t < end → ⊥) → NoneBetween new x end below → IsReadBefore l new.event.now x w below → ⊥
+  none-left end below w out none read = elim (cases_lt read.ticket end) [
+    | inl less ↦ out read.ticket (use-of read.ticket read.event read.live read.reads) less
+    | inr far ↦ none read.ticket read.event read.live read.reads far read.within read.before
+  ]
+
+  pub read-before : (r end below w : ℕ) → LastUse new.tables.now.readers x end r → end ≤ below → w < r → IsBefore l new.event.now r → IsReadBefore l new.event.now x w below
+  read-before r end below w last low over one =
+      let at = (h.tables.readers x r).0 last.uses in
+      let less : r < end = last.less in
+      record {
+        ticket = r;
+        event = at.0;
+        live = at.1;
+        reads = at.2;
+        behind = over;
+        within = omega arith;
+        before = subst (λ (g : Event). SomeBefore g new.event.now) (rising-one 0 new.ticket l r one.0 at.0 h.rising one.1 at.1) one.2;
+      }
 
   -- from which ticket on events are behind the last writer
   pub from-last : (w : ℕ) → LastUse new.tables.now.writers x new.ticket w → (t : ℕ) → (w ≤ t) ↔ ((v : ℕ) → LastWriter l x v → v ≤ t)
@@ -207,11 +290,14 @@ module _ (l : Live) (n : ℕ) (f : Event) (tables : Tables) (r : Rising 0 l n) (
         ],
       )
 
-  leads-access : (t : ℕ) (e : Event) → LiveAt l t e → WritesOneRead l f.read t ⊎ UsesWritten l f t → Leads t
-  leads-access t e i p = elim (by_variable.complete t e i p) [ inl before ↦ leads-before t e i before | inr inside ↦ (t, inside, same) ]
-
   leads-through : (t w : ℕ) → DependsOn l t w → Leads w → Leads t
   leads-through t w on k = (k.0, k.1, follows-on l t w k.0 on k.2)
+
+  leads-access : (t : ℕ) (e : Event) → LiveAt l t e → WritesOneRead l f.read t ⊎ UsesWritten l f t → Leads t
+  leads-access t e i p = elim (by_variable.complete t e i p) [
+    | inl k ↦ leads-through t k.0 k.2 (leads-before k.0 k.1.0 k.1.1 k.1.2)
+    | inr inside ↦ (t, inside, same)
+  ]
 
   -- a writer of a variable that f reads or writes
   leads-write : (t : ℕ) (e : Event) (x : ℕ) → LiveAt l t e → e.written ≡ Some x → In x f.read ⊎ (f.written ≡ Some x) → Leads t

@@ -1,5 +1,6 @@
-// What a new event finds by the variables that it writes and reads. What has a place before one of its own is left out: it is
-// found by its place, and else each read would sweep back to an old write.
+// What a new event finds by the variables that it writes and reads. What has a place before one of its own is left out, and so
+// is a write that such an event has read: both are reached from what the places give, and else each read would sweep back to an
+// old write.
 ghost use Rattle.std.specs.Prelude.{◌≡◌, ◌≤◌, ◌⊎◌, ◌↔◌, ℕ, Some, IsTrue, IfOk};
 ghost use Rattle.syntax.specs.Lists.{In};
 ghost use Rattle.calculus.specs.Dependence.{SomeBefore};
@@ -7,9 +8,10 @@ ghost use Rattle.calculus.specs.Events.{places};
 ghost use Rattle.calculus.specs.Moves.{Place};
 ghost use Rattle.address.specs.Places.{Before};
 ghost use Rattle.calculus.specs.Live.{IsLive, LastWriter};
-ghost use Rattle.dependence.specs.walking.Found.{AccessesFound, IsDirect, ReaderSince, WritesOneRead, UsesWritten, IsNewcomer};
+ghost use Rattle.dependence.specs.walking.Found.{AccessesFound, IsBefore, IsDirect, IsReadBefore, ReaderSince, WritesOneRead, UsesWritten, IsNewcomer};
 
 use crate::candidates::add_if;
+use crate::live::LiveEvent;
 use crate::places::place_of_live;
 use crate::tables::Tables;
 use address::{Address, before};
@@ -19,7 +21,7 @@ use std::alloc::{AllocError, Global};
 /// A new event, of a ticket greater than the live ones, and the live events with their tables.
 #[derive(Clone, Copy)]
 pub(crate) struct Newcomer<'a> {
-    pub(crate) live: &'a [(u64, Event)],
+    pub(crate) live: &'a [LiveEvent],
     pub(crate) tables: &'a Tables,
     pub(crate) ticket: u64,
     pub(crate) event: &'a Event,
@@ -64,16 +66,51 @@ impl Newcomer<'_> {
         }
     }
 
-    /// Adds the last writer of the variable.
+    /// Adds the last writer of the variable, unless it has a place before one of the event, or a reader of it since has. Such a
+    /// reader stands no later than what the places have given.
     fn add_writer(&self, variable: u32, found: &mut Vec<u64>) -> Result<(), AllocError>
         requires new { IsNewcomer self.now }
         requires uses { In variable self.now.event.now.read ⊎ (self.now.event.now.written ≡ Some variable) }
         ensures { IfOk result (λ _. AccessesFound self.now.live.now self.now.event.now (LastWriter self.now.live.now variable) found.old.items found.new.items) }
     {
         match self.tables.writers.last(variable, self.ticket) {
-            Some(writer) => self.add_access(writer, found),
+            Some(writer) => {
+                let below = behind_all(found.as_slice());
+                let by_place = self.is_before(writer)
+                    || self.is_read_before(variable, writer, below);
+                add_if(!by_place, writer, found)
+            }
             None => Ok(()),
         }
+    }
+
+    /// Whether an event that reads the variable, of a ticket behind `writer` and less than `below`, has a place before one of the
+    /// new event. It looks at the last one first, so in a loop no further back than the loop's own read.
+    fn is_read_before(&self, variable: u32, writer: u64, below: u64) -> bool
+        requires { IsNewcomer self.now }
+        ensures { IsTrue result ↔ IsReadBefore self.now.live.now self.now.event.now variable writer below }
+    {
+        let mut end = below;
+        while let Some(reader) = self.tables.readers.last(variable, end) {
+            if reader <= writer {
+                return false;
+            }
+            if self.is_before(reader) {
+                return true;
+            }
+            end = reader;
+        }
+        false
+    }
+
+    /// Whether the live event has a place before one of the new event.
+    fn is_before(&self, ticket: u64) -> bool
+        requires new { IsNewcomer self.now }
+        requires live { IsLive self.now.live.now ticket }
+        ensures { IsTrue result ↔ IsBefore self.now.live.now self.now.event.now ticket }
+    {
+        let place = place_of_live(self.live, ticket);
+        some_before(self.live[place].1.get(), self.event)
     }
 
     /// Adds those that read the variable since it was written last.
@@ -125,10 +162,22 @@ impl Newcomer<'_> {
         requires direct { IsDirect self.now.live.now self.now.event.now ticket }
         ensures { IfOk result (λ _. AccessesFound self.now.live.now self.now.event.now (λ t. t ≡ ticket) found.old.items found.new.items) }
     {
-        let place = place_of_live(self.live, ticket);
-        let by_place = some_before(&self.live[place].1, self.event);
+        let by_place = self.is_before(ticket);
         add_if(!by_place, ticket, found)
     }
+}
+
+/// A ticket behind all of these; 0 where there are none.
+fn behind_all(tickets: &[u64]) -> u64
+    ensures { (t : ℕ) → In t tickets.now → t ≤ result }
+{
+    let mut end = 0;
+    for ticket in tickets {
+        if *ticket >= end {
+            end = ticket.saturating_add(1);
+        }
+    }
+    end
 }
 
 /// Whether a place of the first event is before a place of the second.

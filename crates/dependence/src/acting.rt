@@ -6,6 +6,7 @@ ghost use Rattle.dependence.specs.Acting.{ActsAlone, NoneActs};
 ghost use Rattle.dependence.specs.walking.Tables.{IsRising};
 ghost use Rattle.dependence.specs.walking.Tabled.{TablesOf};
 
+use crate::live::LiveEvent;
 use crate::places::place_of_live;
 use crate::tables::Tables;
 use address::Entry;
@@ -14,7 +15,7 @@ use last_events::is_first_child;
 
 /// The live event that acts at the first child of the place. The event that stands there may act at the other of its places.
 pub(crate) fn acting_at_first_child<'a>(
-    live: &'a [(u64, Event)],
+    live: &'a [LiveEvent],
     tables: &Tables,
     place: &[Entry],
 ) -> Option<&'a Event>
@@ -34,11 +35,11 @@ pub(crate) fn acting_at_first_child<'a>(
 }
 
 /// The live event of this ticket.
-fn event_of<'a>(live: &'a [(u64, Event)], ticket: u64) -> &'a Event
+fn event_of<'a>(live: &'a [LiveEvent], ticket: u64) -> &'a Event
     requires rising { IsRising live.now }
     requires live { IsLive live.now ticket }
     ensures { LiveAt live.now ticket result.now }
 {
     let place = place_of_live(live, ticket);
-    &live[place].1
+    live[place].1.get()
 }

@@ -3,13 +3,14 @@ ghost use Rattle.dependence.specs.Followers.{CountsDirect};
 ghost use Rattle.calculus.specs.Live.{FirstDependent, IsLive};
 ghost use Rattle.dependence.specs.walking.Tables.{IsRising, Linked, CountsAmong};
 
-use crate::links::Links;
+use crate::held::HeldLinks;
+use crate::live::LiveEvent;
 use crate::places::place_of_live;
 use crate::whole::least_dependent;
 use calculus::{Event, depends_directly};
 
 /// How many live events depend directly on the one of this ticket. The first that may is its first follower.
-pub(crate) fn count_direct(live: &[(u64, Event)], links: &[Links], ticket: u64) -> usize
+pub(crate) fn count_direct(live: &[LiveEvent], links: &[HeldLinks], ticket: u64) -> usize
     requires rising { IsRising live.now }
     requires linked { Linked live.now links.now }
     requires live { IsLive live.now ticket }
@@ -22,7 +23,7 @@ pub(crate) fn count_direct(live: &[(u64, Event)], links: &[Links], ticket: u64) 
 }
 
 /// How many live events depend directly on the one of this ticket, of which `first` is the least dependent.
-fn count_from(live: &[(u64, Event)], ticket: u64, first: u64) -> usize
+fn count_from(live: &[LiveEvent], ticket: u64, first: u64) -> usize
     requires rising { IsRising live.now }
     requires live { IsLive live.now ticket }
     requires first { FirstDependent live.now ticket first }
@@ -30,17 +31,17 @@ fn count_from(live: &[(u64, Event)], ticket: u64, first: u64) -> usize
 {
     let place = place_of_live(live, ticket);
     let from = place_of_live(live, first);
-    count_among(&live[place].1, &live[from..])
+    count_among(live[place].1.get(), &live[from..])
 }
 
 /// How many of these events depend directly on the event.
-fn count_among(event: &Event, later: &[(u64, Event)]) -> usize
+fn count_among(event: &Event, later: &[LiveEvent]) -> usize
     requires { IsRising later.now }
     ensures { CountsAmong event.now later.now result }
 {
     let mut count = 0;
     for entry in later {
-        if depends_directly(event, &entry.1) {
+        if depends_directly(event, entry.1.get()) {
             count += 1;
         }
     }

@@ -13,16 +13,19 @@ ghost use Rattle.dependence.specs.walking.Tables.{IsRising, StandsAt, Falling, L
 
 use crate::accesses::Newcomer;
 use crate::candidates::candidates;
-use crate::links::{Links, link_all, unlink_all};
+use crate::held::HeldLinks;
+use crate::links::{link_all, unlink_all};
+use crate::live::LiveEvent;
 use crate::places::place_of_live;
 use crate::topmost::{span, topmost};
 use calculus::Event;
 use std::alloc::{AllocError, Global};
+use syntax::Boxed;
 
 /// The tickets of the live events that a new event follows, falling.
 pub(crate) fn leads_of(
     alloc: Global,
-    links: &[Links],
+    links: &[HeldLinks],
     new: &Newcomer<'_>,
 ) -> Result<Vec<u64>, AllocError>
     requires new { IsNewcomer new.now }
@@ -54,8 +57,8 @@ fn ascending(mut tickets: Vec<u64>) -> Vec<u64>
 /// Links a new event to those that it follows. Without memory for it the tables are as before.
 pub(crate) fn link_new(
     alloc: Global,
-    live: &[(u64, Event)],
-    links: &mut Vec<Links>,
+    live: &[LiveEvent],
+    links: &mut Vec<HeldLinks>,
     leads: Vec<u64>,
     ticket: u64,
 ) -> Result<(), AllocError>
@@ -66,16 +69,18 @@ pub(crate) fn link_new(
     ensures ok { OnOk result (LinkedBehind live.now ticket leads.items links.new.items) }
     ensures err { OnErr result (PartLinked live.now ticket (λ t. In t []) links.new.items) }
 {
-    link_all(live, links.as_mut_slice(), leads.as_slice(), ticket)?;
-    let entry = Links {
-        followers: Vec::new(alloc),
-        leads,
-    };
+    let entry = HeldLinks::new(alloc, leads)?;
+    link_all(
+        live,
+        links.as_mut_slice(),
+        entry.get().leads.as_slice(),
+        ticket,
+    )?;
     if let Err(refused) = links.push(entry) {
         unlink_all(
             live,
             links.as_mut_slice(),
-            refused.value.leads.as_slice(),
+            refused.value.get().leads.as_slice(),
             ticket,
         );
         return Err(AllocError);
@@ -84,10 +89,7 @@ pub(crate) fn link_new(
 }
 
 /// Room for one more event and its mark.
-pub(crate) fn make_room(
-    pairs: &mut Vec<(u64, Event)>,
-    marks: &mut Vec<bool>,
-) -> Result<(), AllocError>
+pub(crate) fn make_room(pairs: &mut Vec<LiveEvent>, marks: &mut Vec<bool>) -> Result<(), AllocError>
     ensures pairs { pairs.new.items ≡ pairs.old.items }
     ensures marks { marks.new.items ≡ marks.old.items }
     ensures room { OnOk result ((vec_len pairs.new < vec_capacity pairs.new) × (vec_len marks.new < vec_capacity marks.new)) }
@@ -98,10 +100,10 @@ pub(crate) fn make_room(
 
 /// Puts the event and its mark behind the others, where there is room for them.
 pub(crate) fn push_pair(
-    pairs: &mut Vec<(u64, Event)>,
+    pairs: &mut Vec<LiveEvent>,
     marks: &mut Vec<bool>,
     ticket: u64,
-    event: Event,
+    event: Boxed<Event>,
 )
     requires pairs { vec_len pairs.old < vec_capacity pairs.old }
     requires marks { vec_len marks.old < vec_capacity marks.old }
@@ -119,7 +121,11 @@ pub(crate) fn push_pair(
 }
 
 /// Takes the event at this place, on which no other depends, out of the tables.
-pub(crate) fn take_out(pairs: &mut Vec<(u64, Event)>, links: &mut Vec<Links>, place: usize) -> Event
+pub(crate) fn take_out(
+    pairs: &mut Vec<LiveEvent>,
+    links: &mut Vec<HeldLinks>,
+    place: usize,
+) -> Event
     requires rising { IsRising pairs.old.items }
     requires linked { Linked pairs.old.items links.old.items }
     requires alone { (t : ℕ) × StandsAt pairs.old.items t place × NoDependent pairs.old.items t }
@@ -132,8 +138,8 @@ pub(crate) fn take_out(pairs: &mut Vec<(u64, Event)>, links: &mut Vec<Links>, pl
     unlink_all(
         pairs.as_slice(),
         links.as_mut_slice(),
-        taken.leads.as_slice(),
+        taken.get().leads.as_slice(),
         ticket,
     );
-    event
+    event.into_inner()
 }

@@ -6,6 +6,7 @@ mod acting;
 mod candidates;
 mod count;
 mod entries;
+mod held;
 mod laws;
 mod links;
 mod live;
@@ -18,4 +19,4 @@ mod topmost;
 mod whole;
 
 pub use laws::{last_comes_behind, least_is_follower, no_new_follower, reached_through_followers};
-pub use live::Live;
+pub use live::{Live, LiveEvent};

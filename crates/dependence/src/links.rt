@@ -6,8 +6,9 @@ ghost use Rattle.calculus.specs.Live.{Rising, NoneAt, IsLive};
 ghost use Rattle.dependence.specs.declared.links.Links.{Links};
 ghost use Rattle.dependence.specs.walking.Tables.{IsRising, Falling, PartLinked, FollowersChanged, Removed};
 
+use crate::held::HeldLinks;
+use crate::live::LiveEvent;
 use crate::places::{place_in, place_of_live};
-use calculus::Event;
 use std::alloc::AllocError;
 
 /// Of one live event: the tickets of its followers, ascending, and of the events that it follows, falling.
@@ -19,8 +20,8 @@ pub(crate) struct Links {
 
 /// Puts the new ticket behind the followers of each of these events. Without memory for it all lists are as before.
 pub(crate) fn link_all(
-    live: &[(u64, Event)],
-    links: &mut [Links],
+    live: &[LiveEvent],
+    links: &mut [HeldLinks],
     leads: &[u64],
     ticket: u64,
 ) -> Result<(), AllocError>
@@ -41,8 +42,8 @@ pub(crate) fn link_all(
 
 /// Puts the ticket behind the followers of the live event `lead`.
 fn link_one(
-    live: &[(u64, Event)],
-    links: &mut [Links],
+    live: &[LiveEvent],
+    links: &mut [HeldLinks],
     lead: u64,
     ticket: u64,
 ) -> Result<(), AllocError>
@@ -52,12 +53,12 @@ fn link_one(
     ensures { MatchResult result (λ _. FollowersChanged live.now lead (λ before after. after ≡ before ++ ticket ∷ []) links.old links.new) (λ _. FollowersChanged live.now lead (λ before after. after ≡ before) links.old links.new) }
 {
     let place = place_of_live(live, lead);
-    links[place].followers.push(ticket)?;
+    links[place].add_follower(ticket)?;
     Ok(())
 }
 
 /// Takes the ticket, which is not live, out of the followers of each of these events.
-pub(crate) fn unlink_all(live: &[(u64, Event)], links: &mut [Links], leads: &[u64], ticket: u64)
+pub(crate) fn unlink_all(live: &[LiveEvent], links: &mut [HeldLinks], leads: &[u64], ticket: u64)
     requires rising { IsRising live.now }
     requires absent { NoneAt live.now ticket }
     requires live { (t : ℕ) → In t leads.now → IsLive live.now t }
@@ -71,7 +72,7 @@ pub(crate) fn unlink_all(live: &[(u64, Event)], links: &mut [Links], leads: &[u6
 }
 
 /// Takes the ticket out of the followers of the live event `lead`.
-fn unlink_one(live: &[(u64, Event)], links: &mut [Links], lead: u64, ticket: u64)
+fn unlink_one(live: &[LiveEvent], links: &mut [HeldLinks], lead: u64, ticket: u64)
     requires rising { IsRising live.now }
     requires live { IsLive live.now lead }
     requires size { length links.old ≡ length live.now }
@@ -79,12 +80,11 @@ fn unlink_one(live: &[(u64, Event)], links: &mut [Links], lead: u64, ticket: u64
     ensures { FollowersChanged live.now lead (Removed ticket) links.old links.new }
 {
     let place = place_of_live(live, lead);
-    let links = &mut links[place];
-    remove(&mut links.followers, ticket);
+    links[place].remove_follower(ticket);
 }
 
 /// Takes the ticket out of those that ascend.
-fn remove(tickets: &mut Vec<u64>, ticket: u64)
+pub(crate) fn remove(tickets: &mut Vec<u64>, ticket: u64)
     requires { InOrder ◌<◌ tickets.old.items }
     ensures { Removed ticket tickets.old.items tickets.new.items }
 {

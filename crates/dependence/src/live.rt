@@ -11,7 +11,7 @@ ghost use Rattle.syntax.specs.Lists.{In};
 
 use crate::acting::acting_at_first_child;
 use crate::count::count_direct;
-use crate::links::Links;
+use crate::held::HeldLinks;
 use crate::marks::{
     copy_marked, count_marked, last_marked, mark_dependents, marked_at, unmarked_below,
 };
@@ -23,13 +23,17 @@ use address::Entry;
 use calculus::Event;
 use std::alloc::{AllocError, Global};
 use std::marker::Model;
+use syntax::Boxed;
+
+/// A live event with its ticket. The event stands on the heap, so that little moves where one is taken out from the middle.
+pub type LiveEvent = (u64, Boxed<Event>);
 
 /// The live events of an execution with their tickets, in order of tickets, the followers of each, and marks.
 #[derive(Drop)]
 pub struct Live {
     alloc: Global,
-    pairs: Vec<(u64, Event)>,
-    links: Vec<Links>,
+    pairs: Vec<LiveEvent>,
+    links: Vec<HeldLinks>,
     marks: Vec<bool>,
     tables: Tables,
 }
@@ -76,7 +80,7 @@ impl Live {
     }
 
     /// The live events with their tickets, in order of tickets.
-    pub fn as_slice(&self) -> &[(u64, Event)]
+    pub fn as_slice(&self) -> &[LiveEvent]
         ensures { result.now ≡ self.now.live }
     {
         self.pairs.as_slice()
@@ -94,7 +98,7 @@ impl Live {
         ensures { MatchOption result (slice_get self.now.live place ≡ None) (λ entry. slice_get self.now.live place ≡ Some (entry.0, entry.1.now)) }
     {
         match self.pairs.get(place as usize) {
-            Some(entry) => Some((entry.0, &entry.1)),
+            Some(entry) => Some((entry.0, entry.1.get())),
             None => None,
         }
     }
@@ -200,7 +204,7 @@ impl Live {
     /// Adds an event under a ticket that is greater than every live one; it has no mark. It comes behind the live events, as it
     /// does where they run with it in a system that keeps the rule on sharing (`last_comes_behind`). Without memory for it
     /// nothing has changed, and the event is handed back.
-    pub fn add(&mut self, ticket: u64, event: Event) -> Result<(), Event>
+    pub fn add(&mut self, ticket: u64, event: Boxed<Event>) -> Result<(), Boxed<Event>>
         requires above { (t : ℕ) (e : Event) → LiveAt self.old.live t e → t < ticket }
         requires behind { ComesBehind self.old.live event }
         ensures added { OnOk result (self.new ≡ with_newest self.old ticket event) }

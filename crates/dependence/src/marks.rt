@@ -8,7 +8,8 @@ ghost use Rattle.dependence.specs.Taking.{OneMarkedAt, NoneMarkedAt};
 ghost use Rattle.dependence.specs.walking.Tables.{IsRising, Linked};
 ghost use Rattle.dependence.specs.walking.Marking.{MarkedAt, UnmarkedTo, SomeMarked, MarkedNear};
 
-use crate::links::Links;
+use crate::held::HeldLinks;
+use crate::live::LiveEvent;
 use crate::places::{place_of, place_of_live};
 use calculus::Event;
 use std::alloc::{AllocError, Global};
@@ -18,8 +19,8 @@ const STRIDE: usize = 1_024;
 
 /// Marks the event of this ticket and all that depend on it, and no others.
 pub(crate) fn mark_dependents(
-    live: &[(u64, Event)],
-    links: &[Links],
+    live: &[LiveEvent],
+    links: &[HeldLinks],
     marks: &mut [bool],
     ticket: u64,
 )
@@ -34,7 +35,7 @@ pub(crate) fn mark_dependents(
     marks[first] = true;
     for place in first..live.len() {
         if marks[place] {
-            mark_all(live, marks, links[place].followers.as_slice());
+            mark_all(live, marks, links[place].get().followers.as_slice());
         }
     }
 }
@@ -73,7 +74,7 @@ fn is_any(marks: &[bool]) -> bool
 }
 
 /// Marks the events of these tickets beside those that are marked.
-fn mark_all(live: &[(u64, Event)], marks: &mut [bool], tickets: &[u64])
+fn mark_all(live: &[LiveEvent], marks: &mut [bool], tickets: &[u64])
     requires rising { IsRising live.now }
     requires live { (t : ℕ) → In t tickets.now → IsLive live.now t }
     requires size { length marks.old ≡ length live.now }
@@ -86,7 +87,7 @@ fn mark_all(live: &[(u64, Event)], marks: &mut [bool], tickets: &[u64])
 }
 
 /// Whether the event of this ticket is live and marked.
-pub(crate) fn is_marked(live: &[(u64, Event)], marks: &[bool], ticket: u64) -> bool
+pub(crate) fn is_marked(live: &[LiveEvent], marks: &[bool], ticket: u64) -> bool
     requires rising { IsRising live.now }
     requires size { length marks.now ≡ length live.now }
     ensures { result ≡ is_in ticket (tickets_marked live.now marks.now) }
@@ -99,7 +100,7 @@ pub(crate) fn is_marked(live: &[(u64, Event)], marks: &[bool], ticket: u64) -> b
 
 /// The event at this place where it is marked.
 pub(crate) fn marked_at<'a>(
-    live: &'a [(u64, Event)],
+    live: &'a [LiveEvent],
     marks: &[bool],
     place: usize,
 ) -> Option<&'a Event>
@@ -108,13 +109,13 @@ pub(crate) fn marked_at<'a>(
     ensures { MatchOption result (NoneMarkedAt live.now (tickets_marked live.now marks.now) place) (λ found. OneMarkedAt live.now (tickets_marked live.now marks.now) place found.now) }
 {
     if place < marks.len() && marks[place] {
-        return Some(&live[place].1);
+        return Some(live[place].1.get());
     }
     None
 }
 
 /// How many events are marked.
-pub(crate) fn count_marked(live: &[(u64, Event)], marks: &[bool]) -> usize
+pub(crate) fn count_marked(live: &[LiveEvent], marks: &[bool]) -> usize
     requires { length marks.now ≡ length live.now }
     ensures { result ≡ length (tickets_marked live.now marks.now) }
 {
@@ -125,7 +126,7 @@ pub(crate) fn count_marked(live: &[(u64, Event)], marks: &[bool]) -> usize
 /// The tickets of the marked events, ascending.
 pub(crate) fn copy_marked(
     alloc: Global,
-    live: &[(u64, Event)],
+    live: &[LiveEvent],
     marks: &[bool],
 ) -> Result<Vec<u64>, AllocError>
     requires { length marks.now ≡ length live.now }
@@ -136,7 +137,7 @@ pub(crate) fn copy_marked(
 }
 
 /// The same; each of the events is looked at.
-fn copy_each(alloc: Global, live: &[(u64, Event)], marks: &[bool]) -> Result<Vec<u64>, AllocError>
+fn copy_each(alloc: Global, live: &[LiveEvent], marks: &[bool]) -> Result<Vec<u64>, AllocError>
     requires { length marks.now ≡ length live.now }
     ensures { IfOk result (λ tickets. tickets.items ≡ tickets_marked live.now marks.now) }
 {
@@ -150,7 +151,7 @@ fn copy_each(alloc: Global, live: &[(u64, Event)], marks: &[bool]) -> Result<Vec
 }
 
 /// The greatest ticket of a marked event.
-pub(crate) fn last_marked(live: &[(u64, Event)], marks: &[bool]) -> Option<u64>
+pub(crate) fn last_marked(live: &[LiveEvent], marks: &[bool]) -> Option<u64>
     requires rising { IsRising live.now }
     requires size { length marks.now ≡ length live.now }
     ensures { MatchOption result (tickets_marked live.now marks.now ≡ []) (λ t. Greatest (tickets_marked live.now marks.now) t) }

@@ -5,10 +5,10 @@ ghost use Rattle.calculus.specs.InOrder.{InOrder};
 ghost use Rattle.calculus.specs.Live.{NoneAt, IsLive};
 ghost use Rattle.dependence.specs.walking.Tables.{IsRising, StandsAt};
 
-use calculus::Event;
+use crate::live::LiveEvent;
 
 /// Where the event of this ticket stands.
-pub(crate) fn place_of(live: &[(u64, Event)], ticket: u64) -> Option<usize>
+pub(crate) fn place_of(live: &[LiveEvent], ticket: u64) -> Option<usize>
     requires { IsRising live.now }
     ensures { MatchOption result (NoneAt live.now ticket) (λ i. StandsAt live.now ticket i) }
 {
@@ -19,7 +19,7 @@ pub(crate) fn place_of(live: &[(u64, Event)], ticket: u64) -> Option<usize>
 }
 
 /// Where the live event of this ticket stands.
-pub(crate) fn place_of_live(live: &[(u64, Event)], ticket: u64) -> usize
+pub(crate) fn place_of_live(live: &[LiveEvent], ticket: u64) -> usize
     requires rising { IsRising live.now }
     requires live { IsLive live.now ticket }
     ensures { StandsAt live.now ticket result }

@@ -11,16 +11,16 @@ ghost use Rattle.dependence.specs.walking.Tabled.{IsTabled};
 ghost use Rattle.dependence.specs.walking.Unmarked.{unmarked, Thinned, AllThinned, NotBehind, IsLoose};
 ghost use Rattle.dependence.specs.walking.Whole.{IsWhole};
 
-use crate::links::Links;
+use crate::held::HeldLinks;
+use crate::live::LiveEvent;
 use crate::marks::{clear, is_marked, unmarked_below};
 use crate::places::{place_in, place_of_live};
 use crate::tables::Tables;
-use calculus::Event;
 
 /// Takes the marked events out with their marks. What depends on a marked one is marked.
 pub(crate) fn take_marked(
-    pairs: &mut Vec<(u64, Event)>,
-    links: &mut Vec<Links>,
+    pairs: &mut Vec<LiveEvent>,
+    links: &mut Vec<HeldLinks>,
     marks: &mut Vec<bool>,
     tables: &mut Tables,
 )
@@ -50,7 +50,7 @@ fn keep_no_marks(marks: &mut Vec<bool>, count: usize)
 }
 
 /// Takes the marked events out of the tables.
-fn remove_marked(live: &[(u64, Event)], marks: &[bool], tables: &mut Tables)
+fn remove_marked(live: &[LiveEvent], marks: &[bool], tables: &mut Tables)
     requires rising { IsRising live.now }
     requires size { length marks.now ≡ length live.now }
     requires tabled { IsTabled live.now tables.old }
@@ -59,13 +59,13 @@ fn remove_marked(live: &[(u64, Event)], marks: &[bool], tables: &mut Tables)
     for place in unmarked_below(marks)..live.len() {
         if marks[place] {
             let entry = &live[place];
-            tables.remove(entry.0, &entry.1);
+            tables.remove(entry.0, entry.1.get());
         }
     }
 }
 
 /// Takes the marked events out of the followers of those that they follow.
-fn unlink_marked(live: &[(u64, Event)], links: &mut [Links], marks: &[bool])
+fn unlink_marked(live: &[LiveEvent], links: &mut [HeldLinks], marks: &[bool])
     requires rising { IsRising live.now }
     requires size { length marks.now ≡ length live.now }
     requires linked { Linked live.now links.old }
@@ -80,7 +80,7 @@ fn unlink_marked(live: &[(u64, Event)], links: &mut [Links], marks: &[bool])
 }
 
 /// Takes the event at this place, which is marked, out of the followers of those that it follows, and other marked ones with it.
-fn unlink_at(live: &[(u64, Event)], links: &mut [Links], marks: &[bool], place: usize)
+fn unlink_at(live: &[LiveEvent], links: &mut [HeldLinks], marks: &[bool], place: usize)
     requires rising { IsRising live.now }
     requires size { length marks.now ≡ length live.now }
     requires long { length links.old ≡ length live.now }
@@ -91,14 +91,14 @@ fn unlink_at(live: &[(u64, Event)], links: &mut [Links], marks: &[bool], place: 
     ensures loose { IsLoose live.now links.old links.new place }
 {
     let ticket = live[place].0;
-    for index in 0..links[place].leads.len() {
-        let lead = links[place].leads[index];
+    for index in 0..links[place].get().leads.len() {
+        let lead = links[place].get().leads[index];
         unlink_from(live, links, marks, lead, ticket);
     }
 }
 
 /// Takes the ticket, which is marked, out of the followers of the live event `lead`, and other marked ones with it.
-fn unlink_from(live: &[(u64, Event)], links: &mut [Links], marks: &[bool], lead: u64, ticket: u64)
+fn unlink_from(live: &[LiveEvent], links: &mut [HeldLinks], marks: &[bool], lead: u64, ticket: u64)
     requires rising { IsRising live.now }
     requires size { length marks.now ≡ length live.now }
     requires long { length links.old ≡ length live.now }
@@ -109,12 +109,11 @@ fn unlink_from(live: &[(u64, Event)], links: &mut [Links], marks: &[bool], lead:
     ensures out { NotBehind live.now links.new ticket lead }
 {
     let place = place_of_live(live, lead);
-    let links = &mut links[place];
-    thin(live, marks, &mut links.followers, ticket);
+    links[place].thin_followers(live, marks, ticket);
 }
 
 /// Takes the marked tickets out of these, which ascend, where this one is among them. Else they are out already.
-fn thin(live: &[(u64, Event)], marks: &[bool], tickets: &mut Vec<u64>, ticket: u64)
+pub(crate) fn thin(live: &[LiveEvent], marks: &[bool], tickets: &mut Vec<u64>, ticket: u64)
     requires rising { IsRising live.now }
     requires size { length marks.now ≡ length live.now }
     requires ordered { InOrder ◌<◌ tickets.old.items }

@@ -9,17 +9,17 @@ ghost use Rattle.dependence.specs.walking.Tables.{IsRising, StandsAt, Falling, L
 ghost use Rattle.dependence.specs.walking.Sweeping.{StandWithin, FlagAt};
 
 use crate::candidates::add_if;
-use crate::links::Links;
+use crate::held::HeldLinks;
+use crate::live::LiveEvent;
 use crate::places::place_of_live;
-use calculus::Event;
 use std::alloc::{AllocError, Global};
 
 /// Of these events, whose tickets ascend and which stand from the place `low` on and below `high`, those on which no other of them depends, the last
 /// first. One sweep goes down from the last place and notes where one of them is reached.
 pub(crate) fn topmost(
     alloc: Global,
-    live: &[(u64, Event)],
-    links: &[Links],
+    live: &[LiveEvent],
+    links: &[HeldLinks],
     candidates: &[u64],
     low: usize,
     high: usize,
@@ -42,7 +42,7 @@ pub(crate) fn topmost(
             live,
             high,
             flags.as_slice(),
-            links[place].followers.as_slice(),
+            links[place].get().followers.as_slice(),
         );
         let is_one = is_among(candidates, live[place].0);
         flags.push(either(is_one, below))?;
@@ -52,7 +52,7 @@ pub(crate) fn topmost(
 }
 
 /// From which place on and below which one these live events stand, whose tickets ascend.
-pub(crate) fn span(live: &[(u64, Event)], tickets: &[u64]) -> (usize, usize)
+pub(crate) fn span(live: &[LiveEvent], tickets: &[u64]) -> (usize, usize)
     requires rising { IsRising live.now }
     requires live { (t : ℕ) → In t tickets.now → IsLive live.now t }
     requires some { 0 < length tickets.now }
@@ -68,7 +68,7 @@ pub(crate) fn span(live: &[(u64, Event)], tickets: &[u64]) -> (usize, usize)
 
 /// Whether one of these live events, whose tickets ascend, stands below `high` at a place that is flagged. The flags begin at the
 /// last place. None behind the first that stands above is looked at.
-fn is_flagged(live: &[(u64, Event)], high: usize, flags: &[bool], tickets: &[u64]) -> bool
+fn is_flagged(live: &[LiveEvent], high: usize, flags: &[bool], tickets: &[u64]) -> bool
     requires rising { IsRising live.now }
     requires live { (t : ℕ) → In t tickets.now → IsLive live.now t }
     requires passed { (t i : ℕ) → In t tickets.now → StandsAt live.now t i → high ≤ i + length flags.now }

@@ -11,36 +11,38 @@ ghost use Rattle.dependence.specs.walking.Whole.{IsWhole};
 
 use crate::accesses::Newcomer;
 use crate::entries::{leads_of, link_new, make_room, push_pair, take_out};
-use crate::links::Links;
+use crate::held::HeldLinks;
+use crate::live::LiveEvent;
 use crate::places::place_of_live;
 use crate::tables::Tables;
 use calculus::{Event, writes};
 use std::alloc::Global;
+use syntax::Boxed;
 
 /// The tickets of the followers of the live event of this ticket.
-pub(crate) fn followers_of<'a>(live: &[(u64, Event)], links: &'a [Links], ticket: u64) -> &'a [u64]
+pub(crate) fn followers_of<'a>(live: &[LiveEvent], links: &'a [HeldLinks], ticket: u64) -> &'a [u64]
     requires rising { IsRising live.now }
     requires linked { Linked live.now links.now }
     requires live { IsLive live.now ticket }
     ensures { ListsFollowers live.now ticket result.now }
 {
     let place = place_of_live(live, ticket);
-    links[place].followers.as_slice()
+    links[place].get().followers.as_slice()
 }
 
 /// The tickets of the live events that the one of this ticket follows.
-pub(crate) fn leads_at<'a>(live: &[(u64, Event)], links: &'a [Links], ticket: u64) -> &'a [u64]
+pub(crate) fn leads_at<'a>(live: &[LiveEvent], links: &'a [HeldLinks], ticket: u64) -> &'a [u64]
     requires rising { IsRising live.now }
     requires linked { Linked live.now links.now }
     requires live { IsLive live.now ticket }
     ensures { ListsLeads live.now ticket result.now }
 {
     let place = place_of_live(live, ticket);
-    links[place].leads.as_slice()
+    links[place].get().leads.as_slice()
 }
 
 /// The least ticket of another live event that depends on the one of this ticket.
-pub(crate) fn least_dependent(live: &[(u64, Event)], links: &[Links], ticket: u64) -> Option<u64>
+pub(crate) fn least_dependent(live: &[LiveEvent], links: &[HeldLinks], ticket: u64) -> Option<u64>
     requires rising { IsRising live.now }
     requires linked { Linked live.now links.now }
     requires live { IsLive live.now ticket }
@@ -51,7 +53,7 @@ pub(crate) fn least_dependent(live: &[(u64, Event)], links: &[Links], ticket: u6
 
 /// The ticket of the last live event that writes the variable. The last of all is looked at itself, since the table is asked
 /// below a ticket, and none may be above the greatest.
-pub(crate) fn last_writer(live: &[(u64, Event)], tables: &Tables, variable: u32) -> Option<u64>
+pub(crate) fn last_writer(live: &[LiveEvent], tables: &Tables, variable: u32) -> Option<u64>
     requires rising { IsRising live.now }
     requires tables { TablesOf live.now tables.now }
     ensures { MatchOption result (NoWriter live.now variable) (λ t. LastWriter live.now variable t) }
@@ -59,7 +61,7 @@ pub(crate) fn last_writer(live: &[(u64, Event)], tables: &Tables, variable: u32)
     let Some(last) = live.last() else {
         return None;
     };
-    if writes(&last.1, variable) {
+    if writes(last.1.get(), variable) {
         return Some(last.0);
     }
     tables.writers.last(variable, last.0)
@@ -68,13 +70,13 @@ pub(crate) fn last_writer(live: &[(u64, Event)], tables: &Tables, variable: u32)
 /// Adds an event under a ticket that is greater than every live one. Without memory for it nothing has changed.
 pub(crate) fn add_event(
     alloc: Global,
-    pairs: &mut Vec<(u64, Event)>,
-    links: &mut Vec<Links>,
+    pairs: &mut Vec<LiveEvent>,
+    links: &mut Vec<HeldLinks>,
     marks: &mut Vec<bool>,
     tables: &mut Tables,
     ticket: u64,
-    event: Event,
-) -> Result<(), Event>
+    event: Boxed<Event>,
+) -> Result<(), Boxed<Event>>
     requires whole { IsWhole pairs.old.items links.old.items marks.old.items }
     requires tabled { IsTabled pairs.old.items tables.old }
     requires above { (t : ℕ) (e : Event) → LiveAt pairs.old.items t e → t < ticket }
@@ -88,7 +90,7 @@ pub(crate) fn add_event(
         live: pairs.as_slice(),
         tables,
         ticket,
-        event: &event,
+        event: event.get(),
     };
     let found = leads_of(alloc, links.as_slice(), &new);
     let Ok(leads) = found else {
@@ -97,12 +99,12 @@ pub(crate) fn add_event(
     if make_room(pairs, marks).is_err() {
         return Err(event);
     }
-    if tables.put(ticket, &event).is_err() {
+    if tables.put(ticket, event.get()).is_err() {
         return Err(event);
     }
     let linked = link_new(alloc, pairs.as_slice(), links, leads, ticket);
     if linked.is_err() {
-        tables.remove(ticket, &event);
+        tables.remove(ticket, event.get());
         return Err(event);
     }
     push_pair(pairs, marks, ticket, event);
@@ -111,8 +113,8 @@ pub(crate) fn add_event(
 
 /// Takes out the live event of this ticket, on which no other live event depends, with its mark.
 pub(crate) fn take_event(
-    pairs: &mut Vec<(u64, Event)>,
-    links: &mut Vec<Links>,
+    pairs: &mut Vec<LiveEvent>,
+    links: &mut Vec<HeldLinks>,
     marks: &mut Vec<bool>,
     tables: &mut Tables,
     ticket: u64,

@@ -1,5 +1,5 @@
 -- The marked events are taken back on the tree, the last first, and then all out of the lists.
-use Rattle.std.proofs.Common.{◌≡◌, ◌↔◌, inl, inr, ℕ, zero, suc, ◌+◌, ◌-◌, ◌<◌, ◌≤◌, List, [], ◌∷◌, ◌++◌, length, take, drop, Some, IsSome, refl, sym, ◌∙◌, ap, subst, arith, slice_get, append_assoc}
+use Rattle.std.proofs.Common.{◌≡◌, ◌↔◌, inl, inr, ℕ, zero, suc, ◌-◌, ◌<◌, ◌≤◌, List, [], ◌∷◌, ◌++◌, length, take, drop, Some, IsSome, refl, sym, ◌∙◌, ap, subst, arith, slice_get, append_assoc}
 use Rattle.std.specs.Prelude.{slice_set}
 use Rattle.std.proofs.lemmas.List.{take-set, drop-set-lt, take-append-drop, length-take-le, append-nil}
 use Rattle.syntax.specs.Lists.{In}

@@ -7,6 +7,7 @@ ghost use Rattle.machine.specs.walking.Histories.{execution, Holds, KnowsUses};
 use crate::history::History;
 use calculus::{Command, Event, Refusal, Reply};
 use channel_uses::ChannelUses;
+use dependence::LiveEvent;
 use std::alloc::{AllocError, Global};
 use syntax::Items;
 
@@ -39,12 +40,12 @@ impl History {
 }
 
 /// Copies of the live events.
-fn copy_live(alloc: Global, live: &[(u64, Event)]) -> Result<Items<(u64, Event)>, AllocError>
+fn copy_live(alloc: Global, live: &[LiveEvent]) -> Result<Items<(u64, Event)>, AllocError>
     ensures { IfOk result (λ copies. copies ≡ live.now) }
 {
     let mut copies = Items::with_capacity(alloc, live.len())?;
     for entry in live {
-        copies.push((entry.0, entry.1.copy(alloc)?))?;
+        copies.push((entry.0, entry.1.get().copy(alloc)?))?;
     }
     Ok(copies)
 }

@@ -20,7 +20,7 @@ use event_inverse::{Inverse, Record, apply, invert};
 use rendezvous::{event_with, ready_events};
 use sharing_check::Checked;
 use std::alloc::{AllocError, Global};
-use syntax::Items;
+use syntax::{Boxed, Items};
 
 impl History {
     /// Takes the event that the choice means.
@@ -64,7 +64,7 @@ impl History {
         Ok(event)
     }
 
-    /// Makes the event, and enters it under the next ticket. Room for its inverse is made first.
+    /// Makes the event, and enters it under the next ticket. Room for its inverse, and the copy that stays, are made first.
     pub(crate) fn add(
         &mut self,
         alloc: Global,
@@ -81,33 +81,36 @@ impl History {
         ensures holds { Holds system.now self.new }
     {
         let ticket = self.next;
-        let answered = event.copy(alloc)?;
+        let kept = Boxed::new(alloc, event.copy(alloc)?)?;
         self.inverses.reserve(1)?;
         system.shares_well();
         let record = apply(alloc, &mut self.tree, &mut self.store, event)?;
-        self.enter(record)?;
-        Ok((ticket, answered))
+        let event = self.enter(record, kept)?;
+        Ok((ticket, event))
     }
 
-    /// Enters the event that was made last under the next ticket. Without memory it is taken back.
-    fn enter(&mut self, made: Record) -> Result<(), AllocError>
+    /// Enters the event that was made last under the next ticket; `kept` is the copy that stays among the live events. Without
+    /// memory it is taken back.
+    fn enter(&mut self, made: Record, kept: Boxed<Event>) -> Result<Event, AllocError>
+        requires same { kept ≡ made.event }
         requires last { (T : TreeAndStore) × (applied T made.event ≡ Some (tree_of self.old, inverse_view made.inverse)) }
         requires above { (t : ℕ) (e : Event) → LiveAt self.old.live.live t e → t < self.old.next }
         requires behind { ComesBehind self.old.live.live made.event }
         requires unspent { self.old.next ≤ last_ticket }
         requires room { vec_len self.old.inverses < vec_capacity self.old.inverses }
         ensures entered { OnOk result (Entered self.old made self.new) }
+        ensures event { IfOk result (λ event. event ≡ made.event) }
         ensures refused { OnErr result (NotEntered self.old made self.new) }
     {
-        let Record { event, inverse } = made;
-        match self.live.add(self.next, event) {
+        match self.live.add(self.next, kept) {
             Ok(()) => {
+                let Record { event, inverse } = made;
                 keep(&mut self.inverses, inverse);
                 self.next += 1;
-                Ok(())
+                Ok(event)
             }
-            Err(event) => {
-                invert(&mut self.tree, &mut self.store, Record { event, inverse });
+            Err(_) => {
+                invert(&mut self.tree, &mut self.store, made);
                 Err(AllocError)
             }
         }

@@ -19,7 +19,7 @@ use crate::version::SECOND;
 use address::{Address, Entry};
 use calculus::Event;
 use canonical_order::canonical_order;
-use dependence::Live;
+use dependence::{Live, LiveEvent};
 use devices::{Counted, write_out};
 use machine::Machine;
 use std::alloc::{AllocError, Global};
@@ -76,11 +76,11 @@ fn write_events(alloc: Global, live: &Live) -> Result<Vec<u8>, AllocError>
 }
 
 /// The event at a place.
-fn event_at(live: &[(u64, Event)], place: usize) -> &Event
+fn event_at(live: &[LiveEvent], place: usize) -> &Event
     requires { place < length live.now }
     ensures { (t : ℕ) × (slice_get live.now place ≡ Some (t, result.now)) }
 {
-    &live[place].1
+    live[place].1.get()
 }
 
 /// Adds the line of the event behind what is there.

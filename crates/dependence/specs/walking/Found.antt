@@ -1,12 +1,12 @@
 -- What is found of the live events that a new one may follow, by its places and by its variables.
 -- No reader has to believe it: the proof of `candidates` ties it to `Candidates`.
-use Rattle.std.specs.Prelude.{◌≡◌, ◌⊎◌, ℕ, ◌≤◌, List, Some}
+use Rattle.std.specs.Prelude.{◌≡◌, ◌⊎◌, ℕ, ◌<◌, ◌≤◌, List, Some}
 use Rattle.address.specs.Places.{Before}
 use Rattle.syntax.specs.Lists.{In}
 use Rattle.last_events.specs.LastEvents.{IsAt}
 use Rattle.last_events.specs.declared.places.PlaceTable.{PlaceTable}
 use Rattle.calculus.specs.Dependence.{SomeBefore, Directly}
-use Rattle.calculus.specs.Live.{Live, Rising, LiveAt, LastWriter}
+use Rattle.calculus.specs.Live.{Live, Rising, LiveAt, DependsOn, LastWriter}
 use Rattle.calculus.specs.Moves.{Place}
 use Rattle.calculus.specs.declared.event.Event.{Event}
 use Rattle.dependence.specs.declared.accesses.Newcomer.{Newcomer}
@@ -20,12 +20,20 @@ pub record FoundByPlace (table : PlaceTable) (bs : List Place) (old new : List �
   pub complete : (a b : Place) (t : ℕ) → IsAt table a t → In b bs → Before a b →
       (c : Place) × (u : ℕ) × IsAt table c u × In u new × ((a ≡ c) ⊎ Before a c)
 
+-- the event of ticket t is live, and has an address before one of f
+abbrev pub IsBefore : Live → Event → ℕ → Type 0
+IsBefore l f t = (e : Event) × LiveAt l t e × SomeBefore e f
+
+-- the event of ticket t has an address before one of f, or one that depends on it has
+abbrev pub LeadsBefore : Live → Event → ℕ → Type 0
+LeadsBefore l f t = (u : ℕ) × IsBefore l f u × DependsOn l t u
+
 -- to the tickets `old` some were added, of events on which f depends directly; and those of which P holds are among them,
--- but for those with an address before one of f
+-- but for those that lead to an event with an address before one of f
 pub record AccessesFound (l : Live) (f : Event) (P : ℕ → Type 0) (old new : List ℕ) : Type 0 where
   pub kept : (t : ℕ) → In t old → In t new
   pub sound : (t : ℕ) → In t new → In t old ⊎ ((e : Event) × LiveAt l t e × Directly e f)
-  pub complete : (t : ℕ) (e : Event) → LiveAt l t e → P t → SomeBefore e f ⊎ In t new
+  pub complete : (t : ℕ) (e : Event) → LiveAt l t e → P t → LeadsBefore l f t ⊎ In t new
 
 -- the event of ticket t reads the variable x, and no event writes x after it
 pub record ReaderSince (l : Live) (x t : ℕ) : Type 0 where
@@ -33,6 +41,16 @@ pub record ReaderSince (l : Live) (x t : ℕ) : Type 0 where
   pub live : LiveAt l t event
   pub reads : In x event.read
   pub last : (w : ℕ) → LastWriter l x w → w ≤ t
+
+-- an event of a ticket behind w and less than `below` reads the variable x, and has an address before one of f
+pub record IsReadBefore (l : Live) (f : Event) (x w below : ℕ) : Type 0 where
+  pub ticket : ℕ
+  pub event : Event
+  pub live : LiveAt l ticket event
+  pub reads : In x event.read
+  pub behind : w < ticket
+  pub within : ticket < below
+  pub before : SomeBefore event f
 
 -- the event of ticket t is the last to write a variable that f reads
 abbrev pub WritesOneRead : Live → List ℕ → ℕ → Type 0

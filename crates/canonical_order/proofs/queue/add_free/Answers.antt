@@ -1,4 +1,5 @@
-use Rattle.std.proofs.Common.{◌<◌, length, refl, sym, subst, ◌∙◌, heap_items}
+use Rattle.std.proofs.Common.{◌<◌, length, refl, sym, ap, subst, ◌∙◌, heap_items}
+use Rattle.calculus.specs.Events.{acting}
 use Rattle.calculus.specs.Live.{Live}
 use Rattle.canonical_order.proofs.Queues.{joins}
 use Rattle.canonical_order.proofs.queue.add_free.Goals as goal
@@ -7,4 +8,4 @@ pub returns : goal.returns
 returns c =
     joins c.args.live.now.live c.as_slice.result.now c.args.place c.index-as_slice-place.result _ (heap_items c.args.free.now) (heap_items c.push.new.self)
     c.as_slice.ensures (subst (λ (m : Live). c.args.place < length m) (sym c.as_slice.ensures) c.requires) refl
-    (c.entries-acting.ensures ∙ c.acting_place.ensures) c.in_ok-push.ensures.permutation c.in_ok-push.ensures.heap_order
+    (c.entries-acting.ensures ∙ c.acting_place.ensures ∙ ap acting c.get.ensures) c.in_ok-push.ensures.permutation c.in_ok-push.ensures.heap_order

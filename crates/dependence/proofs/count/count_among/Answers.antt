@@ -1,5 +1,7 @@
 use Rattle.std.proofs.Common.{◌+◌, ℕ, take, sym, subst, arith}
+use Rattle.calculus.specs.Dependence.{Directly}
 use Rattle.calculus.specs.Live.{Live}
+use Rattle.calculus.specs.declared.event.Event.{Event}
 use Rattle.dependence.specs.walking.Tables.{CountsAmong}
 use Rattle.dependence.proofs.ListPlaces.{take-all}
 use Rattle.dependence.proofs.Counting.{among-none, among-more, among-same}
@@ -15,11 +17,11 @@ loop-entry-preserved c = record {
     | then-depends_directly w ↦
         subst (λ (n : ℕ). CountsAmong c.args.event.now (take (c.loop-entry.entry-index + 1) c.args.later.now) n) (sym w.count-is)
         (among-more c.args.event.now c.args.later.now c.loop-entry.entry-index c.loop-entry.count _ c.requires c.loop-entry-test.true c.entry-item.is
-        c.loop-entry.invariant.counted (c.depends_directly.ensures.0 w.if-depends_directly.true))
+        c.loop-entry.invariant.counted (subst (λ (e : Event). Directly c.args.event.now e) c.get.ensures (c.depends_directly.ensures.0 w.if-depends_directly.true)))
     | else-depends_directly w ↦
         subst (λ (n : ℕ). CountsAmong c.args.event.now (take (c.loop-entry.entry-index + 1) c.args.later.now) n) (sym w.count-is)
         (among-same c.args.event.now c.args.later.now c.loop-entry.entry-index c.loop-entry.count _ c.requires c.loop-entry-test.true c.entry-item.is
-        c.loop-entry.invariant.counted (λ d. let on = c.depends_directly.ensures.1 d in let off = w.if-depends_directly.false in cc))
+        c.loop-entry.invariant.counted (λ d. let on = c.depends_directly.ensures.1 (subst (λ (e : Event). Directly c.args.event.now e) (sym c.get.ensures) d) in let off = w.if-depends_directly.false in cc))
   ];
   bound = elim c.if-depends_directly.branch [ then-depends_directly w ↦ omega arith | else-depends_directly w ↦ omega arith ];
 }

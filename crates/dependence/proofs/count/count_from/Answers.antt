@@ -1,4 +1,4 @@
-use Rattle.std.proofs.Common.{ℕ, ◌-◌, length, take, drop, sym, subst}
+use Rattle.std.proofs.Common.{◌∙◌, ℕ, ◌-◌, length, take, drop, sym, ap, subst}
 use Rattle.calculus.specs.Live.{Live}
 use Rattle.calculus.specs.declared.event.Event.{Event}
 use Rattle.dependence.specs.walking.Tables.{IsRising, CountsAmong}
@@ -25,4 +25,5 @@ returns c =
     counts-from c.args.live.now c.args.ticket c.args.first c.place_of_live-from.result at.0 on.0 c.requires.rising
     (in-at c.args.live.now c.place_of_live-place.result (c.args.ticket, at.0) at.1) on.1 c.requires.first c.count_among.result
     (subst (λ (k : Live). CountsAmong at.0 k c.count_among.result) (rest-is c.args.live.now c.place_of_live-from.result)
-    (subst (λ (x : ℕ × Event). CountsAmong x.1 (take (length c.args.live.now - c.place_of_live-from.result) (drop c.place_of_live-from.result c.args.live.now)) c.count_among.result) here c.count_among.ensures))
+    (subst (λ (e : Event). CountsAmong e (take (length c.args.live.now - c.place_of_live-from.result) (drop c.place_of_live-from.result c.args.live.now)) c.count_among.result)
+    (c.get.ensures ∙ ap (λ (x : ℕ × Event). x.1) here) c.count_among.ensures))

@@ -1,4 +1,4 @@
-use Rattle.std.proofs.Common.{◌≡◌, ◌∷◌, ◌++◌, [], List, ℕ, refl}
+use Rattle.std.proofs.Common.{◌≡◌, ◌∷◌, ◌++◌, [], List, ℕ}
 use Rattle.std.proofs.lemmas.Result.{MatchResult-from_err}
 use Rattle.dependence.proofs.Linking.{changed-at}
 use Rattle.dependence.proofs.links.link_one.Goals as goal
@@ -7,11 +7,11 @@ pub returns : goal.returns
 returns c =
     let at = c.place_of_live-place.ensures in
     changed-at c.args.live.now c.args.lead c.place_of_live-place.result at.0 (λ (b : List ℕ) (a : List ℕ). a ≡ b ++ c.args.ticket ∷ []) c.args.links.now
-    c.index-links-place.result _ at.1 c.requires.size c.in_ok-push.ensures.items refl
+    c.index-links-place.result _ at.1 c.requires.size c.in_ok-add_follower.ensures.followers c.in_ok-add_follower.ensures.leads
 
-pub returns-in_err-push : goal.returns-in_err-push
-returns-in_err-push c =
+pub returns-in_err-add_follower : goal.returns-in_err-add_follower
+returns-in_err-add_follower c =
     let at = c.place_of_live-place.ensures in
     MatchResult-from_err c.from_residual.result _ _ c.from_residual.ensures.0
     (λ refused. changed-at c.args.live.now c.args.lead c.place_of_live-place.result at.0 (λ (b : List ℕ) (a : List ℕ). a ≡ b) c.args.links.now
-    c.index-links-place.result _ at.1 c.requires.size c.in_err-push.ensures.items refl)
+    c.index-links-place.result _ at.1 c.requires.size c.in_err-add_follower.ensures.followers c.in_err-add_follower.ensures.leads)

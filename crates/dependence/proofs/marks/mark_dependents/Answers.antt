@@ -2,6 +2,7 @@ use Rattle.std.proofs.Common.{◌≡◌, ◌<◌, ℕ, suc, ◌+◌, List, lengt
 use Rattle.std.proofs.lemmas.Option.{slice_get-get_or}
 use Rattle.syntax.specs.Lists.{In}
 use Rattle.dependence.specs.Followers.{ListsFollowers}
+use Rattle.dependence.specs.declared.links.Links.{Links}
 use Rattle.dependence.specs.walking.Marking.{MarkedBelow}
 use Rattle.dependence.proofs.ListPlaces.{at-within}
 use Rattle.dependence.proofs.Linking.{linked-here}
@@ -18,7 +19,7 @@ loop-place-init c =
 pub mark_all-requires-clause-live : goal.mark_all-requires-clause-live
 mark_all-requires-clause-live c = λ t i.
     let here = linked-here c.args.live.now c.args.links.now c.loop-place.place c.index-links-place.result c.requires.linked c.loop-place-test.true in
-    let f = (here.followers.exactly t).0 (subst (λ (k : List ℕ). In t k) c.as_slice.ensures.value i) in
+    let f = (here.followers.exactly t).0 (subst (λ (k : List ℕ). In t k) (c.as_slice.ensures.value ∙ ap (λ (m : Links). m.followers.items) (c.get.ensures ∙ c.index-links-place.is)) i) in
     (f.dependent.dependent, f.dependent.dependent_live)
 
 pub loop-place-preserved : goal.loop-place-preserved
@@ -35,7 +36,7 @@ loop-place-preserved c =
           subst (λ (k : List Bool). MarkedBelow c.args.live.now c.args.ticket (suc place) k) (sym w.marks-is)
           (pass-marked 0 c.requires.rising.0 c.args.live.now c.args.ticket place here.ticket here.event c.loop-place.marks w.mark_all.new.marks c.requires.rising.1
           here.stands c.loop-place.invariant w.as_slice.result.now (read ∙ ap (λ (b : Bool). Some b) w.if-marks-place.true)
-          (subst (λ (k : List ℕ). ListsFollowers c.args.live.now here.ticket k) (sym w.as_slice.ensures.value) here.followers) w.mark_all.ensures)
+          (subst (λ (k : List ℕ). ListsFollowers c.args.live.now here.ticket k) (sym (w.as_slice.ensures.value ∙ ap (λ (m : Links). m.followers.items) (w.get.ensures ∙ w.index-links-place.is))) here.followers) w.mark_all.ensures)
       | else-marks-place w ↦
           let here = at-within c.args.live.now place c.loop-place-test.true in
           subst (λ (k : List Bool). MarkedBelow c.args.live.now c.args.ticket (suc place) k) (sym w.marks-is)

@@ -4,7 +4,7 @@ use Rattle.std.proofs.lemmas.Option.{slice_get-get_or}
 use Rattle.calculus.specs.Live.{Live}
 use Rattle.calculus.specs.declared.event.Event.{Event}
 use Rattle.dependence.specs.declared.tables.Tables.{Tables}
-use Rattle.dependence.specs.walking.Tabled.{IsTabled}
+use Rattle.dependence.specs.walking.Tabled.{FewerTables, IsTabled}
 use Rattle.dependence.specs.walking.Unmarked.{unmarked}
 use Rattle.dependence.proofs.ListPlaces.{take-all}
 use Rattle.dependence.proofs.Tabling.{tabled-taken}
@@ -35,7 +35,8 @@ loop-place-preserved c =
           let at : slice_get l i ≡ Some x = slice_get-get_or l i x inside ∙ ap (λ (y : ℕ × Event). Some y) (sym w.index-live-place.is) in
           subst (λ (held : Tables). IsTabled (unmarked (take (suc i) marks) l) held) (sym w.tables-is)
           (tabled-taken r.0 (unmarked (take i marks) l) (unmarked (take (suc i) marks) l) c.loop-place.tables w.remove.new.self x.0 x.1
-          (unmarked-rises 0 r.0 l (take i marks) r.1) (there-yet l marks i x.0 x.1 at) (passed-marked 0 r.0 l marks i x.0 x.1 r.1 on at) c.loop-place.invariant w.remove.ensures)
+          (unmarked-rises 0 r.0 l (take i marks) r.1) (there-yet l marks i x.0 x.1 at) (passed-marked 0 r.0 l marks i x.0 x.1 r.1 on at) c.loop-place.invariant
+          (subst (λ (e : Event). FewerTables c.loop-place.tables x.0 e w.remove.new.self) w.get.ensures w.remove.ensures))
       | else-marks-place w ↦
           let off : slice_get marks i ≡ Some false = read ∙ ap (λ (b : Bool). Some b) w.if-marks-place.false in
           subst (λ (held : Tables). IsTabled (unmarked (take (suc i) marks) l) held) (sym w.tables-is)

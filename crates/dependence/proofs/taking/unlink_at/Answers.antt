@@ -1,5 +1,5 @@
-use Rattle.std.proofs.Common.{◌≡◌, ℕ, ◌+◌, ◌<◌, ◌≤◌, length, get_or, take, true, Some, subst, arith}
-use Rattle.std.specs.Prelude.{slice_get}
+use Rattle.std.proofs.Common.{◌≡◌, ◌∙◌, ℕ, ◌+◌, ◌<◌, ◌≤◌, length, get_or, take, true, Some, ap, subst, arith}
+use Rattle.std.specs.Prelude.{slice_get, vec_len}
 use Rattle.std.proofs.lemmas.Option.{slice_get_within, slice_get-get_or}
 use Rattle.syntax.specs.Lists.{In}
 use Rattle.calculus.specs.declared.event.Event.{Event}
@@ -28,11 +28,13 @@ unlink_from-requires-clause-live c =
     let m : Links = get_or c.loop-index.links place c.index-links-place-in-loop-index.result in
     let is : slice_get c.loop-index.links place ≡ Some m = slice_get-get_or c.loop-index.links place c.index-links-place-in-loop-index.result (omega arith) in
     let ok = n.leads.ok.0 in
+    let same_count : vec_len c.get.result.now.leads ≡ vec_len n.leads = ap (λ (k : Links). vec_len k.leads) c.get.ensures in
     let count = c.len-index-end.ensures in
     let test = c.loop-index-test.true in
     let within : c.loop-index.index < length n.leads.items = omega arith in
     let lead : slice_get n.leads.items c.loop-index.index ≡ Some c.index-lead.result.now =
-    lead-at _ c.args.links.now c.loop-index.links place c.loop-index.index c.index-lead.result.now n m thinned was is within c.index-lead.ensures in
+    lead-at _ c.args.links.now c.loop-index.links place c.loop-index.index c.index-lead.result.now n m thinned was is within
+    (c.index-lead.ensures ∙ ap (λ (k : Links). get_or k.leads.items c.loop-index.index c.index-lead.result.now) c.get-in-loop-index.ensures) in
     c.requires.live n c.index-lead.result.now was (in-at n.leads.items c.loop-index.index c.index-lead.result.now lead)
 
 pub unlink_from-requires-clause-marked : goal.unlink_from-requires-clause-marked
@@ -57,11 +59,13 @@ loop-index-preserved c =
     let m : Links = get_or c.loop-index.links place c.index-links-place-in-loop-index.result in
     let is : slice_get c.loop-index.links place ≡ Some m = slice_get-get_or c.loop-index.links place c.index-links-place-in-loop-index.result (omega arith) in
     let ok = n.leads.ok.0 in
+    let same_count : vec_len c.get.result.now.leads ≡ vec_len n.leads = ap (λ (k : Links). vec_len k.leads) c.get.ensures in
     let count = c.len-index-end.ensures in
     let test = c.loop-index-test.true in
     let within : c.loop-index.index < length n.leads.items = omega arith in
     let lead : slice_get n.leads.items c.loop-index.index ≡ Some c.index-lead.result.now =
-    lead-at _ c.args.links.now c.loop-index.links place c.loop-index.index c.index-lead.result.now n m thinned was is within c.index-lead.ensures in
+    lead-at _ c.args.links.now c.loop-index.links place c.loop-index.index c.index-lead.result.now n m thinned was is within
+    (c.index-lead.ensures ∙ ap (λ (k : Links). get_or k.leads.items c.loop-index.index c.index-lead.result.now) c.get-in-loop-index.ensures) in
     let t : ℕ = (get_or c.args.live.now place c.index-live-place.result).0 in
     record {
       thinned = all-then _ c.args.links.now c.loop-index.links c.unlink_from.new.links thinned c.unlink_from.ensures.thinned;
@@ -85,6 +89,7 @@ returns-clause-loose c =
     let x : ℕ × Event = get_or c.args.live.now place c.index-live-place.result in
     let at : slice_get c.args.live.now place ≡ Some x = slice_get-get_or c.args.live.now place c.index-live-place.result (omega arith) in
     let ok = n.leads.ok.0 in
+    let same_count : vec_len c.get.result.now.leads ≡ vec_len n.leads = ap (λ (k : Links). vec_len k.leads) c.get.ensures in
     let count = c.len-index-end.ensures in
     let test = c.loop-index-test.false in
     let past : length n.leads.items ≤ c.loop-index.index = omega arith in

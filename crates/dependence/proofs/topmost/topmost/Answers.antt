@@ -4,6 +4,7 @@ use Rattle.calculus.specs.InOrder.{InOrder}
 use Rattle.calculus.specs.declared.event.Event.{Event}
 use Rattle.syntax.specs.Lists.{In}
 use Rattle.dependence.specs.Followers.{ListsFollowers}
+use Rattle.dependence.specs.declared.links.Links.{Links}
 use Rattle.dependence.specs.walking.Sweeping.{FlagAt, Swept}
 use Rattle.dependence.proofs.Linking.{linked-here}
 use Rattle.dependence.proofs.ListPlaces.{got-here}
@@ -16,7 +17,7 @@ is_flagged-below-requires-clause-live c = λ t i.
     let p : ℕ = c.loop-place.place - 1 in
     let less : p < length c.args.live.now = omega arith in
     let here = linked-here c.args.live.now c.args.links.now p c.index-links-place.result c.requires.linked less in
-    let f = (here.followers.exactly t).0 (subst (λ (k : List ℕ). In t k) c.as_slice-in-loop-place.ensures.value i) in
+    let f = (here.followers.exactly t).0 (subst (λ (k : List ℕ). In t k) (c.as_slice-in-loop-place.ensures.value ∙ ap (λ (m : Links). m.followers.items) (c.get.ensures ∙ c.index-links-place.is)) i) in
     (f.dependent.dependent, f.dependent.dependent_live)
 
 pub is_flagged-below-requires-clause-passed : goal.is_flagged-below-requires-clause-passed
@@ -24,7 +25,7 @@ is_flagged-below-requires-clause-passed c = λ t i j on.
     let p : ℕ = c.loop-place.place - 1 in
     let less : p < length c.args.live.now = omega arith in
     let here = linked-here c.args.live.now c.args.links.now p c.index-links-place.result c.requires.linked less in
-    let f = (here.followers.exactly t).0 (subst (λ (k : List ℕ). In t k) c.as_slice-in-loop-place.ensures.value j) in
+    let f = (here.followers.exactly t).0 (subst (λ (k : List ℕ). In t k) (c.as_slice-in-loop-place.ensures.value ∙ ap (λ (m : Links). m.followers.items) (c.get.ensures ∙ c.index-links-place.is)) j) in
     let above : p < i = lesser-stands 0 c.requires.rising.0 c.args.live.now p i here.ticket t here.event on.0 c.requires.rising.1 here.stands on.1 f.dependent.less in
     let count : c.loop-place.place + length c.loop-place.flags.items ≡ c.args.high = c.loop-place.invariant.swept.count in
     let size : length c.as_slice.result.now ≡ length c.loop-place.flags.items = ap length c.as_slice.ensures.value in
@@ -35,7 +36,7 @@ is_flagged-below-requires-clause-ascending c =
     let p : ℕ = c.loop-place.place - 1 in
     let less : p < length c.args.live.now = omega arith in
     let here = linked-here c.args.live.now c.args.links.now p c.index-links-place.result c.requires.linked less in
-    subst (λ (k : List ℕ). InOrder ◌<◌ k) (sym c.as_slice-in-loop-place.ensures.value) here.followers.ascending
+    subst (λ (k : List ℕ). InOrder ◌<◌ k) (sym (c.as_slice-in-loop-place.ensures.value ∙ ap (λ (m : Links). m.followers.items) (c.get.ensures ∙ c.index-links-place.is))) here.followers.ascending
 
 pub loop-place-init : goal.loop-place-init
 loop-place-init c =
@@ -68,7 +69,7 @@ loop-place-preserved c =
       swept = swept-next 0 c.requires.rising.0 c.args.live.now c.args.candidates.now c.args.low c.args.high c.loop-place.place p here.ticket here.event
           c.loop-place.flags.items c.push.new.self.items c.loop-place.kept.items c.add_if.new.found.items c.as_slice-in-loop-place.result.now
           c.is_among-is_one.result c.is_flagged-below.result c.either.result c.alone.result c.requires.rising.1 c.requires.stand step here.stands below
-          (subst (λ (k : List ℕ). ListsFollowers c.args.live.now here.ticket k) (sym c.as_slice-in-loop-place.ensures.value) here.followers)
+          (subst (λ (k : List ℕ). ListsFollowers c.args.live.now here.ticket k) (sym (c.as_slice-in-loop-place.ensures.value ∙ ap (λ (m : Links). m.followers.items) (c.get.ensures ∙ c.index-links-place.is))) here.followers)
           c.loop-place.invariant.swept
           (c.is_among-is_one.ensures ∙ ap (λ (k : ℕ). is_in k c.args.candidates.now) ticket) told c.either.ensures c.alone.ensures c.in_ok-push.ensures.items
           (c.in_ok-add_if.ensures ∙ ap (λ (k : ℕ). cond c.alone.result (c.loop-place.kept.items ++ k ∷ []) c.loop-place.kept.items) ticket_again);

@@ -1,11 +1,12 @@
-use Rattle.std.proofs.Common.{◌≡◌, ◌∙◌, ◌++◌, ◌∷◌, [], ℕ, List, Bool, false, sym, ap, subst, arith}
+use Rattle.std.proofs.Common.{◌≡◌, ◌∙◌, ◌↔◌, ◌++◌, ◌∷◌, [], ℕ, List, Bool, false, sym, ap, subst, arith}
 use Rattle.syntax.specs.Lists.{In}
 use Rattle.calculus.specs.Live.{Live, Rising, IsLive}
+use Rattle.calculus.specs.declared.event.Event.{Event}
 use Rattle.dependence.specs.Behind.{ComesBehind}
 use Rattle.dependence.specs.Shown.{tickets_marked}
 use Rattle.dependence.specs.declared.links.Links.{Links}
-use Rattle.dependence.specs.walking.Tabled.{TablesOf, IsTabled}
-use Rattle.dependence.specs.walking.Tables.{Linked, PartLinked, LinkedBehind}
+use Rattle.dependence.specs.walking.Tabled.{TablesOf, IsTabled, IsFresh, MoreTables, FewerTables, HasEvent}
+use Rattle.dependence.specs.walking.Tables.{Linked, PartLinked, LinkedBehind, Candidates, Topmost}
 use Rattle.dependence.proofs.Linking.{linked-part, part-linked}
 use Rattle.dependence.proofs.Edges.{kept-live}
 use Rattle.dependence.proofs.Tabling.{fresh-behind, same-again, tabled-added, tabled-same}
@@ -23,7 +24,8 @@ leads_of-found-requires c =
         tables = subst (λ (k : Live). TablesOf k c.args.tables.now) same c.requires.tabled.tables;
       };
       tabled = subst (λ (k : Live). IsTabled k c.args.tables.now) same c.requires.tabled;
-      behind = subst (λ (k : Live). ComesBehind k c.args.event) same c.requires.behind;
+      behind = subst (λ (e : Event). ComesBehind c.as_slice.result.now e) (sym c.get.ensures)
+          (subst (λ (k : Live). ComesBehind k c.args.event) same c.requires.behind);
       linked = subst (λ (k : Live). Linked k c.as_slice-2.result.now) same
           (subst (λ (k : List Links). Linked c.args.pairs.now.items k) (sym c.as_slice-2.ensures.value) c.requires.whole.linked);
     }
@@ -31,8 +33,9 @@ leads_of-found-requires c =
 pub put-requires : goal.put-requires
 put-requires c =
     let r = c.requires.whole.rising in
-    fresh-behind c.args.pairs.now.items c.args.ticket c.args.event c.args.tables.now c.requires.tabled.tables
-    (rising-below 0 r.0 c.args.pairs.now.items c.args.ticket r.1 (omega arith) c.requires.above) c.requires.behind
+    subst (λ (e : Event). IsFresh c.args.tables.now c.args.ticket e) (sym c.get-2.ensures)
+    (fresh-behind c.args.pairs.now.items c.args.ticket c.args.event c.args.tables.now c.requires.tabled.tables
+    (rising-below 0 r.0 c.args.pairs.now.items c.args.ticket r.1 (omega arith) c.requires.above) c.requires.behind)
 
 pub returns-then-is_err-2-clause-tabled : goal.returns-then-is_err-2-clause-tabled
 returns-then-is_err-2-clause-tabled c =
@@ -48,7 +51,7 @@ link_new-linked-requires c =
     record {
       rising = subst (λ (k : Live). Rising 0 k c.args.ticket) (sym same) (rising-below 0 r.0 c.args.pairs.now.items c.args.ticket r.1 (omega arith) c.requires.above);
       live = subst (λ (k : Live). (t : ℕ) → In t c.in-Ok.leads.items → IsLive k t) (first ∙ sym same)
-          (kept-live c.as_slice.result.now c.args.event tops.0 c.in-Ok.leads.items tops.1 tops.2);
+          (kept-live c.as_slice.result.now c.get.result.now tops.0 c.in-Ok.leads.items tops.1 tops.2);
       falling = c.in-Ok.ensures.falling;
       linked = subst (λ (k : Live). PartLinked k c.args.ticket (λ (t : ℕ). In t []) c.args.links.now.items) (sym same)
           (linked-part c.args.pairs.now.items c.args.ticket c.args.links.now.items c.requires.whole.linked);
@@ -75,8 +78,12 @@ returns-then-is_err-3-clause-tabled c =
     let fresh = fresh-behind l c.args.ticket c.args.event c.args.tables.now c.requires.tabled.tables
     (rising-below 0 r.0 l c.args.ticket r.1 (omega arith) c.requires.above) c.requires.behind in
     let put = on-ok c.put.result _ (sym c.is_err-2.ensures.value ∙ c.if-is_err-2.false) in
+    let more : MoreTables c.args.tables.now c.args.ticket c.args.event c.put.new.self =
+    subst (λ (e : Event). MoreTables c.args.tables.now c.args.ticket e c.put.new.self) c.get-2.ensures (put c.put.ensures.more) in
+    let fewer : FewerTables c.put.new.self c.args.ticket c.args.event c.remove.new.self =
+    subst (λ (e : Event). FewerTables c.put.new.self c.args.ticket e c.remove.new.self) c.get-then-is_err-3.ensures c.remove.ensures in
     tabled-same l c.make_room.new.pairs.items c.args.tables.now c.remove.new.self c.requires.tabled
-    (same-again c.args.tables.now c.put.new.self c.remove.new.self c.args.ticket c.args.event fresh (put c.put.ensures.more) c.remove.ensures) c.make_room.ensures.pairs
+    (same-again c.args.tables.now c.put.new.self c.remove.new.self c.args.ticket c.args.event fresh more fewer) c.make_room.ensures.pairs
 
 pub returns : goal.returns
 returns c =
@@ -90,15 +97,22 @@ returns c =
     c.push_pair.ensures.marks ∙ ap (λ (k : List Bool). k ++ false ∷ []) c.make_room.ensures.marks in
     let behind : LinkedBehind c.as_slice-3.result.now c.args.ticket c.in-Ok.leads.items c.link_new-linked.new.links.items =
     on-ok c.link_new-linked.result _ (sym c.is_err-3.ensures.value ∙ c.if-is_err-3.false) c.link_new-linked.ensures.ok in
+    let tops : (found : List ℕ) × Candidates c.as_slice.result.now c.args.event found × ((t : ℕ) → In t c.in-Ok.leads.items ↔ Topmost c.as_slice.result.now found t) =
+    subst (λ (e : Event). (found : List ℕ) × Candidates c.as_slice.result.now e found × ((t : ℕ) → In t c.in-Ok.leads.items ↔ Topmost c.as_slice.result.now found t))
+    c.get.ensures c.in-Ok.ensures.topmost in
+    let more : MoreTables c.args.tables.now c.args.ticket c.args.event c.put.new.self =
+    subst (λ (e : Event). MoreTables c.args.tables.now c.args.ticket e c.put.new.self) c.get-2.ensures
+    (on-ok c.put.result _ (sym c.is_err-2.ensures.value ∙ c.if-is_err-2.false) c.put.ensures.more) in
+    let all : HasEvent c.args.ticket c.args.event c.put.new.self =
+    subst (λ (e : Event). HasEvent c.args.ticket e c.put.new.self) c.get-2.ensures
+    (on-ok c.put.result _ (sym c.is_err-2.ensures.value ∙ c.if-is_err-2.false) c.put.ensures.all) in
     record {
       whole = whole-added l c.args.links.now.items c.link_new-linked.new.links.items c.args.marks.now.items c.push_pair.new.marks.items c.push_pair.new.pairs.items
           c.args.ticket c.args.event c.in-Ok.leads.items c.requires.whole (rising-below 0 r.0 l c.args.ticket r.1 (omega arith) c.requires.above)
-          (tops-at c.as_slice.result.now l c.args.event c.in-Ok.leads.items first c.in-Ok.ensures.topmost) c.in-Ok.ensures.falling
+          (tops-at c.as_slice.result.now l c.args.event c.in-Ok.leads.items first tops) c.in-Ok.ensures.falling
           (subst (λ (k : Live). LinkedBehind k c.args.ticket c.in-Ok.leads.items c.link_new-linked.new.links.items) same behind) pairs marks;
       tabled = tabled-added l c.push_pair.new.pairs.items c.args.tables.now c.put.new.self c.args.ticket c.args.event c.requires.tabled
-          (rising-below 0 r.0 l c.args.ticket r.1 (omega arith) c.requires.above) c.requires.behind
-          (on-ok c.put.result _ (sym c.is_err-2.ensures.value ∙ c.if-is_err-2.false) c.put.ensures.more)
-          (on-ok c.put.result _ (sym c.is_err-2.ensures.value ∙ c.if-is_err-2.false) c.put.ensures.all) pairs;
+          (rising-below 0 r.0 l c.args.ticket r.1 (omega arith) c.requires.above) c.requires.behind more all pairs;
       added = (
         pairs,
         ap (λ (k : Live). tickets_marked k c.push_pair.new.marks.items) pairs

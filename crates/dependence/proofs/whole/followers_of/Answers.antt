@@ -1,4 +1,4 @@
-use Rattle.std.proofs.Common.{List, ℕ, sym, subst}
+use Rattle.std.proofs.Common.{◌∙◌, List, ℕ, sym, ap, subst}
 use Rattle.dependence.specs.Followers.{ListsFollowers}
 use Rattle.dependence.specs.declared.links.Links.{Links}
 use Rattle.dependence.proofs.Linking.{followers-at}
@@ -7,6 +7,5 @@ use Rattle.dependence.proofs.whole.followers_of.Goals as goal
 pub returns : goal.returns
 returns c =
     let at = c.place_of_live-place.ensures in
-    subst (λ (k : List ℕ). ListsFollowers c.args.live.now c.args.ticket k) (sym c.as_slice.ensures.value)
-    (subst (λ (m : Links). ListsFollowers c.args.live.now c.args.ticket m.followers.items) c.index-links-place.is
-    (followers-at c.args.live.now c.args.links.now c.args.ticket c.place_of_live-place.result at.0 c.index-links-place.result c.requires.linked at.1 c.index-links-place.is))
+    subst (λ (k : List ℕ). ListsFollowers c.args.live.now c.args.ticket k) (sym (c.as_slice.ensures.value ∙ ap (λ (m : Links). m.followers.items) c.get.ensures))
+    (followers-at c.args.live.now c.args.links.now c.args.ticket c.place_of_live-place.result at.0 c.index-links-place.result c.requires.linked at.1 c.index-links-place.is)

@@ -1,4 +1,4 @@
-use Rattle.std.proofs.Common.{List, ℕ, sym, subst}
+use Rattle.std.proofs.Common.{◌∙◌, List, ℕ, sym, ap, subst}
 use Rattle.dependence.specs.Followers.{ListsLeads}
 use Rattle.dependence.specs.declared.links.Links.{Links}
 use Rattle.dependence.proofs.Linking.{leads-at}
@@ -7,6 +7,5 @@ use Rattle.dependence.proofs.whole.leads_at.Goals as goal
 pub returns : goal.returns
 returns c =
     let at = c.place_of_live-place.ensures in
-    subst (λ (k : List ℕ). ListsLeads c.args.live.now c.args.ticket k) (sym c.as_slice.ensures.value)
-    (subst (λ (m : Links). ListsLeads c.args.live.now c.args.ticket m.leads.items) c.index-links-place.is
-    (leads-at c.args.live.now c.args.links.now c.args.ticket c.place_of_live-place.result at.0 c.index-links-place.result c.requires.linked at.1 c.index-links-place.is))
+    subst (λ (k : List ℕ). ListsLeads c.args.live.now c.args.ticket k) (sym (c.as_slice.ensures.value ∙ ap (λ (m : Links). m.leads.items) c.get.ensures))
+    (leads-at c.args.live.now c.args.links.now c.args.ticket c.place_of_live-place.result at.0 c.index-links-place.result c.requires.linked at.1 c.index-links-place.is)

@@ -23,7 +23,7 @@ pub returns-clause-holds : goal.returns-clause-holds
 returns-clause-holds c =
     let h = c.args.self.now in
     let h' = c.enter.new.self in
-    let entered = c.in_ok-enter.ensures.entered in
+    let entered = c.in_ok-event.ensures.entered in
     stands-more c.args.system.now (tree_of h) (both_view c.apply.new.tree c.apply.new.store) (tree_of h') h.live.live h'.live.live h.inverses.items h'.inverses.items
     h.next h'.next c.args.event c.in_ok-record.record.event c.in_ok-record.record.inverse c.requires.holds c.requires.allowed c.requires.few c.requires.unspent
     c.in_ok-record.ensures.made c.in_ok-record.ensures.event entered.tree entered.live
