@@ -8,6 +8,7 @@ use dependence::Live;
 use std::io;
 use std::io::ErrorKind;
 use std::time::Instant;
+use syntax::Boxed;
 
 /// Of this many events one is asked about.
 const ASK_EACH: u64 = 97;
@@ -71,7 +72,7 @@ pub fn time_row(rt: &HostRuntime, row: Row, size: u32) -> io::Result<()> {
         take: Times::none(),
     };
     for index in 0..size {
-        let event = row.event(rt.alloc(), index, size)?;
+        let event = Boxed::new(rt.alloc(), row.event(rt.alloc(), index, size)?)?;
         time_add(rt, &mut live, u64::from(index), event, &mut times.add)?;
     }
     for index in 0..size {
@@ -89,11 +90,11 @@ fn time_add(
     rt: &HostRuntime,
     live: &mut Live,
     count: u64,
-    event: Event,
+    event: Boxed<Event>,
     times: &mut Times,
 ) -> io::Result<()> {
     let ticket = count.wrapping_add(1);
-    if !comes_behind(live, count, ticket, &event) {
+    if !comes_behind(live, count, ticket, event.get()) {
         return Err(io::Error::other("an event does not come behind the others"));
     }
     let start = Instant::now(rt)?;

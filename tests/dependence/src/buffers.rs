@@ -6,6 +6,7 @@ use dependence::Live;
 use std::alloc::Global;
 use std::io;
 use std::io::ErrorKind;
+use syntax::Boxed;
 use system::Variables;
 
 /// An event in short: its kind, its places as texts, its channel, the variable that is written and the one that is read.
@@ -60,7 +61,8 @@ pub fn first_steps(alloc: Global) -> io::Result<()> {
     let mut ticket = 0;
     for told in &STEPS {
         ticket += 1;
-        if live.add(ticket, event(alloc, told)?).is_err() {
+        let event = Boxed::new(alloc, event(alloc, told)?)?;
+        if live.add(ticket, event).is_err() {
             return Err(io::Error::from(ErrorKind::OutOfMemory));
         }
     }

@@ -10,6 +10,7 @@ use dependence::Live;
 use std::alloc::Global;
 use std::io;
 use std::io::ErrorKind;
+use syntax::Boxed;
 
 /// A `Live`, the plain list of its events, and what may come next.
 #[derive(Drop)]
@@ -52,6 +53,7 @@ impl Session {
         self.threads.advance(&event);
         self.last += 1 + self.random.below(2);
         self.plain.push((self.last, copy))?;
+        let event = Boxed::new(self.alloc, event)?;
         match self.live.add(self.last, event) {
             Ok(()) => Ok(()),
             Err(_) => Err(io::Error::from(ErrorKind::OutOfMemory)),

@@ -92,7 +92,10 @@ fn each_round_of_a_loop_has_the_line_of_its_own_arm(rt: HostRuntime) -> Result<(
     assert_eq!(rt; live.len() as u64, 3 * ROUNDS);
     for (index, entry) in live.iter().enumerate() {
         let line = TWO_ROUNDS[index % TWO_ROUNDS.len()];
-        assert_eq!(rt; desk.machine().line(entry.1.acting_place()), Some(line));
+        assert_eq!(rt;
+            desk.machine().line(entry.1.get().acting_place()),
+            Some(line)
+        );
     }
     let earlier = place(rt.alloc(), b"/0.397.1")?;
     let last = place(rt.alloc(), b"/0.399.1")?;

@@ -6,6 +6,7 @@ use dependence::Live;
 use std::alloc::{AllocError, Global};
 use std::process::Abort;
 use std::test::Fail;
+use syntax::Boxed;
 
 /// The first steps of two buffers, one behind the other: both loops turn, the first buffer receives a value, and hands it on.
 fn steps() -> [Told; 4] {
@@ -27,14 +28,14 @@ fn add(
     rt: &impl Abort,
     live: &mut Live,
     ticket: u64,
-    event: Event,
+    event: Boxed<Event>,
     copy: &Event,
 ) -> Result<(), AllocError> {
     let Err(back) = live.add(ticket, event) else {
         return Ok(());
     };
     let before = ticket - 1;
-    assert!(rt; back.equals(copy));
+    assert!(rt; back.get().equals(copy));
     assert!(rt; live.pair_at(before).is_none());
     if before > 0 {
         assert_eq!(rt; live.count(1), COUNTS[before as usize]);
@@ -53,7 +54,7 @@ fn after_steps(rt: &impl Abort, alloc: Global) -> Result<Live, Fail> {
         ticket += 1;
         let made = event(alloc, told)?;
         let copy = made.copy(alloc)?;
-        add(rt, &mut live, ticket, made, &copy)?;
+        add(rt, &mut live, ticket, Boxed::new(alloc, made)?, &copy)?;
     }
     Ok(live)
 }

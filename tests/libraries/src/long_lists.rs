@@ -7,6 +7,7 @@ use dependence::Live;
 use equal_runs::same_run;
 use std::alloc::{AllocError, Global};
 use std::test::Fail;
+use syntax::Boxed;
 use system::Variables;
 use value::Value;
 
@@ -56,6 +57,7 @@ fn a_long_list_of_live_events_answers(rt: HostRuntime) -> Result<(), Fail> {
     let mut live = Live::new(rt.alloc());
     for index in 0..COUNT {
         let event = in_turn(rt.alloc(), index)?;
+        let event = Boxed::new(rt.alloc(), event)?;
         if live.add(u64::from(index) + 1, event).is_err() {
             return Err(Fail::from("an event finds no memory"));
         }
