@@ -1,4 +1,4 @@
--- Which elements of a list stand before which, and lists in which each event acts at a place of its own.
+-- Which elements of a list stand before which, and lists in which each event acts at an index of its own.
 use Rattle.std.proofs.Common.{◌≡◌, ◌⊎◌, inl, inr, List, [], ◌∷◌, ◌++◌, refl, sym, ◌∙◌, subst}
 use Rattle.syntax.specs.Lists.{In}
 use Rattle.calculus.specs.Dependence.{Earlier}

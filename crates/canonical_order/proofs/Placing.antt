@@ -146,7 +146,7 @@ below? e f =
       | inr (inr u) ↦ inr (λ below. below-itself e (subst (λ (a : Place). order_of (acting e) a ≡ Less) (sym u) below))
     ]
 
--- there is a place for each event
+-- there is an index for each event
 placed-some : (e : Event) (g : List Event) → (out : List Event) × Placed e g out
 placed-some e [] = (e ∷ [], refl)
 placed-some e (f ∷ g) =

@@ -22,8 +22,8 @@ use Rattle.calculus.specs.declared.event.Event.{Event}
 use Rattle.calculus.proofs.Options.{none-some, some-injective}
 use Rattle.dependence.proofs.ListPlaces.{at-within, at-one}
 use Rattle.canonical_order.specs.declared.queue.Free.{Free}
-use Rattle.canonical_order.specs.walking.Waiting.{IsEntry, IsFree, IsQueue, Joins, queue_order, same_place}
-use Rattle.canonical_order.proofs.Waits.{Rises, one-place}
+use Rattle.canonical_order.specs.walking.Waiting.{IsEntry, IsFree, IsQueue, Joins, queue_order, same_index}
+use Rattle.canonical_order.proofs.Waits.{Rises, one-index}
 
 -- what holds of each entry, and follows from it
 every-weaker : (P Q : Reverse Free → Type 0) (xs : List (Reverse Free)) → ((x : Reverse Free) → P x → Q x) → AllByRecursion P xs → AllByRecursion Q xs
@@ -42,19 +42,19 @@ any-one p P [] some h = absurd (false≢true some)
 any-one p P (x ∷ xs) some h = elim (or_cases (p x) (list_any p xs) some) [ inl u ↦ (x, u, h.0) | inr u ↦ any-one p P xs u h.1 ]
 
 -- the places are compared the same from both sides
-same-turned : (x y : Reverse Free) → same_place x y ≡ same_place y x
+same-turned : (x y : Reverse Free) → same_index x y ≡ same_index y x
 same-turned x y =
-    elim (cases_eq x.0.place y.0.place) [
-      | inl is ↦ eq-eqb x.0.place y.0.place is ∙ sym (eq-eqb y.0.place x.0.place (sym is))
-      | inr differs ↦ ne_eqb x.0.place y.0.place differs ∙ sym (ne_eqb y.0.place x.0.place (λ is. differs (sym is)))
+    elim (cases_eq x.0.index y.0.index) [
+      | inl is ↦ eq-eqb x.0.index y.0.index is ∙ sym (eq-eqb y.0.index x.0.index (sym is))
+      | inr differs ↦ ne_eqb x.0.index y.0.index differs ∙ sym (ne_eqb y.0.index x.0.index (λ is. differs (sym is)))
     ]
 
 -- what is asked of an entry of the queue
 abbrev pub InQueue : Live → Live → List ℕ → Reverse Free → Type 0
-InQueue l rest left x = IsEntry l x × IsFree l rest left x.0.place
+InQueue l rest left x = IsEntry l x × IsFree l rest left x.0.index
 
 -- no entry is there twice where none is there
-distinct-none : IsDistinct same_place []
+distinct-none : IsDistinct same_index []
 unfolding IsDistinct
 distinct-none = tt
 
@@ -66,7 +66,7 @@ queue-none l rest left items none heap free =
     record {
       heap = heap;
       entries = empty items none;
-      once = subst (IsDistinct same_place) (sym none) distinct-none;
+      once = subst (IsDistinct same_index) (sym none) distinct-none;
       all = λ i f. absurd (free i f);
     }
 
@@ -75,54 +75,54 @@ pub queue-same : (l rest now : Live) (left after : List ℕ) (items : List (Reve
     → ((i : ℕ) → IsFree l rest left i → IsFree l now after i) → ((i : ℕ) → IsFree l now after i → IsFree l rest left i) → IsQueue l now after items
 queue-same l rest now left after items q there back = record {
   heap = q.heap;
-  entries = every-weaker (InQueue l rest left) (InQueue l now after) items (λ x h. (h.0, there x.0.place h.1)) q.entries;
+  entries = every-weaker (InQueue l rest left) (InQueue l now after) items (λ x h. (h.0, there x.0.index h.1)) q.entries;
   once = q.once;
   all = λ i f. q.all i (back i f);
 }
 
 -- one entry more
-pub queue-joined : (l rest now : Live) (left after : List ℕ) (place : ℕ) (items more : List (Reverse Free)) → IsQueue l rest left items → Joins l place items more
-    → ((i : ℕ) → IsFree l rest left i → IsFree l now after i × (i ≡ place → ⊥)) → IsFree l now after place
-    → ((i : ℕ) → IsFree l now after i → (i ≡ place → ⊥) → IsFree l rest left i) → IsQueue l now after more
-queue-joined l rest now left after place items more q j there here back =
-    let apart : AllByRecursion (λ (y : Reverse Free). same_place j.entry y ≡ false) items =
-    every-weaker (InQueue l rest left) (λ (y : Reverse Free). same_place j.entry y ≡ false) items
-    (λ y h. ne_eqb j.entry.0.place y.0.place (λ is. (there y.0.place h.1).1 (sym is ∙ j.at))) q.entries in
+pub queue-joined : (l rest now : Live) (left after : List ℕ) (index : ℕ) (items more : List (Reverse Free)) → IsQueue l rest left items → Joins l index items more
+    → ((i : ℕ) → IsFree l rest left i → IsFree l now after i × (i ≡ index → ⊥)) → IsFree l now after index
+    → ((i : ℕ) → IsFree l now after i → (i ≡ index → ⊥) → IsFree l rest left i) → IsQueue l now after more
+queue-joined l rest now left after index items more q j there here back =
+    let apart : AllByRecursion (λ (y : Reverse Free). same_index j.entry y ≡ false) items =
+    every-weaker (InQueue l rest left) (λ (y : Reverse Free). same_index j.entry y ≡ false) items
+    (λ y h. ne_eqb j.entry.0.index y.0.index (λ is. (there y.0.index h.1).1 (sym is ∙ j.at))) q.entries in
     let whole : AllByRecursion (InQueue l now after) (j.entry ∷ items) = (
       (j.is, subst (IsFree l now after) (sym j.at) here),
-      every-weaker (InQueue l rest left) (InQueue l now after) items (λ x h. (h.0, (there x.0.place h.1).0)) q.entries,
+      every-weaker (InQueue l rest left) (InQueue l now after) items (λ x h. (h.0, (there x.0.index h.1).0)) q.entries,
     ) in
     record {
       heap = j.heap q.heap;
       entries = every_shuffled (InQueue l now after) (j.entry ∷ items) more j.permutation whole;
-      once = IsDistinct-IsPermutation same_place same-turned (j.entry ∷ items) more j.permutation (IsDistinct-cons same_place j.entry items apart q.once);
-      all = λ i f. sym (list_any-IsPermutation (λ (x : Reverse Free). x.0.place == i) (j.entry ∷ items) more j.permutation)
-          ∙ elim (cases_eq i place) [
-            | inl is ↦ or_left (j.entry.0.place == i) (list_any (λ (x : Reverse Free). x.0.place == i) items) (eq-eqb j.entry.0.place i (j.at ∙ sym is))
-            | inr other ↦ or_right (j.entry.0.place == i) (list_any (λ (x : Reverse Free). x.0.place == i) items) (q.all i (back i f other))
+      once = IsDistinct-IsPermutation same_index same-turned (j.entry ∷ items) more j.permutation (IsDistinct-cons same_index j.entry items apart q.once);
+      all = λ i f. sym (list_any-IsPermutation (λ (x : Reverse Free). x.0.index == i) (j.entry ∷ items) more j.permutation)
+          ∙ elim (cases_eq i index) [
+            | inl is ↦ or_left (j.entry.0.index == i) (list_any (λ (x : Reverse Free). x.0.index == i) items) (eq-eqb j.entry.0.index i (j.at ∙ sym is))
+            | inr other ↦ or_right (j.entry.0.index == i) (list_any (λ (x : Reverse Free). x.0.index == i) items) (q.all i (back i f other))
           ];
     }
 
 -- one entry less, whose event is no longer left
 pub queue-popped : (l rest now : Live) (left : List ℕ) (x : Reverse Free) (items more : List (Reverse Free)) → IsQueue l rest left items
     → IsPermutation items (x ∷ more) → IsHeap queue_order more
-    → ((i : ℕ) → IsFree l rest left i → (i ≡ x.0.place → ⊥) → IsFree l now left i) → ((i : ℕ) → IsFree l now left i → IsFree l rest left i × (i ≡ x.0.place → ⊥))
+    → ((i : ℕ) → IsFree l rest left i → (i ≡ x.0.index → ⊥) → IsFree l now left i) → ((i : ℕ) → IsFree l now left i → IsFree l rest left i × (i ≡ x.0.index → ⊥))
     → IsQueue l now left more
 queue-popped l rest now left x items more q p heap there back =
-    let once : IsDistinct same_place (x ∷ more) = IsDistinct-IsPermutation same_place same-turned items (x ∷ more) p q.once in
+    let once : IsDistinct same_index (x ∷ more) = IsDistinct-IsPermutation same_index same-turned items (x ∷ more) p q.once in
     let whole : AllByRecursion (InQueue l rest left) (x ∷ more) = every_shuffled (InQueue l rest left) items (x ∷ more) p q.entries in
     record {
       heap = heap;
-      entries = every-weaker (λ (y : Reverse Free). InQueue l rest left y × (same_place x y ≡ false)) (InQueue l now left) more
-          (λ y h. (h.0.0, there y.0.place h.0.1 (λ is. eqb-false x.0.place y.0.place h.1 (sym is))))
-          (every-both (InQueue l rest left) (λ (y : Reverse Free). same_place x y ≡ false) more whole.1 (IsDistinct-head same_place x more once));
-      once = IsDistinct-tail same_place x more once;
+      entries = every-weaker (λ (y : Reverse Free). InQueue l rest left y × (same_index x y ≡ false)) (InQueue l now left) more
+          (λ y h. (h.0.0, there y.0.index h.0.1 (λ is. eqb-false x.0.index y.0.index h.1 (sym is))))
+          (every-both (InQueue l rest left) (λ (y : Reverse Free). same_index x y ≡ false) more whole.1 (IsDistinct-head same_index x more once));
+      once = IsDistinct-tail same_index x more once;
       all = λ i f.
           let was = back i f in
-          let some : list_any (λ (y : Reverse Free). y.0.place == i) (x ∷ more) ≡ true =
-          sym (list_any-IsPermutation (λ (y : Reverse Free). y.0.place == i) items (x ∷ more) p) ∙ q.all i was.0 in
-          elim (or_cases (x.0.place == i) (list_any (λ (y : Reverse Free). y.0.place == i) more) some) [
-            | inl u ↦ absurd (was.1 (sym (eqb-true x.0.place i u)))
+          let some : list_any (λ (y : Reverse Free). y.0.index == i) (x ∷ more) ≡ true =
+          sym (list_any-IsPermutation (λ (y : Reverse Free). y.0.index == i) items (x ∷ more) p) ∙ q.all i was.0 in
+          elim (or_cases (x.0.index == i) (list_any (λ (y : Reverse Free). y.0.index == i) more) some) [
+            | inl u ↦ absurd (was.1 (sym (eqb-true x.0.index i u)))
             | inr u ↦ u
           ];
     }
@@ -136,33 +136,33 @@ popped-entry l rest left x items more q p = (every_shuffled (InQueue l rest left
 pub popped-least : (l rest : Live) (left : List ℕ) (x : Reverse Free) (items : List (Reverse Free)) (e f : Event) (i s : ℕ) → IsQueue l rest left items
     → IsUpperBound queue_order x items → x.0.acting.now ≡ acting e → slice_get l i ≡ Some (s, f) → IsFree l rest left i → order_of (acting f) (acting e) ≡ Less → ⊥
 popped-least l rest left x items e f i s q top acts at free less =
-    let found = any-one (λ (y : Reverse Free). y.0.place == i) (λ (y : Reverse Free). InQueue l rest left y × (lt_by_cmp queue_order x y ≡ false)) items
+    let found = any-one (λ (y : Reverse Free). y.0.index == i) (λ (y : Reverse Free). InQueue l rest left y × (lt_by_cmp queue_order x y ≡ false)) items
     (q.all i free) (every-both (InQueue l rest left) (λ (y : Reverse Free). lt_by_cmp queue_order x y ≡ false) items q.entries top) in
     let y : Reverse Free = found.0 in
-    let here : y.0.place ≡ i = eqb-true y.0.place i found.1 in
+    let here : y.0.index ≡ i = eqb-true y.0.index i found.1 in
     let entry : IsEntry l y = found.2.0.0 in
     let one : (entry.0, entry.1) ≡ (s, f) =
     at-one l i (entry.0, entry.1) (s, f) (subst (λ (n : ℕ). slice_get l n ≡ Some (entry.0, entry.1)) here entry.2) at in
     let theirs : y.0.acting.now ≡ acting f = entry.3 ∙ ap (λ (z : ℕ × Event). acting z.1) one in
     let lower : order_of y.0.acting.now x.0.acting.now ≡ Less = ap (λ a. order_of a x.0.acting.now) theirs ∙ (ap (λ a. order_of (acting f) a) acts ∙ less) in
     let by : queue_order x y ≡ Less =
-    ap (λ (o : Ordering). ordering_then o (nat_cmp y.0.place x.0.place)) (entries_cmp-is y.0.acting.now x.0.acting.now ∙ lower) in
+    ap (λ (o : Ordering). ordering_then o (nat_cmp y.0.index x.0.index)) (entries_cmp-is y.0.acting.now x.0.acting.now ∙ lower) in
     true≢false (sym (ap is_lt by) ∙ found.2.1)
 
 -- a number below one more that is not the last
 below-last : (i k : ℕ) → i < k + 1 → (i ≡ k → ⊥) → i < k
 below-last i k less other = elim (cases_order i k) [ inl is ↦ absurd (other is) | inr (inl below) ↦ below | inr (inr above) ↦ absurd (omega (arith, less, above)) ]
 
--- an entry of the event at the place
-pub joins : (l k : Live) (place : ℕ) (d : ℕ × Event) (x : Reverse Free) (items more : List (Reverse Free)) → k ≡ l → place < length k
-    → x.0.place ≡ place → x.0.acting.now ≡ acting (get_or k place d).1 → IsPermutation (x ∷ items) more
-    → (IsHeap queue_order items → IsHeap queue_order more) → Joins l place items more
-joins l k place d x items more same within here acts p heap =
-    let at : slice_get l place ≡ Some (get_or k place d) =
-    subst (λ (m : Live). slice_get m place ≡ Some (get_or k place d)) same (slice_get-get_or k place d within) in
+-- an entry of the event at the index
+pub joins : (l k : Live) (index : ℕ) (d : ℕ × Event) (x : Reverse Free) (items more : List (Reverse Free)) → k ≡ l → index < length k
+    → x.0.index ≡ index → x.0.acting.now ≡ acting (get_or k index d).1 → IsPermutation (x ∷ items) more
+    → (IsHeap queue_order items → IsHeap queue_order more) → Joins l index items more
+joins l k index d x items more same within here acts p heap =
+    let at : slice_get l index ≡ Some (get_or k index d) =
+    subst (λ (m : Live). slice_get m index ≡ Some (get_or k index d)) same (slice_get-get_or k index d within) in
     record {
       entry = x;
-      is = ((get_or k place d).0, (get_or k place d).1, ap (λ (i : ℕ). slice_get l i) here ∙ at, acts);
+      is = ((get_or k index d).0, (get_or k index d).1, ap (λ (i : ℕ). slice_get l i) here ∙ at, acts);
       at = here;
       permutation = p;
       heap = heap;
@@ -179,28 +179,28 @@ take-more l k x i =
     let next : suc k ≡ k + 1 = omega arith in
     subst (λ (n : ℕ). In x (take n l)) next (take-one-more l k x i)
 
--- an event at a place is among the first where the place is
-take-place : (l : Live) (k i : ℕ) (x : ℕ × Event) → slice_get l i ≡ Some x → i < k → In x (take k l)
-take-place [] k i x at less = none-some x at
-take-place (y ∷ l) zero i x at less = absurd (omega (arith, less))
-take-place (y ∷ l) (suc k) zero x at less = inl (sym (some-injective y x at))
-take-place (y ∷ l) (suc k) (suc i) x at less = inr (take-place l k i x at (omega (arith, less)))
+-- an event at an index is among the first where the index is
+take-index : (l : Live) (k i : ℕ) (x : ℕ × Event) → slice_get l i ≡ Some x → i < k → In x (take k l)
+take-index [] k i x at less = none-some x at
+take-index (y ∷ l) zero i x at less = absurd (omega (arith, less))
+take-index (y ∷ l) (suc k) zero x at less = inl (sym (some-injective y x at))
+take-index (y ∷ l) (suc k) (suc i) x at less = inr (take-index l k i x at (omega (arith, less)))
 
--- where it is among the first, it has such a place
-place-taken : (l : Live) (k : ℕ) (x : ℕ × Event) → In x (take k l) → (i : ℕ) × (i < k) × (slice_get l i ≡ Some x)
-place-taken l zero x i = absurd i
-place-taken [] (suc k) x i = absurd i
-place-taken (y ∷ l) (suc k) x i =
+-- where it is among the first, it has such an index
+index-taken : (l : Live) (k : ℕ) (x : ℕ × Event) → In x (take k l) → (i : ℕ) × (i < k) × (slice_get l i ≡ Some x)
+index-taken l zero x i = absurd i
+index-taken [] (suc k) x i = absurd i
+index-taken (y ∷ l) (suc k) x i =
     elim i [
       | inl is ↦ (0, omega arith, ap (λ (z : ℕ × Event). Some z) (sym is))
-      | inr j ↦ let rest = place-taken l k x j in let less : rest.0 < k = rest.1 in (suc rest.0, omega (arith, less), rest.2)
+      | inr j ↦ let rest = index-taken l k x j in let less : rest.0 < k = rest.1 in (suc rest.0, omega (arith, less), rest.2)
     ]
 
 -- a free event among the first
 free-within : (l : Live) (left : List ℕ) (k i : ℕ) → Rises l → IsFree l (take k l) left i → i < k
 free-within l left k i r free =
-    let at = place-taken l k (free.0.0, free.0.1) free.0.3 in
-    subst (λ (j : ℕ). j < k) (one-place l at.0 i free.0.0 free.0.1 free.0.1 r at.2 free.0.2) at.1
+    let at = index-taken l k (free.0.0, free.0.1) free.0.3 in
+    subst (λ (j : ℕ). j < k) (one-index l at.0 i free.0.0 free.0.1 free.0.1 r at.2 free.0.2) at.1
 
 -- a free event among the first is one of one more
 free-more : (l : Live) (left : List ℕ) (k i : ℕ) → IsFree l (take k l) left i → IsFree l (take (k + 1) l) left i
@@ -211,7 +211,7 @@ free-less : (l : Live) (left : List ℕ) (k i : ℕ) → Rises l → IsFree l (t
 free-less l left k i r free other =
     let within : i < k + 1 = free-within l left (k + 1) i r free in
     let below : i < k = below-last i k within other in
-    ((free.0.0, free.0.1, free.0.2, take-place l k i (free.0.0, free.0.1) free.0.2 below), free.1)
+    ((free.0.0, free.0.1, free.0.2, take-index l k i (free.0.0, free.0.1) free.0.2 below), free.1)
 
 -- one event more is free
 pub first-joined : (l : Live) (left : List ℕ) (k : ℕ) (items more : List (Reverse Free)) → Rises l → k < length l → slice_get left k ≡ Some 0
@@ -220,7 +220,7 @@ first-joined l left k items more r within held q j =
     let here = at-within l k within in
     queue-joined l (take k l) (take (k + 1) l) left left k items more q j
     (λ i free. (free-more l left k i free, λ is. let less : i < k = free-within l left k i r free in absurd (omega (arith, less, is))))
-    ((here.0.0, here.0.1, here.1, take-place l (k + 1) k here.0 here.1 (omega arith)), held)
+    ((here.0.0, here.0.1, here.1, take-index l (k + 1) k here.0 here.1 (omega arith)), held)
     (λ i free other. free-less l left k i r free other)
 
 -- one event more is not free

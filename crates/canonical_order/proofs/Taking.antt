@@ -21,39 +21,39 @@ use Rattle.calculus.proofs.Lists.{in-left, in-right, in-parts}
 use Rattle.calculus.proofs.Options.{some-injective}
 use Rattle.calculus.proofs.Tickets.{rising-in, rising-parts, rising-join, rising-lower, events-join, event-in, in-event}
 use Rattle.dependence.specs.Followers.{Follower}
-use Rattle.dependence.proofs.ListPlaces.{at-within, place-in}
+use Rattle.dependence.proofs.ListPlaces.{at-within, index-in}
 use Rattle.canonical_order.specs.Canonical.{LeastFree, IsCanonicalOrder, StandAt}
 use Rattle.canonical_order.specs.declared.queue.Free as entry
 use Rattle.canonical_order.specs.walking.Waiting.{IsRest, Counts, LeftFor, IsFree, IsQueue, Ready, TellingAt, SomeTelling, TellsAll, queue_order}
 use Rattle.canonical_order.proofs.Orders.{ActsOnce}
 use Rattle.canonical_order.proofs.Stands.{stand-more}
-use Rattle.canonical_order.proofs.Waits.{Rises, one-event, one-place, lead-left, waits-none, waits-some, waits-same}
+use Rattle.canonical_order.proofs.Waits.{Rises, one-event, one-index, lead-left, waits-none, waits-some, waits-same}
 use Rattle.canonical_order.proofs.Queues.{popped-entry, popped-least, queue-popped}
 
 -- an entry of the queue
 abbrev pub Entry : Type 0
 Entry = Reverse entry.Free
 
--- what was taken so far: these places, whose events begin the canonical order, and the others are left
-pub record Progress (l : Live) (places left : List ℕ) (items : List Entry) : Type 0 where
+-- what was taken so far: these indexes, whose events begin the canonical order, and the others are left
+pub record Progress (l : Live) (indexes left : List ℕ) (items : List Entry) : Type 0 where
   pub rest : Live
   pub order : List Event
   pub is_rest : IsRest l rest
-  pub stand : StandAt l places order
+  pub stand : StandAt l indexes order
   pub goes_on : (k : List Event) → IsCanonicalOrder (events rest) k → IsCanonicalOrder (events l) (order ++ k)
-  pub count : length places + length rest ≡ length l
+  pub count : length indexes + length rest ≡ length l
   pub ready : Ready l rest left items
 
 -- nothing is taken
-pub progress-none : (l : Live) (places left : List ℕ) (items : List Entry) → Rises l → places ≡ [] → Counts l (λ (t : ℕ) (u : ℕ). IsLive l t) left
-    → IsQueue l l left items → Progress l places left items
-progress-none l places left items r none counts queue = record {
+pub progress-none : (l : Live) (indexes left : List ℕ) (items : List Entry) → Rises l → indexes ≡ [] → Counts l (λ (t : ℕ) (u : ℕ). IsLive l t) left
+    → IsQueue l l left items → Progress l indexes left items
+progress-none l indexes left items r none counts queue = record {
   rest = l;
   order = [];
   is_rest = record { rising = r; inside = λ t e i. i; onward = λ t u e f i it iu less direct. iu };
   stand = subst (λ (p : List ℕ). StandAt l p []) (sym none) tt;
   goes_on = λ k c. c;
-  count = let nothing : length places ≡ 0 = ap length none in omega (arith, nothing);
+  count = let nothing : length indexes ≡ 0 = ap length none in omega (arith, nothing);
   ready = record { counts = counts; queue = queue };
 }
 
@@ -61,7 +61,7 @@ progress-none l places left items r none counts queue = record {
 below-or-above : (i j : ℕ) → (i ≡ j → ⊥) → (i < j) ⊎ (j < i)
 below-or-above i j other = elim (cases_order i j) [ inl is ↦ absurd (other is) | inr less ↦ less ]
 
--- an event has one ticket where each acts at a place of its own
+-- an event has one ticket where each acts at an index of its own
 one-ticket : (l : Live) (t u : ℕ) (e : Event) → Rises l → ActsOnce (events l) → LiveAt l t e → LiveAt l u e → t ≡ u
 one-ticket l t u e r once i j =
     elim (cases_eq t u) [
@@ -96,24 +96,24 @@ cause-left l rest c s f r is i follows live =
 
 -- what the queue gives is the least of the free events
 pub popped-is-least : (l rest : Live) (left : List ℕ) (items more : List Entry) (x : Entry) (t : ℕ) (e : Event) → Rises l → ActsOnce (events l) → IsRest l rest
-    → Ready l rest left items → IsPermutation items (x ∷ more) → IsUpperBound queue_order x items → slice_get l x.0.place ≡ Some (t, e) → LiveAt rest t e
-    → slice_get left x.0.place ≡ Some 0 → x.0.acting.now ≡ acting e → LeastFree (events rest) e
+    → Ready l rest left items → IsPermutation items (x ∷ more) → IsUpperBound queue_order x items → slice_get l x.0.index ≡ Some (t, e) → LiveAt rest t e
+    → slice_get left x.0.index ≡ Some 0 → x.0.acting.now ≡ acting e → LeastFree (events rest) e
 popped-is-least l rest left items more x t e r once is ready p top at i zero_left acts =
     let none : (c : ℕ) → Follower l c t → IsLive rest c → ⊥ =
-    λ c follows live. waits-none l (λ (s : ℕ). IsLive rest s) c t 0 (ready.counts.waits x.0.place t 0 e at zero_left) refl follows live in
+    λ c follows live. waits-none l (λ (s : ℕ). IsLive rest s) c t 0 (ready.counts.waits x.0.index t 0 e at zero_left) refl follows live in
     record {
       free = record { inside = event-in rest t e i; no_cause = no-cause-left l rest t e r once is i none };
       least = λ f free less.
           let s = in-event rest f free.inside in
-          let place = place-in l (s.0, f) (is.inside s.0 f s.1) in
+          let index = index-in l (s.0, f) (is.inside s.0 f s.1) in
           let size : length left ≡ length l = ready.counts.size in
-          let inside : place.0 < length l = slice_get_within l place.0 (s.0, f) place.1 in
-          let held = at-within left place.0 (omega (arith, size, inside)) in
+          let inside : index.0 < length l = slice_get_within l index.0 (s.0, f) index.1 in
+          let held = at-within left index.0 (omega (arith, size, inside)) in
           elim (cases_eq held.0 0) [
-            | inl nothing ↦ popped-least l rest left x items e f place.0 s.0 ready.queue top acts place.1
-                ((s.0, f, place.1, s.1), held.1 ∙ ap (λ (n : ℕ). Some n) nothing) less
+            | inl nothing ↦ popped-least l rest left x items e f index.0 s.0 ready.queue top acts index.1
+                ((s.0, f, index.1, s.1), held.1 ∙ ap (λ (n : ℕ). Some n) nothing) less
             | inr waits ↦
-                let lead = waits-some l (λ (c : ℕ). IsLive rest c) s.0 held.0 (ready.counts.waits place.0 s.0 held.0 f place.1 held.1) waits in
+                let lead = waits-some l (λ (c : ℕ). IsLive rest c) s.0 held.0 (ready.counts.waits index.0 s.0 held.0 f index.1 held.1) waits in
                 let cause = cause-left l rest lead.0 s.0 f r is s.1 lead.1 lead.2 in
                 free.no_cause cause.0 cause.1 cause.2
           ];
@@ -172,16 +172,16 @@ other-in b a t u e f other i =
     ]
 
 -- one more was taken, and its followers are still to be told
-pub record Taken (l : Live) (places : List ℕ) (place : ℕ) (left : List ℕ) (items : List Entry) : Type 0 where
+pub record Taken (l : Live) (indexes : List ℕ) (index : ℕ) (left : List ℕ) (items : List Entry) : Type 0 where
   pub rest : Live
   pub order : List Event
   pub is_rest : IsRest l rest
-  pub stand : StandAt l places order
+  pub stand : StandAt l indexes order
   pub goes_on : (k : List Event) → IsCanonicalOrder (events rest) k → IsCanonicalOrder (events l) (order ++ k)
-  pub count : length places + length rest ≡ length l
-  pub telling : TellingAt l rest place left items
+  pub count : length indexes + length rest ≡ length l
+  pub telling : TellingAt l rest index left items
 
--- an event acts at a place of its own in a run
+-- an event acts at an index of its own in a run
 pub runs-once : (h : List Event) → (system : System) × (T : State) × Run (opening system) h T → ActsOnce h
 runs-once h (system, T, run) = λ x y i. acting_once system h T x y run i
 
@@ -191,14 +191,14 @@ middle-length [] a x = refl
 middle-length (y ∷ b) a x = ap suc (middle-length b a x)
 
 -- the queue gives one
-pub popped : (l : Live) (places out left : List ℕ) (items more : List Entry) (x : Entry) → Rises l → ActsOnce (events l) → Progress l places left items
-    → IsPermutation items (x ∷ more) → IsHeap queue_order more → IsUpperBound queue_order x items → out ≡ places ++ x.0.place ∷ []
-    → Taken l out x.0.place left more
-popped l places out left items more x r once now p heap top is =
+pub popped : (l : Live) (indexes out left : List ℕ) (items more : List Entry) (x : Entry) → Rises l → ActsOnce (events l) → Progress l indexes left items
+    → IsPermutation items (x ∷ more) → IsHeap queue_order more → IsUpperBound queue_order x items → out ≡ indexes ++ x.0.index ∷ []
+    → Taken l out x.0.index left more
+popped l indexes out left items more x r once now p heap top is =
     let entry = popped-entry l now.rest left x items more now.ready.queue p in
     let t : ℕ = entry.1.0.0 in
     let e : Event = entry.1.0.1 in
-    let at : slice_get l x.0.place ≡ Some (t, e) = entry.1.0.2 in
+    let at : slice_get l x.0.index ≡ Some (t, e) = entry.1.0.2 in
     let here : LiveAt now.rest t e = entry.1.0.3 in
     let same : (entry.0.0, entry.0.1) ≡ (t, e) = some-injective (entry.0.0, entry.0.1) (t, e) (sym entry.0.2 ∙ at) in
     let acts : x.0.acting.now ≡ acting e = entry.0.3 ∙ ap (λ (y : ℕ × Event). acting y.1) same in
@@ -210,7 +210,7 @@ popped l places out left items more x r once now p heap top is =
     let whole : now.rest ≡ b ++ (t, e) ∷ a = parts.2 in
     let was : IsRest l (b ++ (t, e) ∷ a) = subst (IsRest l) whole now.is_rest in
     let none : (c : ℕ) → Follower l c t → IsLive now.rest c → ⊥ =
-    λ c follows live. waits-none l (λ (s : ℕ). IsLive now.rest s) c t 0 (now.ready.counts.waits x.0.place t 0 e at entry.1.1) refl follows live in
+    λ c follows live. waits-none l (λ (s : ℕ). IsLive now.rest s) c t 0 (now.ready.counts.waits x.0.index t 0 e at entry.1.1) refl follows live in
     let free : (s : ℕ) (g : Event) → IsLive (b ++ (t, e) ∷ a) s → LiveAt l s g → s < t → Directly g e → ⊥ =
     λ s g live is_s less direct.
     let lead = lead-left l now.rest s t g e r now.is_rest (subst (λ (k : Live). IsLive k s) (sym whole) live) is_s (now.is_rest.inside t e here) less direct in
@@ -223,7 +223,7 @@ popped l places out left items more x r once now p heap top is =
     (elim (in-parts (s, g) b a i) [ inl u ↦ in-left (s, g) b ((t, e) ∷ a) u | inr u ↦ in-right (s, g) b ((t, e) ∷ a) (inr u) ]) in
     let kept : (s : ℕ) (g : Event) → (s ≡ t → ⊥) → LiveAt now.rest s g → LiveAt (b ++ a) s g =
     λ s g other i. other-in b a t s e g other (subst (λ (k : Live). LiveAt k s g) whole i) in
-    let elsewhere : (i : ℕ) → IsFree l (b ++ a) left i → i ≡ x.0.place → ⊥ =
+    let elsewhere : (i : ℕ) → IsFree l (b ++ a) left i → i ≡ x.0.index → ⊥ =
     λ i f is_place.
     let one : (f.0.0, f.0.1) ≡ (t, e) =
     some-injective (f.0.0, f.0.1) (t, e) (sym (subst (λ (j : ℕ). slice_get l j ≡ Some (f.0.0, f.0.1)) is_place f.0.2) ∙ at) in
@@ -232,13 +232,13 @@ popped l places out left items more x r once now p heap top is =
       rest = b ++ a;
       order = now.order ++ e ∷ [];
       is_rest = now_left;
-      stand = subst (λ (ps : List ℕ). StandAt l ps (now.order ++ e ∷ [])) (sym is) (stand-more l places now.order x.0.place t e now.stand at);
+      stand = subst (λ (ps : List ℕ). StandAt l ps (now.order ++ e ∷ [])) (sym is) (stand-more l indexes now.order x.0.index t e now.stand at);
       goes_on = λ k c. subst (IsCanonicalOrder (events l)) (sym (append_assoc now.order (e ∷ []) k))
           (now.goes_on (e ∷ k) (events b, events a, cut, least, subst (λ (h : List Event). IsCanonicalOrder h k) (events-join b a) c));
       count =
-          let long : length out ≡ length places + 1 = ap length is ∙ length-append places (x.0.place ∷ []) in
+          let long : length out ≡ length indexes + 1 = ap length is ∙ length-append indexes (x.0.index ∷ []) in
           let size : length now.rest ≡ suc (length (b ++ a)) = ap length whole ∙ middle-length b a (t, e) in
-          let all : length places + length now.rest ≡ length l = now.count in
+          let all : length indexes + length now.rest ≡ length l = now.count in
           omega (arith, long, size, all);
       telling = (
         t,
@@ -271,7 +271,7 @@ popped l places out left items more x r once now p heap top is =
                   f.0.1,
                   f.0.2,
                   kept f.0.0 f.0.1
-                      (λ same_ticket. other (one-place l i x.0.place t f.0.1 e r (subst (λ (s : ℕ). slice_get l i ≡ Some (s, f.0.1)) same_ticket f.0.2) at)) f.0.3,
+                      (λ same_ticket. other (one-index l i x.0.index t f.0.1 e r (subst (λ (s : ℕ). slice_get l i ≡ Some (s, f.0.1)) same_ticket f.0.2) at)) f.0.3,
                 ),
                 f.1,
               ))
@@ -281,13 +281,13 @@ popped l places out left items more x r once now p heap top is =
     }
 
 -- for some rest
-pub some-telling : (l : Live) (places : List ℕ) (place : ℕ) (left : List ℕ) (items : List Entry) → Taken l places place left items → SomeTelling l place left items
-some-telling l places place left items taken = (taken.rest, taken.telling)
+pub some-telling : (l : Live) (indexes : List ℕ) (index : ℕ) (left : List ℕ) (items : List Entry) → Taken l indexes index left items → SomeTelling l index left items
+some-telling l indexes index left items taken = (taken.rest, taken.telling)
 
 -- its followers are told
-pub progress-told : (l : Live) (places : List ℕ) (place : ℕ) (left after : List ℕ) (items more : List Entry) → Taken l places place left items
-    → TellsAll l place left items after more → Progress l places after more
-progress-told l places place left after items more taken tells = record {
+pub progress-told : (l : Live) (indexes : List ℕ) (index : ℕ) (left after : List ℕ) (items more : List Entry) → Taken l indexes index left items
+    → TellsAll l index left items after more → Progress l indexes after more
+progress-told l indexes index left after items more taken tells = record {
   rest = taken.rest;
   order = taken.order;
   is_rest = taken.is_rest;
@@ -298,24 +298,24 @@ progress-told l places place left after items more taken tells = record {
 }
 
 -- fewer are taken than there are, where one more can be
-pub fewer-taken : (l : Live) (places : List ℕ) (place : ℕ) (left : List ℕ) (items : List Entry) → Taken l places place left items → length places ≤ length l
-fewer-taken l places place left items taken = let all = taken.count in omega (arith, all)
+pub fewer-taken : (l : Live) (indexes : List ℕ) (index : ℕ) (left : List ℕ) (items : List Entry) → Taken l indexes index left items → length indexes ≤ length l
+fewer-taken l indexes index left items taken = let all = taken.count in omega (arith, all)
 
 -- where the queue is empty nothing is left
 rest-none : (l rest : Live) (left : List ℕ) (items : List Entry) → Rises l → IsRest l rest → Ready l rest left items → items ≡ [] → rest ≡ []
 rest-none l [] left items r is ready none = refl
 rest-none l (x ∷ rest) left items r is ready none =
     let first : LiveAt l x.0 x.1 = is.inside x.0 x.1 (inl refl) in
-    let place = place-in l (x.0, x.1) first in
+    let index = index-in l (x.0, x.1) first in
     let size : length left ≡ length l = ready.counts.size in
-    let inside : place.0 < length l = slice_get_within l place.0 (x.0, x.1) place.1 in
-    let held = at-within left place.0 (omega (arith, size, inside)) in
+    let inside : index.0 < length l = slice_get_within l index.0 (x.0, x.1) index.1 in
+    let held = at-within left index.0 (omega (arith, size, inside)) in
     elim (cases_eq held.0 0) [
       | inl nothing ↦
-          let free : IsFree l (x ∷ rest) left place.0 = ((x.0, x.1, place.1, inl refl), held.1 ∙ ap (λ (n : ℕ). Some n) nothing) in
-          absurd (false≢true (ap (λ (items : List Entry). list_any (λ (y : Entry). y.0.place == place.0) items) (sym none) ∙ ready.queue.all place.0 free))
+          let free : IsFree l (x ∷ rest) left index.0 = ((x.0, x.1, index.1, inl refl), held.1 ∙ ap (λ (n : ℕ). Some n) nothing) in
+          absurd (false≢true (ap (λ (items : List Entry). list_any (λ (y : Entry). y.0.index == index.0) items) (sym none) ∙ ready.queue.all index.0 free))
       | inr waits ↦
-          let lead = waits-some l (λ (c : ℕ). IsLive (x ∷ rest) c) x.0 held.0 (ready.counts.waits place.0 x.0 held.0 x.1 place.1 held.1) waits in
+          let lead = waits-some l (λ (c : ℕ). IsLive (x ∷ rest) c) x.0 held.0 (ready.counts.waits index.0 x.0 held.0 x.1 index.1 held.1) waits in
           let less : lead.0 < x.0 = lead.1.dependent.less in
           elim lead.2.1 [
             | inl same ↦ let ticket : lead.0 ≡ x.0 = ap (λ (y : ℕ × Event). y.0) same in absurd (omega (arith, less, ticket))
@@ -326,9 +326,9 @@ rest-none l (x ∷ rest) left items r is ready none =
     ]
 
 -- where the queue is empty all are taken
-pub progress-all : (l : Live) (places left : List ℕ) (items : List Entry) → Rises l → Progress l places left items → items ≡ []
-    → (g : List Event) × IsCanonicalOrder (events l) g × StandAt l places g
-progress-all l places left items r now none =
+pub progress-all : (l : Live) (indexes left : List ℕ) (items : List Entry) → Rises l → Progress l indexes left items → items ≡ []
+    → (g : List Event) × IsCanonicalOrder (events l) g × StandAt l indexes g
+progress-all l indexes left items r now none =
     let gone : now.rest ≡ [] = rest-none l now.rest left items r now.is_rest now.ready none in (
       now.order,
       subst (IsCanonicalOrder (events l)) (append-nil now.order)

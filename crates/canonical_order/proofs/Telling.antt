@@ -14,10 +14,10 @@ use Rattle.dependence.specs.Followers.{Follower, ListsFollowers}
 use Rattle.dependence.proofs.ListPlaces.{at-within, at-one, in-at, set-here, set-other, parts-at, take-next, in-order-across, got-here}
 use Rattle.canonical_order.specs.declared.queue.Free.{Free}
 use Rattle.canonical_order.specs.walking.Waiting.{WaitsFor, Counts, LeftFor, IsFree, IsQueue, Telling, Ready, CanTell, TellsOne}
-use Rattle.canonical_order.proofs.Waits.{Rises, one-event, one-place, waits-same, waits-more, waits-less}
+use Rattle.canonical_order.proofs.Waits.{Rises, one-event, one-index, waits-same, waits-more, waits-less}
 use Rattle.canonical_order.proofs.Queues.{queue-same, queue-joined}
 
--- how many the event at a place waits for
+-- how many the event at an index waits for
 count-at : (l : Live) (Q : ℕ → ℕ → Type 0) (left : List ℕ) (i u : ℕ) (f : Event) → Counts l Q left → slice_get l i ≡ Some (u, f)
     → (n : ℕ) × (slice_get left i ≡ Some n) × WaitsFor l (λ (t : ℕ). Q t u) u n
 count-at l Q left i u f c at =
@@ -34,7 +34,7 @@ can-tell l rest t told left items i u f tell follows new at =
     let more = waits-more l (λ (s : ℕ). LeftFor rest t told s u) t u held.0 held.2 follows (inr (refl, new)) in
     (slice_get_within l i (u, f) at, (more.0, held.1 ∙ ap (λ (n : ℕ). Some n) more.1))
 
--- one more is told, at its own place
+-- one more is told, at its own index
 counts-told : (l rest : Live) (t : ℕ) (told left : List ℕ) (i u n : ℕ) (f : Event) → Rises l → (IsLive rest t → ⊥)
     → Counts l (LeftFor rest t told) left → Follower l t u → (In u told → ⊥) → slice_get l i ≡ Some (u, f) → slice_get left i ≡ Some (suc n)
     → Counts l (LeftFor rest t (told ++ u ∷ [])) (slice_set left i n)
@@ -58,7 +58,7 @@ counts-told l rest t told left i u n f r gone c follows new at held = record {
         (subst (λ (x : ℕ). WaitsFor l (λ (s : ℕ). LeftFor rest t (told ++ u ∷ []) s u) u x) number less)
     | inr other ↦
         let was : slice_get left j ≡ Some m = sym (set-other left i j n other) ∙ k in
-        let differs : w ≡ u → ⊥ = λ is. other (one-place l j i u g f r (subst (λ (x : ℕ). slice_get l j ≡ Some (x, g)) is b) at) in
+        let differs : w ≡ u → ⊥ = λ is. other (one-index l j i u g f r (subst (λ (x : ℕ). slice_get l j ≡ Some (x, g)) is b) at) in
         waits-same l (λ (s : ℕ). LeftFor rest t told s w) (λ (s : ℕ). LeftFor rest t (told ++ u ∷ []) s w) w m (c.waits j w m g b was)
         (λ s d. (
           (λ h. elim h [
@@ -70,14 +70,14 @@ counts-told l rest t told left i u n f r gone c follows new at held = record {
   ];
 }
 
--- a place at which more than 0 is counted is not free
+-- an index at which more than 0 is counted is not free
 not-free : (l rest : Live) (left : List ℕ) (i j n : ℕ) → slice_get left i ≡ Some (suc n) → IsFree l rest left j → j ≡ i → ⊥
 not-free l rest left i j n held free is =
     let zero_there : slice_get left i ≡ Some 0 = subst (λ (x : ℕ). slice_get left x ≡ Some 0) is free.1 in
     let both : suc n ≡ 0 = some-injective (suc n) 0 (sym held ∙ zero_there) in
     absurd (omega (arith, both))
 
--- another place is free as before
+-- another index is free as before
 free-other : (l rest : Live) (left : List ℕ) (i j n : ℕ) → (j ≡ i → ⊥) → IsFree l rest left j ↔ IsFree l rest (slice_set left i n) j
 free-other l rest left i j n other =
     ((λ h. (h.0, set-other left i j n other ∙ h.1)), (λ h. (h.0, sym (set-other left i j n other) ∙ h.1)))
@@ -133,10 +133,10 @@ told-all l rest t told left items lists tell = record {
   queue = tell.queue;
 }
 
--- the ticket at a place
-pub here-ticket : (l k : Live) (place : ℕ) (d : ℕ × Event) (t : ℕ) (e : Event) → k ≡ l → slice_get l place ≡ Some (t, e) → (get_or k place d).0 ≡ t
-here-ticket l k place d t e same at =
-    ap (λ (m : Live). (get_or m place d).0) same ∙ ap (λ (x : ℕ × Event). x.0) (got-here l place (t, e) d at)
+-- the ticket at an index
+pub here-ticket : (l k : Live) (index : ℕ) (d : ℕ × Event) (t : ℕ) (e : Event) → k ≡ l → slice_get l index ≡ Some (t, e) → (get_or k index d).0 ≡ t
+here-ticket l k index d t e same at =
+    ap (λ (m : Live). (get_or m index d).0) same ∙ ap (λ (x : ℕ × Event). x.0) (got-here l index (t, e) d at)
 
 -- what ascends has each number once
 pub new-in : (us : List ℕ) (k : ℕ) → InOrder ◌<◌ us → k < length us → In (get_or us k 0) (take k us) → ⊥

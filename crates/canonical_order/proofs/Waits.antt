@@ -20,7 +20,7 @@ use Rattle.canonical_order.specs.walking.Waiting.{IsRest, WaitsFor, Counts}
 abbrev pub Rises : Live → Type 0
 Rises l = (next : ℕ) × Rising 0 l next
 
--- what stands at a place of the list
+-- what stands at an index of the list
 pub at-slice : (l k : Live) (i : ℕ) (x : ℕ × Event) → k ≡ l → i < length k → x ≡ get_or k i x → slice_get l i ≡ Some x
 at-slice l k i x one within is =
     subst (λ (m : Live). slice_get m i ≡ Some x) one (slice_get-get_or k i x within ∙ ap (λ (y : ℕ × Event). Some y) (sym is))
@@ -29,22 +29,22 @@ at-slice l k i x one within is =
 pub one-event : (l : Live) (t : ℕ) (e f : Event) → Rises l → LiveAt l t e → LiveAt l t f → e ≡ f
 one-event l t e f r i j = rising-one 0 r.0 l t e f r.1 i j
 
--- one ticket has a place
-ticket-place : (low next : ℕ) (l : Live) (i j t : ℕ) (e f : Event) → Rising low l next → slice_get l i ≡ Some (t, e) → slice_get l j ≡ Some (t, f) → i ≡ j
-ticket-place low next [] i j t e f r a b = none-some (t, e) a
-ticket-place low next (x ∷ l) zero zero t e f r a b = refl
-ticket-place low next (x ∷ l) zero (suc j) t e f r a b =
+-- one ticket has an index
+ticket-index : (low next : ℕ) (l : Live) (i j t : ℕ) (e f : Event) → Rising low l next → slice_get l i ≡ Some (t, e) → slice_get l j ≡ Some (t, f) → i ≡ j
+ticket-index low next [] i j t e f r a b = none-some (t, e) a
+ticket-index low next (x ∷ l) zero zero t e f r a b = refl
+ticket-index low next (x ∷ l) zero (suc j) t e f r a b =
     let first : x.0 ≡ t = ap (λ (y : ℕ × Event). y.0) (some-injective x (t, e) a) in
     let above : suc x.0 ≤ t = (rising-in (suc x.0) next l t f r.1 (in-at l j (t, f) b)).0 in
     absurd (omega (arith, first, above))
-ticket-place low next (x ∷ l) (suc i) zero t e f r a b =
+ticket-index low next (x ∷ l) (suc i) zero t e f r a b =
     let first : x.0 ≡ t = ap (λ (y : ℕ × Event). y.0) (some-injective x (t, f) b) in
     let above : suc x.0 ≤ t = (rising-in (suc x.0) next l t e r.1 (in-at l i (t, e) a)).0 in
     absurd (omega (arith, first, above))
-ticket-place low next (x ∷ l) (suc i) (suc j) t e f r a b = ap suc (ticket-place (suc x.0) next l i j t e f r.1 a b)
+ticket-index low next (x ∷ l) (suc i) (suc j) t e f r a b = ap suc (ticket-index (suc x.0) next l i j t e f r.1 a b)
 
-pub one-place : (l : Live) (i j t : ℕ) (e f : Event) → Rises l → slice_get l i ≡ Some (t, e) → slice_get l j ≡ Some (t, f) → i ≡ j
-one-place l i j t e f r a b = ticket-place 0 r.0 l i j t e f r.1 a b
+pub one-index : (l : Live) (i j t : ℕ) (e f : Event) → Rises l → slice_get l i ≡ Some (t, e) → slice_get l j ≡ Some (t, f) → i ≡ j
+one-index l i j t e f r a b = ticket-index 0 r.0 l i j t e f r.1 a b
 
 -- what is reached from one that is left is left
 reached-left : (l rest : Live) (t u : ℕ) → IsRest l rest → IsLive rest t → Reached l t u → IsLive rest u

@@ -25,9 +25,9 @@ IsCanonicalOrder h [] = h ≡ []
 IsCanonicalOrder h (e ∷ g) =
     (before : List Event) × (after : List Event) × (h ≡ before ++ e ∷ after) × LeastFree h e × IsCanonicalOrder (before ++ after) g
 
--- the events g stand at these places of the live events, each at its own
+-- the events g stand at these indexes of the live events, each at its own
 abbrev pub StandAt : Live → List ℕ → List Event → Type 0
 StandAt l [] [] = Unit {0}
 StandAt l [] (e ∷ g) = ⊥
-StandAt l (i ∷ places) [] = ⊥
-StandAt l (i ∷ places) (e ∷ g) = ((t : ℕ) × (slice_get l i ≡ Some (t, e))) × StandAt l places g
+StandAt l (i ∷ indexes) [] = ⊥
+StandAt l (i ∷ indexes) (e ∷ g) = ((t : ℕ) × (slice_get l i ≡ Some (t, e))) × StandAt l indexes g

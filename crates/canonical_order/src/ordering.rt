@@ -11,7 +11,7 @@ use dependence::Live;
 use std::alloc::{AllocError, Global};
 use std::cmp::Reverse;
 
-/// The places of the live events, which run, in their canonical order. It is an error if there is no memory.
+/// The indexes of the live events, which run, in their canonical order. It is an error if there is no memory.
 ///
 /// It takes as long as a sort of the events, and a search of the live events for each follower.
 pub fn canonical_order(alloc: Global, live: &Live) -> Result<Vec<usize>, AllocError>
@@ -23,8 +23,8 @@ pub fn canonical_order(alloc: Global, live: &Live) -> Result<Vec<usize>, AllocEr
     let mut free = first_free(alloc, live, left.as_slice())?;
     let mut order = Vec::new(alloc);
     while let Some(Reverse(next)) = free.pop() {
-        order.push(next.place)?;
-        tell_followers(live, next.place, left.as_mut_slice(), &mut free)?;
+        order.push(next.index)?;
+        tell_followers(live, next.index, left.as_mut_slice(), &mut free)?;
     }
     Ok(order)
 }

@@ -12,11 +12,11 @@ use std::alloc::{AllocError, Global};
 use std::cmp::Reverse;
 use std::collections::BinaryHeap;
 
-/// An event that waits for none: its acting address, and its place among the live events.
+/// An event that waits for none: its acting address, and its index among the live events.
 #[derive(Clone, Copy, PartialEq, Eq, PartialOrd, Ord)]
 pub(crate) struct Free<'a> {
     acting: &'a [Entry],
-    pub(crate) place: usize,
+    pub(crate) index: usize,
 }
 
 /// Events that wait for none, of which that of the least acting address comes first.
@@ -44,65 +44,65 @@ pub(crate) fn first_free<'a>(
     ensures { IfOk result (λ free. IsQueue live.now.live live.now.live left.now (heap_items free)) }
 {
     let mut free = BinaryHeap::new(alloc);
-    for place in 0..left.len() {
-        if left[place] == 0 {
-            add_free(live, place, &mut free)?;
+    for index in 0..left.len() {
+        if left[index] == 0 {
+            add_free(live, index, &mut free)?;
         }
     }
     Ok(free)
 }
 
-/// Tells the followers of the event at the place that it was taken.
+/// Tells the followers of the event at this index that the event was taken.
 pub(crate) fn tell_followers<'a>(
     live: &'a Live,
-    place: usize,
+    index: usize,
     left: &mut [usize],
     free: &mut Queue<'a>,
 ) -> Result<(), AllocError>
     requires rising { IsRising live.now.live }
-    requires telling { SomeTelling live.now.live place left.old (heap_items free.old) }
-    ensures { IfOk result (λ _. TellsAll live.now.live place left.old (heap_items free.old) left.new (heap_items free.new)) }
+    requires telling { SomeTelling live.now.live index left.old (heap_items free.old) }
+    ensures { IfOk result (λ _. TellsAll live.now.live index left.old (heap_items free.old) left.new (heap_items free.new)) }
 {
-    for follower in live.followers(live.as_slice()[place].0) {
-        tell(live, place_of(live, *follower), left, free)?;
+    for follower in live.followers(live.as_slice()[index].0) {
+        tell(live, index_of(live, *follower), left, free)?;
     }
     Ok(())
 }
 
-/// Tells the event at the place that one of those that it follows was taken.
+/// Tells the event at this index that one of those that it follows was taken.
 fn tell<'a>(
     live: &'a Live,
-    place: usize,
+    index: usize,
     left: &mut [usize],
     free: &mut Queue<'a>,
 ) -> Result<(), AllocError>
-    requires { CanTell live.now.live left.old place }
-    ensures { IfOk result (λ _. TellsOne live.now.live place left.old (heap_items free.old) left.new (heap_items free.new)) }
+    requires { CanTell live.now.live left.old index }
+    ensures { IfOk result (λ _. TellsOne live.now.live index left.old (heap_items free.old) left.new (heap_items free.new)) }
 {
-    left[place] -= 1;
-    if left[place] == 0 {
-        add_free(live, place, free)?;
+    left[index] -= 1;
+    if left[index] == 0 {
+        add_free(live, index, free)?;
     }
     Ok(())
 }
 
-/// Puts the event at the place into the queue.
-fn add_free<'a>(live: &'a Live, place: usize, free: &mut Queue<'a>) -> Result<(), AllocError>
-    requires { place < length live.now.live }
-    ensures { IfOk result (λ _. Joins live.now.live place (heap_items free.old) (heap_items free.new)) }
+/// Puts the event at this index into the queue.
+fn add_free<'a>(live: &'a Live, index: usize, free: &mut Queue<'a>) -> Result<(), AllocError>
+    requires { index < length live.now.live }
+    ensures { IfOk result (λ _. Joins live.now.live index (heap_items free.old) (heap_items free.new)) }
 {
-    let acting = live.as_slice()[place].1.get().acting_place().entries();
-    free.push(Reverse(Free { acting, place }))?;
+    let acting = live.as_slice()[index].1.get().acting_place().entries();
+    free.push(Reverse(Free { acting, index }))?;
     Ok(())
 }
 
 /// Where the live event of this ticket stands.
-fn place_of(live: &Live, ticket: u64) -> usize
+fn index_of(live: &Live, ticket: u64) -> usize
     requires { IsLive live.now.live ticket }
     ensures { (f : Event) × (slice_get live.now.live result ≡ Some (ticket, f)) }
 {
-    match live.place_of(ticket) {
-        Some(place) => place,
+    match live.index_of(ticket) {
+        Some(index) => index,
         None => unreachable!(),
     }
 }

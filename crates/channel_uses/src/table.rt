@@ -46,6 +46,7 @@ impl ChannelUses {
 
     /// Lists what the command, whose table this is, offers on the channel before its first move. Of a parallel only the
     /// branches are looked at that use the channel; each is found by two searches, by halves.
+    /// It is an error if there is no memory; some may be listed then.
     pub fn list_fresh(
         &self,
         alloc: Global,
@@ -63,7 +64,7 @@ impl ChannelUses {
 
     /// Exactly the sides that the tree offers on the channel over the values of the store, where the tree stems from the command
     /// whose table this is, and is tidy, as each is that stands for a run. Of a parallel only the branches are looked at that
-    /// use the channel.
+    /// use the channel. It is an error if there is no memory.
     pub fn sides_on(
         &self,
         alloc: Global,

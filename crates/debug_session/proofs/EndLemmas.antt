@@ -11,6 +11,7 @@ use Rattle.debug_session.specs.Counting.{after_reading, after_writing, WritingSt
 use Rattle.debug_session.specs.Script.{with_end}
 use Rattle.debug_session.specs.Transcript.{Transcript, Answered, BeginsToAnswer, Completed, StoppedByFault, Ends}
 use Rattle.debug_session.specs.walking.OneLine.{IsNoDevice, EndsByDevice, EndsByNoDevice, StopsHolding, EndsHolding}
+use Rattle.debug_session.proofs.HeldLemmas.{IsPut}
 use Rattle.debug_session.proofs.SessionLemmas.{rejoin-none}
 use Rattle.devices.proofs.KnownLemmas.{Appends-then}
 
@@ -139,13 +140,9 @@ ended-unput s o read left wrote contents after held r q fault h not some (more, 
     subst (Ends s o read left wrote after) (sym (is ∙ ap Err failed))
     (ended-unwritten s o read left wrote contents after held r h not some (more, writes, b))
 
--- what was held is out
-abbrev pub IsOut : List ℕ → List ℕ → List ℕ → Type 0
-IsOut held held' given = (given ≡ held) × (held' ≡ [])
-
 -- the end, where it was written
 pub ended-put : (s : System) (o : AtLine) (read left wrote contents after : Option (List ℕ)) (held held' : List ℕ) (r : Result (Unit {0}) Fault)
-    → EndsHolding s o read left wrote contents held r → EndsByNoDevice r → (more : List ℕ) × Appends contents after more × IsOut held held' more
+    → EndsHolding s o read left wrote contents held r → EndsByNoDevice r → (more : List ℕ) × Appends contents after more × IsPut held held' more
     → Ends s o read left wrote after r
 ended-put s o read left wrote contents after held held' r h not (more, writes, (all, none)) =
     ended-written s o read left wrote contents after held more r h not writes all

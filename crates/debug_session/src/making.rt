@@ -32,7 +32,7 @@ fn made_whole(alloc: Global, typed: &Typed, text: &[u8]) -> Result<System, Fault
 }
 
 /// The system that the description makes with the stimulus of this text. Where one of its first entries does not fit,
-/// the others are not made.
+/// the others are not made. It is an error if the text is no stimulus, if it does not fit the ports, or if there is no memory.
 pub fn make_system(alloc: Global, typed: &Typed, text: &[u8]) -> Result<System, Fault>
     ensures system { IfOk result (λ system. MakesOne typed.now text.now system) }
     ensures fault { IfErr result (λ fault. (fault ≡ Memory) ⊎ MakesNone typed.now text.now fault) }

@@ -14,7 +14,8 @@ use sharing_check::Checked;
 use std::alloc::Global;
 use trace_file::load_text;
 
-/// The answer of the line `live` on a machine that has taken the steps of the trace with this text.
+/// The answer of the line `live` on a machine that has taken the steps of the trace with this text. It is an error if the text is
+/// no trace of the system, or if there is no memory; the fault says which.
 pub fn replay(alloc: Global, checked: Checked, trace: &[u8]) -> Result<Vec<u8>, Fault>
     ensures { MatchResult result (λ answer. Replays checked trace.now answer.items) (λ fault. RefusesTrace checked trace.now fault) }
 {

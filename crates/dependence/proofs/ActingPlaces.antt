@@ -28,21 +28,22 @@ pub stands-live : (l : Live) (held : Tables) (p : Place) (t : ℕ) → TablesOf 
 stands-live l held p t h at = let found = (h.places p t).0 at in (found.0, found.1)
 
 -- each that acts there is the one that stands there
-same-event : (l : Live) (held : Tables) (p : Place) (t u : ℕ) (e f : Event) → IsRising l → TablesOf l held → ticket_at held.places p ≡ Some t → LiveAt l t e →
-    LiveAt l u f → acting f ≡ p → f ≡ e
-same-event l held p t u e f r h at is i acts =
+same-one : (l : Live) (held : Tables) (p : Place) (t u : ℕ) (e f : Event) → IsRising l → TablesOf l held → ticket_at held.places p ≡ Some t → LiveAt l t e →
+    LiveAt l u f → acting f ≡ p → (u ≡ t) × (f ≡ e)
+same-one l held p t u e f r h at is i acts =
     let one : u ≡ t = one-at held.places p u t (stands l held p u f h i acts) at in
-    rising-one 0 r.0 l t f e r.1 (subst (λ (v : ℕ). LiveAt l v f) one i) is
+    (one, rising-one 0 r.0 l t f e r.1 (subst (λ (v : ℕ). LiveAt l v f) one i) is)
 
 pub acts-alone : (l : Live) (held : Tables) (p : Place) (t : ℕ) (e : Event) → IsRising l → TablesOf l held → ticket_at held.places p ≡ Some t → LiveAt l t e →
     acting e ≡ p → ActsAlone l p e
 acts-alone l held p t e r h at is acts = record {
-  live = (t, is);
+  ticket = t;
+  live = is;
   acts = acts;
-  alone = λ u f i there. same-event l held p t u e f r h at is i there;
+  alone = λ u f i there. same-one l held p t u e f r h at is i there;
 }
 
 pub acts-elsewhere : (l : Live) (held : Tables) (p : Place) (t : ℕ) (e : Event) → IsRising l → TablesOf l held → ticket_at held.places p ≡ Some t → LiveAt l t e →
     (acting e ≡ p → ⊥) → NoneActs l p
 acts-elsewhere l held p t e r h at is not u f i there =
-    not (subst (λ (g : Event). acting g ≡ p) (same-event l held p t u e f r h at is i there) there)
+    not (subst (λ (g : Event). acting g ≡ p) (same-one l held p t u e f r h at is i there).1 there)

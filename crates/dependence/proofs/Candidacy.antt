@@ -1,5 +1,5 @@
 -- What is found by places and by variables are candidates for what a new event follows.
-use Rattle.std.proofs.Common.{◌≡◌, ◌⊎◌, ◌↔◌, inl, inr, ℕ, ◌+◌, ◌<◌, ◌≤◌, List, [], ◌∷◌, ◌++◌, Bool, true, false, not, cond, Some, None, IsTrue, length, take, get_or, refl, sym, ◌∙◌, subst, arith}
+use Rattle.std.proofs.Common.{◌≡◌, ◌⊎◌, ◌↔◌, inl, inr, ℕ, suc, ◌+◌, ◌^◌, ◌<◌, ◌≤◌, List, [], ◌∷◌, ◌++◌, Bool, true, false, not, cond, Some, None, IsTrue, length, take, get_or, refl, sym, ◌∙◌, subst, arith}
 use Rattle.std.specs.Prelude.{slice_get}
 use Rattle.std.proofs.lemmas.Bool.{cases_lt}
 use Rattle.address.specs.Places.{Before}
@@ -19,7 +19,7 @@ use Rattle.calculus.proofs.Tickets.{rising-in, rising-one}
 use Rattle.dependence.specs.Behind.{ComesBehind}
 use Rattle.dependence.specs.declared.accesses.Newcomer.{Newcomer}
 use Rattle.dependence.specs.declared.tables.Tables.{Tables}
-use Rattle.dependence.specs.walking.Found.{FoundByPlace, AccessesFound, IsBefore, LeadsBefore, IsReadBefore, IsDirect, ReaderSince, WritesOneRead, UsesWritten, IsNewcomer}
+use Rattle.dependence.specs.walking.Found.{FoundByPlace, AccessesFound, FirstBehind, IsBefore, LeadsBefore, IsReadBefore, IsDirect, ReaderSince, WritesOneRead, UsesWritten, IsNewcomer}
 use Rattle.dependence.specs.walking.Tabled.{IsTabled}
 use Rattle.dependence.specs.walking.Tables.{Candidates}
 use Rattle.dependence.proofs.Following.{follows-on}
@@ -105,23 +105,43 @@ pub leads-reader : (l : Live) (f : Event) (x w below : ℕ) → LastWriter l x w
 leads-reader l f x w below last read =
     (read.ticket, (read.event, read.live, read.before), later last.event read.event same last.live read.live read.behind (inr (inr (inl (x, last.writes, inl read.reads)))))
 
--- whether the live event at a place has a place before one of f
-pub one-before : (new : Newcomer) → IsNewcomer new → (t place : ℕ) (e : Event) (b : Bool) → slice_get new.live.now place ≡ Some (t, e) → IsTrue b ↔ SomeBefore e new.event.now →
+-- whether the live event at an index has a place before one of f
+pub one-before : (new : Newcomer) → IsNewcomer new → (t index : ℕ) (e : Event) (b : Bool) → slice_get new.live.now index ≡ Some (t, e) → IsTrue b ↔ SomeBefore e new.event.now →
     IsTrue b ↔ IsBefore new.live.now new.event.now t
-one-before new h t place e b at told =
-    let here : LiveAt new.live.now t e = in-at new.live.now place (t, e) at in (
+one-before new h t index e b at told =
+    let here : LiveAt new.live.now t e = in-at new.live.now index (t, e) at in (
       (λ on. (e, here, told.0 on)),
       (λ k. told.1 (subst (λ (g : Event). SomeBefore g new.event.now) (rising-one 0 new.ticket new.live.now t k.0 e h.rising k.1 here) k.2)),
     )
 
--- none of the tickets that are passed is greater than `end`
-pub all-behind : (ts : List ℕ) (index old end : ℕ) → index < length ts → old ≤ end → get_or ts index 0 ≤ end → ((t : ℕ) → In t (take index ts) → t ≤ old) →
-    (t : ℕ) → In t (take (index + 1) ts) → t ≤ end
-all-behind ts index old end more low one passed t i =
-    elim (in-parts t (take index ts) (get_or ts index 0 ∷ []) (subst (λ (k : List ℕ). In t k) (read-next ts index more) i)) [
-      | inl before ↦ let was : t ≤ old = passed t before in omega arith
-      | inr (inl is) ↦ subst (λ (k : ℕ). k ≤ end) (sym is) one
+-- behind no tickets
+pub behind-none : FirstBehind [] 0
+behind-none = record { behind = λ t i. absurd i; near = inl refl }
+
+-- behind the tickets that are passed and the next one
+pub behind-next : (ts : List ℕ) (index old end : ℕ) → index < length ts → old ≤ end → (suc old ≡ 2 ^ 64 → suc end ≡ 2 ^ 64) →
+    (get_or ts index 0 < end) ⊎ (suc end ≡ 2 ^ 64) → (end ≡ old) ⊎ (end ≤ suc (get_or ts index 0)) → FirstBehind (take index ts) old →
+    FirstBehind (take (index + 1) ts) end
+behind-next ts index old end more low full next near passed =
+    subst (λ (k : List ℕ). FirstBehind k end) (sym (read-next ts index more)) (record { behind = all; near = some })
+  where
+    all : (t : ℕ) → In t (take index ts ++ get_or ts index 0 ∷ []) → (t < end) ⊎ (suc end ≡ 2 ^ 64)
+    all t i = elim (in-parts t (take index ts) (get_or ts index 0 ∷ []) i) [
+      | inl before ↦ elim (passed.behind t before) [
+        | inl less ↦ inl (omega arith)
+        | inr last ↦ inr (full last)
+      ]
+      | inr (inl is) ↦ subst (λ (k : ℕ). (k < end) ⊎ (suc end ≡ 2 ^ 64)) (sym is) next
       | inr (inr none) ↦ absurd none
+    ]
+
+    some : (end ≡ 0) ⊎ ((t : ℕ) × In t (take index ts ++ get_or ts index 0 ∷ []) × (end ≤ suc t))
+    some = elim near [
+      | inl stays ↦ elim passed.near [
+        | inl none ↦ inl (stays ∙ none)
+        | inr one ↦ inr (one.0, in-left one.0 (take index ts) (get_or ts index 0 ∷ []) one.1, subst (λ (k : ℕ). k ≤ suc one.0) (sym stays) one.2)
+      ]
+      | inr within ↦ inr (get_or ts index 0, in-right (get_or ts index 0) (take index ts) (get_or ts index 0 ∷ []) (inl refl), within)
     ]
 
 -- from the ticket `end` on and below `below` no event that reads x has a place before one of f

@@ -78,23 +78,23 @@ module _ (e : Event) (l : Live) (i n : ℕ) (x : ℕ × Event) (r : IsRising l) 
         counted.2,
       )
 
-module _ (l : Live) (t place : ℕ) (e : Event) (r : IsRising l) (at : slice_get l place ≡ Some (t, e)) where
-  split : (between : ℕ) × Rising 0 (take place l) between × Rising between ((t, e) ∷ drop (suc place) l) r.0
-  split = rising-parts 0 r.0 (take place l) ((t, e) ∷ drop (suc place) l) (subst (λ (k : Live). Rising 0 k r.0) (parts-at l place (t, e) at) r.1)
+module _ (l : Live) (t index : ℕ) (e : Event) (r : IsRising l) (at : slice_get l index ≡ Some (t, e)) where
+  split : (between : ℕ) × Rising 0 (take index l) between × Rising between ((t, e) ∷ drop (suc index) l) r.0
+  split = rising-parts 0 r.0 (take index l) ((t, e) ∷ drop (suc index) l) (subst (λ (k : Live). Rising 0 k r.0) (parts-at l index (t, e) at) r.1)
 
   -- the tickets after an entry
-  pub rising-after : Rising (suc t) (drop (suc place) l) r.0
+  pub rising-after : Rising (suc t) (drop (suc index) l) r.0
   rising-after = split.2.1
 
-  after-live : (u : ℕ) (f : Event) → LiveAt (drop (suc place) l) u f → LiveAt l u f
+  after-live : (u : ℕ) (f : Event) → LiveAt (drop (suc index) l) u f → LiveAt l u f
   after-live u f i =
-      subst (λ (k : Live). LiveAt k u f) (sym (parts-at l place (t, e) at)) (in-right (u, f) (take place l) ((t, e) ∷ drop (suc place) l) (inr i))
+      subst (λ (k : Live). LiveAt k u f) (sym (parts-at l index (t, e) at)) (in-right (u, f) (take index l) ((t, e) ∷ drop (suc index) l) (inr i))
 
-  live-after : (u : ℕ) (f : Event) → LiveAt l u f → t < u → LiveAt (drop (suc place) l) u f
+  live-after : (u : ℕ) (f : Event) → LiveAt l u f → t < u → LiveAt (drop (suc index) l) u f
   live-after u f i less =
-      elim (in-parts (u, f) (take place l) ((t, e) ∷ drop (suc place) l) (subst (λ (k : Live). LiveAt k u f) (parts-at l place (t, e) at) i)) [
+      elim (in-parts (u, f) (take index l) ((t, e) ∷ drop (suc index) l) (subst (λ (k : Live). LiveAt k u f) (parts-at l index (t, e) at) i)) [
         | inl a ↦
-            let low : u < split.0 = (rising-in 0 split.0 (take place l) u f split.1 a).1 in
+            let low : u < split.0 = (rising-in 0 split.0 (take index l) u f split.1 a).1 in
             let high : split.0 ≤ t = split.2.0 in
             absurd (omega arith)
         | inr (inl a) ↦ let is : u ≡ t = ap (λ (y : ℕ × Event). y.0) a in absurd (omega arith)
@@ -102,7 +102,7 @@ module _ (l : Live) (t place : ℕ) (e : Event) (r : IsRising l) (at : slice_get
       ]
 
   here-live : LiveAt l t e
-  here-live = subst (λ (k : Live). LiveAt k t e) (sym (parts-at l place (t, e) at)) (in-right (t, e) (take place l) ((t, e) ∷ drop (suc place) l) (inl refl))
+  here-live = subst (λ (k : Live). LiveAt k t e) (sym (parts-at l index (t, e) at)) (in-right (t, e) (take index l) ((t, e) ∷ drop (suc index) l) (inl refl))
 
 module _ (l : Live) (t u from : ℕ) (e f : Event) (r : IsRising l) (here : LiveAt l t e) (at : slice_get l from ≡ Some (u, f)) (first : FirstDependent l t u) where
   rest : drop from l ≡ (u, f) ∷ drop (suc from) l
@@ -181,6 +181,6 @@ counts-none l t none = (
   refl,
 )
 
--- what stands from a place on
-pub rest-is : (l : Live) (place : ℕ) → take (length l - place) (drop place l) ≡ drop place l
-rest-is l place = let size = length-drop place l in take-all (drop place l) (length l - place) (omega arith)
+-- what stands from an index on
+pub rest-is : (l : Live) (index : ℕ) → take (length l - index) (drop index l) ≡ drop index l
+rest-is l index = let size = length-drop index l in take-all (drop index l) (length l - index) (omega arith)

@@ -16,7 +16,7 @@ use Rattle.dependence.specs.Followers.{Follower, ListsFollowers}
 use Rattle.dependence.specs.declared.links.Links.{Links}
 use Rattle.dependence.specs.walking.Tables.{IsRising, StandsAt, Linked, Falling, PartLinked, ListsWith, Candidates, Topmost}
 use Rattle.dependence.proofs.ListPlaces.{in-at, at-one, take-all, drop-all, removed-below, removed-above}
-use Rattle.dependence.proofs.Linking.{one-place}
+use Rattle.dependence.proofs.Linking.{one-index}
 use Rattle.dependence.proofs.AddedEvent.{added, others-stay, new-follows}
 use Rattle.dependence.proofs.FollowerLaws.{no-new-follower}
 
@@ -30,7 +30,7 @@ at-end (z ∷ xs) x y (suc i) h = elim (at-end xs x y i h) [
   | inr a ↦ inr a
 ]
 
--- where both lists have a last element, it is at the last place of both
+-- where both lists have a last element, it is at the last index of both
 both-ends : {X Y : Type 0} (xs : List X) (ys : List Y) (x a : X) (y b : Y) (i : ℕ) → length xs ≡ length ys → slice_get (xs ++ x ∷ []) i ≡ Some a →
     slice_get (ys ++ y ∷ []) i ≡ Some b → ((slice_get xs i ≡ Some a) × (slice_get ys i ≡ Some b)) ⊎ ((a ≡ x) × (b ≡ y))
 both-ends [] [] x a y b zero same h k = inr (at-one (x ∷ []) zero a x h refl, at-one (y ∷ []) zero b y k refl)
@@ -126,23 +126,23 @@ all-stay low next (x ∷ l) t r h =
     let more : t < suc x.0 = omega arith in
     stays (λ (is : x.0 ≡ t). omega arith) (all-stay (suc x.0) next l t r.1 more)
 
--- the list without the entry at a place is the list without its ticket
-pub without-place : (low next : ℕ) (l : Live) (t place : ℕ) (e : Event) → Rising low l next → slice_get l place ≡ Some (t, e) →
-    WithoutTickets (λ v. v ≡ t) l (remove l place)
-without-place low next [] t place e r at = absurd (in-at [] place (t, e) at)
-without-place low next (x ∷ l) t zero e r at =
+-- the list without the entry at an index is the list without its ticket
+pub without-index : (low next : ℕ) (l : Live) (t index : ℕ) (e : Event) → Rising low l next → slice_get l index ≡ Some (t, e) →
+    WithoutTickets (λ v. v ≡ t) l (remove l index)
+without-index low next [] t index e r at = absurd (in-at [] index (t, e) at)
+without-index low next (x ∷ l) t zero e r at =
     let is : x.0 ≡ t = ap (λ (y : ℕ × Event). y.0) (at-one (x ∷ l) zero x (t, e) refl at) in
     let low_t : t < suc x.0 = omega arith in
     leaves is (all-stay (suc x.0) next l t r.1 low_t)
-without-place low next (x ∷ l) t (suc place) e r at =
-    let above : suc x.0 ≤ t = (rising-in (suc x.0) next l t e r.1 (in-at l place (t, e) at)).0 in
-    stays (λ (is : x.0 ≡ t). omega arith) (without-place (suc x.0) next l t place e r.1 at)
+without-index low next (x ∷ l) t (suc index) e r at =
+    let above : suc x.0 ≤ t = (rising-in (suc x.0) next l t e r.1 (in-at l index (t, e) at)).0 in
+    stays (λ (is : x.0 ≡ t). omega arith) (without-index (suc x.0) next l t index e r.1 at)
 
-pub removed-rises : (low next : ℕ) (l : Live) (place : ℕ) → Rising low l next → Rising low (remove l place) next
+pub removed-rises : (low next : ℕ) (l : Live) (index : ℕ) → Rising low l next → Rising low (remove l index) next
 removed-rises low next [] zero r = r
-removed-rises low next [] (suc place) r = r
+removed-rises low next [] (suc index) r = r
 removed-rises low next (x ∷ l) zero r = let first : low ≤ x.0 = r.0 in let more : low ≤ suc x.0 = omega arith in rising-lower low (suc x.0) next l more r.1
-removed-rises low next (x ∷ l) (suc place) r = (r.0, removed-rises (suc x.0) next l place r.1)
+removed-rises low next (x ∷ l) (suc index) r = (r.0, removed-rises (suc x.0) next l index r.1)
 
 pub removed-size : {X : Type 0} (l : List X) (i : ℕ) → i < length l → suc (length (remove l i)) ≡ length l
 removed-size [] i h = absurd (omega arith)
@@ -163,57 +163,57 @@ stood-one l i j x a = elim (cases_lt j i) [
   | inr above ↦ (suc j, sym (removed-above l i j above) ∙ a)
 ]
 
-module _ (next : ℕ) (l : Live) (links : List Links) (t place : ℕ) (e : Event) (m : Links) (r : Rising 0 l next) (p : Linked l links) (none : NoDependent l t)
-    (at : slice_get l place ≡ Some (t, e)) (on : slice_get links place ≡ Some m) where
-  left : WithoutTickets (λ v. v ≡ t) l (remove l place)
-  left = without-place 0 next l t place e r at
+module _ (next : ℕ) (l : Live) (links : List Links) (t index : ℕ) (e : Event) (m : Links) (r : Rising 0 l next) (p : Linked l links) (none : NoDependent l t)
+    (at : slice_get l index ≡ Some (t, e)) (on : slice_get links index ≡ Some m) where
+  left : WithoutTickets (λ v. v ≡ t) l (remove l index)
+  left = without-index 0 next l t index e r at
 
-  pub taken-absent : NoneAt (remove l place) t
-  taken-absent f i = ((without-live (λ (v : ℕ). v ≡ t) l (remove l place) left).0 t f i).1 refl
+  pub taken-absent : NoneAt (remove l index) t
+  taken-absent f i = ((without-live (λ (v : ℕ). v ≡ t) l (remove l index) left).0 t f i).1 refl
 
   -- what the taken event followed is live still
-  pub taken-live : (s : ℕ) → In s m.leads.items → IsLive (remove l place) s
+  pub taken-live : (s : ℕ) → In s m.leads.items → IsLive (remove l index) s
   taken-live s i =
-      let f = (p.leads place t e m at on s).0 i in
+      let f = (p.leads index t e m at on s).0 i in
       let d = f.dependent in
       let less : s < t = d.less in
-      (d.event, (without-live (λ (v : ℕ). v ≡ t) l (remove l place) left).1 s d.event d.live (λ is. omega arith))
+      (d.event, (without-live (λ (v : ℕ). v ≡ t) l (remove l index) left).1 s d.event d.live (λ is. omega arith))
 
-  pub taken-part : PartLinked (remove l place) t (λ s. In s m.leads.items) (remove links place)
+  pub taken-part : PartLinked (remove l index) t (λ s. In s m.leads.items) (remove links index)
   taken-part = record {
     size =
-        let inside : place < length l = slice_get_within l place (t, e) at in
-        let within : place < length links = slice_get_within links place m on in
-        let one = removed-size l place inside in
-        let two = removed-size links place within in
+        let inside : index < length l = slice_get_within l index (t, e) at in
+        let within : index < length links = slice_get_within links index m on in
+        let one = removed-size l index inside in
+        let two = removed-size links index within in
         let size : length links ≡ length l = p.size in
         omega arith;
     followers = λ j s g m' at' on'.
-        let was = stood l links place j (s, g) m' at' on' in
+        let was = stood l links index j (s, g) m' at' on' in
         let list = p.followers was.0 s g m' was.1 was.2 in
-        let followed = p.leads place t e m at on s in
+        let followed = p.leads index t e m at on s in
         record {
           exactly = λ u. (
             (λ i.
                 let f = (list.exactly u).0 i in
                 elim (cases_eq u t) [
                   | inl is ↦ inr (is, followed.1 (subst (λ (v : ℕ). Follower l s v) is f))
-                  | inr differs ↦ inl ((no-new-follower l (remove l place) t s u none left).1 (f, differs))
+                  | inr differs ↦ inl ((no-new-follower l (remove l index) t s u none left).1 (f, differs))
                 ]),
             (λ h. elim h [
-              | inl f ↦ (list.exactly u).1 ((no-new-follower l (remove l place) t s u none left).0 f).0
+              | inl f ↦ (list.exactly u).1 ((no-new-follower l (remove l index) t s u none left).0 f).0
               | inr k ↦ (list.exactly u).1 (subst (λ (v : ℕ). Follower l s v) (sym k.0) (followed.0 k.1))
             ]),
           );
           ascending = list.ascending;
         };
     leads = λ j u g m' at' on' s.
-        let was = stood l links place j (u, g) m' at' on' in
+        let was = stood l links index j (u, g) m' at' on' in
         let before = p.leads was.0 u g m' was.1 was.2 s in
-        let differs : u ≢ t = λ is. was.3 (one-place 0 next l u g e was.0 place r was.1 (at ∙ ap (λ (v : ℕ). Some (v, e)) (sym is))) in
-        let both = no-new-follower l (remove l place) t s u none left in
+        let differs : u ≢ t = λ is. was.3 (one-index 0 next l u g e was.0 index r was.1 (at ∙ ap (λ (v : ℕ). Some (v, e)) (sym is))) in
+        let both = no-new-follower l (remove l index) t s u none left in
         ((λ i. both.1 (before.0 i, differs)), (λ f. before.1 (both.0 f).0));
-    falling = λ j m' on'. let was = stood-one links place j m' on' in p.falling was.0 m' was.1;
+    falling = λ j m' on'. let was = stood-one links index j m' on' in p.falling was.0 m' was.1;
   }
 
 -- what is lent of a whole vector and comes back
@@ -240,26 +240,26 @@ pub record TakenAt (l k : Live) (rest : List Links) (t : ℕ) (kept : List ℕ) 
   pub falling : Falling kept
   pub linked : PartLinked k t (λ s. In s kept) rest
 
-pub taken-at : (l k : Live) (links rest : List Links) (place : ℕ) (x : ℕ × Event) (m : Links) (kept : List ℕ) → IsRising l → Linked l links →
-    (alone : (t : ℕ) × StandsAt l t place × NoDependent l t) → x ≡ get_or l place x → m ≡ get_or links place m → k ≡ remove l place → rest ≡ remove links place →
+pub taken-at : (l k : Live) (links rest : List Links) (index : ℕ) (x : ℕ × Event) (m : Links) (kept : List ℕ) → IsRising l → Linked l links →
+    (alone : (t : ℕ) × StandsAt l t index × NoDependent l t) → x ≡ get_or l index x → m ≡ get_or links index m → k ≡ remove l index → rest ≡ remove links index →
     kept ≡ m.leads.items → TakenAt l k rest x.0 kept
-taken-at l k links rest place x m kept r p alone x_is m_is k_is rest_is kept_is =
+taken-at l k links rest index x m kept r p alone x_is m_is k_is rest_is kept_is =
     let t : ℕ = alone.0 in
     let e : Event = alone.1.0 in
     let at = alone.1.1 in
-    let inside : place < length l = slice_get_within l place (t, e) at in
+    let inside : index < length l = slice_get_within l index (t, e) at in
     let size : length links ≡ length l = p.size in
-    let within : place < length links = omega arith in
-    let on : slice_get links place ≡ Some m = slice_get-get_or links place m within ∙ ap (λ (y : Links). Some y) (sym m_is) in
-    let one : t ≡ x.0 = ap (λ (y : ℕ × Event). y.0) (at-one l place (t, e) x at (slice_get-get_or l place x inside ∙ ap (λ (y : ℕ × Event). Some y) (sym x_is))) in
-    let whole : TakenAt l (remove l place) (remove links place) t m.leads.items = record {
-      rising = (r.0, removed-rises 0 r.0 l place r.1);
-      absent = taken-absent r.0 l links t place e m r.1 p alone.2 at on;
-      live = taken-live r.0 l links t place e m r.1 p alone.2 at on;
-      falling = p.falling place m on;
-      linked = taken-part r.0 l links t place e m r.1 p alone.2 at on;
+    let within : index < length links = omega arith in
+    let on : slice_get links index ≡ Some m = slice_get-get_or links index m within ∙ ap (λ (y : Links). Some y) (sym m_is) in
+    let one : t ≡ x.0 = ap (λ (y : ℕ × Event). y.0) (at-one l index (t, e) x at (slice_get-get_or l index x inside ∙ ap (λ (y : ℕ × Event). Some y) (sym x_is))) in
+    let whole : TakenAt l (remove l index) (remove links index) t m.leads.items = record {
+      rising = (r.0, removed-rises 0 r.0 l index r.1);
+      absent = taken-absent r.0 l links t index e m r.1 p alone.2 at on;
+      live = taken-live r.0 l links t index e m r.1 p alone.2 at on;
+      falling = p.falling index m on;
+      linked = taken-part r.0 l links t index e m r.1 p alone.2 at on;
     } in
     subst (λ (v : ℕ). TakenAt l k rest v kept) one
     (subst (λ (v : Live). TakenAt l v rest t kept) (sym k_is)
-    (subst (λ (v : List Links). TakenAt l (remove l place) v t kept) (sym rest_is)
-    (subst (λ (v : List ℕ). TakenAt l (remove l place) (remove links place) t v) (sym kept_is) whole)))
+    (subst (λ (v : List Links). TakenAt l (remove l index) v t kept) (sym rest_is)
+    (subst (λ (v : List ℕ). TakenAt l (remove l index) (remove links index) t v) (sym kept_is) whole)))

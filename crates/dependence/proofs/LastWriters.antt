@@ -10,16 +10,16 @@ use Rattle.calculus.proofs.Tickets.{rising-one}
 use Rattle.dependence.specs.declared.tables.Tables.{Tables}
 use Rattle.dependence.specs.walking.Tables.{IsRising}
 use Rattle.dependence.specs.walking.Tabled.{TablesOf}
-use Rattle.dependence.proofs.ListPlaces.{in-at, place-in, at-one}
-use Rattle.dependence.proofs.Standing.{place-rises}
+use Rattle.dependence.proofs.ListPlaces.{in-at, index-in, at-one}
+use Rattle.dependence.proofs.Standing.{index-rises}
 
--- the entry at the last place has the greatest ticket
+-- the entry at the last index has the greatest ticket
 last-is-greatest : (l : Live) (t : ℕ) (e : Event) → IsRising l → slice_get l (length l - 1) ≡ Some (t, e) → (u : ℕ) (f : Event) → LiveAt l u f → u ≤ t
 last-is-greatest l t e r at u f i =
-    let there = place-in l (u, f) i in
+    let there = index-in l (u, f) i in
     let inside : there.0 < length l = slice_get_within l there.0 (u, f) there.1 in
     elim (cases_lt there.0 (length l - 1)) [
-      | inl low ↦ let less : u < t = place-rises 0 r.0 l there.0 (length l - 1) u t f e r.1 there.1 at low in omega arith
+      | inl low ↦ let less : u < t = index-rises 0 r.0 l there.0 (length l - 1) u t f e r.1 there.1 at low in omega arith
       | inr high ↦
           let is : there.0 ≡ length l - 1 = omega arith in
           let one : u ≡ t = ap (λ (x : ℕ × Event). x.0) (at-one l (length l - 1) (u, f) (t, e) (subst (λ (k : ℕ). slice_get l k ≡ Some (u, f)) is there.1) at) in

@@ -15,19 +15,19 @@ use Rattle.dependence.specs.walking.Tables.{IsRising, Linked, Falling, PartLinke
 use Rattle.calculus.proofs.Lists.{in-left, in-right, in-parts, every-in}
 use Rattle.dependence.proofs.ListPlaces.{in-at, in-removed, in-order-removed, at-one, at-within, set-here, set-other, parts-at, take-next, drop-next, in-order-more, in-order-right, in-order-across}
 
--- where the tickets rise, a ticket stands at one place
-pub one-place : (low next : ℕ) (l : Live) (t : ℕ) (e f : Event) (i j : ℕ) → Rising low l next → slice_get l i ≡ Some (t, e) → slice_get l j ≡ Some (t, f) → i ≡ j
-one-place low next [] t e f i j r a b = absurd (in-at [] i (t, e) a)
-one-place low next (x ∷ l) t e f zero zero r a b = refl
-one-place low next (x ∷ l) t e f zero (suc j) r a b =
+-- where the tickets rise, a ticket stands at one index
+pub one-index : (low next : ℕ) (l : Live) (t : ℕ) (e f : Event) (i j : ℕ) → Rising low l next → slice_get l i ≡ Some (t, e) → slice_get l j ≡ Some (t, f) → i ≡ j
+one-index low next [] t e f i j r a b = absurd (in-at [] i (t, e) a)
+one-index low next (x ∷ l) t e f zero zero r a b = refl
+one-index low next (x ∷ l) t e f zero (suc j) r a b =
     let is : t ≡ x.0 = ap (λ (y : ℕ × Event). y.0) (at-one (x ∷ l) zero (t, e) x a refl) in
     let above : suc x.0 ≤ t = (rising-in (suc x.0) next l t f r.1 (in-at l j (t, f) b)).0 in
     absurd (omega arith)
-one-place low next (x ∷ l) t e f (suc i) zero r a b =
+one-index low next (x ∷ l) t e f (suc i) zero r a b =
     let is : t ≡ x.0 = ap (λ (y : ℕ × Event). y.0) (at-one (x ∷ l) zero (t, f) x b refl) in
     let above : suc x.0 ≤ t = (rising-in (suc x.0) next l t e r.1 (in-at l i (t, e) a)).0 in
     absurd (omega arith)
-one-place low next (x ∷ l) t e f (suc i) (suc j) r a b = ap suc (one-place (suc x.0) next l t e f i j r.1 a b)
+one-index low next (x ∷ l) t e f (suc i) (suc j) r a b = ap suc (one-index (suc x.0) next l t e f i j r.1 a b)
 
 -- what is in the tables for P is in them for what means the same
 pub part-same : (l : Live) (n : ℕ) (P Q : ℕ → Type 0) (links : List Links) → ((t : ℕ) → P t ↔ Q t) → PartLinked l n P links → PartLinked l n Q links
@@ -76,34 +76,34 @@ part-linked l n links p = record {
 module _ (low next : ℕ) (l : Live) (n t : ℕ) (P Q : ℕ → Type 0) (change : List ℕ → List ℕ → Type 0) (old new : List Links) (r : Rising low l next)
     (others : (s : ℕ) → s ≢ t → P s ↔ Q s) (c : FollowersChanged l t change old new) (p : PartLinked l n P old) where
   size-kept : length new ≡ length l
-  size-kept = ap length c.is ∙ length-set old c.place c.after ∙ p.size
+  size-kept = ap length c.is ∙ length-set old c.index c.after ∙ p.size
 
-  inside : c.place < length old
-  inside = slice_get_within old c.place c.before c.was
+  inside : c.index < length old
+  inside = slice_get_within old c.index c.before c.was
 
-  -- what stands at the place now
-  there : (m : Links) → slice_get new c.place ≡ Some m → m ≡ c.after
-  there m on = at-one new c.place m c.after on (ap (λ (k : List Links). slice_get k c.place) c.is ∙ set-here old c.place c.after inside)
+  -- what stands at the index now
+  there : (m : Links) → slice_get new c.index ≡ Some m → m ≡ c.after
+  there m on = at-one new c.index m c.after on (ap (λ (k : List Links). slice_get k c.index) c.is ∙ set-here old c.index c.after inside)
 
   -- what stands elsewhere stood there
-  elsewhere : (i : ℕ) (m : Links) → i ≢ c.place → slice_get new i ≡ Some m → slice_get old i ≡ Some m
-  elsewhere i m differs on = sym (set-other old c.place i c.after differs) ∙ ap (λ (k : List Links). slice_get k i) (sym c.is) ∙ on
+  elsewhere : (i : ℕ) (m : Links) → i ≢ c.index → slice_get new i ≡ Some m → slice_get old i ≡ Some m
+  elsewhere i m differs on = sym (set-other old c.index i c.after differs) ∙ ap (λ (k : List Links). slice_get k i) (sym c.is) ∙ on
 
   old-list : ListsWith l n t (P t) c.before.followers.items
-  old-list = p.followers c.place t c.event c.before c.stands c.was
+  old-list = p.followers c.index t c.event c.before c.stands c.was
 
   followers-kept : ListsWith l n t (Q t) c.after.followers.items → (i s : ℕ) (e : Event) (m : Links) → slice_get l i ≡ Some (s, e) → slice_get new i ≡ Some m →
       ListsWith l n s (Q s) m.followers.items
-  followers-kept list i s e m at on = elim (cases_eq i c.place) [
+  followers-kept list i s e m at on = elim (cases_eq i c.index) [
     | inl is ↦
-        let here : slice_get l c.place ≡ Some (s, e) = subst (λ (k : ℕ). slice_get l k ≡ Some (s, e)) is at in
-        let one : s ≡ t = ap (λ (x : ℕ × Event). x.0) (at-one l c.place (s, e) (t, c.event) here c.stands) in
+        let here : slice_get l c.index ≡ Some (s, e) = subst (λ (k : ℕ). slice_get l k ≡ Some (s, e)) is at in
+        let one : s ≡ t = ap (λ (x : ℕ × Event). x.0) (at-one l c.index (s, e) (t, c.event) here c.stands) in
         let what : m ≡ c.after = there m (subst (λ (k : ℕ). slice_get new k ≡ Some m) is on) in
         subst (λ (k : ℕ). ListsWith l n k (Q k) m.followers.items) (sym one)
         (subst (λ (k : Links). ListsWith l n t (Q t) k.followers.items) (sym what) list)
     | inr differs ↦
         let before = p.followers i s e m at (elsewhere i m differs on) in
-        let other : s ≢ t = λ is. differs (one-place low next l t e c.event i c.place r (at ∙ ap (λ (k : ℕ). Some (k, e)) is) c.stands) in
+        let other : s ≢ t = λ is. differs (one-index low next l t e c.event i c.index r (at ∙ ap (λ (k : ℕ). Some (k, e)) is) c.stands) in
         let both = others s other in
         record {
           exactly = λ u. (
@@ -115,20 +115,20 @@ module _ (low next : ℕ) (l : Live) (n t : ℕ) (P Q : ℕ → Type 0) (change 
   ]
 
   leads-kept : (i u : ℕ) (f : Event) (m : Links) → slice_get l i ≡ Some (u, f) → slice_get new i ≡ Some m → (s : ℕ) → In s m.leads.items ↔ Follower l s u
-  leads-kept i u f m at on s = elim (cases_eq i c.place) [
+  leads-kept i u f m at on s = elim (cases_eq i c.index) [
     | inl is ↦
-        let here : slice_get l c.place ≡ Some (u, f) = subst (λ (k : ℕ). slice_get l k ≡ Some (u, f)) is at in
+        let here : slice_get l c.index ≡ Some (u, f) = subst (λ (k : ℕ). slice_get l k ≡ Some (u, f)) is at in
         let what : m ≡ c.after = there m (subst (λ (k : ℕ). slice_get new k ≡ Some m) is on) in
-        let known = p.leads c.place u f c.before here c.was s in
+        let known = p.leads c.index u f c.before here c.was s in
         subst (λ (k : List ℕ). In s k ↔ Follower l s u) (sym (ap (λ (k : Links). k.leads.items) what ∙ c.leads)) known
     | inr differs ↦ p.leads i u f m at (elsewhere i m differs on) s
   ]
 
   falling-kept : (i : ℕ) (m : Links) → slice_get new i ≡ Some m → Falling m.leads.items
-  falling-kept i m on = elim (cases_eq i c.place) [
+  falling-kept i m on = elim (cases_eq i c.index) [
     | inl is ↦
         let what : m ≡ c.after = there m (subst (λ (k : ℕ). slice_get new k ≡ Some m) is on) in
-        subst (λ (k : List ℕ). Falling k) (sym (ap (λ (k : Links). k.leads.items) what ∙ c.leads)) (p.falling c.place c.before c.was)
+        subst (λ (k : List ℕ). Falling k) (sym (ap (λ (k : Links). k.leads.items) what ∙ c.leads)) (p.falling c.index c.before c.was)
     | inr differs ↦ p.falling i m (elsewhere i m differs on)
   ]
 
@@ -141,7 +141,7 @@ pub link-more : (low : ℕ) (l : Live) (n t done : ℕ) (leads : List ℕ) (old 
     PartLinked l n (λ s. In s (take (suc done) leads)) new
 link-more low l n t done leads old new r falling is c p =
     let next : take (suc done) leads ≡ take done leads ++ t ∷ [] = take-next leads done t is in
-    let list = p.followers c.place t c.event c.before c.stands c.was in
+    let list = p.followers c.index t c.event c.before c.stands c.was in
     let absent : In t (take done leads) → ⊥ = λ i.
     let less : t < t = in-order-across (λ (a : ℕ) (b : ℕ). b < a) (take done leads) (t ∷ drop (suc done) leads) t t
     (subst (λ (k : List ℕ). Falling k) (parts-at leads done t is) falling) i (inl refl) in
@@ -181,7 +181,7 @@ pub link-same : (low next : ℕ) (l : Live) (n t : ℕ) (P : ℕ → Type 0) (ol
     FollowersChanged l t (λ before after. after ≡ before) old new → PartLinked l n P old → PartLinked l n P new
 link-same low next l n t P old new r c p =
     part-changed low next l n t P P (λ before after. after ≡ before) old new r (λ s differs. ((λ i. i), (λ i. i))) c p
-    (subst (λ (k : List ℕ). ListsWith l n t (P t) k) (sym c.followers) (p.followers c.place t c.event c.before c.stands c.was))
+    (subst (λ (k : List ℕ). ListsWith l n t (P t) k) (sym c.followers) (p.followers c.index t c.event c.before c.stands c.was))
 
 -- n, which is not live, is taken out of the followers of t, which is the next of those that it followed
 pub unlink-more : (low next : ℕ) (l : Live) (n t done : ℕ) (leads : List ℕ) (old new : List Links) → Rising low l next → NoneAt l n → Falling leads →
@@ -189,7 +189,7 @@ pub unlink-more : (low next : ℕ) (l : Live) (n t done : ℕ) (leads : List ℕ
     PartLinked l n (λ s. In s (drop (suc done) leads)) new
 unlink-more low next l n t done leads old new r none falling is c p =
     let rest : drop done leads ≡ t ∷ drop (suc done) leads = drop-next leads done t is in
-    let list = p.followers c.place t c.event c.before c.stands c.was in
+    let list = p.followers c.index t c.event c.before c.stands c.was in
     let absent : In t (drop (suc done) leads) → ⊥ = λ i.
     let less : t < t = every-in (λ (b : ℕ). b < t) (drop (suc done) leads) t
     (in-order-right (λ (a : ℕ) (b : ℕ). b < a) (take done leads) (t ∷ drop (suc done) leads)
@@ -225,20 +225,20 @@ lists-ascend l n P links p i m on =
     let at = at-within l i less in
     (p.followers i at.0.0 at.0.1 m at.1 on).ascending
 
--- the list at the place of t is written
-pub changed-at : (l : Live) (t place : ℕ) (e : Event) (change : List ℕ → List ℕ → Type 0) (old : List Links) (r after : Links) → slice_get l place ≡ Some (t, e) →
-    length old ≡ length l → change (get_or old place r).followers.items after.followers.items → after.leads.items ≡ (get_or old place r).leads.items →
-    FollowersChanged l t change old (slice_set old place after)
-changed-at l t place e change old r after stands size changes leads =
-    let inside : place < length l = slice_get_within l place (t, e) stands in
-    let within : place < length old = omega arith in
+-- the list at the index of t is written
+pub changed-at : (l : Live) (t index : ℕ) (e : Event) (change : List ℕ → List ℕ → Type 0) (old : List Links) (r after : Links) → slice_get l index ≡ Some (t, e) →
+    length old ≡ length l → change (get_or old index r).followers.items after.followers.items → after.leads.items ≡ (get_or old index r).leads.items →
+    FollowersChanged l t change old (slice_set old index after)
+changed-at l t index e change old r after stands size changes leads =
+    let inside : index < length l = slice_get_within l index (t, e) stands in
+    let within : index < length old = omega arith in
     record {
-      place = place;
+      index = index;
       event = e;
-      before = get_or old place r;
+      before = get_or old index r;
       after = after;
       stands = stands;
-      was = slice_get-get_or old place r within;
+      was = slice_get-get_or old index r within;
       is = refl;
       followers = changes;
       leads = leads;
@@ -271,45 +271,45 @@ unlink-next l n t done leads old new r none falling less is c p =
 pub next-absent : (l : Live) (n : ℕ) → Rising 0 l n → NoneAt l n
 next-absent l n r e i = let less : n < n = (rising-in 0 n l n e r i).1 in omega arith
 
--- what the tables say of a place
-pub record LinkedHere (l : Live) (place : ℕ) (m : Links) : Type 0 where
+-- what the tables say of an index
+pub record LinkedHere (l : Live) (index : ℕ) (m : Links) : Type 0 where
   pub ticket : ℕ
   pub event : Event
-  pub stands : slice_get l place ≡ Some (ticket, event)
+  pub stands : slice_get l index ≡ Some (ticket, event)
   pub followers : ListsFollowers l ticket m.followers.items
   pub leads : (t : ℕ) → In t m.leads.items ↔ Follower l t ticket
   pub falling : Falling m.leads.items
 
-pub linked-here : (l : Live) (links : List Links) (place : ℕ) (r : Links) → Linked l links → place < length l → LinkedHere l place (get_or links place r)
-linked-here l links place r p less =
+pub linked-here : (l : Live) (links : List Links) (index : ℕ) (r : Links) → Linked l links → index < length l → LinkedHere l index (get_or links index r)
+linked-here l links index r p less =
     let size : length links ≡ length l = p.size in
-    let within : place < length links = omega arith in
-    let on = slice_get-get_or links place r within in
-    let at = at-within l place less in
+    let within : index < length links = omega arith in
+    let on = slice_get-get_or links index r within in
+    let at = at-within l index less in
     record {
       ticket = at.0.0;
       event = at.0.1;
       stands = at.1;
-      followers = p.followers place at.0.0 at.0.1 (get_or links place r) at.1 on;
-      leads = p.leads place at.0.0 at.0.1 (get_or links place r) at.1 on;
-      falling = p.falling place (get_or links place r) on;
+      followers = p.followers index at.0.0 at.0.1 (get_or links index r) at.1 on;
+      leads = p.leads index at.0.0 at.0.1 (get_or links index r) at.1 on;
+      falling = p.falling index (get_or links index r) on;
     }
 
--- what the tables list at the place of a ticket
-pub followers-at : (l : Live) (links : List Links) (t place : ℕ) (e : Event) (m : Links) → Linked l links → slice_get l place ≡ Some (t, e) → m ≡ get_or links place m →
+-- what the tables list at the index of a ticket
+pub followers-at : (l : Live) (links : List Links) (t index : ℕ) (e : Event) (m : Links) → Linked l links → slice_get l index ≡ Some (t, e) → m ≡ get_or links index m →
     ListsFollowers l t m.followers.items
-followers-at l links t place e m p at is =
-    let inside : place < length l = slice_get_within l place (t, e) at in
+followers-at l links t index e m p at is =
+    let inside : index < length l = slice_get_within l index (t, e) at in
     let size : length links ≡ length l = p.size in
-    let within : place < length links = omega arith in
-    p.followers place t e m at (slice_get-get_or links place m within ∙ ap (λ (k : Links). Some k) (sym is))
+    let within : index < length links = omega arith in
+    p.followers index t e m at (slice_get-get_or links index m within ∙ ap (λ (k : Links). Some k) (sym is))
 
 -- what the tables list of the events that it follows
-pub leads-at : (l : Live) (links : List Links) (u place : ℕ) (f : Event) (m : Links) → Linked l links → slice_get l place ≡ Some (u, f) → m ≡ get_or links place m →
+pub leads-at : (l : Live) (links : List Links) (u index : ℕ) (f : Event) (m : Links) → Linked l links → slice_get l index ≡ Some (u, f) → m ≡ get_or links index m →
     ListsLeads l u m.leads.items
-leads-at l links u place f m p at is =
-    let inside : place < length l = slice_get_within l place (u, f) at in
+leads-at l links u index f m p at is =
+    let inside : index < length l = slice_get_within l index (u, f) at in
     let size : length links ≡ length l = p.size in
-    let within : place < length links = omega arith in
-    let held : slice_get links place ≡ Some m = slice_get-get_or links place m within ∙ ap (λ (k : Links). Some k) (sym is) in
-    record { exactly = p.leads place u f m at held; falling = p.falling place m held }
+    let within : index < length links = omega arith in
+    let held : slice_get links index ≡ Some m = slice_get-get_or links index m within ∙ ap (λ (k : Links). Some k) (sym is) in
+    record { exactly = p.leads index u f m at held; falling = p.falling index m held }

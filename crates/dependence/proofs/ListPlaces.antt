@@ -19,12 +19,12 @@ in-at [] i x h = none-some x h
 in-at (y ∷ l) zero x h = inl (some-injective x y (sym h))
 in-at (y ∷ l) (suc i) x h = inr (in-at l i x h)
 
-pub place-in : {X : Type 0} (l : List X) (x : X) → In x l → (i : ℕ) × (slice_get l i ≡ Some x)
-place-in [] x i = absurd i
-place-in (y ∷ l) x i =
+pub index-in : {X : Type 0} (l : List X) (x : X) → In x l → (i : ℕ) × (slice_get l i ≡ Some x)
+index-in [] x i = absurd i
+index-in (y ∷ l) x i =
     elim i [
       | inl is ↦ (zero, ap (λ z. Some z) (sym is))
-      | inr later ↦ let rest = place-in l x later in (suc rest.0, rest.1)
+      | inr later ↦ let rest = index-in l x later in (suc rest.0, rest.1)
     ]
 
 pub at-within : {X : Type 0} (l : List X) (i : ℕ) → i < length l → (x : X) × (slice_get l i ≡ Some x)
@@ -49,7 +49,7 @@ set-other (y ∷ l) zero (suc j) v h = refl
 set-other (y ∷ l) (suc i) zero v h = refl
 set-other (y ∷ l) (suc i) (suc j) v h = set-other l i j v (λ is. h (ap suc is))
 
--- before the place and after it
+-- before the index and after it
 pub parts-at : {X : Type 0} (l : List X) (i : ℕ) (x : X) → slice_get l i ≡ Some x → l ≡ take i l ++ x ∷ drop (suc i) l
 parts-at [] i x h = none-some x h
 parts-at (y ∷ l) zero x h = ap (λ z. z ∷ l) (some-injective y x h)
@@ -178,10 +178,10 @@ searched-by key xs k o (Ok i) within equal =
       subst (λ x. key x ≡ k) (get_or_from_slice_get xs i found.0 found.0 found.1) (ranked _ k _ (sym (equal found.0))),
     )
 searched-by key xs k o (Err at) within parted = λ x j is.
-    let place = place-in xs x j in
-    let p : ℕ = place.0 in
-    let inside : p < length xs = slice_get_within xs p x place.1 in
-    let here : get_or xs p x ≡ x = get_or_from_slice_get xs p x x place.1 in
+    let index = index-in xs x j in
+    let p : ℕ = index.0 in
+    let inside : p < length xs = slice_get_within xs p x index.1 in
+    let here : get_or xs p x ≡ x = get_or_from_slice_get xs p x x index.1 in
     let split = parted (comparisons-rise key xs k o) in
     elim (cases_lt p at) [
       | inl low ↦

@@ -20,7 +20,7 @@ use Rattle.dependence.specs.Taking.{NoneMarkedAt, IsNearMarked}
 use Rattle.dependence.specs.walking.Tables.{IsRising}
 use Rattle.dependence.specs.walking.Marking.{MarkedAt, MarkedBelow, UnmarkedTo, SomeMarked, MarkedNear}
 use Rattle.dependence.proofs.ListPlaces.{in-at, at-one, at-within, take-next, set-here, set-other}
-use Rattle.dependence.proofs.Linking.{one-place}
+use Rattle.dependence.proofs.Linking.{one-index}
 use Rattle.dependence.proofs.Standing.{lesser-stands}
 use Rattle.dependence.proofs.Following.{follows-on}
 use Rattle.dependence.proofs.FollowerLaws.{direct-follows, reached-through-followers}
@@ -33,7 +33,7 @@ marked-in (x ∷ l) (false ∷ marks) t zero e at on = cc
 marked-in (x ∷ l) (true ∷ marks) t (suc i) e at on = inr (marked-in l marks t i e at on)
 marked-in (x ∷ l) (false ∷ marks) t (suc i) e at on = marked-in l marks t i e at on
 
--- one place further
+-- one index further
 further : (x : ℕ × Event) (l : Live) (m : Bool) (marks : List Bool) (t : ℕ) → MarkedAt l marks t → MarkedAt (x ∷ l) (m ∷ marks) t
 further x l m marks t h = (suc h.0, h.1, h.2)
 
@@ -151,85 +151,85 @@ tickets-passed (x ∷ l) [] (suc n) h = no-marks (drop n l)
 tickets-passed (x ∷ l) (true ∷ marks) (suc n) h = absurd (h zero (omega arith) refl)
 tickets-passed (x ∷ l) (false ∷ marks) (suc n) h = tickets-passed l marks n (passed-first false marks n h)
 
--- a mark is set at the place of a ticket
-module _ (low next : ℕ) (l : Live) (marks : List Bool) (t place : ℕ) (e : Event) (r : Rising low l next) (size : length marks ≡ length l) (stands : slice_get l place ≡ Some (t, e)) where
-  within : place < length marks
-  within = let inside : place < length l = slice_get_within l place (t, e) stands in omega arith
+-- a mark is set at the index of a ticket
+module _ (low next : ℕ) (l : Live) (marks : List Bool) (t index : ℕ) (e : Event) (r : Rising low l next) (size : length marks ≡ length l) (stands : slice_get l index ≡ Some (t, e)) where
+  within : index < length marks
+  within = let inside : index < length l = slice_get_within l index (t, e) stands in omega arith
 
-  pub set-marked : (u : ℕ) → MarkedAt l (slice_set marks place true) u ↔ (MarkedAt l marks u ⊎ (u ≡ t))
+  pub set-marked : (u : ℕ) → MarkedAt l (slice_set marks index true) u ↔ (MarkedAt l marks u ⊎ (u ≡ t))
   set-marked u = (
-    (λ h. elim (cases_eq h.0 place) [
-      | inl is ↦ inr (ap (λ (x : ℕ × Event). x.0) (at-one l place (u, h.1.0) (t, e) (subst (λ (i : ℕ). slice_get l i ≡ Some (u, h.1.0)) is h.1.1) stands))
-      | inr differs ↦ inl (h.0, h.1, sym (set-other marks place h.0 true differs) ∙ h.2)
+    (λ h. elim (cases_eq h.0 index) [
+      | inl is ↦ inr (ap (λ (x : ℕ × Event). x.0) (at-one l index (u, h.1.0) (t, e) (subst (λ (i : ℕ). slice_get l i ≡ Some (u, h.1.0)) is h.1.1) stands))
+      | inr differs ↦ inl (h.0, h.1, sym (set-other marks index h.0 true differs) ∙ h.2)
     ]),
     (λ h. elim h [
-      | inl old ↦ elim (cases_eq old.0 place) [
-        | inl is ↦ (old.0, old.1, subst (λ (i : ℕ). slice_get (slice_set marks place true) i ≡ Some true) (sym is) (set-here marks place true within))
-        | inr differs ↦ (old.0, old.1, set-other marks place old.0 true differs ∙ old.2)
+      | inl old ↦ elim (cases_eq old.0 index) [
+        | inl is ↦ (old.0, old.1, subst (λ (i : ℕ). slice_get (slice_set marks index true) i ≡ Some true) (sym is) (set-here marks index true within))
+        | inr differs ↦ (old.0, old.1, set-other marks index old.0 true differs ∙ old.2)
       ]
-      | inr is ↦ (place, (e, stands ∙ ap (λ (v : ℕ). Some (v, e)) (sym is)), set-here marks place true within)
+      | inr is ↦ (index, (e, stands ∙ ap (λ (v : ℕ). Some (v, e)) (sym is)), set-here marks index true within)
     ]),
   )
 
 -- nothing was marked, and now t alone is
-pub marked-first : (low next : ℕ) (l : Live) (marks : List Bool) (t place : ℕ) (e : Event) → Rising low l next → length marks ≡ length l → slice_get l place ≡ Some (t, e) →
-    ((i : ℕ) → slice_get marks i ≡ Some true → ⊥) → MarkedBelow l t place (slice_set marks place true)
-marked-first low next l marks t place e r size stands none =
-    let only : (u : ℕ) → MarkedAt l (slice_set marks place true) u → u ≡ t = λ u h.
-    elim ((set-marked low next l marks t place e r size stands u).0 h) [ inl old ↦ absurd (none old.0 old.2) | inr is ↦ is ] in
+pub marked-first : (low next : ℕ) (l : Live) (marks : List Bool) (t index : ℕ) (e : Event) → Rising low l next → length marks ≡ length l → slice_get l index ≡ Some (t, e) →
+    ((i : ℕ) → slice_get marks i ≡ Some true → ⊥) → MarkedBelow l t index (slice_set marks index true)
+marked-first low next l marks t index e r size stands none =
+    let only : (u : ℕ) → MarkedAt l (slice_set marks index true) u → u ≡ t = λ u h.
+    elim ((set-marked low next l marks t index e r size stands u).0 h) [ inl old ↦ absurd (none old.0 old.2) | inr is ↦ is ] in
     record {
       sound = λ u h. subst (λ (v : ℕ). DependsOn l t v) (sym (only u h)) same;
-      start = (set-marked low next l marks t place e r size stands t).1 (inr refl);
+      start = (set-marked low next l marks t index e r size stands t).1 (inr refl);
       onward = λ s u i at low_i h f.
           let is : s ≡ t = only s h in
-          let one : i ≡ place = one-place low next l t at.0 e i place r (subst (λ (v : ℕ). slice_get l i ≡ Some (v, at.0)) is at.1) stands in
+          let one : i ≡ index = one-index low next l t at.0 e i index r (subst (λ (v : ℕ). slice_get l i ≡ Some (v, at.0)) is at.1) stands in
           absurd (omega arith);
     }
 
--- the place is passed: the followers of its event are marked if it is
-module _ (low next : ℕ) (l : Live) (t place s : ℕ) (e : Event) (old new : List Bool) (r : Rising low l next) (stands : slice_get l place ≡ Some (s, e)) (b : MarkedBelow l t place old) where
-  pub pass-marked : (followers : List ℕ) → slice_get old place ≡ Some true → ListsFollowers l s followers →
-      ((u : ℕ) → MarkedAt l new u ↔ (MarkedAt l old u ⊎ In u followers)) → MarkedBelow l t (suc place) new
+-- the index is passed: the followers of its event are marked if it is
+module _ (low next : ℕ) (l : Live) (t index s : ℕ) (e : Event) (old new : List Bool) (r : Rising low l next) (stands : slice_get l index ≡ Some (s, e)) (b : MarkedBelow l t index old) where
+  pub pass-marked : (followers : List ℕ) → slice_get old index ≡ Some true → ListsFollowers l s followers →
+      ((u : ℕ) → MarkedAt l new u ↔ (MarkedAt l old u ⊎ In u followers)) → MarkedBelow l t (suc index) new
   pass-marked followers on lists both = record {
     sound = λ u h. elim ((both u).0 h) [
       | inl before ↦ b.sound u before
-      | inr added ↦ follows-on l t s u (b.sound s (place, (e, stands), on)) (direct-follows l s u ((lists.exactly u).0 added).dependent)
+      | inr added ↦ follows-on l t s u (b.sound s (index, (e, stands), on)) (direct-follows l s u ((lists.exactly u).0 added).dependent)
     ];
     start = (both t).1 (inl b.start);
-    onward = λ v u i at less h f. elim (cases_lt i place) [
+    onward = λ v u i at less h f. elim (cases_lt i index) [
       | inl below ↦ elim ((both v).0 h) [
         | inl before ↦ (both u).1 (inl (b.onward v u i at below before f))
         | inr added ↦
             let up : s < v = ((lists.exactly v).0 added).dependent.less in
-            let above : place < i = lesser-stands low next l place i s v e at.0 r stands at.1 up in
+            let above : index < i = lesser-stands low next l index i s v e at.0 r stands at.1 up in
             absurd (omega arith)
       ]
       | inr high ↦
-          let is : i ≡ place = omega arith in
-          let one : v ≡ s = ap (λ (x : ℕ × Event). x.0) (at-one l place (v, at.0) (s, e) (subst (λ (k : ℕ). slice_get l k ≡ Some (v, at.0)) is at.1) stands) in
+          let is : i ≡ index = omega arith in
+          let one : v ≡ s = ap (λ (x : ℕ × Event). x.0) (at-one l index (v, at.0) (s, e) (subst (λ (k : ℕ). slice_get l k ≡ Some (v, at.0)) is at.1) stands) in
           (both u).1 (inr ((lists.exactly u).1 (subst (λ (k : ℕ). Follower l k u) one f)))
     ];
   }
 
-  pub pass-unmarked : slice_get old place ≡ Some false → MarkedBelow l t (suc place) old
+  pub pass-unmarked : slice_get old index ≡ Some false → MarkedBelow l t (suc index) old
   pass-unmarked off = record {
     sound = b.sound;
     start = b.start;
-    onward = λ v u i at less h f. elim (cases_lt i place) [
+    onward = λ v u i at less h f. elim (cases_lt i index) [
       | inl below ↦ b.onward v u i at below h f
       | inr high ↦
-          let is : i ≡ place = omega arith in
-          let same_place : h.0 ≡ i = one-place low next l v h.1.0 at.0 h.0 i r h.1.1 at.1 in
-          let on : slice_get old place ≡ Some true = subst (λ (k : ℕ). slice_get old k ≡ Some true) (same_place ∙ is) h.2 in
-          let both : true ≡ false = at-one old place true false on off in
+          let is : i ≡ index = omega arith in
+          let same_place : h.0 ≡ i = one-index low next l v h.1.0 at.0 h.0 i r h.1.1 at.1 in
+          let on : slice_get old index ≡ Some true = subst (λ (k : ℕ). slice_get old k ≡ Some true) (same_place ∙ is) h.2 in
+          let both : true ≡ false = at-one old index true false on off in
           cc
     ];
   }
 
 -- once all places are passed, the marks are those of all that depends on t
-pub all-passed : (low next : ℕ) (l : Live) (t place : ℕ) (marks : List Bool) → Rising low l next → length l ≤ place → MarkedBelow l t place marks →
+pub all-passed : (low next : ℕ) (l : Live) (t index : ℕ) (marks : List Bool) → Rising low l next → length l ≤ index → MarkedBelow l t index marks →
     ConsequencesList l t (tickets_marked l marks)
-all-passed low next l t place marks r past b =
+all-passed low next l t index marks r past b =
     record {
       exactly = λ u. (
         (λ i.
@@ -248,15 +248,15 @@ all-passed low next l t place marks r past b =
         b.onward v u at.0 at.1 (omega arith) at f
 
 -- one more ticket is marked
-pub marked-next : (l : Live) (first marks : List Bool) (tickets : List ℕ) (i place : ℕ) (e : Event) → IsRising l → length marks ≡ length l → i < length tickets →
-    slice_get l place ≡ Some (get_or tickets i 0, e) → ((u : ℕ) → MarkedAt l marks u ↔ (MarkedAt l first u ⊎ In u (take i tickets))) →
-    (u : ℕ) → MarkedAt l (slice_set marks place true) u ↔ (MarkedAt l first u ⊎ In u (take (i + 1) tickets))
-marked-next l first marks tickets i place e r size less stands before u =
+pub marked-next : (l : Live) (first marks : List Bool) (tickets : List ℕ) (i index : ℕ) (e : Event) → IsRising l → length marks ≡ length l → i < length tickets →
+    slice_get l index ≡ Some (get_or tickets i 0, e) → ((u : ℕ) → MarkedAt l marks u ↔ (MarkedAt l first u ⊎ In u (take i tickets))) →
+    (u : ℕ) → MarkedAt l (slice_set marks index true) u ↔ (MarkedAt l first u ⊎ In u (take (i + 1) tickets))
+marked-next l first marks tickets i index e r size less stands before u =
     let t : ℕ = get_or tickets i 0 in
     let more : i + 1 ≡ suc i = omega arith in
     let next : take (i + 1) tickets ≡ take i tickets ++ t ∷ [] =
     ap (λ (k : ℕ). take k tickets) more ∙ take-next tickets i t (slice_get-get_or tickets i 0 less) in
-    let both = set-marked 0 r.0 l marks t place e r.1 size stands u in (
+    let both = set-marked 0 r.0 l marks t index e r.1 size stands u in (
       (λ h. elim (both.0 h) [
         | inl old ↦ elim ((before u).0 old) [
           | inl a ↦ inl a
@@ -274,43 +274,43 @@ marked-next l first marks tickets i place e r size less stands before u =
       ])),
     )
 
--- one more place is without a mark
-pub none-marked : (marks : List Bool) (place : ℕ) → place < length marks → get_or marks place false ≡ false →
-    ((k : ℕ) → suc place ≤ k → slice_get marks k ≡ Some true → ⊥) → (k : ℕ) → place ≤ k → slice_get marks k ≡ Some true → ⊥
-none-marked marks place less off none k up on =
-    elim (cases_eq k place) [
+-- one more index is without a mark
+pub none-marked : (marks : List Bool) (index : ℕ) → index < length marks → get_or marks index false ≡ false →
+    ((k : ℕ) → suc index ≤ k → slice_get marks k ≡ Some true → ⊥) → (k : ℕ) → index ≤ k → slice_get marks k ≡ Some true → ⊥
+none-marked marks index less off none k up on =
+    elim (cases_eq k index) [
       | inl is ↦
-          let here : slice_get marks place ≡ Some true = subst (λ (i : ℕ). slice_get marks i ≡ Some true) is on in
-          let both : true ≡ false = at-one marks place true false here (slice_get-get_or marks place false less ∙ ap (λ (b : Bool). Some b) off) in
+          let here : slice_get marks index ≡ Some true = subst (λ (i : ℕ). slice_get marks i ≡ Some true) is on in
+          let both : true ≡ false = at-one marks index true false here (slice_get-get_or marks index false less ∙ ap (λ (b : Bool). Some b) off) in
           cc
       | inr differs ↦ none k (omega arith) on
     ]
 
 -- the last of the marked places has the greatest ticket
-pub last-greatest : (l : Live) (marks : List Bool) (place : ℕ) (x : ℕ × Event) → IsRising l → slice_get l place ≡ Some x → slice_get marks place ≡ Some true →
-    ((k : ℕ) → suc place ≤ k → slice_get marks k ≡ Some true → ⊥) → Greatest (tickets_marked l marks) x.0
-last-greatest l marks place x r at on none = record {
-  inside = (is-marked l marks x.0).1 (place, (x.1, at), on);
+pub last-greatest : (l : Live) (marks : List Bool) (index : ℕ) (x : ℕ × Event) → IsRising l → slice_get l index ≡ Some x → slice_get marks index ≡ Some true →
+    ((k : ℕ) → suc index ≤ k → slice_get marks k ≡ Some true → ⊥) → Greatest (tickets_marked l marks) x.0
+last-greatest l marks index x r at on none = record {
+  inside = (is-marked l marks x.0).1 (index, (x.1, at), on);
   greatest = λ u i.
       let h = (is-marked l marks u).0 i in
       elim (cases_lt x.0 u) [
         | inl more ↦
-            let later : place < h.0 = lesser-stands 0 r.0 l place h.0 x.0 u x.1 h.1.0 r.1 at h.1.1 more in
+            let later : index < h.0 = lesser-stands 0 r.0 l index h.0 x.0 u x.1 h.1.0 r.1 at h.1.1 more in
             absurd (none h.0 (omega arith) h.2)
         | inr less ↦ less
       ];
 }
 
--- without a mark at the place no live event there is marked
-pub none-here : (l : Live) (marks : List Bool) (place : ℕ) → IsRising l → (slice_get marks place ≡ Some true → ⊥) → NoneMarkedAt l (tickets_marked l marks) place
-none-here l marks place r off e one =
+-- without a mark at the index no live event there is marked
+pub none-here : (l : Live) (marks : List Bool) (index : ℕ) → IsRising l → (slice_get marks index ≡ Some true → ⊥) → NoneMarkedAt l (tickets_marked l marks) index
+none-here l marks index r off e one =
     let at = (is-marked l marks one.0).0 one.2 in
-    let same : at.0 ≡ place = one-place 0 r.0 l one.0 at.1.0 e at.0 place r.1 at.1.1 one.1 in
+    let same : at.0 ≡ index = one-index 0 r.0 l one.0 at.1.0 e at.0 index r.1 at.1.1 one.1 in
     off (subst (λ (i : ℕ). slice_get marks i ≡ Some true) same at.2)
 
 -- what is near among the marks is near among the live events
-pub near-shown : (l : Live) (marks : List Bool) (place : ℕ) → length marks ≡ length l → MarkedNear marks place → IsNearMarked l (tickets_marked l marks) place
-near-shown l marks place size near = elim near [
+pub near-shown : (l : Live) (marks : List Bool) (index : ℕ) → length marks ≡ length l → MarkedNear marks index → IsNearMarked l (tickets_marked l marks) index
+near-shown l marks index size near = elim near [
   | inl ends ↦ inl (omega arith)
   | inr one ↦
       let inside : one.0 < length marks = slice_get_within marks one.0 true one.3 in

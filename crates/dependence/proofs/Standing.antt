@@ -18,24 +18,24 @@ rising-order low next (x ∷ l) r = (
 )
 
 -- where the tickets rise, those at later places are greater
-pub place-rises : (low next : ℕ) (l : Live) (i j t u : ℕ) (e f : Event) → Rising low l next → slice_get l i ≡ Some (t, e) → slice_get l j ≡ Some (u, f) → i < j → t < u
-place-rises low next [] i j t u e f r a b less = absurd (in-at [] i (t, e) a)
-place-rises low next (x ∷ l) zero zero t u e f r a b less = absurd (omega arith)
-place-rises low next (x ∷ l) zero (suc j) t u e f r a b less =
+pub index-rises : (low next : ℕ) (l : Live) (i j t u : ℕ) (e f : Event) → Rising low l next → slice_get l i ≡ Some (t, e) → slice_get l j ≡ Some (u, f) → i < j → t < u
+index-rises low next [] i j t u e f r a b less = absurd (in-at [] i (t, e) a)
+index-rises low next (x ∷ l) zero zero t u e f r a b less = absurd (omega arith)
+index-rises low next (x ∷ l) zero (suc j) t u e f r a b less =
     let is : t ≡ x.0 = ap (λ (y : ℕ × Event). y.0) (at-one (x ∷ l) zero (t, e) x a refl) in
     let above : suc x.0 ≤ u = (rising-in (suc x.0) next l u f r.1 (in-at l j (u, f) b)).0 in
     omega arith
-place-rises low next (x ∷ l) (suc i) zero t u e f r a b less = absurd (omega arith)
-place-rises low next (x ∷ l) (suc i) (suc j) t u e f r a b less =
-    let below : i < j = omega arith in place-rises (suc x.0) next l i j t u e f r.1 a b below
+index-rises low next (x ∷ l) (suc i) zero t u e f r a b less = absurd (omega arith)
+index-rises low next (x ∷ l) (suc i) (suc j) t u e f r a b less =
+    let below : i < j = omega arith in index-rises (suc x.0) next l i j t u e f r.1 a b below
 
--- a lesser ticket stands at an earlier place
+-- a lesser ticket stands at an earlier index
 pub lesser-stands : (low next : ℕ) (l : Live) (i j t u : ℕ) (e f : Event) → Rising low l next → slice_get l i ≡ Some (t, e) → slice_get l j ≡ Some (u, f) → t < u → i < j
 lesser-stands low next l i j t u e f r a b less =
     elim (cases_lt i j) [
       | inl low_i ↦ low_i
       | inr high ↦ elim (cases_lt j i) [
-        | inl back ↦ let other : u < t = place-rises low next l j i u t f e r b a back in absurd (omega arith)
+        | inl back ↦ let other : u < t = index-rises low next l j i u t f e r b a back in absurd (omega arith)
         | inr up ↦
             let is : i ≡ j = omega arith in
             let one : t ≡ u = ap (λ (y : ℕ × Event). y.0) (at-one l j (t, e) (u, f) (subst (λ (k : ℕ). slice_get l k ≡ Some (t, e)) is a) b) in

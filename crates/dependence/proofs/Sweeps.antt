@@ -1,4 +1,4 @@
--- The sweep that finds the topmost of some events, one place after another.
+-- The sweep that finds the topmost of some events, one index after another.
 use Rattle.std.proofs.Common.{◌≡◌, ◌≢◌, ◌⊎◌, ◌↔◌, inl, inr, ℕ, zero, suc, ◌+◌, ◌-◌, ◌<◌, ◌≤◌, List, [], ◌∷◌, ◌++◌, Bool, true, false, cond, ◌||◌, ◌&&◌, not, IsTrue, length, get_or, take, drop, Some, refl, sym, ◌∙◌, ap, subst, arith, length-append}
 use Rattle.std.specs.Prelude.{slice_get}
 use Rattle.std.specs.List.Sorted.{IsPermutation, IsNonDecreasing}
@@ -15,10 +15,10 @@ use Rattle.calculus.proofs.DependsOnLaw.{depends-up}
 use Rattle.dependence.specs.Followers.{Follower, ListsFollowers, Reached, here, along}
 use Rattle.dependence.specs.walking.Tables.{StandsAt, Falling, Topmost, LeadsBack}
 use Rattle.dependence.specs.walking.Sweeping.{StandWithin, FlagAt, Swept}
-use Rattle.dependence.proofs.ListPlaces.{at-one, place-in, parts-at, in-at, in-read, in-order-more, in-order-right, got-here}
+use Rattle.dependence.proofs.ListPlaces.{at-one, index-in, parts-at, in-at, in-read, in-order-more, in-order-right, got-here}
 use Rattle.calculus.proofs.ReadTests.{is-in, in-is}
-use Rattle.dependence.proofs.Linking.{one-place}
-use Rattle.dependence.proofs.Standing.{place-rises, lesser-stands}
+use Rattle.dependence.proofs.Linking.{one-index}
+use Rattle.dependence.proofs.Standing.{index-rises, lesser-stands}
 use Rattle.dependence.proofs.Following.{follows-on}
 use Rattle.dependence.proofs.FollowerLaws.{direct-follows, reached-through-followers}
 
@@ -63,12 +63,12 @@ swept-none l cs low high stand next from r = record {
   falling = tt;
 }
 
-module _ (from next : ℕ) (l : Live) (cs : List ℕ) (low high place s : ℕ) (e : Event) (flags : List Bool) (kept followers : List ℕ) (r : Rising from l next)
-    (stand : StandWithin l cs low high) (at : slice_get l place ≡ Some (s, e)) (less_high : place < high) (lists : ListsFollowers l s followers)
-    (swept : Swept l cs high (suc place) flags kept) where
-  -- a follower stands above the place
-  above : (v i : ℕ) → Follower l s v → StandsAt l v i → suc place ≤ i
-  above v i f on = let up : place < i = lesser-stands from next l place i s v e on.0 r at on.1 f.dependent.less in omega arith
+module _ (from next : ℕ) (l : Live) (cs : List ℕ) (low high index s : ℕ) (e : Event) (flags : List Bool) (kept followers : List ℕ) (r : Rising from l next)
+    (stand : StandWithin l cs low high) (at : slice_get l index ≡ Some (s, e)) (less_high : index < high) (lists : ListsFollowers l s followers)
+    (swept : Swept l cs high (suc index) flags kept) where
+  -- a follower stands above the index
+  above : (v i : ℕ) → Follower l s v → StandsAt l v i → suc index ≤ i
+  above v i f on = let up : index < i = lesser-stands from next l index i s v e on.0 r at on.1 f.dependent.less in omega arith
 
   -- what another of cs depends on stands below `high`
   below-high : (v c i : ℕ) → In c cs → DependsOn l v c → StandsAt l v i → i < high
@@ -79,7 +79,7 @@ module _ (from next : ℕ) (l : Live) (cs : List ℕ) (low high place s : ℕ) (
       elim (cases_lt i end.0) [
         | inl lower ↦ omega arith
         | inr higher ↦ elim (cases_lt end.0 i) [
-          | inl over ↦ let down : c < v = place-rises from next l end.0 i c v end.1.0 on.0 r end.1.1 on.1 over in absurd (omega arith)
+          | inl over ↦ let down : c < v = index-rises from next l end.0 i c v end.1.0 on.0 r end.1.1 on.1 over in absurd (omega arith)
           | inr equal ↦ omega arith
         ]
       ]
@@ -104,15 +104,15 @@ module _ (from next : ℕ) (l : Live) (cs : List ℕ) (low high place s : ℕ) (
       let step = first-step l s c ((reached-through-followers from next l s c r).0 follows) differs in
       let v : ℕ = step.ticket in
       let d = step.follower.dependent in
-      let stands = place-in l (v, d.dependent) d.dependent_live in
+      let stands = index-in l (v, d.dependent) d.dependent_live in
       let on : StandsAt l v stands.0 = (d.dependent, stands.1) in
       (v, (lists.exactly v).1 step.follower, (swept.flagged v stands.0 on (above v stands.0 step.follower on) (below-high v c stands.0 ic step.on on)).1 (c, ic, step.on))
 
   module _ (flag : Bool) (told : (flag ≡ true) ↔ (In s cs ⊎ ((v : ℕ) × In v followers × FlagAt l high flags v))) where
-    counted : place + length (flags ++ flag ∷ []) ≡ high
+    counted : index + length (flags ++ flag ∷ []) ≡ high
     counted =
         let size = length-append flags (flag ∷ []) in
-        let before : suc place + length flags ≡ high = swept.count in
+        let before : suc index + length flags ≡ high = swept.count in
         omega arith
 
     reaches : (flag ≡ true) ↔ LeadsBack l cs s
@@ -127,24 +127,24 @@ module _ (from next : ℕ) (l : Live) (cs : List ℕ) (low high place s : ℕ) (
     flagged-here : FlagAt l high (flags ++ flag ∷ []) s ↔ LeadsBack l cs s
     flagged-here = (
       (λ h.
-          let one : h.0 ≡ place = one-place from next l s h.2.0 e h.0 place r h.2.1 at in
+          let one : h.0 ≡ index = one-index from next l s h.2.0 e h.0 index r h.2.1 at in
           let sum : h.0 + h.1 + 1 ≡ high = h.3 in
-          let before : suc place + length flags ≡ high = swept.count in
+          let before : suc index + length flags ≡ high = swept.count in
           let last : h.1 ≡ length flags = omega arith in
           reaches.0 (at-one (flags ++ flag ∷ []) (length flags) flag true (last-at flags flag)
           (subst (λ (k : ℕ). slice_get (flags ++ flag ∷ []) k ≡ Some true) last h.4))),
       (λ h.
-          let before : suc place + length flags ≡ high = swept.count in
-          (place, length flags, (e, at), omega arith, last-at flags flag ∙ ap (λ (b : Bool). Some b) (reaches.1 h))),
+          let before : suc index + length flags ≡ high = swept.count in
+          (index, length flags, (e, at), omega arith, last-at flags flag ∙ ap (λ (b : Bool). Some b) (reaches.1 h))),
     )
 
-    flagged-more : (t i : ℕ) → StandsAt l t i → place ≤ i → i < high → FlagAt l high (flags ++ flag ∷ []) t ↔ LeadsBack l cs t
-    flagged-more t i on up less = elim (cases_lt place i) [
+    flagged-more : (t i : ℕ) → StandsAt l t i → index ≤ i → i < high → FlagAt l high (flags ++ flag ∷ []) t ↔ LeadsBack l cs t
+    flagged-more t i on up less = elim (cases_lt index i) [
       | inl over ↦
           let old = swept.flagged t i on (omega arith) less in
-          let before : suc place + length flags ≡ high = swept.count in (
+          let before : suc index + length flags ≡ high = swept.count in (
             (λ h.
-                let one : h.0 ≡ i = one-place from next l t h.2.0 on.0 h.0 i r h.2.1 on.1 in
+                let one : h.0 ≡ i = one-index from next l t h.2.0 on.0 h.0 i r h.2.1 on.1 in
                 let sum : h.0 + h.1 + 1 ≡ high = h.3 in
                 let within : h.1 < length flags = omega arith in
                 old.0 (h.0, h.1, h.2, h.3, sym (before-last flags flag h.1 within) ∙ h.4)),
@@ -153,13 +153,13 @@ module _ (from next : ℕ) (l : Live) (cs : List ℕ) (low high place s : ℕ) (
                 (was.0, was.1, was.2, was.3, before-last flags flag was.1 (slice_get_within flags was.1 true was.4) ∙ was.4)),
           )
       | inr equal ↦
-          let is : i ≡ place = omega arith in
-          let one : t ≡ s = ap (λ (x : ℕ × Event). x.0) (at-one l place (t, on.0) (s, e) (subst (λ (k : ℕ). slice_get l k ≡ Some (t, on.0)) is on.1) at) in
+          let is : i ≡ index = omega arith in
+          let one : t ≡ s = ap (λ (x : ℕ × Event). x.0) (at-one l index (t, on.0) (s, e) (subst (λ (k : ℕ). slice_get l k ≡ Some (t, on.0)) is on.1) at) in
           subst (λ (k : ℕ). FlagAt l high (flags ++ flag ∷ []) k ↔ LeadsBack l cs k) (sym one) flagged-here
     ]
 
     -- s is kept where it is one of cs and no follower reaches another
-    pub swept-kept : In s cs → ((v : ℕ) × In v followers × FlagAt l high flags v → ⊥) → Swept l cs high place (flags ++ flag ∷ []) (kept ++ s ∷ [])
+    pub swept-kept : In s cs → ((v : ℕ) × In v followers × FlagAt l high flags v → ⊥) → Swept l cs high index (flags ++ flag ∷ []) (kept ++ s ∷ [])
     swept-kept is none =
         let top : Topmost l cs s =
         (is, λ c ic follows. elim (cases_eq c s) [ inl one ↦ one | inr differs ↦ absurd (none (below-flagged c ic follows differs)) ]) in
@@ -168,10 +168,10 @@ module _ (from next : ℕ) (l : Live) (cs : List ℕ) (low high place s : ℕ) (
           flagged = flagged-more;
           chosen = λ t. (
             (λ i. elim (in-parts t kept (s ∷ []) i) [
-              | inl a ↦ let old = (swept.chosen t).0 a in (old.0, λ j on. let up : suc place ≤ j = old.1 j on in omega arith)
+              | inl a ↦ let old = (swept.chosen t).0 a in (old.0, λ j on. let up : suc index ≤ j = old.1 j on in omega arith)
               | inr (inl a) ↦ (
                 subst (λ (k : ℕ). Topmost l cs k) (sym a) top,
-                λ j on. let one : j ≡ place = one-place from next l s on.0 e j place r (subst (λ (k : ℕ). slice_get l j ≡ Some (k, on.0)) a on.1) at in omega arith,
+                λ j on. let one : j ≡ index = one-index from next l s on.0 e j index r (subst (λ (k : ℕ). slice_get l j ≡ Some (k, on.0)) a on.1) at in omega arith,
               )
               | inr (inr a) ↦ absurd a
             ]),
@@ -179,12 +179,12 @@ module _ (from next : ℕ) (l : Live) (cs : List ℕ) (low high place s : ℕ) (
               | inl one ↦ in-right t kept (s ∷ []) (inl one)
               | inr differs ↦ in-left t kept (s ∷ []) ((swept.chosen t).1 (
                 h.0,
-                λ j on. elim (cases_lt place j) [
+                λ j on. elim (cases_lt index j) [
                   | inl over ↦ omega arith
                   | inr under ↦
-                      let up : place ≤ j = h.1 j on in
-                      let equal : j ≡ place = omega arith in
-                      absurd (differs (ap (λ (x : ℕ × Event). x.0) (at-one l place (t, on.0) (s, e) (subst (λ (k : ℕ). slice_get l k ≡ Some (t, on.0)) equal on.1) at)))
+                      let up : index ≤ j = h.1 j on in
+                      let equal : j ≡ index = omega arith in
+                      absurd (differs (ap (λ (x : ℕ × Event). x.0) (at-one l index (t, on.0) (s, e) (subst (λ (k : ℕ). slice_get l k ≡ Some (t, on.0)) equal on.1) at)))
                 ],
               ))
             ]),
@@ -192,17 +192,17 @@ module _ (from next : ℕ) (l : Live) (cs : List ℕ) (low high place s : ℕ) (
           falling = in-order-more (λ (a : ℕ) (b : ℕ). b < a) kept s swept.falling (λ t i.
               let old = (swept.chosen t).0 i in
               let stands = stand t old.0.0 in
-              let up : suc place ≤ stands.0 = old.1 stands.0 stands.1 in
-              place-rises from next l place stands.0 s t e stands.1.0 r at stands.1.1 (omega arith));
+              let up : suc index ≤ stands.0 = old.1 stands.0 stands.1 in
+              index-rises from next l index stands.0 s t e stands.1.0 r at stands.1.1 (omega arith));
         }
 
     -- else it is not
-    pub swept-left : (In s cs → ((v : ℕ) × In v followers × FlagAt l high flags v → ⊥) → ⊥) → Swept l cs high place (flags ++ flag ∷ []) kept
+    pub swept-left : (In s cs → ((v : ℕ) × In v followers × FlagAt l high flags v → ⊥) → ⊥) → Swept l cs high index (flags ++ flag ∷ []) kept
     swept-left not_one = record {
       count = counted;
       flagged = flagged-more;
       chosen = λ t. (
-        (λ i. let old = (swept.chosen t).0 i in (old.0, λ j on. let up : suc place ≤ j = old.1 j on in omega arith)),
+        (λ i. let old = (swept.chosen t).0 i in (old.0, λ j on. let up : suc index ≤ j = old.1 j on in omega arith)),
         (λ h. elim (cases_eq t s) [
           | inl one ↦
               let top : Topmost l cs s = subst (λ (k : ℕ). Topmost l cs k) one h.0 in
@@ -213,12 +213,12 @@ module _ (from next : ℕ) (l : Live) (cs : List ℕ) (low high place s : ℕ) (
               omega arith))
           | inr differs ↦ (swept.chosen t).1 (
             h.0,
-            λ j on. elim (cases_lt place j) [
+            λ j on. elim (cases_lt index j) [
               | inl over ↦ omega arith
               | inr under ↦
-                  let up : place ≤ j = h.1 j on in
-                  let equal : j ≡ place = omega arith in
-                  absurd (differs (ap (λ (x : ℕ × Event). x.0) (at-one l place (t, on.0) (s, e) (subst (λ (k : ℕ). slice_get l k ≡ Some (t, on.0)) equal on.1) at)))
+                  let up : index ≤ j = h.1 j on in
+                  let equal : j ≡ index = omega arith in
+                  absurd (differs (ap (λ (x : ℕ × Event). x.0) (at-one l index (t, on.0) (s, e) (subst (λ (k : ℕ). slice_get l k ≡ Some (t, on.0)) equal on.1) at)))
             ],
           )
         ]),
@@ -227,15 +227,15 @@ module _ (from next : ℕ) (l : Live) (cs : List ℕ) (low high place s : ℕ) (
     }
 
 -- all places are swept
-pub swept-all : (from next : ℕ) (l : Live) (cs : List ℕ) (low high place : ℕ) (flags : List Bool) (kept : List ℕ) → Rising from l next → StandWithin l cs low high →
-    place ≤ low → Swept l cs high place flags kept → (t : ℕ) → In t kept ↔ Topmost l cs t
-swept-all from next l cs low high place flags kept r stand past swept t = (
+pub swept-all : (from next : ℕ) (l : Live) (cs : List ℕ) (low high index : ℕ) (flags : List Bool) (kept : List ℕ) → Rising from l next → StandWithin l cs low high →
+    index ≤ low → Swept l cs high index flags kept → (t : ℕ) → In t kept ↔ Topmost l cs t
+swept-all from next l cs low high index flags kept r stand past swept t = (
   (λ i. ((swept.chosen t).0 i).0),
   (λ top. (swept.chosen t).1 (
     top,
     λ j on.
         let at = stand t top.0 in
-        let one : at.0 ≡ j = one-place from next l t at.1.0 on.0 at.0 j r at.1.1 on.1 in
+        let one : at.0 ≡ j = one-index from next l t at.1.0 on.0 at.0 j r at.1.1 on.1 in
         let up : low ≤ at.0 = at.2 in
         omega arith,
   )),
@@ -259,13 +259,13 @@ alone-false true true h is = refl
 alone-false true false h is = cc
 alone-false false b h is = cc
 
--- one place further down
-pub swept-next : (from next : ℕ) (l : Live) (cs : List ℕ) (low high place p s : ℕ) (e : Event) (flags new_flags : List Bool) (kept new_kept followers : List ℕ)
-    (one below flag chosen : Bool) → Rising from l next → StandWithin l cs low high → suc p ≡ place → slice_get l p ≡ Some (s, e) → p < high →
-    ListsFollowers l s followers → Swept l cs high place flags kept → one ≡ is_in s cs →
+-- one index further down
+pub swept-next : (from next : ℕ) (l : Live) (cs : List ℕ) (low high index p s : ℕ) (e : Event) (flags new_flags : List Bool) (kept new_kept followers : List ℕ)
+    (one below flag chosen : Bool) → Rising from l next → StandWithin l cs low high → suc p ≡ index → slice_get l p ≡ Some (s, e) → p < high →
+    ListsFollowers l s followers → Swept l cs high index flags kept → one ≡ is_in s cs →
     IsTrue below ↔ ((v : ℕ) × In v followers × FlagAt l high flags v) → flag ≡ (one || below) → chosen ≡ (one && not below) →
     new_flags ≡ flags ++ flag ∷ [] → new_kept ≡ cond chosen (kept ++ s ∷ []) kept → Swept l cs high p new_flags new_kept
-swept-next from next l cs low high place p s e flags new_flags kept new_kept followers one below flag chosen r stand step at less lists swept one_is below_is flag_is chosen_is flags_are kept_are =
+swept-next from next l cs low high index p s e flags new_flags kept new_kept followers one below flag chosen r stand step at less lists swept one_is below_is flag_is chosen_is flags_are kept_are =
     subst (λ (k : List Bool). Swept l cs high p k new_kept) (sym flags_are) (pick chosen refl kept_are)
   where
     before : Swept l cs high (suc p) flags kept
@@ -288,16 +288,16 @@ swept-next from next l cs low high place p s e flags new_flags kept new_kept fol
         (swept-left from next l cs low high p s e flags kept followers r stand at less lists before flag told
         (λ i none. none (below_is.0 (alone-false one below (sym chosen_is ∙ is) (one_is ∙ in-is s cs i)))))
 
--- the flag of a place
-pub flag-at : (from next : ℕ) (l : Live) (high : ℕ) (flags : List Bool) (t place : ℕ) (e : Event) (d : Bool) → Rising from l next → slice_get l place ≡ Some (t, e) →
-    place < high → high ≤ place + length flags → IsTrue (get_or flags (high - 1 - place) d) ↔ FlagAt l high flags t
-flag-at from next l high flags t place e d r at less size =
-    let k : ℕ = high - 1 - place in
+-- the flag of an index
+pub flag-at : (from next : ℕ) (l : Live) (high : ℕ) (flags : List Bool) (t index : ℕ) (e : Event) (d : Bool) → Rising from l next → slice_get l index ≡ Some (t, e) →
+    index < high → high ≤ index + length flags → IsTrue (get_or flags (high - 1 - index) d) ↔ FlagAt l high flags t
+flag-at from next l high flags t index e d r at less size =
+    let k : ℕ = high - 1 - index in
     let within : k < length flags = omega arith in
     let read = slice_get-get_or flags k d within in (
-      (λ on. (place, k, (e, at), omega arith, read ∙ ap (λ (b : Bool). Some b) on)),
+      (λ on. (index, k, (e, at), omega arith, read ∙ ap (λ (b : Bool). Some b) on)),
       (λ h.
-          let one : h.0 ≡ place = one-place from next l t h.2.0 e h.0 place r h.2.1 at in
+          let one : h.0 ≡ index = one-index from next l t h.2.0 e h.0 index r h.2.1 at in
           let sum : h.0 + h.1 + 1 ≡ high = h.3 in
           let same_flag : h.1 ≡ k = omega arith in
           at-one flags k (get_or flags k d) true read (subst (λ (j : ℕ). slice_get flags j ≡ Some true) same_flag h.4)),
@@ -306,14 +306,14 @@ flag-at from next l high flags t place e d r at less size =
 pub last-below : (l : Live) (high : ℕ) (d : ℕ × Event) → 0 < high → high ≤ length l → slice_get l (high - 1) ≡ Some (get_or l (high - 1) d)
 last-below l high d some size = slice_get-get_or l (high - 1) d (omega arith)
 
--- a ticket that is not above that of the last place below `high` stands below it
-pub stands-below : (from next : ℕ) (l : Live) (high place t : ℕ) (e : Event) (x : ℕ × Event) → Rising from l next → 0 < high → slice_get l (high - 1) ≡ Some x →
-    slice_get l place ≡ Some (t, e) → t ≤ x.0 → place < high
-stands-below from next l high place t e x r some last at low = elim (cases_lt place high) [
+-- a ticket that is not above that of the last index below `high` stands below it
+pub stands-below : (from next : ℕ) (l : Live) (high index t : ℕ) (e : Event) (x : ℕ × Event) → Rising from l next → 0 < high → slice_get l (high - 1) ≡ Some x →
+    slice_get l index ≡ Some (t, e) → t ≤ x.0 → index < high
+stands-below from next l high index t e x r some last at low = elim (cases_lt index high) [
   | inl below ↦ below
   | inr above ↦
-      let over : high - 1 < place = omega arith in
-      let more : x.0 < t = place-rises from next l (high - 1) place x.0 t x.1 e r last at over in
+      let over : high - 1 < index = omega arith in
+      let more : x.0 < t = index-rises from next l (high - 1) index x.0 t x.1 e r last at over in
       omega arith
 ]
 
@@ -336,10 +336,10 @@ none-above from next l high flags ts i x r o less some last past none t j flag =
           omega arith
     ]
   where
-    not-above : (t place : ℕ) → StandsAt l t place → place ≤ high - 1 → t ≤ x.0
-    not-above t place on within = elim (cases_lt x.0 t) [
+    not-above : (t index : ℕ) → StandsAt l t index → index ≤ high - 1 → t ≤ x.0
+    not-above t index on within = elim (cases_lt x.0 t) [
       | inl more ↦
-          let over : high - 1 < place = lesser-stands from next l (high - 1) place x.0 t x.1 on.0 r last on.1 more in
+          let over : high - 1 < index = lesser-stands from next l (high - 1) index x.0 t x.1 on.0 r last on.1 more in
           omega arith
       | inr low ↦ low
     ]
@@ -351,13 +351,13 @@ pub span-of : (from next : ℕ) (l : Live) (ts : List ℕ) (first last : ℕ) (e
 span-of from next l ts first last e f r some rise at on live = (
   between first last (get_or ts 0 0) (get_or ts (length ts - 1) 0) e f at on (rise 0 (length ts - 1) 0 (omega arith) (omega arith)),
   λ t i.
-      let k = place-in ts t i in
+      let k = index-in ts t i in
       let within : k.0 < length ts = slice_get_within ts k.0 t k.1 in
       let here : get_or ts k.0 0 ≡ t = got-here ts k.0 t 0 k.1 in
       let low : get_or ts 0 0 ≤ get_or ts k.0 0 = rise 0 k.0 0 (omega arith) within in
       let high : get_or ts k.0 0 ≤ get_or ts (length ts - 1) 0 = rise k.0 (length ts - 1) 0 (omega arith) (omega arith) in
       let event = live t i in
-      let stands = place-in l (t, event.0) event.1 in
+      let stands = index-in l (t, event.0) event.1 in
       let above : first ≤ stands.0 = between first stands.0 (get_or ts 0 0) t e event.0 at stands.1 (omega arith) in
       let below : stands.0 ≤ last = between stands.0 last t (get_or ts (length ts - 1) 0) event.0 f stands.1 on (omega arith) in
       (stands.0, (event.0, stands.1), above, omega arith),
@@ -365,7 +365,7 @@ span-of from next l ts first last e f r some rise at on live = (
   where
     between : (i j t u : ℕ) (e f : Event) → slice_get l i ≡ Some (t, e) → slice_get l j ≡ Some (u, f) → t ≤ u → i ≤ j
     between i j t u e f a b le = elim (cases_lt j i) [
-      | inl back ↦ let more : u < t = place-rises from next l j i u t f e r b a back in absurd (omega arith)
+      | inl back ↦ let more : u < t = index-rises from next l j i u t f e r b a back in absurd (omega arith)
       | inr up ↦ up
     ]
 
@@ -384,7 +384,7 @@ none-among ns n i h = pick (is_in n ns) refl
     pick : (b : Bool) → is_in n ns ≡ b → false ≡ b
     pick false is = refl
     pick true is =
-        let at = place-in ns n (is-in n ns is) in
+        let at = index-in ns n (is-in n ns is) in
         let k : ℕ = at.0 in
         let within : k < length ns = slice_get_within ns k n at.1 in
         let here : get_or ns k 0 ≡ n = got-here ns k n 0 at.1 in
@@ -396,7 +396,7 @@ none-among ns n i h = pick (is_in n ns) refl
 -- the elements of a list in another order
 pub permuted : (xs ys : List ℕ) → IsPermutation xs ys → (n : ℕ) → In n xs → In n ys
 permuted xs ys p n i =
-    let at = place-in xs n i in
+    let at = index-in xs n i in
     let there = Contains-permutation xs ys n p (at.0, slice_get_within xs at.0 n at.1, got-here xs at.0 n n at.1) in
     in-at ys there.0 n (slice_get-get_or ys there.0 n there.1 ∙ ap (λ (k : ℕ). Some k) there.2)
 

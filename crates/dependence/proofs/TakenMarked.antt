@@ -66,7 +66,7 @@ module _ (l k : Live) (D : ℕ → Type 0) (closed : (t u : ℕ) (f : Event) →
 -- the tables of those that are left
 pub linked-left : (next : ℕ) (l : Live) (marks : List Bool) (old new : List Links) → Rising 0 l next → length marks ≡ length l →
     HasDependents l (tickets_marked l marks) → Linked l old → AllThinned (λ t. In t (tickets_marked l marks)) old new →
-    ((place : ℕ) → slice_get marks place ≡ Some true → IsLoose l old new place) → Linked (unmarked marks l) (unmarked marks new)
+    ((index : ℕ) → slice_get marks index ≡ Some true → IsLoose l old new index) → Linked (unmarked marks l) (unmarked marks new)
 linked-left next l marks old new r size closed linked thinned loose =
     let D : ℕ → Type 0 = λ t. In t (tickets_marked l marks) in
     let k : Live = unmarked marks l in
@@ -78,9 +78,9 @@ linked-left next l marks old new r size closed linked thinned loose =
       size = unmarked-even marks new l long;
       followers = λ i t e m at on.
           let stood = stood-at marks l new i (t, e) m size long at on in
-          let was = was-at D old new stood.place m thinned stood.other in
-          let lists = linked.followers stood.place t e was.0 stood.one was.1 in
-          let thin = thinned.followers stood.place was.0 m was.1 stood.other in
+          let was = was-at D old new stood.index m thinned stood.other in
+          let lists = linked.followers stood.index t e was.0 stood.one was.1 in
+          let thin = thinned.followers stood.index was.0 m was.1 stood.other in
           record {
             exactly = λ u. (
               (λ j.
@@ -88,7 +88,7 @@ linked-left next l marks old new r size closed linked thinned loose =
                   follower-stays l k D closed left t u f (λ gone.
                   let h = (is-marked l marks u).0 gone in
                   let there = now-there h.0 u h.1.0 h.1.1 in
-                  loose h.0 h.2 u t there.0 h.1 there.1 ((linked.leads h.0 u h.1.0 there.0 h.1.1 there.1 t).1 f) stood.place m (e, stood.one) stood.other j)),
+                  loose h.0 h.2 u t there.0 h.1 there.1 ((linked.leads h.0 u h.1.0 there.0 h.1.1 there.1 t).1 f) stood.index m (e, stood.one) stood.other j)),
               (λ f.
                   let h = follower-left l k D closed left t u f in
                   thin.kept u ((lists.exactly u).1 h.0) h.1),
@@ -97,16 +97,16 @@ linked-left next l marks old new r size closed linked thinned loose =
           };
       leads = λ i u f m at on t.
           let stood = stood-at marks l new i (u, f) m size long at on in
-          let was = was-at D old new stood.place m thinned stood.other in
-          let lists = linked.leads stood.place u f was.0 stood.one was.1 t in
-          let same_leads = thinned.leads stood.place was.0 m was.1 stood.other in (
-            (λ j. follower-stays l k D closed left t u (lists.0 (subst (λ (ts : List ℕ). In t ts) same_leads j)) (tell.off stood.place (u, f) stood.one stood.off)),
+          let was = was-at D old new stood.index m thinned stood.other in
+          let lists = linked.leads stood.index u f was.0 stood.one was.1 t in
+          let same_leads = thinned.leads stood.index was.0 m was.1 stood.other in (
+            (λ j. follower-stays l k D closed left t u (lists.0 (subst (λ (ts : List ℕ). In t ts) same_leads j)) (tell.off stood.index (u, f) stood.one stood.off)),
             (λ h. subst (λ (ts : List ℕ). In t ts) (sym same_leads) (lists.1 (follower-left l k D closed left t u h).0)),
           );
       falling = λ i m on.
           let stood = stood-at marks new new i m m even refl on on in
-          let was = was-at D old new stood.place m thinned stood.other in
-          subst (λ (ts : List ℕ). Falling ts) (sym (thinned.leads stood.place was.0 m was.1 stood.other)) (linked.falling stood.place was.0 was.1);
+          let was = was-at D old new stood.index m thinned stood.other in
+          subst (λ (ts : List ℕ). Falling ts) (sym (thinned.leads stood.index was.0 m was.1 stood.other)) (linked.falling stood.index was.0 was.1);
     }
   where
     now-there : (j u : ℕ) (f : Event) → slice_get l j ≡ Some (u, f) → (n : Links) × (slice_get old j ≡ Some n)
@@ -117,7 +117,7 @@ linked-left next l marks old new r size closed linked thinned loose =
 
 -- the tables as one
 pub whole-left : (l : Live) (marks flags : List Bool) (old new kept : List Links) (k : Live) → IsWhole l old marks → HasDependents l (tickets_marked l marks) →
-    AllThinned (λ t. In t (tickets_marked l marks)) old new → ((place : ℕ) → slice_get marks place ≡ Some true → IsLoose l old new place) →
+    AllThinned (λ t. In t (tickets_marked l marks)) old new → ((index : ℕ) → slice_get marks index ≡ Some true → IsLoose l old new index) →
     k ≡ unmarked marks l → kept ≡ unmarked marks new → length flags ≡ length k → IsWhole k kept flags
 whole-left l marks flags old new kept k w closed thinned loose k_is kept_is size = record {
   rising = subst (λ (v : Live). IsRising v) (sym k_is) (w.rising.0, unmarked-rises 0 w.rising.0 l marks w.rising.1);
@@ -130,9 +130,9 @@ whole-left l marks flags old new kept k w closed thinned loose k_is kept_is size
 
 -- what was done to what is lent was done to the lists
 pub unlinked-as : (l p : Live) (marks ms : List Bool) (old ls new : List Links) → p ≡ l → ms ≡ marks → ls ≡ old →
-    AllThinned (λ t. In t (tickets_marked p ms)) ls new × ((place : ℕ) → slice_get ms place ≡ Some true → IsLoose p ls new place) →
-    AllThinned (λ t. In t (tickets_marked l marks)) old new × ((place : ℕ) → slice_get marks place ≡ Some true → IsLoose l old new place)
+    AllThinned (λ t. In t (tickets_marked p ms)) ls new × ((index : ℕ) → slice_get ms index ≡ Some true → IsLoose p ls new index) →
+    AllThinned (λ t. In t (tickets_marked l marks)) old new × ((index : ℕ) → slice_get marks index ≡ Some true → IsLoose l old new index)
 unlinked-as l p marks ms old ls new p_is ms_is ls_is h =
-    subst (λ (k : List Links). AllThinned (λ t. In t (tickets_marked l marks)) k new × ((place : ℕ) → slice_get marks place ≡ Some true → IsLoose l k new place)) ls_is
-    (subst (λ (k : List Bool). AllThinned (λ t. In t (tickets_marked l k)) ls new × ((place : ℕ) → slice_get k place ≡ Some true → IsLoose l ls new place)) ms_is
-    (subst (λ (k : Live). AllThinned (λ t. In t (tickets_marked k ms)) ls new × ((place : ℕ) → slice_get ms place ≡ Some true → IsLoose k ls new place)) p_is h))
+    subst (λ (k : List Links). AllThinned (λ t. In t (tickets_marked l marks)) k new × ((index : ℕ) → slice_get marks index ≡ Some true → IsLoose l k new index)) ls_is
+    (subst (λ (k : List Bool). AllThinned (λ t. In t (tickets_marked l k)) ls new × ((index : ℕ) → slice_get k index ≡ Some true → IsLoose l ls new index)) ms_is
+    (subst (λ (k : Live). AllThinned (λ t. In t (tickets_marked k ms)) ls new × ((index : ℕ) → slice_get ms index ≡ Some true → IsLoose k ls new index)) p_is h))

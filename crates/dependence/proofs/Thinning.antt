@@ -15,7 +15,7 @@ use Rattle.dependence.specs.declared.links.Links.{Links}
 use Rattle.dependence.specs.walking.Tables.{StandsAt, Linked}
 use Rattle.dependence.specs.walking.Unmarked.{Thinned, AllThinned, NotBehind, IsLoose}
 use Rattle.dependence.proofs.ListPlaces.{at-one, at-within, set-here, set-other, take-next, take-all}
-use Rattle.dependence.proofs.Linking.{one-place, linked-part, lists-ascend}
+use Rattle.dependence.proofs.Linking.{one-index, linked-part, lists-ascend}
 
 -- what passes a test
 in-passed : (test : ℕ → Bool) (ts : List ℕ) (u : ℕ) → In u (filter test ts) → In u ts × (test u ≡ true)
@@ -91,7 +91,7 @@ all-same D links = record {
   leads = λ i n m was is. ap (λ (k : Links). k.leads.items) (at-one links i m n is was);
 }
 
--- what was at a place
+-- what was at an index
 pub was-at : (D : ℕ → Type 0) (old new : List Links) (i : ℕ) (m : Links) → AllThinned D old new → slice_get new i ≡ Some m → (n : Links) × (slice_get old i ≡ Some n)
 was-at D old new i m h is =
     let size : length new ≡ length old = h.size in
@@ -114,30 +114,30 @@ all-then D old mid new a b = record {
 }
 
 -- the followers of one event are thinned
-pub one-thinned : (D : ℕ → Type 0) (links : List Links) (place : ℕ) (n m : Links) → slice_get links place ≡ Some n → Thinned D n.followers.items m.followers.items →
-    m.leads.items ≡ n.leads.items → AllThinned D links (slice_set links place m)
-one-thinned D links place n m at thin leads =
-    let inside : place < length links = slice_get_within links place n at in
-    let here : slice_get (slice_set links place m) place ≡ Some m = set-here links place m inside in
+pub one-thinned : (D : ℕ → Type 0) (links : List Links) (index : ℕ) (n m : Links) → slice_get links index ≡ Some n → Thinned D n.followers.items m.followers.items →
+    m.leads.items ≡ n.leads.items → AllThinned D links (slice_set links index m)
+one-thinned D links index n m at thin leads =
+    let inside : index < length links = slice_get_within links index n at in
+    let here : slice_get (slice_set links index m) index ≡ Some m = set-here links index m inside in
     record {
-      size = length-set links place m;
-      followers = λ i a b was is. elim (cases_eq i place) [
+      size = length-set links index m;
+      followers = λ i a b was is. elim (cases_eq i index) [
         | inl one ↦
-            let first : a ≡ n = at-one links place a n (subst (λ (k : ℕ). slice_get links k ≡ Some a) one was) at in
-            let second : b ≡ m = at-one (slice_set links place m) place b m (subst (λ (k : ℕ). slice_get (slice_set links place m) k ≡ Some b) one is) here in
+            let first : a ≡ n = at-one links index a n (subst (λ (k : ℕ). slice_get links k ≡ Some a) one was) at in
+            let second : b ≡ m = at-one (slice_set links index m) index b m (subst (λ (k : ℕ). slice_get (slice_set links index m) k ≡ Some b) one is) here in
             subst (λ (k : Links). Thinned D k.followers.items b.followers.items) (sym first)
             (subst (λ (k : Links). Thinned D n.followers.items k.followers.items) (sym second) thin)
         | inr differs ↦
-            let same : a ≡ b = at-one links i a b was (sym (set-other links place i m differs) ∙ is) in
+            let same : a ≡ b = at-one links i a b was (sym (set-other links index i m differs) ∙ is) in
             subst (λ (k : Links). Thinned D a.followers.items k.followers.items) same (thinned-same D a.followers.items)
       ];
-      leads = λ i a b was is. elim (cases_eq i place) [
+      leads = λ i a b was is. elim (cases_eq i index) [
         | inl one ↦
-            let first : a ≡ n = at-one links place a n (subst (λ (k : ℕ). slice_get links k ≡ Some a) one was) at in
-            let second : b ≡ m = at-one (slice_set links place m) place b m (subst (λ (k : ℕ). slice_get (slice_set links place m) k ≡ Some b) one is) here in
+            let first : a ≡ n = at-one links index a n (subst (λ (k : ℕ). slice_get links k ≡ Some a) one was) at in
+            let second : b ≡ m = at-one (slice_set links index m) index b m (subst (λ (k : ℕ). slice_get (slice_set links index m) k ≡ Some b) one is) here in
             ap (λ (k : Links). k.leads.items) second ∙ leads ∙ ap (λ (k : Links). k.leads.items) (sym first)
         | inr differs ↦
-            let same : a ≡ b = at-one links i a b was (sym (set-other links place i m differs) ∙ is) in
+            let same : a ≡ b = at-one links i a b was (sym (set-other links index i m differs) ∙ is) in
             ap (λ (k : Links). k.leads.items) (sym same)
       ];
     }
@@ -148,22 +148,22 @@ out-still D l old new t u h out k m stands is i =
     let n = was-at D old new k m h is in
     out k n.0 stands n.1 ((h.followers k n.0 m n.1 is).was t i)
 
-pub loose-still : (D : ℕ → Type 0) (l : Live) (first old new : List Links) (place : ℕ) → AllThinned D old new → IsLoose l first old place → IsLoose l first new place
-loose-still D l first old new place h loose t u n stands was lead = out-still D l old new t u h (loose t u n stands was lead)
+pub loose-still : (D : ℕ → Type 0) (l : Live) (first old new : List Links) (index : ℕ) → AllThinned D old new → IsLoose l first old index → IsLoose l first new index
+loose-still D l first old new index h loose t u n stands was lead = out-still D l old new t u h (loose t u n stands was lead)
 
--- the followers of the event at the place of `lead` have t no more
-pub out-now : (low next : ℕ) (l : Live) (links : List Links) (place lead t : ℕ) (m : Links) → Rising low l next → StandsAt l lead place → slice_get links place ≡ Some m →
+-- the followers of the event at the index of `lead` have t no more
+pub out-now : (low next : ℕ) (l : Live) (links : List Links) (index lead t : ℕ) (m : Links) → Rising low l next → StandsAt l lead index → slice_get links index ≡ Some m →
     (In t m.followers.items → ⊥) → NotBehind l links t lead
-out-now low next l links place lead t m r stands at out k n other is i =
-    let one : k ≡ place = one-place low next l lead other.0 stands.0 k place r other.1 stands.1 in
-    let same : n ≡ m = at-one links place n m (subst (λ (j : ℕ). slice_get links j ≡ Some n) one is) at in
+out-now low next l links index lead t m r stands at out k n other is i =
+    let one : k ≡ index = one-index low next l lead other.0 stands.0 k index r other.1 stands.1 in
+    let same : n ≡ m = at-one links index n m (subst (λ (j : ℕ). slice_get links j ≡ Some n) one is) at in
     out (subst (λ (x : Links). In t x.followers.items) same i)
 
--- one more place is passed
-pub loose-more : (D : ℕ → Type 0) (l : Live) (old mid new : List Links) (place : ℕ) → AllThinned D old mid → IsLoose l mid new place → IsLoose l old new place
-loose-more D l old mid new place h loose t u n stands was lead =
-    let m = now-at D old mid place n h was in
-    loose t u m.0 stands m.1 (subst (λ (k : List ℕ). In u k) (sym (h.leads place n m.0 was m.1)) lead)
+-- one more index is passed
+pub loose-more : (D : ℕ → Type 0) (l : Live) (old mid new : List Links) (index : ℕ) → AllThinned D old mid → IsLoose l mid new index → IsLoose l old new index
+loose-more D l old mid new index h loose t u n stands was lead =
+    let m = now-at D old mid index n h was in
+    loose t u m.0 stands m.1 (subst (λ (k : List ℕ). In u k) (sym (h.leads index n m.0 was m.1)) lead)
 
 -- where none was found there is none
 pub none-found : (found : Option ℕ) (P : Type 0) (Q : ℕ → Type 0) → is_some found ≡ false → MatchOption found P Q → P
@@ -171,53 +171,53 @@ none-found None P Q off p = p
 none-found (Some x) P Q off q = cc
 
 -- a lead that is read is one of those that there were
-pub lead-at : (D : ℕ → Type 0) (old new : List Links) (place index lead : ℕ) (n m : Links) → AllThinned D old new → slice_get old place ≡ Some n → slice_get new place ≡ Some m →
-    index < length n.leads.items → lead ≡ get_or m.leads.items index lead → slice_get n.leads.items index ≡ Some lead
-lead-at D old new place index lead n m h was is less read =
-    slice_get-get_or n.leads.items index lead less
-    ∙ ap (λ (k : ℕ). Some k) (sym (read ∙ ap (λ (ts : List ℕ). get_or ts index lead) (h.leads place n m was is)))
+pub lead-at : (D : ℕ → Type 0) (old new : List Links) (index nth lead : ℕ) (n m : Links) → AllThinned D old new → slice_get old index ≡ Some n → slice_get new index ≡ Some m →
+    nth < length n.leads.items → lead ≡ get_or m.leads.items nth lead → slice_get n.leads.items nth ≡ Some lead
+lead-at D old new index nth lead n m h was is less read =
+    slice_get-get_or n.leads.items nth lead less
+    ∙ ap (λ (k : ℕ). Some k) (sym (read ∙ ap (λ (ts : List ℕ). get_or ts nth lead) (h.leads index n m was is)))
 
 -- one more lead has let t go
-pub loose-next : (D : ℕ → Type 0) (l : Live) (mid new : List Links) (leads : List ℕ) (index lead t : ℕ) → slice_get leads index ≡ Some lead → AllThinned D mid new →
-    ((u : ℕ) → In u (take index leads) → NotBehind l mid t u) → NotBehind l new t lead → (u : ℕ) → In u (take (index + 1) leads) → NotBehind l new t u
-loose-next D l mid new leads index lead t at thin before out u i =
-    let more : index + 1 ≡ suc index = omega arith in
-    let next : take (index + 1) leads ≡ take index leads ++ lead ∷ [] = ap (λ (k : ℕ). take k leads) more ∙ take-next leads index lead at in
-    elim (in-parts u (take index leads) (lead ∷ []) (subst (λ (ts : List ℕ). In u ts) next i)) [
+pub loose-next : (D : ℕ → Type 0) (l : Live) (mid new : List Links) (leads : List ℕ) (nth lead t : ℕ) → slice_get leads nth ≡ Some lead → AllThinned D mid new →
+    ((u : ℕ) → In u (take nth leads) → NotBehind l mid t u) → NotBehind l new t lead → (u : ℕ) → In u (take (nth + 1) leads) → NotBehind l new t u
+loose-next D l mid new leads nth lead t at thin before out u i =
+    let more : nth + 1 ≡ suc nth = omega arith in
+    let next : take (nth + 1) leads ≡ take nth leads ++ lead ∷ [] = ap (λ (k : ℕ). take k leads) more ∙ take-next leads nth lead at in
+    elim (in-parts u (take nth leads) (lead ∷ []) (subst (λ (ts : List ℕ). In u ts) next i)) [
       | inl a ↦ out-still D l mid new t u thin (before u a)
       | inr (inl a) ↦ subst (λ (v : ℕ). NotBehind l new t v) (sym a) out
       | inr (inr a) ↦ absurd a
     ]
 
 -- all have
-pub all-loose : (l : Live) (old new : List Links) (place index t : ℕ) (e : Event) (n : Links) → slice_get l place ≡ Some (t, e) → slice_get old place ≡ Some n →
-    length n.leads.items ≤ index → ((u : ℕ) → In u (take index n.leads.items) → NotBehind l new t u) → IsLoose l old new place
-all-loose l old new place index t e n at was past out v u m stands held lead =
-    let one : v ≡ t = ap (λ (x : ℕ × Event). x.0) (at-one l place (v, stands.0) (t, e) stands.1 at) in
-    let same : m ≡ n = at-one old place m n held was in
+pub all-loose : (l : Live) (old new : List Links) (index nth t : ℕ) (e : Event) (n : Links) → slice_get l index ≡ Some (t, e) → slice_get old index ≡ Some n →
+    length n.leads.items ≤ nth → ((u : ℕ) → In u (take nth n.leads.items) → NotBehind l new t u) → IsLoose l old new index
+all-loose l old new index nth t e n at was past out v u m stands held lead =
+    let one : v ≡ t = ap (λ (x : ℕ × Event). x.0) (at-one l index (v, stands.0) (t, e) stands.1 at) in
+    let same : m ≡ n = at-one old index m n held was in
     let inside : In u n.leads.items = subst (λ (k : Links). In u k.leads.items) same lead in
-    subst (λ (w : ℕ). NotBehind l new w u) (sym one) (out u (subst (λ (ts : List ℕ). In u ts) (sym (take-all n.leads.items index past)) inside))
+    subst (λ (w : ℕ). NotBehind l new w u) (sym one) (out u (subst (λ (ts : List ℕ). In u ts) (sym (take-all n.leads.items nth past)) inside))
 
--- one more place is passed, which is marked, or is not
-module _ (D : ℕ → Type 0) (l : Live) (marks : List Bool) (old mid : List Links) (place : ℕ)
-    (before : (j : ℕ) → j < place → slice_get marks j ≡ Some true → IsLoose l old mid j) where
-  pub pass-marked : (new : List Links) → AllThinned D old mid → AllThinned D mid new → IsLoose l mid new place →
-      (j : ℕ) → j < place + 1 → slice_get marks j ≡ Some true → IsLoose l old new j
-  pass-marked new first second loose j less on = elim (cases_lt j place) [
+-- one more index is passed, which is marked, or is not
+module _ (D : ℕ → Type 0) (l : Live) (marks : List Bool) (old mid : List Links) (index : ℕ)
+    (before : (j : ℕ) → j < index → slice_get marks j ≡ Some true → IsLoose l old mid j) where
+  pub pass-marked : (new : List Links) → AllThinned D old mid → AllThinned D mid new → IsLoose l mid new index →
+      (j : ℕ) → j < index + 1 → slice_get marks j ≡ Some true → IsLoose l old new j
+  pass-marked new first second loose j less on = elim (cases_lt j index) [
     | inl low ↦ loose-still D l old mid new j second (before j low on)
     | inr high ↦
-        let is : j ≡ place = omega arith in
-        subst (λ (k : ℕ). IsLoose l old new k) (sym is) (loose-more D l old mid new place first loose)
+        let is : j ≡ index = omega arith in
+        subst (λ (k : ℕ). IsLoose l old new k) (sym is) (loose-more D l old mid new index first loose)
   ]
 
-  pub pass-unmarked : place < length marks → get_or marks place false ≡ false → (j : ℕ) → j < place + 1 → slice_get marks j ≡ Some true → IsLoose l old mid j
-  pass-unmarked within off_here j less on = elim (cases_lt j place) [
+  pub pass-unmarked : index < length marks → get_or marks index false ≡ false → (j : ℕ) → j < index + 1 → slice_get marks j ≡ Some true → IsLoose l old mid j
+  pass-unmarked within off_here j less on = elim (cases_lt j index) [
     | inl low ↦ before j low on
     | inr high ↦
-        let is : j ≡ place = omega arith in
+        let is : j ≡ index = omega arith in
         let both : true ≡ false =
-        at-one marks place true false (subst (λ (k : ℕ). slice_get marks k ≡ Some true) is on)
-        (slice_get-get_or marks place false within ∙ ap (λ (b : Bool). Some b) off_here) in
+        at-one marks index true false (subst (λ (k : ℕ). slice_get marks k ≡ Some true) is on)
+        (slice_get-get_or marks index false within ∙ ap (λ (b : Bool). Some b) off_here) in
         cc
   ]
 
@@ -228,10 +228,10 @@ ascend-still D l old new linked h i m is =
     let n = was-at D old new i m h is in
     (h.followers i n.0 m n.1 is).ascending (lists-ascend l 0 (λ t. ⊥) old (linked-part l 0 old linked) i n.0 n.1)
 
-pub lead-live : (D : ℕ → Type 0) (l : Live) (old new : List Links) (place : ℕ) → Linked l old → AllThinned D old new → place < length l →
-    (m : Links) (t : ℕ) → slice_get new place ≡ Some m → In t m.leads.items → IsLive l t
-lead-live D l old new place linked h less m t is inside =
-    let n = was-at D old new place m h is in
-    let at = at-within l place less in
-    let f = (linked.leads place at.0.0 at.0.1 n.0 at.1 n.1 t).0 (subst (λ (ts : List ℕ). In t ts) (h.leads place n.0 m n.1 is) inside) in
+pub lead-live : (D : ℕ → Type 0) (l : Live) (old new : List Links) (index : ℕ) → Linked l old → AllThinned D old new → index < length l →
+    (m : Links) (t : ℕ) → slice_get new index ≡ Some m → In t m.leads.items → IsLive l t
+lead-live D l old new index linked h less m t is inside =
+    let n = was-at D old new index m h is in
+    let at = at-within l index less in
+    let f = (linked.leads index at.0.0 at.0.1 n.0 at.1 n.1 t).0 (subst (λ (ts : List ℕ). In t ts) (h.leads index n.0 m n.1 is) inside) in
     (f.dependent.event, f.dependent.live)

@@ -16,7 +16,7 @@ use Rattle.dependence.specs.walking.Marking.{UnmarkedTo}
 use Rattle.dependence.specs.walking.Tables.{IsRising}
 use Rattle.dependence.specs.walking.Unmarked.{unmarked}
 use Rattle.dependence.proofs.ListPlaces.{in-at, at-one}
-use Rattle.dependence.proofs.Linking.{one-place}
+use Rattle.dependence.proofs.Linking.{one-index}
 use Rattle.dependence.proofs.Markings.{is-marked, passed-first}
 
 -- the first n stay, where none of them is marked
@@ -51,16 +51,16 @@ unmarked-shorter (m ∷ marks) [] = omega arith
 unmarked-shorter (true ∷ marks) (x ∷ xs) = let rest = unmarked-shorter marks xs in omega arith
 unmarked-shorter (false ∷ marks) (x ∷ xs) = let rest = unmarked-shorter marks xs in omega arith
 
--- what stands at one place of two lists stood at one place, without a mark
+-- what stands at one index of two lists stood at one index, without a mark
 pub record StoodAt {X Y : Type 0} (marks : List Bool) (xs : List X) (ys : List Y) (x : X) (y : Y) : Type 0 where
-  pub place : ℕ
-  pub off : slice_get marks place ≡ Some false
-  pub one : slice_get xs place ≡ Some x
-  pub other : slice_get ys place ≡ Some y
+  pub index : ℕ
+  pub off : slice_get marks index ≡ Some false
+  pub one : slice_get xs index ≡ Some x
+  pub other : slice_get ys index ≡ Some y
 
 one-further : {X Y : Type 0} (m : Bool) (marks : List Bool) (u : X) (xs : List X) (v : Y) (ys : List Y) (x : X) (y : Y) → StoodAt marks xs ys x y →
     StoodAt (m ∷ marks) (u ∷ xs) (v ∷ ys) x y
-one-further m marks u xs v ys x y h = record { place = suc h.place; off = h.off; one = h.one; other = h.other }
+one-further m marks u xs v ys x y h = record { index = suc h.index; off = h.off; one = h.one; other = h.other }
 
 pub stood-at : {X Y : Type 0} (marks : List Bool) (xs : List X) (ys : List Y) (i : ℕ) (x : X) (y : Y) → length marks ≡ length xs → length ys ≡ length xs →
     slice_get (unmarked marks xs) i ≡ Some x → slice_get (unmarked marks ys) i ≡ Some y → StoodAt marks xs ys x y
@@ -72,7 +72,7 @@ stood-at (true ∷ marks) (u ∷ xs) (v ∷ ys) i x y a b p q =
     let size : length marks ≡ length xs = omega arith in
     let even : length ys ≡ length xs = omega arith in
     one-further true marks u xs v ys x y (stood-at marks xs ys i x y size even p q)
-stood-at (false ∷ marks) (u ∷ xs) (v ∷ ys) zero x y a b p q = record { place = zero; off = refl; one = p; other = q }
+stood-at (false ∷ marks) (u ∷ xs) (v ∷ ys) zero x y a b p q = record { index = zero; off = refl; one = p; other = q }
 stood-at (false ∷ marks) (u ∷ xs) (v ∷ ys) (suc i) x y a b p q =
     let size : length marks ≡ length xs = omega arith in
     let even : length ys ≡ length xs = omega arith in
@@ -95,7 +95,7 @@ flags-tell next l marks r size = record {
   on = λ i x at here. (is-marked l marks x.0).1 (i, (x.1, at), here);
   off = λ i x at here inside.
       let h = (is-marked l marks x.0).0 inside in
-      let one : h.0 ≡ i = one-place 0 next l x.0 h.1.0 x.1 h.0 i r h.1.1 at in
+      let one : h.0 ≡ i = one-index 0 next l x.0 h.1.0 x.1 h.0 i r h.1.1 at in
       let both : true ≡ false = at-one marks i true false (subst (λ (k : ℕ). slice_get marks k ≡ Some true) one h.2) here in
       cc;
 }
@@ -128,7 +128,7 @@ none-leaves low next (x ∷ l) t r less =
     let first : low ≤ x.0 = r.0 in
     stays (λ (is : x.0 ≡ t). omega arith) (none-leaves (suc x.0) next l t r.1 (omega arith))
 
--- one more place is passed: its event leaves where it is marked
+-- one more index is passed: its event leaves where it is marked
 pub passed-marked : (low next : ℕ) (l : Live) (marks : List Bool) (i t : ℕ) (e : Event) → Rising low l next → slice_get marks i ≡ Some true → slice_get l i ≡ Some (t, e) →
     WithoutTickets (λ v. v ≡ t) (unmarked (take i marks) l) (unmarked (take (suc i) marks) l)
 passed-marked low next l [] i t e r on at = none-some true on
@@ -170,14 +170,14 @@ told-by false tickets t on off = pick (is_in t tickets) refl
     pick true is = absurd (off refl (is-in t tickets is))
     pick false is = refl
 
-pub marked-test : (l : Live) (marks : List Bool) (t place : ℕ) (e : Event) → IsRising l → length marks ≡ length l → slice_get l place ≡ Some (t, e) →
-    get_or marks place false ≡ is_in t (tickets_marked l marks)
-marked-test l marks t place e r size at =
+pub marked-test : (l : Live) (marks : List Bool) (t index : ℕ) (e : Event) → IsRising l → length marks ≡ length l → slice_get l index ≡ Some (t, e) →
+    get_or marks index false ≡ is_in t (tickets_marked l marks)
+marked-test l marks t index e r size at =
     let tell = flags-tell r.0 l marks r.1 size in
-    let inside : place < length l = slice_get_within l place (t, e) at in
-    let read = slice_get-get_or marks place false (omega arith) in
-    told-by (get_or marks place false) (tickets_marked l marks) t (λ is. tell.on place (t, e) at (read ∙ ap (λ (b : Bool). Some b) is))
-    (λ is. tell.off place (t, e) at (read ∙ ap (λ (b : Bool). Some b) is))
+    let inside : index < length l = slice_get_within l index (t, e) at in
+    let read = slice_get-get_or marks index false (omega arith) in
+    told-by (get_or marks index false) (tickets_marked l marks) t (λ is. tell.on index (t, e) at (read ∙ ap (λ (b : Bool). Some b) is))
+    (λ is. tell.off index (t, e) at (read ∙ ap (λ (b : Bool). Some b) is))
 
 pub absent-test : (l : Live) (marks : List Bool) (t : ℕ) → NoneAt l t → false ≡ is_in t (tickets_marked l marks)
 absent-test l marks t none =
@@ -185,21 +185,21 @@ absent-test l marks t none =
     let h = (is-marked l marks t).0 inside in
     none h.1.0 (in-at l h.0 (t, h.1.0) h.1.1))
 
--- the event at a place is marked, or is not, or there is none
-pub marked-here : (l : Live) (marks : List Bool) (place : ℕ) (r : ℕ × Event) → length marks ≡ length l → place < length marks → get_or marks place false ≡ true →
-    OneMarkedAt l (tickets_marked l marks) place (get_or l place r).1
-marked-here l marks place r size less on =
-    let within : place < length l = omega arith in
-    let at = slice_get-get_or l place r within in (
-      (get_or l place r).0,
+-- the event at an index is marked, or is not, or there is none
+pub marked-here : (l : Live) (marks : List Bool) (index : ℕ) (r : ℕ × Event) → length marks ≡ length l → index < length marks → get_or marks index false ≡ true →
+    OneMarkedAt l (tickets_marked l marks) index (get_or l index r).1
+marked-here l marks index r size less on =
+    let within : index < length l = omega arith in
+    let at = slice_get-get_or l index r within in (
+      (get_or l index r).0,
       at,
-      (is-marked l marks (get_or l place r).0).1 (place, ((get_or l place r).1, at), slice_get-get_or marks place false less ∙ ap (λ (b : Bool). Some b) on),
+      (is-marked l marks (get_or l index r).0).1 (index, ((get_or l index r).1, at), slice_get-get_or marks index false less ∙ ap (λ (b : Bool). Some b) on),
     )
 
-pub unmarked-here : (l : Live) (marks : List Bool) (place : ℕ) → IsRising l → length marks ≡ length l → place < length marks → get_or marks place false ≡ false →
-    NoneMarkedAt l (tickets_marked l marks) place
-unmarked-here l marks place r size less off_here e h =
-    (flags-tell r.0 l marks r.1 size).off place (h.0, e) h.1 (slice_get-get_or marks place false less ∙ ap (λ (b : Bool). Some b) off_here) h.2
+pub unmarked-here : (l : Live) (marks : List Bool) (index : ℕ) → IsRising l → length marks ≡ length l → index < length marks → get_or marks index false ≡ false →
+    NoneMarkedAt l (tickets_marked l marks) index
+unmarked-here l marks index r size less off_here e h =
+    (flags-tell r.0 l marks r.1 size).off index (h.0, e) h.1 (slice_get-get_or marks index false less ∙ ap (λ (b : Bool). Some b) off_here) h.2
 
-pub past-marks : (l : Live) (marks : List Bool) (place : ℕ) → length marks ≡ length l → length marks ≤ place → NoneMarkedAt l (tickets_marked l marks) place
-past-marks l marks place size past e h = let inside : place < length l = slice_get_within l place (h.0, e) h.1 in omega arith
+pub past-marks : (l : Live) (marks : List Bool) (index : ℕ) → length marks ≡ length l → length marks ≤ index → NoneMarkedAt l (tickets_marked l marks) index
+past-marks l marks index size past e h = let inside : index < length l = slice_get_within l index (h.0, e) h.1 in omega arith

@@ -90,37 +90,37 @@ others-stay low next (x ∷ l) (false ∷ marks) t r h =
     others-stay (suc x.0) next l marks t r.1 more
 
 -- a mark that goes with its event
-pub marked-removed : (low next : ℕ) (l : Live) (marks : List Bool) (t place : ℕ) (e : Event) → Rising low l next → length marks ≡ length l → slice_get l place ≡ Some (t, e) →
-    Without (λ (v : ℕ). v ≡ t) (tickets_marked l marks) (tickets_marked (remove l place) (remove marks place))
-marked-removed low next [] marks t place e r h at = absurd (in-at [] place (t, e) at)
-marked-removed low next (x ∷ l) [] t place e r h at = absurd (omega arith)
+pub marked-removed : (low next : ℕ) (l : Live) (marks : List Bool) (t index : ℕ) (e : Event) → Rising low l next → length marks ≡ length l → slice_get l index ≡ Some (t, e) →
+    Without (λ (v : ℕ). v ≡ t) (tickets_marked l marks) (tickets_marked (remove l index) (remove marks index))
+marked-removed low next [] marks t index e r h at = absurd (in-at [] index (t, e) at)
+marked-removed low next (x ∷ l) [] t index e r h at = absurd (omega arith)
 marked-removed low next (x ∷ l) (true ∷ marks) t zero e r h at =
     let is : x.0 ≡ t = ap (λ (y : ℕ × Event). y.0) (at-one (x ∷ l) zero x (t, e) refl at) in
     leaves is (others-stay (suc x.0) next l marks t r.1 (omega arith))
 marked-removed low next (x ∷ l) (false ∷ marks) t zero e r h at =
     let is : x.0 ≡ t = ap (λ (y : ℕ × Event). y.0) (at-one (x ∷ l) zero x (t, e) refl at) in
     others-stay (suc x.0) next l marks t r.1 (omega arith)
-marked-removed low next (x ∷ l) (true ∷ marks) t (suc place) e r h at =
+marked-removed low next (x ∷ l) (true ∷ marks) t (suc index) e r h at =
     let size : length marks ≡ length l = omega arith in
-    let above : suc x.0 ≤ t = (rising-in (suc x.0) next l t e r.1 (in-at l place (t, e) at)).0 in
-    stays (λ (is : x.0 ≡ t). omega arith) (marked-removed (suc x.0) next l marks t place e r.1 size at)
-marked-removed low next (x ∷ l) (false ∷ marks) t (suc place) e r h at =
+    let above : suc x.0 ≤ t = (rising-in (suc x.0) next l t e r.1 (in-at l index (t, e) at)).0 in
+    stays (λ (is : x.0 ≡ t). omega arith) (marked-removed (suc x.0) next l marks t index e r.1 size at)
+marked-removed low next (x ∷ l) (false ∷ marks) t (suc index) e r h at =
     let size : length marks ≡ length l = omega arith in
-    marked-removed (suc x.0) next l marks t place e r.1 size at
+    marked-removed (suc x.0) next l marks t index e r.1 size at
 
-pub whole-removed : (l k : Live) (links rest : List Links) (marks flags : List Bool) (place : ℕ) → IsWhole l links marks → place < length l → Linked k rest →
-    k ≡ remove l place → flags ≡ remove marks place → IsWhole k rest flags
-whole-removed l k links rest marks flags place w less linked k_is flags_is =
+pub whole-removed : (l k : Live) (links rest : List Links) (marks flags : List Bool) (index : ℕ) → IsWhole l links marks → index < length l → Linked k rest →
+    k ≡ remove l index → flags ≡ remove marks index → IsWhole k rest flags
+whole-removed l k links rest marks flags index w less linked k_is flags_is =
     let size : length marks ≡ length l = w.marks in
-    let within : place < length marks = omega arith in
+    let within : index < length marks = omega arith in
     record {
-      rising = subst (λ (v : Live). IsRising v) (sym k_is) (w.rising.0, removed-rises 0 w.rising.0 l place w.rising.1);
+      rising = subst (λ (v : Live). IsRising v) (sym k_is) (w.rising.0, removed-rises 0 w.rising.0 l index w.rising.1);
       linked = linked;
       marks =
-          let one = removed-size l place less in
-          let two = removed-size marks place within in
-          let three : length flags ≡ length (remove marks place) = ap length flags_is in
-          let four : length k ≡ length (remove l place) = ap length k_is in
+          let one = removed-size l index less in
+          let two = removed-size marks index within in
+          let three : length flags ≡ length (remove marks index) = ap length flags_is in
+          let four : length k ≡ length (remove l index) = ap length k_is in
           omega arith;
     }
 
@@ -138,8 +138,8 @@ whole-same l k links rest marks flags w linked k_is flags_is =
     subst (λ (v : Live). IsWhole v rest flags) (sym k_is)
     (subst (λ (v : List Bool). IsWhole l rest v) (sym flags_is) (record { rising = w.rising; linked = linked; marks = w.marks }))
 
-pub stands-in : (l k : Live) (t place : ℕ) → l ≡ k → StandsAt l t place → StandsAt k t place
-stands-in l k t place is at = subst (λ (v : Live). StandsAt v t place) is at
+pub stands-in : (l k : Live) (t index : ℕ) → l ≡ k → StandsAt l t index → StandsAt k t index
+stands-in l k t index is at = subst (λ (v : Live). StandsAt v t index) is at
 
 pub tops-at : (l k : Live) (f : Event) (kept : List ℕ) → l ≡ k → (found : List ℕ) × Candidates l f found × ((t : ℕ) → In t kept ↔ Topmost l found t) →
     (found : List ℕ) × Candidates k f found × ((t : ℕ) → In t kept ↔ Topmost k found t)

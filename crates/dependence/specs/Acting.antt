@@ -1,15 +1,16 @@
--- The live event that acts at a place: all that act there are equal to it.
+-- The one live event that acts at a place.
 use Rattle.std.specs.Prelude.{◌≡◌, ℕ}
 use Rattle.calculus.specs.Events.{acting}
 use Rattle.calculus.specs.Live.{Live, LiveAt}
 use Rattle.calculus.specs.Moves.{Place}
 use Rattle.calculus.specs.declared.event.Event.{Event}
 
--- e is a live event that acts at the place, and each live event that acts there is this one
+-- e is the live event that acts at the place, and no other does
 pub record ActsAlone (l : Live) (p : Place) (e : Event) : Type 0 where
-  pub live : (t : ℕ) × LiveAt l t e
+  pub ticket : ℕ
+  pub live : LiveAt l ticket e
   pub acts : acting e ≡ p
-  pub alone : (u : ℕ) (f : Event) → LiveAt l u f → acting f ≡ p → f ≡ e
+  pub alone : (u : ℕ) (f : Event) → LiveAt l u f → acting f ≡ p → (u ≡ ticket) × (f ≡ e)
 
 -- no live event acts at the place
 abbrev pub NoneActs : Live → Place → Type 0

@@ -25,7 +25,7 @@ pub record Greatest (tickets : List ℕ) (t : ℕ) : Type 0 where
   pub inside : In t tickets
   pub greatest : (u : ℕ) → In u tickets → u ≤ t
 
--- the tickets at the places that are marked
+-- the tickets at the indexes that are marked
 abbrev pub tickets_marked : Live → List Bool → List ℕ
 tickets_marked [] marks = []
 tickets_marked (x ∷ l) [] = []

@@ -13,21 +13,21 @@ HasDependents l tickets = (t u : ℕ) (f : Event) → In t tickets → LiveAt l 
 abbrev pub MarksAllDependents : Shown → Type 0
 MarksAllDependents s = HasDependents s.live s.marked
 
--- e is the live event at the place, and its ticket is among these
+-- e is the live event at the index, and its ticket is among these
 abbrev pub OneMarkedAt : Live → List ℕ → ℕ → Event → Type 0
-OneMarkedAt l tickets place e = (t : ℕ) × (slice_get l place ≡ Some (t, e)) × In t tickets
+OneMarkedAt l tickets index e = (t : ℕ) × (slice_get l index ≡ Some (t, e)) × In t tickets
 
 -- there is no such event
 abbrev pub NoneMarkedAt : Live → List ℕ → ℕ → Type 0
-NoneMarkedAt l tickets place = (e : Event) → OneMarkedAt l tickets place e → ⊥
+NoneMarkedAt l tickets index = (e : Event) → OneMarkedAt l tickets index e → ⊥
 
--- less than this many places behind a place is near it
+-- less than this many behind an index is near it
 abbrev pub stride : ℕ
 stride = 1024
 
--- the end is near the place, or a live event whose ticket is among these is, at the place itself or behind it
+-- the end is near the index, or a live event whose ticket is among these is, at the index itself or behind it
 abbrev pub IsNearMarked : Live → List ℕ → ℕ → Type 0
-IsNearMarked l tickets place = (length l < place + stride) ⊎ ((i : ℕ) × (e : Event) × (place ≤ i) × (i < place + stride) × OneMarkedAt l tickets i e)
+IsNearMarked l tickets index = (length l < index + stride) ⊎ ((i : ℕ) × (e : Event) × (index ≤ i) × (i < index + stride) × OneMarkedAt l tickets i e)
 
 -- ys is what stays of xs, which stand beside the entries of l, without those beside an entry of whose ticket D holds
 pub data StaysBeside {X : Type 0} (D : ℕ → Type 0) : Live → List X → List X → Type 0 where

@@ -8,11 +8,11 @@ ghost use Rattle.calculus.specs.Events.{places};
 ghost use Rattle.calculus.specs.Moves.{Place};
 ghost use Rattle.address.specs.Places.{Before};
 ghost use Rattle.calculus.specs.Live.{IsLive, LastWriter};
-ghost use Rattle.dependence.specs.walking.Found.{AccessesFound, IsBefore, IsDirect, IsReadBefore, ReaderSince, WritesOneRead, UsesWritten, IsNewcomer};
+ghost use Rattle.dependence.specs.walking.Found.{AccessesFound, FirstBehind, IsBefore, IsDirect, IsReadBefore, ReaderSince, WritesOneRead, UsesWritten, IsNewcomer};
 
 use crate::candidates::add_if;
+use crate::indexes::index_of_live;
 use crate::live::LiveEvent;
-use crate::places::place_of_live;
 use crate::tables::Tables;
 use address::{Address, before};
 use calculus::Event;
@@ -109,8 +109,8 @@ impl Newcomer<'_> {
         requires live { IsLive self.now.live.now ticket }
         ensures { IsTrue result ↔ IsBefore self.now.live.now self.now.event.now ticket }
     {
-        let place = place_of_live(self.live, ticket);
-        some_before(self.live[place].1.get(), self.event)
+        let index = index_of_live(self.live, ticket);
+        some_before(self.live[index].1.get(), self.event)
     }
 
     /// Adds those that read the variable since it was written last.
@@ -167,9 +167,9 @@ impl Newcomer<'_> {
     }
 }
 
-/// A ticket behind all of these; 0 where there are none.
+/// The first ticket behind all of these; 0 where there are none.
 fn behind_all(tickets: &[u64]) -> u64
-    ensures { (t : ℕ) → In t tickets.now → t ≤ result }
+    ensures { FirstBehind tickets.now result }
 {
     let mut end = 0;
     for ticket in tickets {

@@ -6,8 +6,8 @@ ghost use Rattle.dependence.specs.Acting.{ActsAlone, NoneActs};
 ghost use Rattle.dependence.specs.walking.Tables.{IsRising};
 ghost use Rattle.dependence.specs.walking.Tabled.{TablesOf};
 
+use crate::indexes::index_of_live;
 use crate::live::LiveEvent;
-use crate::places::place_of_live;
 use crate::tables::Tables;
 use address::Entry;
 use calculus::Event;
@@ -40,6 +40,6 @@ fn event_of<'a>(live: &'a [LiveEvent], ticket: u64) -> &'a Event
     requires live { IsLive live.now ticket }
     ensures { LiveAt live.now ticket result.now }
 {
-    let place = place_of_live(live, ticket);
-    live[place].1.get()
+    let index = index_of_live(live, ticket);
+    live[index].1.get()
 }

@@ -4,8 +4,8 @@ ghost use Rattle.calculus.specs.Live.{FirstDependent, IsLive};
 ghost use Rattle.dependence.specs.walking.Tables.{IsRising, Linked, CountsAmong};
 
 use crate::held::HeldLinks;
+use crate::indexes::index_of_live;
 use crate::live::LiveEvent;
-use crate::places::place_of_live;
 use crate::whole::least_dependent;
 use calculus::{Event, depends_directly};
 
@@ -29,9 +29,9 @@ fn count_from(live: &[LiveEvent], ticket: u64, first: u64) -> usize
     requires first { FirstDependent live.now ticket first }
     ensures { CountsDirect live.now ticket result }
 {
-    let place = place_of_live(live, ticket);
-    let from = place_of_live(live, first);
-    count_among(live[place].1.get(), &live[from..])
+    let index = index_of_live(live, ticket);
+    let from = index_of_live(live, first);
+    count_among(live[index].1.get(), &live[from..])
 }
 
 /// How many of these events depend directly on the event.

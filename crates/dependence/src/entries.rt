@@ -14,9 +14,9 @@ ghost use Rattle.dependence.specs.walking.Tables.{IsRising, StandsAt, Falling, L
 use crate::accesses::Newcomer;
 use crate::candidates::candidates;
 use crate::held::HeldLinks;
+use crate::indexes::index_of_live;
 use crate::links::{link_all, unlink_all};
 use crate::live::LiveEvent;
-use crate::places::place_of_live;
 use crate::topmost::{span, topmost};
 use calculus::Event;
 use std::alloc::{AllocError, Global};
@@ -120,21 +120,21 @@ pub(crate) fn push_pair(
     }
 }
 
-/// Takes the event at this place, on which no other depends, out of the tables.
+/// Takes the event at this index, on which no other depends, out of the tables.
 pub(crate) fn take_out(
     pairs: &mut Vec<LiveEvent>,
     links: &mut Vec<HeldLinks>,
-    place: usize,
+    index: usize,
 ) -> Event
     requires rising { IsRising pairs.old.items }
     requires linked { Linked pairs.old.items links.old.items }
-    requires alone { (t : ℕ) × StandsAt pairs.old.items t place × NoDependent pairs.old.items t }
-    ensures pairs { pairs.new.items ≡ remove pairs.old.items place }
+    requires alone { (t : ℕ) × StandsAt pairs.old.items t index × NoDependent pairs.old.items t }
+    ensures pairs { pairs.new.items ≡ remove pairs.old.items index }
     ensures linked { Linked pairs.new.items links.new.items }
-    ensures event { (t : ℕ) → StandsAt pairs.old.items t place → LiveAt pairs.old.items t result }
+    ensures event { (t : ℕ) → StandsAt pairs.old.items t index → LiveAt pairs.old.items t result }
 {
-    let (ticket, event) = pairs.remove(place);
-    let taken = links.remove(place);
+    let (ticket, event) = pairs.remove(index);
+    let taken = links.remove(index);
     unlink_all(
         pairs.as_slice(),
         links.as_mut_slice(),

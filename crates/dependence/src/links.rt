@@ -1,4 +1,4 @@
-// The followers of each live event, kept at its place.
+// The followers of each live event, kept at its index.
 ghost use Rattle.std.specs.Prelude.{◌≡◌, ◌<◌, ◌++◌, ◌∷◌, [], ℕ, List, length, Some, slice_get, MatchResult};
 ghost use Rattle.syntax.specs.Lists.{In};
 ghost use Rattle.calculus.specs.InOrder.{InOrder};
@@ -7,8 +7,8 @@ ghost use Rattle.dependence.specs.declared.links.Links.{Links};
 ghost use Rattle.dependence.specs.walking.Tables.{IsRising, Falling, PartLinked, FollowersChanged, Removed};
 
 use crate::held::HeldLinks;
+use crate::indexes::{index_in, index_of_live};
 use crate::live::LiveEvent;
-use crate::places::{place_in, place_of_live};
 use std::alloc::AllocError;
 
 /// Of one live event: the tickets of its followers, ascending, and of the events that it follows, falling.
@@ -52,8 +52,8 @@ fn link_one(
     requires size { length links.old ≡ length live.now }
     ensures { MatchResult result (λ _. FollowersChanged live.now lead (λ before after. after ≡ before ++ ticket ∷ []) links.old links.new) (λ _. FollowersChanged live.now lead (λ before after. after ≡ before) links.old links.new) }
 {
-    let place = place_of_live(live, lead);
-    links[place].add_follower(ticket)?;
+    let index = index_of_live(live, lead);
+    links[index].add_follower(ticket)?;
     Ok(())
 }
 
@@ -79,8 +79,8 @@ fn unlink_one(live: &[LiveEvent], links: &mut [HeldLinks], lead: u64, ticket: u6
     requires ordered { (i : ℕ) (m : Links) → slice_get links.old i ≡ Some m → InOrder ◌<◌ m.followers.items }
     ensures { FollowersChanged live.now lead (Removed ticket) links.old links.new }
 {
-    let place = place_of_live(live, lead);
-    links[place].remove_follower(ticket);
+    let index = index_of_live(live, lead);
+    links[index].remove_follower(ticket);
 }
 
 /// Takes the ticket out of those that ascend.
@@ -88,7 +88,7 @@ pub(crate) fn remove(tickets: &mut Vec<u64>, ticket: u64)
     requires { InOrder ◌<◌ tickets.old.items }
     ensures { Removed ticket tickets.old.items tickets.new.items }
 {
-    if let Some(place) = place_in(tickets.as_slice(), ticket) {
-        tickets.remove(place);
+    if let Some(index) = index_in(tickets.as_slice(), ticket) {
+        tickets.remove(index);
     }
 }

@@ -12,10 +12,10 @@ ghost use Rattle.syntax.specs.Lists.{In};
 use crate::acting::acting_at_first_child;
 use crate::count::count_direct;
 use crate::held::HeldLinks;
+use crate::indexes::index_of;
 use crate::marks::{
     copy_marked, count_marked, last_marked, mark_dependents, marked_at, unmarked_below,
 };
-use crate::places::place_of;
 use crate::tables::Tables;
 use crate::taking::{keep_unmarked, take_marked};
 use crate::whole::{add_event, followers_of, last_writer, leads_at, least_dependent, take_event};
@@ -86,18 +86,18 @@ impl Live {
         self.pairs.as_slice()
     }
 
-    /// The place, counted from 0 in order of tickets, of the live event of this ticket.
-    pub fn place_of(&self, ticket: u64) -> Option<usize>
+    /// The index, counted from 0 in order of tickets, of the live event of this ticket.
+    pub fn index_of(&self, ticket: u64) -> Option<usize>
         ensures { MatchOption result (NoneAt self.now.live ticket) (λ i. (e : Event) × (slice_get self.now.live i ≡ Some (ticket, e))) }
     {
-        place_of(self.pairs.as_slice(), ticket)
+        index_of(self.pairs.as_slice(), ticket)
     }
 
-    /// The ticket and the event at a place, counted from 0 in order of tickets; `None` past the last.
-    pub fn pair_at(&self, place: u64) -> Option<(u64, &Event)>
-        ensures { MatchOption result (slice_get self.now.live place ≡ None) (λ entry. slice_get self.now.live place ≡ Some (entry.0, entry.1.now)) }
+    /// The ticket and the event at an index, counted from 0 in order of tickets; `None` past the last.
+    pub fn pair_at(&self, index: u64) -> Option<(u64, &Event)>
+        ensures { MatchOption result (slice_get self.now.live index ≡ None) (λ entry. slice_get self.now.live index ≡ Some (entry.0, entry.1.now)) }
     {
-        match self.pairs.get(place as usize) {
+        match self.pairs.get(index as usize) {
             Some(entry) => Some((entry.0, entry.1.get())),
             None => None,
         }
@@ -177,14 +177,14 @@ impl Live {
         last_marked(self.pairs.as_slice(), self.marks.as_slice())
     }
 
-    /// The live event at a place, counted from 0 in order of tickets, where it is marked.
-    pub fn marked_at(&self, place: usize) -> Option<&Event>
-        ensures { MatchOption result (NoneMarkedAt self.now.live self.now.marked place) (λ found. OneMarkedAt self.now.live self.now.marked place found.now) }
+    /// The live event at an index, counted from 0 in order of tickets, where it is marked.
+    pub fn marked_at(&self, index: usize) -> Option<&Event>
+        ensures { MatchOption result (NoneMarkedAt self.now.live self.now.marked index) (λ found. OneMarkedAt self.now.live self.now.marked index found.now) }
     {
-        marked_at(self.pairs.as_slice(), self.marks.as_slice(), place)
+        marked_at(self.pairs.as_slice(), self.marks.as_slice(), index)
     }
 
-    /// A place, counted from 0 in order of tickets, below which no live event is marked. It is less than 1,024 before the first
+    /// An index, counted from 0 in order of tickets, below which no live event is marked. It is less than 1,024 before the first
     /// that is, or before the end.
     pub fn unmarked_below(&self) -> usize
         ensures within { result ≤ length self.now.live }
@@ -194,7 +194,7 @@ impl Live {
         unmarked_below(self.marks.as_slice())
     }
 
-    /// The tickets of the marked live events, ascending.
+    /// The tickets of the marked live events, ascending. It is an error if there is no memory.
     pub fn marked(&self) -> Result<Vec<u64>, AllocError>
         ensures { IfOk result (λ tickets. tickets.items ≡ self.now.marked) }
     {
@@ -238,7 +238,7 @@ impl Live {
         )
     }
 
-    /// Takes out what stands beside a marked event, of items that stand beside the live events at the same places.
+    /// Takes out what stands beside a marked event, of items that stand beside the live events at the same indexes.
     pub fn keep_unmarked<T: Drop>(&self, items: &mut Vec<T>)
         requires { length items.old.items ≡ length self.now.live }
         ensures { StaysBeside (λ t. In t self.now.marked) self.now.live items.old.items items.new.items }

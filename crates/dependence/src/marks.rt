@@ -9,8 +9,8 @@ ghost use Rattle.dependence.specs.walking.Tables.{IsRising, Linked};
 ghost use Rattle.dependence.specs.walking.Marking.{MarkedAt, UnmarkedTo, SomeMarked, MarkedNear};
 
 use crate::held::HeldLinks;
+use crate::indexes::{index_of, index_of_live};
 use crate::live::LiveEvent;
-use crate::places::{place_of, place_of_live};
 use calculus::Event;
 use std::alloc::{AllocError, Global};
 
@@ -31,11 +31,11 @@ pub(crate) fn mark_dependents(
     ensures marked { ConsequencesList live.now ticket (tickets_marked live.now marks.new) }
 {
     clear(marks);
-    let first = place_of_live(live, ticket);
+    let first = index_of_live(live, ticket);
     marks[first] = true;
-    for place in first..live.len() {
-        if marks[place] {
-            mark_all(live, marks, links[place].get().followers.as_slice());
+    for index in first..live.len() {
+        if marks[index] {
+            mark_all(live, marks, links[index].get().followers.as_slice());
         }
     }
 }
@@ -49,7 +49,7 @@ pub(crate) fn clear(marks: &mut [bool])
     }
 }
 
-/// A place below which none is marked, and less than a stride before the first that is, or before the end.
+/// An index below which none is marked, and less than a stride before the first that is, or before the end.
 pub(crate) fn unmarked_below(marks: &[bool]) -> usize
     ensures within { result ≤ length marks.now }
     ensures none { UnmarkedTo marks.now result }
@@ -81,8 +81,8 @@ fn mark_all(live: &[LiveEvent], marks: &mut [bool], tickets: &[u64])
     ensures { (u : ℕ) → MarkedAt live.now marks.new u ↔ (MarkedAt live.now marks.old u ⊎ In u tickets.now) }
 {
     for ticket in tickets {
-        let place = place_of_live(live, *ticket);
-        marks[place] = true;
+        let index = index_of_live(live, *ticket);
+        marks[index] = true;
     }
 }
 
@@ -92,24 +92,24 @@ pub(crate) fn is_marked(live: &[LiveEvent], marks: &[bool], ticket: u64) -> bool
     requires size { length marks.now ≡ length live.now }
     ensures { result ≡ is_in ticket (tickets_marked live.now marks.now) }
 {
-    match place_of(live, ticket) {
-        Some(place) => marks[place],
+    match index_of(live, ticket) {
+        Some(index) => marks[index],
         None => false,
     }
 }
 
-/// The event at this place where it is marked.
+/// The event at this index where it is marked.
 pub(crate) fn marked_at<'a>(
     live: &'a [LiveEvent],
     marks: &[bool],
-    place: usize,
+    index: usize,
 ) -> Option<&'a Event>
     requires rising { IsRising live.now }
     requires size { length marks.now ≡ length live.now }
-    ensures { MatchOption result (NoneMarkedAt live.now (tickets_marked live.now marks.now) place) (λ found. OneMarkedAt live.now (tickets_marked live.now marks.now) place found.now) }
+    ensures { MatchOption result (NoneMarkedAt live.now (tickets_marked live.now marks.now) index) (λ found. OneMarkedAt live.now (tickets_marked live.now marks.now) index found.now) }
 {
-    if place < marks.len() && marks[place] {
-        return Some(live[place].1.get());
+    if index < marks.len() && marks[index] {
+        return Some(live[index].1.get());
     }
     None
 }
@@ -142,8 +142,8 @@ fn copy_each(alloc: Global, live: &[LiveEvent], marks: &[bool]) -> Result<Vec<u6
     ensures { IfOk result (λ tickets. tickets.items ≡ tickets_marked live.now marks.now) }
 {
     let mut tickets = Vec::new(alloc);
-    for (place, entry) in live.iter().enumerate() {
-        if marks[place] {
+    for (index, entry) in live.iter().enumerate() {
+        if marks[index] {
             tickets.push(entry.0)?;
         }
     }
@@ -156,11 +156,11 @@ pub(crate) fn last_marked(live: &[LiveEvent], marks: &[bool]) -> Option<u64>
     requires size { length marks.now ≡ length live.now }
     ensures { MatchOption result (tickets_marked live.now marks.now ≡ []) (λ t. Greatest (tickets_marked live.now marks.now) t) }
 {
-    let mut place = live.len();
-    while place > 0 {
-        place -= 1;
-        if marks[place] {
-            return Some(live[place].0);
+    let mut index = live.len();
+    while index > 0 {
+        index -= 1;
+        if marks[index] {
+            return Some(live[index].0);
         }
     }
     None

@@ -1,4 +1,4 @@
-// The marked events taken out all at once: each list is gone through once, from about the first marked place on.
+// The marked events taken out all at once: each list is gone through once, from about the first marked index on.
 ghost use Rattle.std.specs.Prelude.{◌≡◌, ◌<◌, ◌≤◌, ℕ, [], length, true, Some, slice_get};
 ghost use Rattle.syntax.specs.Lists.{In};
 ghost use Rattle.calculus.specs.InOrder.{InOrder};
@@ -12,9 +12,9 @@ ghost use Rattle.dependence.specs.walking.Unmarked.{unmarked, Thinned, AllThinne
 ghost use Rattle.dependence.specs.walking.Whole.{IsWhole};
 
 use crate::held::HeldLinks;
+use crate::indexes::{index_in, index_of_live};
 use crate::live::LiveEvent;
 use crate::marks::{clear, is_marked, unmarked_below};
-use crate::places::{place_in, place_of_live};
 use crate::tables::Tables;
 
 /// Takes the marked events out with their marks. What depends on a marked one is marked.
@@ -56,9 +56,9 @@ fn remove_marked(live: &[LiveEvent], marks: &[bool], tables: &mut Tables)
     requires tabled { IsTabled live.now tables.old }
     ensures { IsTabled (unmarked marks.now live.now) tables.new }
 {
-    for place in unmarked_below(marks)..live.len() {
-        if marks[place] {
-            let entry = &live[place];
+    for index in unmarked_below(marks)..live.len() {
+        if marks[index] {
+            let entry = &live[index];
             tables.remove(entry.0, entry.1.get());
         }
     }
@@ -70,29 +70,29 @@ fn unlink_marked(live: &[LiveEvent], links: &mut [HeldLinks], marks: &[bool])
     requires size { length marks.now ≡ length live.now }
     requires linked { Linked live.now links.old }
     ensures thinned { AllThinned (λ t. In t (tickets_marked live.now marks.now)) links.old links.new }
-    ensures loose { (place : ℕ) → slice_get marks.now place ≡ Some true → IsLoose live.now links.old links.new place }
+    ensures loose { (index : ℕ) → slice_get marks.now index ≡ Some true → IsLoose live.now links.old links.new index }
 {
-    for place in unmarked_below(marks)..live.len() {
-        if marks[place] {
-            unlink_at(live, links, marks, place);
+    for index in unmarked_below(marks)..live.len() {
+        if marks[index] {
+            unlink_at(live, links, marks, index);
         }
     }
 }
 
-/// Takes the event at this place, which is marked, out of the followers of those that it follows, and other marked ones with it.
-fn unlink_at(live: &[LiveEvent], links: &mut [HeldLinks], marks: &[bool], place: usize)
+/// Takes the event at this index, which is marked, out of the followers of those that it follows, and other marked ones with it.
+fn unlink_at(live: &[LiveEvent], links: &mut [HeldLinks], marks: &[bool], index: usize)
     requires rising { IsRising live.now }
     requires size { length marks.now ≡ length live.now }
     requires long { length links.old ≡ length live.now }
     requires ordered { (i : ℕ) (m : Links) → slice_get links.old i ≡ Some m → InOrder ◌<◌ m.followers.items }
-    requires live { (m : Links) (t : ℕ) → slice_get links.old place ≡ Some m → In t m.leads.items → IsLive live.now t }
-    requires marked { slice_get marks.now place ≡ Some true }
+    requires live { (m : Links) (t : ℕ) → slice_get links.old index ≡ Some m → In t m.leads.items → IsLive live.now t }
+    requires marked { slice_get marks.now index ≡ Some true }
     ensures thinned { AllThinned (λ t. In t (tickets_marked live.now marks.now)) links.old links.new }
-    ensures loose { IsLoose live.now links.old links.new place }
+    ensures loose { IsLoose live.now links.old links.new index }
 {
-    let ticket = live[place].0;
-    for index in 0..links[place].get().leads.len() {
-        let lead = links[place].get().leads[index];
+    let ticket = live[index].0;
+    for lead_index in 0..links[index].get().leads.len() {
+        let lead = links[index].get().leads[lead_index];
         unlink_from(live, links, marks, lead, ticket);
     }
 }
@@ -108,8 +108,8 @@ fn unlink_from(live: &[LiveEvent], links: &mut [HeldLinks], marks: &[bool], lead
     ensures thinned { AllThinned (λ t. In t (tickets_marked live.now marks.now)) links.old links.new }
     ensures out { NotBehind live.now links.new ticket lead }
 {
-    let place = place_of_live(live, lead);
-    links[place].thin_followers(live, marks, ticket);
+    let index = index_of_live(live, lead);
+    links[index].thin_followers(live, marks, ticket);
 }
 
 /// Takes the marked tickets out of these, which ascend, where this one is among them. Else they are out already.
@@ -121,21 +121,21 @@ pub(crate) fn thin(live: &[LiveEvent], marks: &[bool], tickets: &mut Vec<u64>, t
     ensures thinned { Thinned (λ t. In t (tickets_marked live.now marks.now)) tickets.old.items tickets.new.items }
     ensures gone { In ticket tickets.new.items → ⊥ }
 {
-    if place_in(tickets.as_slice(), ticket).is_some() {
+    if index_in(tickets.as_slice(), ticket).is_some() {
         tickets.retain(|other| !is_marked(live, marks, *other));
     }
 }
 
-/// Keeps the items at whose places no mark stands, in their order.
+/// Keeps the items beside which no mark stands, in their order.
 pub(crate) fn keep_unmarked<T: Drop>(items: &mut Vec<T>, marks: &[bool])
     requires { length marks.now ≡ length items.old.items }
     ensures { items.new.items ≡ unmarked marks.now items.old.items }
 {
     let from = unmarked_below(marks);
     let mut kept = from;
-    for place in from..marks.len() {
-        if !marks[place] {
-            items.swap(kept, place);
+    for index in from..marks.len() {
+        if !marks[index] {
+            items.swap(kept, index);
             kept += 1;
         }
     }

@@ -10,12 +10,12 @@ ghost use Rattle.dependence.specs.walking.Sweeping.{StandWithin, FlagAt};
 
 use crate::candidates::add_if;
 use crate::held::HeldLinks;
+use crate::indexes::index_of_live;
 use crate::live::LiveEvent;
-use crate::places::place_of_live;
 use std::alloc::{AllocError, Global};
 
-/// Of these events, whose tickets ascend and which stand from the place `low` on and below `high`, those on which no other of them depends, the last
-/// first. One sweep goes down from the last place and notes where one of them is reached.
+/// Of these events, whose tickets ascend and which stand from the index `low` on and below `high`, those on which no other of them depends, the last
+/// first. One sweep goes down from the last index and notes where one of them is reached.
 pub(crate) fn topmost(
     alloc: Global,
     live: &[LiveEvent],
@@ -35,23 +35,23 @@ pub(crate) fn topmost(
 {
     let mut kept = Vec::new(alloc);
     let mut flags = Vec::new(alloc);
-    let mut place = high;
-    while place > low {
-        place -= 1;
+    let mut index = high;
+    while index > low {
+        index -= 1;
         let below = is_flagged(
             live,
             high,
             flags.as_slice(),
-            links[place].get().followers.as_slice(),
+            links[index].get().followers.as_slice(),
         );
-        let is_one = is_among(candidates, live[place].0);
+        let is_one = is_among(candidates, live[index].0);
         flags.push(either(is_one, below))?;
-        add_if(alone(is_one, below), live[place].0, &mut kept)?;
+        add_if(alone(is_one, below), live[index].0, &mut kept)?;
     }
     Ok(kept)
 }
 
-/// From which place on and below which one these live events stand, whose tickets ascend.
+/// From which index on and below which one these live events stand, whose tickets ascend.
 pub(crate) fn span(live: &[LiveEvent], tickets: &[u64]) -> (usize, usize)
     requires rising { IsRising live.now }
     requires live { (t : ℕ) → In t tickets.now → IsLive live.now t }
@@ -61,13 +61,13 @@ pub(crate) fn span(live: &[LiveEvent], tickets: &[u64]) -> (usize, usize)
     ensures size { result.1 ≤ length live.now }
     ensures stand { StandWithin live.now tickets.now result.0 result.1 }
 {
-    let low = place_of_live(live, tickets[0]);
-    let last = place_of_live(live, tickets[tickets.len() - 1]);
+    let low = index_of_live(live, tickets[0]);
+    let last = index_of_live(live, tickets[tickets.len() - 1]);
     (low, last + 1)
 }
 
-/// Whether one of these live events, whose tickets ascend, stands below `high` at a place that is flagged. The flags begin at the
-/// last place. None behind the first that stands above is looked at.
+/// Whether one of these live events, whose tickets ascend, stands below `high` at an index that is flagged. The flags begin at the
+/// last index. None behind the first that stands above is looked at.
 fn is_flagged(live: &[LiveEvent], high: usize, flags: &[bool], tickets: &[u64]) -> bool
     requires rising { IsRising live.now }
     requires live { (t : ℕ) → In t tickets.now → IsLive live.now t }
@@ -82,8 +82,8 @@ fn is_flagged(live: &[LiveEvent], high: usize, flags: &[bool], tickets: &[u64]) 
         if *ticket > last {
             return false;
         }
-        let place = place_of_live(live, *ticket);
-        if flags[high - 1 - place] {
+        let index = index_of_live(live, *ticket);
+        if flags[high - 1 - index] {
             return true;
         }
     }

@@ -12,8 +12,8 @@ ghost use Rattle.dependence.specs.walking.Whole.{IsWhole};
 use crate::accesses::Newcomer;
 use crate::entries::{leads_of, link_new, make_room, push_pair, take_out};
 use crate::held::HeldLinks;
+use crate::indexes::index_of_live;
 use crate::live::LiveEvent;
-use crate::places::place_of_live;
 use crate::tables::Tables;
 use calculus::{Event, writes};
 use std::alloc::Global;
@@ -26,8 +26,8 @@ pub(crate) fn followers_of<'a>(live: &[LiveEvent], links: &'a [HeldLinks], ticke
     requires live { IsLive live.now ticket }
     ensures { ListsFollowers live.now ticket result.now }
 {
-    let place = place_of_live(live, ticket);
-    links[place].get().followers.as_slice()
+    let index = index_of_live(live, ticket);
+    links[index].get().followers.as_slice()
 }
 
 /// The tickets of the live events that the one of this ticket follows.
@@ -37,8 +37,8 @@ pub(crate) fn leads_at<'a>(live: &[LiveEvent], links: &'a [HeldLinks], ticket: u
     requires live { IsLive live.now ticket }
     ensures { ListsLeads live.now ticket result.now }
 {
-    let place = place_of_live(live, ticket);
-    links[place].get().leads.as_slice()
+    let index = index_of_live(live, ticket);
+    links[index].get().leads.as_slice()
 }
 
 /// The least ticket of another live event that depends on the one of this ticket.
@@ -129,9 +129,9 @@ pub(crate) fn take_event(
     ensures live { WithoutTickets (λ t. t ≡ ticket) pairs.old.items pairs.new.items }
     ensures marked { Without (λ t. t ≡ ticket) (tickets_marked pairs.old.items marks.old.items) (tickets_marked pairs.new.items marks.new.items) }
 {
-    let place = place_of_live(pairs.as_slice(), ticket);
-    let event = take_out(pairs, links, place);
+    let index = index_of_live(pairs.as_slice(), ticket);
+    let event = take_out(pairs, links, index);
     tables.remove(ticket, &event);
-    marks.remove(place);
+    marks.remove(index);
     event
 }

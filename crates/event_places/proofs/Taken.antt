@@ -67,7 +67,7 @@ live-arm (x ∷ l) p e t alone i at =
     ]
 
 pub arm-of-the-live : (l : Live) (p : Place) (e : Event) → ActsAlone l (at_choice p) e → taken_by (events l) p ≡ e.arm
-arm-of-the-live l p e a = live-arm l p e a.live.0 a.alone a.live.1 a.acts
+arm-of-the-live l p e a = live-arm l p e a.ticket (λ u f i there. (a.alone u f i there).1) a.live a.acts
 
 pub no-live-arm : (l : Live) (p : Place) → NoneActs l (at_choice p) → taken_by (events l) p ≡ None
 no-live-arm [] p none = refl

@@ -2,9 +2,9 @@
 --
 -- The arms of a choice all stand at p.1. The one that stands there is the one that the test or the open at p.0 took, and no
 -- two events of a run have one acting address.
-use Rattle.std.specs.Prelude.{ℕ, List, [], ◌∷◌, ◌++◌, Bool, Option, None, if◌then◌else◌}
-use Rattle.address.specs.declared.Entry.TheVariants.{Ordered}
+use Rattle.std.specs.Prelude.{ℕ, List, [], ◌∷◌, Bool, Option, None, if◌then◌else◌}
 use Rattle.system.specs.declared.system.System.{System}
+use Rattle.last_events.specs.LastEvents.{first_child}
 use Rattle.system_places.specs.TakenArms.{line_under, is_open_under}
 use Rattle.calculus.specs.Events.{acting}
 use Rattle.calculus.specs.Moves.{Place}
@@ -13,7 +13,7 @@ use Rattle.calculus.specs.declared.event.Event.{Event}
 
 -- where the choice at p takes its arm
 abbrev pub at_choice : Place → Place
-at_choice p = p ++ Ordered 0 ∷ []
+at_choice p = first_child p
 
 -- the arm that the choice at p took: that of the event that acts at p.0; none where none does
 abbrev pub taken_by : List Event → Place → Option ℕ

@@ -25,6 +25,7 @@ use std::thread::Threads;
 
 impl Shared {
     /// The execution under a lock, without breakpoints, and so many passes, 16 at most, numbered from 0.
+    /// It is an error if there is no memory; the execution is dropped then.
     pub fn new(
         alloc: Global,
         machine: Machine,

@@ -109,9 +109,9 @@ fn live_count(machine: &Machine) -> u64
     ensures { result ≡ length machine.now.live }
 {
     machine.is_sound();
-    for place in 0..MOST_LIVE_EVENTS {
-        let Some(_) = machine.live_at(place) else {
-            return place;
+    for index in 0..MOST_LIVE_EVENTS {
+        let Some(_) = machine.live_at(index) else {
+            return index;
         };
     }
     MOST_LIVE_EVENTS

@@ -13,7 +13,7 @@ ghost use Rattle.machine.specs.walking.Sites.{IsAtSite, ReadyWith, site_among};
 ghost use Rattle.machine.specs.AtMachine.{at_machine};
 ghost use Rattle.machine.specs.walking.Histories.{tree_of, Holds, KnowsUses, IsSearched};
 
-use crate::following::is_among;
+use crate::among::is_among;
 use crate::history::History;
 use address::Entry;
 use calculus::{Event, Refusal};
@@ -56,7 +56,7 @@ impl History {
     {
         let events = self.ready_near(alloc, system, uses, branch)?;
         match self.first_moving(system, events.as_slice(), branch, breaks) {
-            Some(place) => self.take_ready(alloc, system, events, place),
+            Some(index) => self.take_ready(alloc, system, events, index),
             None => Ok(self.kept_back(system, events.as_slice(), branch)),
         }
     }
@@ -96,22 +96,22 @@ impl History {
         ready_below(alloc, uses, &self.tree, &self.store, place)
     }
 
-    /// Takes the event at this place of the list of those that are ready, where the limits leave room for it.
+    /// Takes the event at this index of the list of those that are ready, where the limits leave room for it.
     fn take_ready(
         &mut self,
         alloc: Global,
         system: &Checked,
         events: Items<Event>,
-        place: usize,
+        index: usize,
     ) -> Result<BranchReply, AllocError>
         requires holds { Holds system.now self.old }
-        requires chosen { IsChosenAt (state_of_tree (tree_of self.old)) events place }
-        ensures done { (e : Event) → slice_get events place ≡ Some e → IfOk result (λ reply. Takes (at_machine system.now self.old) e reply (at_machine system.now self.new)) }
+        requires chosen { IsChosenAt (state_of_tree (tree_of self.old)) events index }
+        ensures done { (e : Event) → slice_get events index ≡ Some e → IfOk result (λ reply. Takes (at_machine system.now self.old) e reply (at_machine system.now self.new)) }
         ensures unchanged { OnErr result (at_machine system.now self.new ≡ at_machine system.now self.old) }
         ensures holds { Holds system.now self.new }
     {
         let mut events = events.into_vec();
-        match self.admitted(Some(events.swap_remove(place))) {
+        match self.admitted(Some(events.swap_remove(index))) {
             Ok(event) => {
                 let entry = self.add(alloc, system, event)?;
                 Ok(BranchReply::Stepped(entry.0, entry.1))

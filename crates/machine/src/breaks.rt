@@ -4,7 +4,7 @@ ghost use Rattle.calculus.specs.InOrder.{InOrder};
 ghost use Rattle.machine.specs.Breakpoints.{most_breaks, with_line, without_line, SetsBreak};
 ghost use Rattle.machine.specs.walking.Sorting.{lesser_count};
 
-use crate::following::is_among;
+use crate::among::is_among;
 use arrayvec::ArrayVec;
 use calculus::Refusal;
 use std::marker::Model;
@@ -66,8 +66,8 @@ impl Breaks {
         if self.lines.is_full() {
             return Err(Refusal::BreaksFull);
         }
-        let place = lesser_count(self.lines.as_slice(), line);
-        self.lines.insert(place, line);
+        let index = lesser_count(self.lines.as_slice(), line);
+        self.lines.insert(index, line);
         Ok(())
     }
 

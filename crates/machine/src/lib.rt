@@ -1,10 +1,10 @@
 //! One execution of a description: its live events, the steps that it takes and takes back, and the questions about it.
 #![tactic(auto)]
 
+mod among;
 mod asking;
 mod branching;
 mod breaks;
-mod following;
 mod history;
 mod laws;
 mod machine;

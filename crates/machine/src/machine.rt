@@ -54,7 +54,7 @@ impl Model for Machine {
 }
 
 impl Machine {
-    /// The execution before its first event.
+    /// The execution before its first event. It is an error if there is no memory for it.
     pub fn new(alloc: Global, checked: Checked) -> Result<Machine, AllocError>
         ensures { IfOk result (λ made. made ≡ record { checked = checked; live = []; next = 1 }) }
     {
@@ -82,11 +82,11 @@ impl Machine {
         &self.history.live
     }
 
-    /// The ticket and the event at a place of the live events, counted from 0 in order of tickets; `None` past the last.
-    pub fn live_at(&self, place: u64) -> Option<(u64, &Event)>
-        ensures { MatchOption result (slice_get self.now.live place ≡ None) (λ entry. slice_get self.now.live place ≡ Some (entry.0, entry.1.now)) }
+    /// The ticket and the event at an index of the live events, counted from 0 in order of tickets; `None` past the last.
+    pub fn live_at(&self, index: u64) -> Option<(u64, &Event)>
+        ensures { MatchOption result (slice_get self.now.live index ≡ None) (λ entry. slice_get self.now.live index ≡ Some (entry.0, entry.1.now)) }
     {
-        self.history.live.pair_at(place)
+        self.history.live.pair_at(index)
     }
 
     /// The ticket of the next step.
@@ -184,7 +184,7 @@ impl Machine {
         or_no_memory(self.history.tell_ready(self.alloc, &self.uses))
     }
 
-    /// The events that may be taken now, in order of acting address, then arm.
+    /// The events that may be taken now, in order of acting address, then arm. It is an error if there is no memory.
     pub fn ready(&self) -> Result<Items<Event>, AllocError>
         ensures { IfOk result (λ events. (T : State) × Reaches (object self.now) T × ReadyList T events) }
     {

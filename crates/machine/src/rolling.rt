@@ -20,7 +20,7 @@ impl History {
         ensures answers { (system : Checked) → Does (execution system self.old) (Command.Roll ticket) result (execution system self.new) }
         ensures holds { (system : Checked) → Holds system self.old → Holds system self.new }
     {
-        match self.live.place_of(ticket) {
+        match self.live.index_of(ticket) {
             Some(_) => self.roll_live(ticket),
             None => Reply::Refused(Refusal::NoSuchEvent),
         }
@@ -64,11 +64,11 @@ impl History {
         ensures holds { (system : Checked) → Holds system self.old → HoldsFrom system 0 self.new }
     {
         let low = self.live.unmarked_below();
-        let mut place = self.live.len();
-        while place > low {
-            place -= 1;
-            if let Some(event) = self.live.marked_at(place) {
-                let inverse = &mut self.inverses[place];
+        let mut index = self.live.len();
+        while index > low {
+            index -= 1;
+            if let Some(event) = self.live.marked_at(index) {
+                let inverse = &mut self.inverses[index];
                 invert_by(&mut self.tree, &mut self.store, event, inverse);
             }
         }
@@ -103,7 +103,7 @@ impl History {
         ensures same { (system : Checked) → execution system self.new ≡ execution system self.old }
         ensures holds { (system : Checked) → Holds system self.old → Holds system self.new }
     {
-        match self.live.place_of(ticket) {
+        match self.live.index_of(ticket) {
             Some(_) => self.tell_dependents(ticket),
             None => Ok(Reply::Refused(Refusal::NoSuchEvent)),
         }

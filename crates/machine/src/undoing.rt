@@ -17,29 +17,29 @@ impl History {
         ensures answers { (system : Checked) → Undoes (execution system self.old) ticket result (execution system self.new) }
         ensures holds { (system : Checked) → Holds system self.old → Holds system self.new }
     {
-        match self.live.place_of(ticket) {
-            Some(place) => self.undo_at(ticket, place),
+        match self.live.index_of(ticket) {
+            Some(index) => self.undo_at(ticket, index),
             None => Reply::Refused(Refusal::NoSuchEvent),
         }
     }
 
-    /// Takes the event of this ticket, which stands at this place, back where no other live event depends on it.
-    fn undo_at(&mut self, ticket: u64, place: usize) -> Reply
+    /// Takes the event of this ticket, which stands at this index, back where no other live event depends on it.
+    fn undo_at(&mut self, ticket: u64, index: usize) -> Reply
         requires holds { (system : Checked) × Holds system self.old }
-        requires at { (e : Event) × (slice_get self.old.live.live place ≡ Some (ticket, e)) }
+        requires at { (e : Event) × (slice_get self.old.live.live index ≡ Some (ticket, e)) }
         ensures answers { (system : Checked) → Undoes (execution system self.old) ticket result (execution system self.new) }
         ensures holds { (system : Checked) → Holds system self.old → Holds system self.new }
     {
         match self.live.first_dependent(ticket) {
             Some(dependent) => Reply::Refused(Refusal::NeededBy(dependent)),
-            None => Reply::Undone(ticket, self.take_back(ticket, place)),
+            None => Reply::Undone(ticket, self.take_back(ticket, index)),
         }
     }
 
-    /// Takes the event of this ticket, which stands at this place, back. No other live event depends on it.
-    pub(crate) fn take_back(&mut self, ticket: u64, place: usize) -> Event
+    /// Takes the event of this ticket, which stands at this index, back. No other live event depends on it.
+    pub(crate) fn take_back(&mut self, ticket: u64, index: usize) -> Event
         requires holds { (system : Checked) × Holds system self.old }
-        requires at { (e : Event) × (slice_get self.old.live.live place ≡ Some (ticket, e)) }
+        requires at { (e : Event) × (slice_get self.old.live.live index ≡ Some (ticket, e)) }
         requires alone { NoDependent self.old.live.live ticket }
         ensures event { LiveAt self.old.live.live ticket result }
         ensures live { WithoutTickets (λ t. t ≡ ticket) self.old.live.live self.new.live.live }
@@ -48,7 +48,7 @@ impl History {
         ensures holds { (system : Checked) → Holds system self.old → Holds system self.new }
     {
         let event = self.live.take(ticket);
-        let inverse = self.inverses.remove(place);
+        let inverse = self.inverses.remove(index);
         invert(&mut self.tree, &mut self.store, Record { event, inverse })
     }
 }

@@ -13,7 +13,8 @@ use Rattle.process_tree.specs.Children.{proc_at}
 use Rattle.process_tree.specs.Left.{Received}
 use Rattle.process_tree.specs.Proc.{Proc, Procs, no_procs, proc}
 use Rattle.offered_sides.specs.Sides.{Under}
-use Rattle.offered_sides.specs.walking.At.{same_entry, same_place, at, is_under, under, SameBelow}
+use Rattle.calculus.specs.Tests.{same_entry, same_place}
+use Rattle.offered_sides.specs.walking.At.{at, is_under, under, SameBelow}
 use Rattle.offered_sides.specs.walking.Listed.{side_at, behind, again_at, Listing, nothing, at_work, one_after, listed, listed_sequence, listed_parallel}
 use Rattle.offered_sides.specs.walking.Walk.{Walk, below, added, down}
 use Rattle.offered_sides.specs.declared.side.OfferedSide.{OfferedSide}

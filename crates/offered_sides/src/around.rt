@@ -74,7 +74,7 @@ impl Around {
         self.entries.push(Entry::Ordered(small(number)?))
     }
 
-    /// Goes to the branch of this number in a parallel.
+    /// Goes to the branch of this number in a parallel. It is an error if there is no memory.
     pub fn enter_branch(&mut self, number: u64) -> Result<(), AllocError>
         ensures { OnOk result (self.new ≡ down (Entry.Branch number) self.old) }
     {
@@ -88,7 +88,7 @@ impl Around {
         self.entries.pop();
     }
 
-    /// Goes into an arm that opened on this channel, and received this if anything.
+    /// Goes into an arm that opened on this channel, and received this if anything. It is an error if there is no memory.
     #[tactic(auto, using(crate::proofs::Walks::received_last))]
     pub fn receive(&mut self, channel: u32, value: Option<Value>) -> Result<(), AllocError>
         ensures { OnOk result (self.new ≡ within_arm (with_value channel value self.old.received) self.old) }
@@ -106,7 +106,7 @@ impl Around {
         self.arrived.pop();
     }
 
-    /// The expression with what was received in place of its names.
+    /// The expression with what was received in place of its names. It is an error if there is no memory.
     #[tactic(auto, using(crate::proofs::Walks::put_each_is))]
     pub fn with_received(
         &self,
@@ -118,7 +118,7 @@ impl Around {
         put_in(alloc, expression, self.arrived.as_slice())
     }
 
-    /// The test with what was received in place of its names.
+    /// The test with what was received in place of its names. It is an error if there is no memory.
     #[tactic(auto, using(crate::proofs::Walks::put_each_decision_is))]
     pub fn decision_with_received(
         &self,
@@ -130,7 +130,7 @@ impl Around {
         put_in_decision(alloc, decision, self.arrived.as_slice())
     }
 
-    /// Adds a side at the place itself.
+    /// Adds a side at the place itself. It is an error if there is no memory; then none is added.
     pub fn add(&mut self, alloc: Global, side: Side) -> Result<(), AllocError>
         ensures { OnOk result (self.new ≡ added (side_at [] side ∷ []) self.old) }
     {
@@ -139,7 +139,7 @@ impl Around {
         self.found.push(OfferedSide { place, side })
     }
 
-    /// Adds a side at this act of the command at the place.
+    /// Adds a side at this act of the command at the place. It is an error if there is no memory; then none is added.
     pub fn add_act(&mut self, alloc: Global, act: u64, side: Side) -> Result<(), AllocError>
         ensures { OnOk result (self.new ≡ added (side_at (Entry.Ordered act ∷ []) side ∷ []) self.old) }
     {

@@ -12,7 +12,8 @@ ghost use Rattle.process_tree.specs.walking.Parts.{turns_view, tested_view, gate
 ghost use Rattle.offered_sides.specs.Sides.{Offered, Under};
 ghost use Rattle.offered_sides.specs.View.{state_of};
 ghost use Rattle.offered_sides.specs.declared.side.OfferedSide as any;
-ghost use Rattle.offered_sides.specs.walking.At.{SameBelow, at, same_place, under, is_under};
+ghost use Rattle.calculus.specs.Tests.{same_place};
+ghost use Rattle.offered_sides.specs.walking.At.{SameBelow, at, under, is_under};
 ghost use Rattle.offered_sides.specs.walking.Listed.{behind, listed, listed_parallel, listed_sequence};
 ghost use Rattle.offered_sides.specs.walking.Walk.{added, lists, lists_at};
 
@@ -31,7 +32,7 @@ use syntax::Items;
 use value::Value;
 
 /// Exactly the sides that the tree offers at this place over the values of the store, where the tree is tidy, as each is that
-/// stands for a run. It looks for those at the place and below it.
+/// stands for a run. It looks for those at the place and below it. It is an error if there is no memory.
 pub fn sides_at(
     alloc: Global,
     tree: &Tree,
@@ -47,6 +48,7 @@ pub fn sides_at(
 
 /// Exactly the sides that the tree offers at this place and below it over the values of the store, where the tree is tidy. It
 /// goes down along the place, and into no branch beside it but to see whether what comes first is finished.
+/// It is an error if there is no memory.
 pub fn sides_below(
     alloc: Global,
     tree: &Tree,

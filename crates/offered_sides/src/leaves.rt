@@ -18,7 +18,7 @@ use syntax::Items;
 use system::{Decision, Expression};
 use value::{Value, Width};
 
-/// Lists what makes one move, before it has made it.
+/// Lists what makes one move, before it has made it. It is an error if there is no memory.
 pub fn list_once(
     alloc: Global,
     once: &Once,
@@ -40,7 +40,7 @@ pub fn list_once(
     }
 }
 
-/// Lists a send or sync that waits.
+/// Lists a send or sync that waits. It is an error if there is no memory.
 pub fn list_sender(
     alloc: Global,
     sender: &Sender,
@@ -60,7 +60,7 @@ pub fn list_sender(
     }
 }
 
-/// Lists a send or sync that is held.
+/// Lists a send or sync that is held. It is an error if there is no memory.
 pub fn list_held(alloc: Global, sender: &Sender, around: &mut Around) -> Result<(), AllocError>
     ensures { OnOk result (around.new ≡ added (side_at (Entry.Ordered 1 ∷ []) (Side.Releases (channel_of (sender_view sender.now))) ∷ []) around.old) }
 {
@@ -70,7 +70,7 @@ pub fn list_held(alloc: Global, sender: &Sender, around: &mut Around) -> Result<
     }
 }
 
-/// Lists a loop before this turn, with its guard where it has one.
+/// Lists a loop before this turn, with its guard where it has one. It is an error if there is no memory.
 pub fn list_again(
     alloc: Global,
     guard: &Option<Expression>,
@@ -101,7 +101,7 @@ fn list_guard(
     list_test(alloc, &decision, act, values, around)
 }
 
-/// Lists a test at this act, with the arm that it takes.
+/// Lists a test at this act, with the arm that it takes. It is an error if there is no memory.
 pub fn list_test(
     alloc: Global,
     decision: &Decision,
@@ -117,7 +117,7 @@ pub fn list_test(
     around.add_act(alloc, act, Side::Tests(arm, read))
 }
 
-/// Lists arms that wait on these channels.
+/// Lists arms that wait on these channels. It is an error if there is no memory; some may be listed then.
 pub fn list_arms(alloc: Global, channels: &[u32], around: &mut Around) -> Result<(), AllocError>
     ensures { OnOk result (around.new ≡ added (open_sides 0 channels.now) around.old) }
 {
@@ -128,14 +128,14 @@ pub fn list_arms(alloc: Global, channels: &[u32], around: &mut Around) -> Result
     Ok(())
 }
 
-/// Lists the close of an arm that opened on this channel.
+/// Lists the close of an arm that opened on this channel. It is an error if there is no memory.
 pub fn list_close(alloc: Global, channel: u32, around: &mut Around) -> Result<(), AllocError>
     ensures { OnOk result (around.new ≡ added (side_at (Entry.Ordered 2 ∷ []) (Side.Closes channel) ∷ []) around.old) }
 {
     around.add_act(alloc, 2, Side::Closes(channel))
 }
 
-/// Lists the receives on an output port, after so many.
+/// Lists the receives on an output port, after so many. It is an error if there is no memory.
 pub fn list_drain(
     alloc: Global,
     channel: u32,

@@ -320,7 +320,7 @@ pub(crate) fn next_turn(turn: u64) -> Result<u64, AllocError>
     }
 }
 
-/// The number of the body of this turn of a loop.
+/// The number of the body of this turn of a loop. It is an error if the number does not fit into 64 bits, which no run reaches.
 pub fn body_of_turn(turn: u64) -> Result<u64, AllocError>
     ensures { IfOk result (λ number. number ≡ 2 * turn + 1) }
 {

@@ -2,7 +2,8 @@
 ghost use Rattle.std.specs.Prelude.{◌≡◌, ℕ, ◌∷◌, MatchOption};
 ghost use Rattle.address.specs.declared.Entry.TheVariants.{Ordered as IsOrdered, Branch as IsBranch};
 ghost use Rattle.calculus.specs.Moves.{Place};
-ghost use Rattle.offered_sides.specs.walking.At.{is_under, same_entry};
+ghost use Rattle.calculus.specs.Tests.{same_entry};
+ghost use Rattle.offered_sides.specs.walking.At.{is_under};
 
 use address::Entry;
 

@@ -13,6 +13,7 @@ use system::{Branch, Expression, System};
 use value::{Value, Width};
 
 /// The commands of the system: its body in branch 0, and the environment at the k-th port in branch k.
+/// It is an error if there is no memory.
 pub fn system_code(alloc: Global, system: &System) -> Result<Code, AllocError>
     ensures { IfOk result (λ made. code_view made ≡ translation.system_code system.now) }
 {

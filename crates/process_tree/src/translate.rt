@@ -15,7 +15,7 @@ use syntax::{Items, Shared};
 use system::{Action, Arm, Command, Decision, Expression, Guarded, Labelled};
 use value::Width;
 
-/// The command as a tree holds it.
+/// The command as a tree holds it. It is an error if there is no memory.
 #[cycle(code_of)]
 pub fn code_of(alloc: Global, command: &Command) -> Result<Code, AllocError>
     ensures { IfOk result (λ made. code_view made ≡ translation.code_of command.now) }

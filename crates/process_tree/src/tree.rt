@@ -21,7 +21,7 @@ pub struct Tree {
 }
 
 impl Tree {
-    /// The tree of the system before its first event.
+    /// The tree of the system before its first event. It is an error if there is no memory.
     pub fn new(alloc: Global, system: &System) -> Result<Tree, AllocError>
         ensures { IfOk result (λ tree. tree_view tree ≡ started (translation.system_code system.now)) }
     {

@@ -26,7 +26,7 @@ use syntax::Items;
 /// one whose other address is the least. `None` where there is none. The tree is to be tidy and to stem from the command
 /// whose uses of channels these are.
 ///
-/// It goes down along the place, and for the other side into what uses its channel alone.
+/// It goes down along the place, and for the other side into what uses its channel alone. It is an error if there is no memory.
 pub fn event_with(
     alloc: Global,
     uses: &ChannelUses,
@@ -48,14 +48,14 @@ fn first_with(events: Items<Event>, choice: &Choice) -> Option<Event>
     ensures { (S : State) → ReadyWith S choice.now events → MatchOption result (ChoiceAllowed S choice.now → ⊥) (λ event. Chosen S choice.now event) }
 {
     let mut events = events.into_vec();
-    match place_with(events.as_slice(), choice) {
-        Some(place) => Some(events.swap_remove(place)),
+    match index_with(events.as_slice(), choice) {
+        Some(index) => Some(events.swap_remove(index)),
         None => None,
     }
 }
 
 /// Where the first event with this choice stands.
-fn place_with(events: &[Event], choice: &Choice) -> Option<usize>
+fn index_with(events: &[Event], choice: &Choice) -> Option<usize>
     ensures { MatchOption result (HasNone choice.now events.now) (λ i. FirstWith choice.now events.now i) }
 {
     for (i, event) in events.iter().enumerate() {

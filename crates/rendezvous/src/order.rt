@@ -67,12 +67,12 @@ pub(crate) fn sooner_count(event: &Event, sorted: &[Event]) -> usize
     ensures within { result ≤ length sorted.now }
     ensures counted { InOrder Sooner sorted.now → result ≡ sooner_count event.now sorted.now }
 {
-    let mut place = sorted.len();
-    while place > 0 {
-        if is_sooner(&sorted[place - 1], event) {
-            return place;
+    let mut index = sorted.len();
+    while index > 0 {
+        if is_sooner(&sorted[index - 1], event) {
+            return index;
         }
-        place -= 1;
+        index -= 1;
     }
     0
 }

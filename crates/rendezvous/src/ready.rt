@@ -30,7 +30,7 @@ use syntax::Items;
 
 /// Exactly the events that are allowed in the state of the tree and the store: in the order of their acting addresses, then
 /// of their arms, then of their other addresses. The tree is to be tidy and to stem from the command whose uses of channels
-/// these are.
+/// these are. It is an error if there is no memory.
 pub fn ready_events(
     alloc: Global,
     uses: &ChannelUses,
@@ -44,7 +44,7 @@ pub fn ready_events(
 }
 
 /// Those of them that act at the place or below it. It goes down along the place, and for each side that is found there looks at
-/// those on its channel alone.
+/// those on its channel alone. It is an error if there is no memory.
 pub fn ready_below(
     alloc: Global,
     uses: &ChannelUses,
@@ -73,24 +73,24 @@ pub(crate) fn in_order(alloc: Global, events: Items<Event>) -> Result<Items<Even
     Ok(Items::from_vec(sorted))
 }
 
-/// Puts the event at its place, unless it is there.
+/// Puts the event where it belongs, unless it is there.
 fn insert(sorted: &mut Vec<Event>, event: Event) -> Result<(), AllocError>
     ensures { InOrder Sooner sorted.old.items → IfOk result (λ _. sorted.new.items ≡ inserted event sorted.old.items) }
 {
-    let place = sooner_count(&event, sorted.as_slice());
-    if is_there(sorted.as_slice(), place, &event) {
+    let index = sooner_count(&event, sorted.as_slice());
+    if is_there(sorted.as_slice(), index, &event) {
         return Ok(());
     }
-    sorted.insert(place, event)?;
+    sorted.insert(index, event)?;
     Ok(())
 }
 
-/// Whether the event stands at this place.
-fn is_there(sorted: &[Event], place: usize, event: &Event) -> bool
-    ensures there { IsTrue result → ((f : Event) × (slice_get sorted.now place ≡ Some f) × (same_event f event.now ≡ true)) }
-    ensures elsewhere { result ≡ false → (f : Event) → slice_get sorted.now place ≡ Some f → same_event f event.now ≡ false }
+/// Whether the event stands at this index.
+fn is_there(sorted: &[Event], index: usize, event: &Event) -> bool
+    ensures there { IsTrue result → ((f : Event) × (slice_get sorted.now index ≡ Some f) × (same_event f event.now ≡ true)) }
+    ensures elsewhere { result ≡ false → (f : Event) → slice_get sorted.now index ≡ Some f → same_event f event.now ≡ false }
 {
-    match sorted.get(place) {
+    match sorted.get(index) {
         Some(found) => found.equals(event),
         None => false,
     }

@@ -8,7 +8,7 @@ use machine::{Breaks, Machine};
 use std::alloc::{AllocError, Global};
 
 /// The lines of the source, each behind its number and its marks: `>` where an event is ready, `*` where a breakpoint is, `!`
-/// where a `select` begins that two or more ready events would open in different arms.
+/// where a `select` begins that two or more ready events would open in different arms. It is an error if there is no memory.
 pub fn view(
     alloc: Global,
     machine: &Machine,

@@ -45,6 +45,7 @@ pub fn load<R: Read>(
 }
 
 /// A machine that has taken the steps of the trace with this text, as `load` does.
+/// It is an error if the text is no trace of the system, or if there is no memory; the fault says which.
 pub fn load_text(alloc: Global, checked: Checked, text: &[u8]) -> Result<Machine, Fault>
     ensures { MatchResult result (λ machine. IsLoaded checked text.now machine) (λ fault. IsRefused checked text.now fault) }
 {

@@ -40,17 +40,17 @@ fn refuse_moved(alloc: Global, live: &Live) -> Result<(), Fault>
 {
     let order = canonical_order(alloc, live)?;
     match first_moved(order.as_slice()) {
-        Some(place) => Err(Fault::NotCanonical(place as u64 + 2)),
+        Some(index) => Err(Fault::NotCanonical(index as u64 + 2)),
         None => Ok(()),
     }
 }
 
-/// The first of these places that stands at another than itself.
-fn first_moved(places: &[usize]) -> Option<usize>
-    ensures { MatchOption result (AllAtHome places.now) (λ k. FirstMoved places.now k) }
+/// The first of these indexes that does not stand at itself.
+fn first_moved(indexes: &[usize]) -> Option<usize>
+    ensures { MatchOption result (AllAtHome indexes.now) (λ k. FirstMoved indexes.now k) }
 {
-    for i in 0..places.len() {
-        if places[i] != i {
+    for i in 0..indexes.len() {
+        if indexes[i] != i {
             return Some(i);
         }
     }

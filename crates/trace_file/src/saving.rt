@@ -69,18 +69,18 @@ fn write_events(alloc: Global, live: &Live) -> Result<Vec<u8>, AllocError>
     let mut out = Vec::new(alloc);
     add_bytes(&mut out, SECOND)?;
     add_bytes(&mut out, b"\n")?;
-    for place in order.as_slice() {
-        add_line(&mut out, event_at(entries, *place))?;
+    for index in order.as_slice() {
+        add_line(&mut out, event_at(entries, *index))?;
     }
     Ok(out)
 }
 
-/// The event at a place.
-fn event_at(live: &[LiveEvent], place: usize) -> &Event
-    requires { place < length live.now }
-    ensures { (t : ℕ) × (slice_get live.now place ≡ Some (t, result.now)) }
+/// The event at an index.
+fn event_at(live: &[LiveEvent], index: usize) -> &Event
+    requires { index < length live.now }
+    ensures { (t : ℕ) × (slice_get live.now index ≡ Some (t, result.now)) }
 {
-    live[place].1.get()
+    live[index].1.get()
 }
 
 /// Adds the line of the event behind what is there.

@@ -72,7 +72,7 @@ fn a_long_list_of_live_events_answers(rt: HostRuntime) -> Result<(), Fail> {
     live.take_marked();
     assert_eq!(rt; live.len(), 2_048);
     assert_eq!(rt; live.last_marked(), None);
-    assert_eq!(rt; live.place_of(4_095), Some(2_047));
+    assert_eq!(rt; live.index_of(4_095), Some(2_047));
     assert_eq!(rt; live.mark_consequences(4_095), 1);
     live.take(4_095);
     assert_eq!(rt; live.count(4_093), 0);

@@ -32,7 +32,7 @@ pub record WaitsFor (l : Live) (Q : ℕ → Type 0) (u n : ℕ) : Type 0 where
   pub falling : InOrder (λ (a : ℕ) (b : ℕ). b < a) tickets
   pub count : length tickets ≡ n
 
--- at the place of each event for how many it waits, of those of which Q holds
+-- at the index of each event for how many it waits, of those of which Q holds
 pub record Counts (l : Live) (Q : ℕ → ℕ → Type 0) (left : List ℕ) : Type 0 where
   pub size : length left ≡ length l
   pub waits : (i u n : ℕ) (f : Event) → slice_get l i ≡ Some (u, f) → slice_get left i ≡ Some n → WaitsFor l (λ (t : ℕ). Q t u) u n
@@ -41,35 +41,35 @@ pub record Counts (l : Live) (Q : ℕ → ℕ → Type 0) (left : List ℕ) : Ty
 abbrev pub LeftFor : Live → ℕ → List ℕ → ℕ → ℕ → Type 0
 LeftFor rest t told s u = IsLive rest s ⊎ ((s ≡ t) × (In u told → ⊥))
 
--- the place is that of an event of rest that waits for none
+-- the index is that of an event of rest that waits for none
 abbrev pub IsFree : Live → Live → List ℕ → ℕ → Type 0
 IsFree l rest left i =
     ((t : ℕ) × (e : Event) × (slice_get l i ≡ Some (t, e)) × LiveAt rest t e) × (slice_get left i ≡ Some 0)
 
--- an entry of the queue has the acting address of the event at its place
+-- an entry of the queue has the acting address of the event at its index
 abbrev pub IsEntry : Live → Reverse Free → Type 0
-IsEntry l x = (t : ℕ) × (e : Event) × (slice_get l x.0.place ≡ Some (t, e)) × (x.0.acting.now ≡ acting e)
+IsEntry l x = (t : ℕ) × (e : Event) × (slice_get l x.0.index ≡ Some (t, e)) × (x.0.acting.now ≡ acting e)
 
 -- the order of the queue, of which the greatest comes first: that of the least acting address
 abbrev pub queue_order : Reverse Free → Reverse Free → Ordering
-queue_order x y = ordering_then (slice_cmp cmp-value.it y.0.acting.now x.0.acting.now) (nat_cmp y.0.place x.0.place)
+queue_order x y = ordering_then (slice_cmp cmp-value.it y.0.acting.now x.0.acting.now) (nat_cmp y.0.index x.0.index)
 
--- whether both stand for one place
-abbrev pub same_place : Reverse Free → Reverse Free → Bool
-same_place x y = x.0.place == y.0.place
+-- whether both stand for one index
+abbrev pub same_index : Reverse Free → Reverse Free → Bool
+same_index x y = x.0.index == y.0.index
 
 -- the queue has each event of rest that waits for none, once, and no others
 pub record IsQueue (l rest : Live) (left : List ℕ) (items : List (Reverse Free)) : Type 0 where
   pub heap : IsHeap queue_order items
-  pub entries : AllByRecursion (λ (x : Reverse Free). IsEntry l x × IsFree l rest left x.0.place) items
-  pub once : IsDistinct same_place items
-  pub all : (i : ℕ) → IsFree l rest left i → list_any (λ (x : Reverse Free). x.0.place == i) items ≡ true
+  pub entries : AllByRecursion (λ (x : Reverse Free). IsEntry l x × IsFree l rest left x.0.index) items
+  pub once : IsDistinct same_index items
+  pub all : (i : ℕ) → IsFree l rest left i → list_any (λ (x : Reverse Free). x.0.index == i) items ≡ true
 
--- new has what old has, and an entry of the event at the place
-pub record Joins (l : Live) (place : ℕ) (old new : List (Reverse Free)) : Type 0 where
+-- new has what old has, and an entry of the event at the index
+pub record Joins (l : Live) (index : ℕ) (old new : List (Reverse Free)) : Type 0 where
   pub entry : Reverse Free
   pub is : IsEntry l entry
-  pub at : entry.0.place ≡ place
+  pub at : entry.0.index ≡ index
   pub permutation : IsPermutation (entry ∷ old) new
   pub heap : IsHeap queue_order old → IsHeap queue_order new
 
@@ -86,24 +86,24 @@ pub record Ready (l rest : Live) (left : List ℕ) (items : List (Reverse Free))
   pub counts : Counts l (λ (s : ℕ) (u : ℕ). IsLive rest s) left
   pub queue : IsQueue l rest left items
 
--- the event at the place was taken, and told to none yet
+-- the event at the index was taken, and told to none yet
 abbrev pub TellingAt : Live → Live → ℕ → List ℕ → List (Reverse Free) → Type 0
-TellingAt l rest place left items = (t : ℕ) × (e : Event) × (slice_get l place ≡ Some (t, e)) × Telling l rest t [] left items
+TellingAt l rest index left items = (t : ℕ) × (e : Event) × (slice_get l index ≡ Some (t, e)) × Telling l rest t [] left items
 
 -- so it is for some rest
 abbrev pub SomeTelling : Live → ℕ → List ℕ → List (Reverse Free) → Type 0
-SomeTelling l place left items = (rest : Live) × TellingAt l rest place left items
+SomeTelling l index left items = (rest : Live) × TellingAt l rest index left items
 
 -- it was told to all its followers
 abbrev pub TellsAll : Live → ℕ → List ℕ → List (Reverse Free) → List ℕ → List (Reverse Free) → Type 0
-TellsAll l place left items after more = (rest : Live) → TellingAt l rest place left items → Ready l rest after more
+TellsAll l index left items after more = (rest : Live) → TellingAt l rest index left items → Ready l rest after more
 
--- the event at the place waits for one at least
+-- the event at the index waits for one at least
 abbrev pub CanTell : Live → List ℕ → ℕ → Type 0
-CanTell l left place = (place < length l) × ((n : ℕ) × (slice_get left place ≡ Some (suc n)))
+CanTell l left index = (index < length l) × ((n : ℕ) × (slice_get left index ≡ Some (suc n)))
 
 -- it waits for one less, and is put into the queue where it waits for none
 abbrev pub TellsOne : Live → ℕ → List ℕ → List (Reverse Free) → List ℕ → List (Reverse Free) → Type 0
-TellsOne l place left items after more =
-    (n : ℕ) → slice_get left place ≡ Some (suc n)
-    → (after ≡ slice_set left place n) × (((n ≡ 0) × Joins l place items more) ⊎ ((n ≡ 0 → ⊥) × (more ≡ items)))
+TellsOne l index left items after more =
+    (n : ℕ) → slice_get left index ≡ Some (suc n)
+    → (after ≡ slice_set left index n) × (((n ≡ 0) × Joins l index items more) ⊎ ((n ≡ 0 → ⊥) × (more ≡ items)))

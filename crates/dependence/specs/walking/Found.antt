@@ -1,6 +1,6 @@
 -- What is found of the live events that a new one may follow, by its places and by its variables.
 -- No reader has to believe it: the proof of `candidates` ties it to `Candidates`.
-use Rattle.std.specs.Prelude.{◌≡◌, ◌⊎◌, ℕ, ◌<◌, ◌≤◌, List, Some}
+use Rattle.std.specs.Prelude.{◌≡◌, ◌⊎◌, ℕ, suc, ◌<◌, ◌≤◌, ◌^◌, List, Some}
 use Rattle.address.specs.Places.{Before}
 use Rattle.syntax.specs.Lists.{In}
 use Rattle.last_events.specs.LastEvents.{IsAt}
@@ -51,6 +51,11 @@ pub record IsReadBefore (l : Live) (f : Event) (x w below : ℕ) : Type 0 where
   pub behind : w < ticket
   pub within : ticket < below
   pub before : SomeBefore event f
+
+-- n is the first ticket behind all of these, 0 where there are none; the greatest ticket that can be has none behind it
+pub record FirstBehind (ts : List ℕ) (n : ℕ) : Type 0 where
+  pub behind : (t : ℕ) → In t ts → (t < n) ⊎ (suc n ≡ 2 ^ 64)
+  pub near : (n ≡ 0) ⊎ ((t : ℕ) × In t ts × (n ≤ suc t))
 
 -- the event of ticket t is the last to write a variable that f reads
 abbrev pub WritesOneRead : Live → List ℕ → ℕ → Type 0

@@ -1,4 +1,4 @@
--- Marks beside the live events, at the same places.
+-- Marks beside the live events, at the same indexes.
 -- No reader has to believe it: the proof of `mark_dependents` ties it to `ConsequencesList` of `calculus`, and that of
 -- `Live::unmarked_below` to what `specs/Taking.antt` has.
 use Rattle.std.specs.Prelude.{◌≡◌, ◌⊎◌, ℕ, ◌+◌, ◌<◌, ◌≤◌, List, Bool, true, length, Some, slice_get}
@@ -19,12 +19,12 @@ UnmarkedTo marks n = (i : ℕ) → i < n → slice_get marks i ≡ Some true →
 abbrev pub SomeMarked : List Bool → ℕ → ℕ → Type 0
 SomeMarked marks low high = (i : ℕ) × (low ≤ i) × (i < high) × (slice_get marks i ≡ Some true)
 
--- the end is near the place, or a mark that is set is, at the place itself or behind it
+-- the end is near the index, or a mark that is set is, at the index itself or behind it
 abbrev pub MarkedNear : List Bool → ℕ → Type 0
-MarkedNear marks place = (length marks < place + stride) ⊎ SomeMarked marks place (place + stride)
+MarkedNear marks index = (length marks < index + stride) ⊎ SomeMarked marks index (index + stride)
 
--- t and only what depends on it is marked, and the followers of all that is marked below the place
-pub record MarkedBelow (l : Live) (t place : ℕ) (marks : List Bool) : Type 0 where
+-- t and only what depends on it is marked, and the followers of all that is marked below the index
+pub record MarkedBelow (l : Live) (t index : ℕ) (marks : List Bool) : Type 0 where
   pub sound : (u : ℕ) → MarkedAt l marks u → DependsOn l t u
   pub start : MarkedAt l marks t
-  pub onward : (s u i : ℕ) → StandsAt l s i → i < place → MarkedAt l marks s → Follower l s u → MarkedAt l marks u
+  pub onward : (s u i : ℕ) → StandsAt l s i → i < index → MarkedAt l marks s → Follower l s u → MarkedAt l marks u

@@ -1,4 +1,4 @@
--- The tables of followers beside the live events, at the same places.
+-- The tables of followers beside the live events, at the same indexes.
 -- No reader has to believe it: contracts see a `Live` as `Shown`, which has no tables.
 use Rattle.std.specs.Prelude.{◌≡◌, ◌⊎◌, ◌↔◌, ℕ, ◌<◌, List, [], ◌∷◌, ◌++◌, length, Some, slice_get, slice_set}
 use Rattle.syntax.specs.Lists.{In}
@@ -13,7 +13,7 @@ use Rattle.dependence.specs.declared.links.Links.{Links}
 abbrev pub IsRising : Live → Type 0
 IsRising l = (next : ℕ) × Rising 0 l next
 
--- the event of ticket t stands at the place i
+-- the event of ticket t stands at the index i
 abbrev pub StandsAt : Live → ℕ → ℕ → Type 0
 StandsAt l t i = (e : Event) × (slice_get l i ≡ Some (t, e))
 
@@ -26,14 +26,14 @@ pub record ListsWith (l : Live) (n t : ℕ) (more : Type 0) (tickets : List ℕ)
   pub exactly : (u : ℕ) → In u tickets ↔ (Follower l t u ⊎ ((u ≡ n) × more))
   pub ascending : InOrder ◌<◌ tickets
 
--- at each place the followers of the event, with n behind those for which P holds, and the events that it follows
+-- at each index the followers of the event, with n behind those for which P holds, and the events that it follows
 pub record PartLinked (l : Live) (n : ℕ) (P : ℕ → Type 0) (links : List Links) : Type 0 where
   pub size : length links ≡ length l
   pub followers : (i t : ℕ) (e : Event) (m : Links) → slice_get l i ≡ Some (t, e) → slice_get links i ≡ Some m → ListsWith l n t (P t) m.followers.items
   pub leads : (i u : ℕ) (f : Event) (m : Links) → slice_get l i ≡ Some (u, f) → slice_get links i ≡ Some m → (t : ℕ) → In t m.leads.items ↔ Follower l t u
   pub falling : (i : ℕ) (m : Links) → slice_get links i ≡ Some m → Falling m.leads.items
 
--- at each place the followers of the event, ascending, and the events that it follows
+-- at each index the followers of the event, ascending, and the events that it follows
 pub record Linked (l : Live) (links : List Links) : Type 0 where
   pub size : length links ≡ length l
   pub followers : (i t : ℕ) (e : Event) (m : Links) → slice_get l i ≡ Some (t, e) → slice_get links i ≡ Some m → ListsFollowers l t m.followers.items
@@ -42,13 +42,13 @@ pub record Linked (l : Live) (links : List Links) : Type 0 where
 
 -- the list `before` of the followers of t is changed to `after`, and nothing else
 pub record FollowersChanged (l : Live) (t : ℕ) (change : List ℕ → List ℕ → Type 0) (old new : List Links) : Type 0 where
-  pub place : ℕ
+  pub index : ℕ
   pub event : Event
   pub before : Links
   pub after : Links
-  pub stands : slice_get l place ≡ Some (t, event)
-  pub was : slice_get old place ≡ Some before
-  pub is : new ≡ slice_set old place after
+  pub stands : slice_get l index ≡ Some (t, event)
+  pub was : slice_get old index ≡ Some before
+  pub is : new ≡ slice_set old index after
   pub followers : change before.followers.items after.followers.items
   pub leads : after.leads.items ≡ before.leads.items
 

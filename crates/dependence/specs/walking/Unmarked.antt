@@ -7,7 +7,7 @@ use Rattle.calculus.specs.Live.{Live}
 use Rattle.dependence.specs.declared.links.Links.{Links}
 use Rattle.dependence.specs.walking.Tables.{StandsAt}
 
--- the items at whose places no mark stands, and those behind the marks
+-- the items beside which no mark stands, and those behind the marks
 abbrev pub unmarked : {X : Type 0} → List Bool → List X → List X
 unmarked [] xs = xs
 unmarked (m ∷ marks) [] = []
@@ -30,7 +30,7 @@ pub record AllThinned (D : ℕ → Type 0) (old new : List Links) : Type 0 where
 abbrev pub NotBehind : Live → List Links → ℕ → ℕ → Type 0
 NotBehind l links t u = (k : ℕ) (m : Links) → StandsAt l u k → slice_get links k ≡ Some m → In t m.followers.items → ⊥
 
--- the ticket at the place is not among the followers of those that its event followed
+-- the ticket at the index is not among the followers of those that its event followed
 abbrev pub IsLoose : Live → List Links → List Links → ℕ → Type 0
-IsLoose l old new place =
-    (t u : ℕ) (n : Links) → StandsAt l t place → slice_get old place ≡ Some n → In u n.leads.items → NotBehind l new t u
+IsLoose l old new index =
+    (t u : ℕ) (n : Links) → StandsAt l t index → slice_get old index ≡ Some n → In u n.leads.items → NotBehind l new t u

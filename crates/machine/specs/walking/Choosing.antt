@@ -16,7 +16,7 @@ use Rattle.machine.specs.declared.branching.BranchReply.{BranchReply}
 use Rattle.machine.specs.declared.branching.BranchReply.TheVariants.{Stepped, Refused}
 use Rattle.machine.specs.Branching.{line_of, acts_in, is_free}
 
--- the event at place i of the list is the one that its choice means in S
+-- the event at index i of the list is the one that its choice means in S
 abbrev pub IsChosenAt : State → List Event → ℕ → Type 0
 IsChosenAt S es i = (e : Event) × (slice_get es i ≡ Some e) × Chosen S (choice_of e) e
 
@@ -27,7 +27,7 @@ NotTaken found live next HistoryFull = IsSome found × (most_live ≤ live)
 NotTaken found live next Spent = IsSome found × (live < most_live) × (last_ticket < next)
 NotTaken found live next _ = ⊥
 
--- the event at place i passes the test, and none before it
+-- the event at index i passes the test, and none before it
 abbrev pub FirstAt : (Event → Bool) → List Event → ℕ → Type 0
 FirstAt test es i = (e : Event) × (slice_get es i ≡ Some e) × (test e ≡ true) × Every (λ f. test f ≡ false) (take i es)
 

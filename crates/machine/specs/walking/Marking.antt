@@ -16,14 +16,14 @@ use Rattle.machine.specs.declared.history.History.{History}
 abbrev pub MarksDependents : Shown → ℕ → Type 0
 MarksDependents s t = (u : ℕ) → In u s.marked ↔ ((f : Event) × LiveAt s.live u f × DependsOn s.live t u)
 
--- T and the inverses stand for the live events without those that are marked at the place and behind it
-pub record StandsFrom (checked : Checked) (place : ℕ) (T : TreeAndStore) (s : Shown) (inverses : List Inverse) (next : ℕ) : Type 0 where
+-- T and the inverses stand for the live events without those that are marked at the index and behind it
+pub record StandsFrom (checked : Checked) (index : ℕ) (T : TreeAndStore) (s : Shown) (inverses : List Inverse) (next : ℕ) : Type 0 where
   pub live : Live
   pub others : List Inverse
-  pub left : WithoutTickets (λ t. In t s.marked) (drop place s.live) live
-  pub beside : StaysBeside (λ t. In t s.marked) (drop place s.live) (drop place inverses) others
-  pub stands : Stands checked T (take place s.live ++ live) (take place inverses ++ others) next
+  pub left : WithoutTickets (λ t. In t s.marked) (drop index s.live) live
+  pub beside : StaysBeside (λ t. In t s.marked) (drop index s.live) (drop index inverses) others
+  pub stands : Stands checked T (take index s.live ++ live) (take index inverses ++ others) next
 
 -- so it is in a history
 abbrev pub HoldsFrom : Checked → ℕ → History → Type 0
-HoldsFrom checked place h = StandsFrom checked place (tree_of h) h.live h.inverses.items h.next
+HoldsFrom checked index h = StandsFrom checked index (tree_of h) h.live h.inverses.items h.next

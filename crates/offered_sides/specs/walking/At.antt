@@ -4,22 +4,9 @@ use Rattle.std.specs.Prelude.{◌≡◌, ◌==◌, ◌&&◌, Bool, true, false, 
 use Rattle.address.specs.declared.Entry.{Entry}
 use Rattle.address.specs.declared.Entry.TheVariants.{Ordered, Branch}
 use Rattle.calculus.specs.Moves.{Place}
+use Rattle.calculus.specs.Tests.{same_entry, same_place}
 use Rattle.offered_sides.specs.walking.Walk.{Walk}
 use Rattle.offered_sides.specs.declared.side.OfferedSide.{OfferedSide}
-
--- whether the entries are the same
-abbrev pub same_entry : Entry → Entry → Bool
-same_entry (Ordered i) (Ordered j) = i == j
-same_entry (Ordered i) (Branch j) = false
-same_entry (Branch i) (Ordered j) = false
-same_entry (Branch i) (Branch j) = i == j
-
--- whether the places are the same
-abbrev pub same_place : Place → Place → Bool
-same_place [] [] = true
-same_place [] (y ∷ b) = false
-same_place (x ∷ a) [] = false
-same_place (x ∷ a) (y ∷ b) = same_entry x y && same_place a b
 
 -- those of the sides at exactly this place
 abbrev pub at : Place → List OfferedSide → List OfferedSide

@@ -60,15 +60,15 @@ OrderStops v h Fault.Memory = Unit {0}
 OrderStops v h (Fault.NotCanonical n) = (v ≡ Second) × ((g : List Event) × IsCanonicalOrder h g × DiffersAt h g n)
 OrderStops v h _ = ⊥
 
--- each number stands at its own place
+-- each of these indexes stands at itself
 abbrev pub AllAtHome : List ℕ → Type 0
-AllAtHome places = (i : ℕ) → i < length places → get_or places i 0 ≡ i
+AllAtHome indexes = (i : ℕ) → i < length indexes → get_or indexes i 0 ≡ i
 
--- the first that does not stand at its own place is at k
-pub record FirstMoved (places : List ℕ) (k : ℕ) : Type 0 where
-  pub within : k < length places
-  pub moved : get_or places k 0 ≢ k
-  pub before : (i : ℕ) → i < k → get_or places i 0 ≡ i
+-- the first that does not stand at itself is at k
+pub record FirstMoved (indexes : List ℕ) (k : ℕ) : Type 0 where
+  pub within : k < length indexes
+  pub moved : get_or indexes k 0 ≢ k
+  pub before : (i : ℕ) → i < k → get_or indexes i 0 ≡ i
 
 -- what becomes of the line of this number whose step is answered so
 abbrev pub outcome_of : ℕ → Reply → Result (Unit {0}) Fault

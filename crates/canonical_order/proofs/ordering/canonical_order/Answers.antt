@@ -14,24 +14,24 @@ pub tell_followers-requires-clause-telling : goal.tell_followers-requires-clause
 tell_followers-requires-clause-telling c =
     let l = c.args.live.now.live in
     let order = c.in-Some.ensures.heap_order c.loop-next.invariant.ready.queue.heap in
-    let taken : Taken l c.push.new.self.items c.in-Some.field-0.0.place c.loop-next.left.items (heap_items c.pop.new.self) =
+    let taken : Taken l c.push.new.self.items c.in-Some.field-0.0.index c.loop-next.left.items (heap_items c.pop.new.self) =
     popped l c.loop-next.order.items c.push.new.self.items c.loop-next.left.items (heap_items c.loop-next.free) (heap_items c.pop.new.self) c.in-Some.field-0
     c.is_sound.ensures.rising (runs-once (events l) c.requires) c.loop-next.invariant c.in-Some.ensures.permutation order.0 order.1 c.in_ok-push.ensures.items in
-    subst (λ (left : List ℕ). SomeTelling l c.in-Some.field-0.0.place left (heap_items c.pop.new.self)) (sym c.as_mut_slice.ensures.value)
-    (some-telling l c.push.new.self.items c.in-Some.field-0.0.place c.loop-next.left.items (heap_items c.pop.new.self) taken)
+    subst (λ (left : List ℕ). SomeTelling l c.in-Some.field-0.0.index left (heap_items c.pop.new.self)) (sym c.as_mut_slice.ensures.value)
+    (some-telling l c.push.new.self.items c.in-Some.field-0.0.index c.loop-next.left.items (heap_items c.pop.new.self) taken)
 
 pub loop-next-preserved : goal.loop-next-preserved
 loop-next-preserved c =
     let l = c.args.live.now.live in
     let order = c.in-Some.ensures.heap_order c.loop-next.invariant.ready.queue.heap in
-    let taken : Taken l c.push.new.self.items c.in-Some.field-0.0.place c.loop-next.left.items (heap_items c.pop.new.self) =
+    let taken : Taken l c.push.new.self.items c.in-Some.field-0.0.index c.loop-next.left.items (heap_items c.pop.new.self) =
     popped l c.loop-next.order.items c.push.new.self.items c.loop-next.left.items (heap_items c.loop-next.free) (heap_items c.pop.new.self) c.in-Some.field-0
     c.is_sound.ensures.rising (runs-once (events l) c.requires) c.loop-next.invariant c.in-Some.ensures.permutation order.0 order.1 c.in_ok-push.ensures.items in
-    let told : TellsAll l c.in-Some.field-0.0.place c.loop-next.left.items (heap_items c.pop.new.self) c.tell_followers.new.left (heap_items c.tell_followers.new.free) =
-    subst (λ (left : List ℕ). TellsAll l c.in-Some.field-0.0.place left (heap_items c.pop.new.self) c.tell_followers.new.left (heap_items c.tell_followers.new.free))
+    let told : TellsAll l c.in-Some.field-0.0.index c.loop-next.left.items (heap_items c.pop.new.self) c.tell_followers.new.left (heap_items c.tell_followers.new.free) =
+    subst (λ (left : List ℕ). TellsAll l c.in-Some.field-0.0.index left (heap_items c.pop.new.self) c.tell_followers.new.left (heap_items c.tell_followers.new.free))
     c.as_mut_slice.ensures.value c.in_ok-tell_followers.ensures in
     let next : Progress l c.push.new.self.items c.tell_followers.new.left (heap_items c.tell_followers.new.free) =
-    progress-told l c.push.new.self.items c.in-Some.field-0.0.place c.loop-next.left.items c.tell_followers.new.left (heap_items c.pop.new.self)
+    progress-told l c.push.new.self.items c.in-Some.field-0.0.index c.loop-next.left.items c.tell_followers.new.left (heap_items c.pop.new.self)
     (heap_items c.tell_followers.new.free) taken told in
     let size : length c.tell_followers.new.left ≡ length l = next.ready.counts.size in
     let was : length c.loop-next.left.items ≡ length l = c.loop-next.invariant.ready.counts.size in

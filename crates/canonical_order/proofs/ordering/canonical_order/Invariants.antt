@@ -2,7 +2,7 @@ use Rattle.std.proofs.Common.{◌-◌, length, heap_items}
 use Rattle.canonical_order.proofs.Taking.{Progress}
 use Rattle.canonical_order.proofs.ordering.canonical_order.Given as goal
 
--- the places of the events taken so far, and what is left
+-- the indexes of the events taken so far, and what is left
 abbrev pub invariant-loop-next : goal.invariant-loop-next
 invariant-loop-next l = Progress l.live.live l.order.items l.left.items (heap_items l.free)
 

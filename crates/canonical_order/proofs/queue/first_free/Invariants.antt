@@ -3,5 +3,5 @@ use Rattle.canonical_order.specs.walking.Waiting.{IsQueue}
 use Rattle.canonical_order.proofs.queue.first_free.Given as goal
 
 -- those of the events passed that wait for none
-abbrev pub invariant-loop-place : goal.invariant-loop-place
-invariant-loop-place l = IsQueue l.live.live (take l.place l.live.live) l.left (heap_items l.free)
+abbrev pub invariant-loop-index : goal.invariant-loop-index
+invariant-loop-index l = IsQueue l.live.live (take l.index l.live.live) l.left (heap_items l.free)

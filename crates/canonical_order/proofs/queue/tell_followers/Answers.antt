@@ -9,11 +9,11 @@ use Rattle.canonical_order.proofs.queue.tell_followers.Goals as goal
 pub followers-follower-items-requires : goal.followers-follower-items-requires
 followers-follower-items-requires c =
     let some = c.requires.telling.1 in
-    let ticket = here-ticket c.args.live.now.live c.as_slice.result.now c.args.place c.index-as_slice-place.result some.0 some.1 c.as_slice.ensures some.2 in
-    (some.1, subst (λ (s : ℕ). LiveAt c.args.live.now.live s some.1) (sym ticket) (in-at c.args.live.now.live c.args.place (some.0, some.1) some.2))
+    let ticket = here-ticket c.args.live.now.live c.as_slice.result.now c.args.index c.index-as_slice-index.result some.0 some.1 c.as_slice.ensures some.2 in
+    (some.1, subst (λ (s : ℕ). LiveAt c.args.live.now.live s some.1) (sym ticket) (in-at c.args.live.now.live c.args.index (some.0, some.1) some.2))
 
-pub place_of-requires : goal.place_of-requires
-place_of-requires c =
+pub index_of-requires : goal.index_of-requires
+index_of-requires c =
     let at = in-read c.followers-follower-items.result.now c.loop-follower.follower-index c.loop-follower-test.true in
     let follows = (c.followers-follower-items.ensures.exactly (get_or c.followers-follower-items.result.now c.loop-follower.follower-index 0)).0 at in
     (follows.dependent.dependent, follows.dependent.dependent_live)
@@ -24,25 +24,25 @@ tell-requires c =
     let us = c.followers-follower-items.result.now in
     let k = c.loop-follower.follower-index in
     let some = c.requires.telling.1 in
-    let ticket = here-ticket l c.as_slice.result.now c.args.place c.index-as_slice-place.result some.0 some.1 c.as_slice.ensures some.2 in
+    let ticket = here-ticket l c.as_slice.result.now c.args.index c.index-as_slice-index.result some.0 some.1 c.as_slice.ensures some.2 in
     let lists : ListsFollowers l some.0 us = subst (λ (s : ℕ). ListsFollowers l s us) ticket c.followers-follower-items.ensures in
     let follows = (lists.exactly (get_or us k 0)).0 (in-read us k c.loop-follower-test.true) in
-    can-tell l c.requires.telling.0 some.0 (take k us) c.loop-follower.left (heap_items c.loop-follower.free) c.place_of.result (get_or us k 0)
-    c.place_of.ensures.0 (c.loop-follower.invariant c.requires.telling.0 some.0 some.1 some.2 some.3) follows
-    (new-in us k lists.ascending c.loop-follower-test.true) c.place_of.ensures.1
+    can-tell l c.requires.telling.0 some.0 (take k us) c.loop-follower.left (heap_items c.loop-follower.free) c.index_of.result (get_or us k 0)
+    c.index_of.ensures.0 (c.loop-follower.invariant c.requires.telling.0 some.0 some.1 some.2 some.3) follows
+    (new-in us k lists.ascending c.loop-follower-test.true) c.index_of.ensures.1
 
 pub loop-follower-preserved : goal.loop-follower-preserved
 loop-follower-preserved c = λ rest t e at telling.
     let l = c.args.live.now.live in
     let us = c.followers-follower-items.result.now in
     let k = c.loop-follower.follower-index in
-    let ticket = here-ticket l c.as_slice.result.now c.args.place c.index-as_slice-place.result t e c.as_slice.ensures at in
+    let ticket = here-ticket l c.as_slice.result.now c.args.index c.index-as_slice-index.result t e c.as_slice.ensures at in
     let lists : ListsFollowers l t us = subst (λ (s : ℕ). ListsFollowers l s us) ticket c.followers-follower-items.ensures in
     let follows = (lists.exactly (get_or us k 0)).0 (in-read us k c.loop-follower-test.true) in
     subst (λ (told : List ℕ). Telling l rest t told c.tell.new.left (heap_items c.tell.new.free)) (told-next us k c.loop-follower-test.true)
-    (told-one l rest t (take k us) c.loop-follower.left (heap_items c.loop-follower.free) c.place_of.result (get_or us k 0) c.place_of.ensures.0
+    (told-one l rest t (take k us) c.loop-follower.left (heap_items c.loop-follower.free) c.index_of.result (get_or us k 0) c.index_of.ensures.0
     c.tell.new.left (heap_items c.tell.new.free) c.requires.rising (c.loop-follower.invariant rest t e at telling) follows
-    (new-in us k lists.ascending c.loop-follower-test.true) c.place_of.ensures.1 c.in_ok-tell.ensures)
+    (new-in us k lists.ascending c.loop-follower-test.true) c.index_of.ensures.1 c.in_ok-tell.ensures)
 
 pub returns : goal.returns
 returns c = λ rest telling.
@@ -50,7 +50,7 @@ returns c = λ rest telling.
     let us = c.followers-follower-items.result.now in
     let k = c.loop-follower.follower-index in
     let t = telling.0 in
-    let ticket = here-ticket l c.as_slice.result.now c.args.place c.index-as_slice-place.result t telling.1 c.as_slice.ensures telling.2 in
+    let ticket = here-ticket l c.as_slice.result.now c.args.index c.index-as_slice-index.result t telling.1 c.as_slice.ensures telling.2 in
     let lists : ListsFollowers l t us = subst (λ (s : ℕ). ListsFollowers l s us) ticket c.followers-follower-items.ensures in
     told-all l rest t us c.loop-follower.left (heap_items c.loop-follower.free) lists
     (subst (λ (told : List ℕ). Telling l rest t told c.loop-follower.left (heap_items c.loop-follower.free)) (take-all us k c.loop-follower-test.false)

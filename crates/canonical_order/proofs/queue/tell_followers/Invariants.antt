@@ -8,6 +8,6 @@ use Rattle.canonical_order.proofs.queue.tell_followers.Given as goal
 -- those passed were told
 abbrev pub invariant-loop-follower : goal.invariant-loop-follower
 invariant-loop-follower l =
-    (rest : Live) (t : ℕ) (e : Event) → slice_get l.live.live l.place ≡ Some (t, e)
+    (rest : Live) (t : ℕ) (e : Event) → slice_get l.live.live l.index ≡ Some (t, e)
     → Telling l.live.live rest t [] l.initial.left (heap_items l.initial.free)
     → Telling l.live.live rest t (take l.follower-index l.follower-items) l.left (heap_items l.free)

@@ -8,8 +8,8 @@ use Rattle.dependence.proofs.acting.event_of.Goals as goal
 pub returns : goal.returns
 returns c =
     let l = c.args.live.now in
-    let place = c.place_of_live-place.result in
-    let at = c.place_of_live-place.ensures in
+    let index = c.index_of_live-index.result in
+    let at = c.index_of_live-index.ensures in
     subst (λ (e : Event). LiveAt l c.args.ticket e)
-    (sym (c.get.ensures ∙ ap (λ (x : ℕ × Event). x.1) (get_or_from_slice_get l place (c.args.ticket, at.0) c.index-live-place.result at.1)))
-    (in-at l place (c.args.ticket, at.0) at.1)
+    (sym (c.get.ensures ∙ ap (λ (x : ℕ × Event). x.1) (get_or_from_slice_get l index (c.args.ticket, at.0) c.index-live-index.result at.1)))
+    (in-at l index (c.args.ticket, at.0) at.1)

@@ -11,7 +11,7 @@ use Rattle.dependence.proofs.entries.take_out.Goals as goal
 pub unlink_all-requires : goal.unlink_all-requires
 unlink_all-requires c =
     let taken =
-    taken-at c.args.pairs.now.items c.as_slice.result.now c.args.links.now.items c.as_mut_slice.result.now c.args.place c.remove-ticket.result c.remove-taken.result
+    taken-at c.args.pairs.now.items c.as_slice.result.now c.args.links.now.items c.as_mut_slice.result.now c.args.index c.remove-ticket.result c.remove-taken.result
     c.as_slice-2.result.now c.requires.rising c.requires.linked c.requires.alone c.remove-ticket.ensures.value c.remove-taken.ensures.value
     (c.as_slice.ensures.value ∙ c.remove-ticket.ensures.items) (c.as_mut_slice.ensures.value ∙ c.remove-taken.ensures.items) (c.as_slice-2.ensures.value ∙ ap (λ (m : Links). m.leads.items) c.get.ensures) in
     record { rising = taken.rising; absent = taken.absent; live = taken.live; falling = taken.falling; linked = taken.linked }
@@ -26,6 +26,6 @@ returns c =
       linked = subst (λ (k : List Links). Linked c.remove-ticket.new.self.items k) (sym whole)
           (subst (λ (k : Live). Linked k c.unlink_all.new.links) c.as_slice.ensures.value (part-linked c.as_slice.result.now _ c.unlink_all.new.links c.unlink_all.ensures));
       event = λ t on.
-          let here : c.remove-ticket.result ≡ (t, on.0) = c.remove-ticket.ensures.value ∙ got-here c.args.pairs.now.items c.args.place (t, on.0) c.remove-ticket.result on.1 in
-          subst (λ (e : Event). LiveAt c.args.pairs.now.items t e) (sym (c.into_inner.ensures ∙ ap (λ (x : ℕ × Event). x.1) here)) (in-at c.args.pairs.now.items c.args.place (t, on.0) on.1);
+          let here : c.remove-ticket.result ≡ (t, on.0) = c.remove-ticket.ensures.value ∙ got-here c.args.pairs.now.items c.args.index (t, on.0) c.remove-ticket.result on.1 in
+          subst (λ (e : Event). LiveAt c.args.pairs.now.items t e) (sym (c.into_inner.ensures ∙ ap (λ (x : ℕ × Event). x.1) here)) (in-at c.args.pairs.now.items c.args.index (t, on.0) on.1);
     }

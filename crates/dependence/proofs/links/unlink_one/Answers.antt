@@ -4,6 +4,6 @@ use Rattle.dependence.proofs.links.unlink_one.Goals as goal
 
 pub returns : goal.returns
 returns c =
-    let at = c.place_of_live-place.ensures in
-    changed-at c.args.live.now c.args.lead c.place_of_live-place.result at.0 (Removed c.args.ticket) c.args.links.now
-    c.index-links-place.result _ at.1 c.requires.size c.remove_follower.ensures.followers c.remove_follower.ensures.leads
+    let at = c.index_of_live-index.ensures in
+    changed-at c.args.live.now c.args.lead c.index_of_live-index.result at.0 (Removed c.args.ticket) c.args.links.now
+    c.index-links-index.result _ at.1 c.requires.size c.remove_follower.ensures.followers c.remove_follower.ensures.leads

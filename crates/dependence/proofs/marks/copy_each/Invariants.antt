@@ -2,5 +2,5 @@ use Rattle.std.proofs.Common.{◌≡◌, ◌++◌, drop}
 use Rattle.dependence.specs.Shown.{tickets_marked}
 use Rattle.dependence.proofs.marks.copy_each.Given as goal
 
-abbrev pub invariant-loop-place : goal.invariant-loop-place
-invariant-loop-place l = l.tickets.items ++ tickets_marked (drop l.place l.live) (drop l.place l.marks) ≡ tickets_marked l.live l.marks
+abbrev pub invariant-loop-index : goal.invariant-loop-index
+invariant-loop-index l = l.tickets.items ++ tickets_marked (drop l.index l.live) (drop l.index l.marks) ≡ tickets_marked l.live l.marks

@@ -6,20 +6,20 @@ use Rattle.dependence.proofs.ListPlaces.{in-read, take-all}
 use Rattle.dependence.proofs.Markings.{marked-next}
 use Rattle.dependence.proofs.marks.mark_all.Goals as goal
 
-pub place_of_live-place-requires-clause-live : goal.place_of_live-place-requires-clause-live
-place_of_live-place-requires-clause-live c = c.requires.live _ (in-read c.args.tickets.now c.loop-ticket.ticket-index c.loop-ticket-test.true)
+pub index_of_live-index-requires-clause-live : goal.index_of_live-index-requires-clause-live
+index_of_live-index-requires-clause-live c = c.requires.live _ (in-read c.args.tickets.now c.loop-ticket.ticket-index c.loop-ticket-test.true)
 
-pub bounds-marks-place : goal.bounds-marks-place
-bounds-marks-place c =
-    let at = c.place_of_live-place.ensures in
-    let within : c.place_of_live-place.result < length c.args.live.now = slice_get_within c.args.live.now c.place_of_live-place.result _ at.1 in
+pub bounds-marks-index : goal.bounds-marks-index
+bounds-marks-index c =
+    let at = c.index_of_live-index.ensures in
+    let within : c.index_of_live-index.result < length c.args.live.now = slice_get_within c.args.live.now c.index_of_live-index.result _ at.1 in
     omega arith
 
 pub loop-ticket-preserved : goal.loop-ticket-preserved
 loop-ticket-preserved c =
-    let at = c.place_of_live-place.ensures in
+    let at = c.index_of_live-index.ensures in
     let size : length c.loop-ticket.marks ≡ length c.args.live.now = omega arith in
-    marked-next c.args.live.now c.args.marks.now c.loop-ticket.marks c.args.tickets.now c.loop-ticket.ticket-index c.place_of_live-place.result at.0 c.requires.rising
+    marked-next c.args.live.now c.args.marks.now c.loop-ticket.marks c.args.tickets.now c.loop-ticket.ticket-index c.index_of_live-index.result at.0 c.requires.rising
     size c.loop-ticket-test.true at.1 c.loop-ticket.invariant
 
 pub returns : goal.returns

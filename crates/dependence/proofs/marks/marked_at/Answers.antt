@@ -4,17 +4,17 @@ use Rattle.dependence.specs.Shown.{tickets_marked}
 use Rattle.dependence.specs.Taking.{OneMarkedAt}
 use Rattle.dependence.proofs.Unmarking.{marked-here, unmarked-here, past-marks}
 use Rattle.dependence.proofs.marks.marked_at.Goals as goal
-use Rattle.dependence.proofs.marks.marked_at.Goals.{else-place-marks-via-then-place-marks+else-marks-place, else-place-marks-via-else-place-marks}
+use Rattle.dependence.proofs.marks.marked_at.Goals.{else-index-marks-via-then-index-marks+else-marks-index, else-index-marks-via-else-index-marks}
 
-pub returns-then-marks-place : goal.returns-then-marks-place
-returns-then-marks-place c =
-    subst (λ (e : Event). OneMarkedAt c.args.live.now (tickets_marked c.args.live.now c.args.marks.now) c.args.place e) (sym c.get.ensures)
-    (marked-here c.args.live.now c.args.marks.now c.args.place c.index-live-place.result c.requires.size c.if-place-marks.true c.if-marks-place.true)
+pub returns-then-marks-index : goal.returns-then-marks-index
+returns-then-marks-index c =
+    subst (λ (e : Event). OneMarkedAt c.args.live.now (tickets_marked c.args.live.now c.args.marks.now) c.args.index e) (sym c.get.ensures)
+    (marked-here c.args.live.now c.args.marks.now c.args.index c.index-live-index.result c.requires.size c.if-index-marks.true c.if-marks-index.true)
 
 pub returns : goal.returns
 returns c =
-    elim c.else-place-marks.branch [
-      | else-place-marks-via-then-place-marks+else-marks-place w ↦
-          unmarked-here c.args.live.now c.args.marks.now c.args.place c.requires.rising c.requires.size w.if-place-marks.true w.if-marks-place.false
-      | else-place-marks-via-else-place-marks w ↦ past-marks c.args.live.now c.args.marks.now c.args.place c.requires.size w.if-place-marks.false
+    elim c.else-index-marks.branch [
+      | else-index-marks-via-then-index-marks+else-marks-index w ↦
+          unmarked-here c.args.live.now c.args.marks.now c.args.index c.requires.rising c.requires.size w.if-index-marks.true w.if-marks-index.false
+      | else-index-marks-via-else-index-marks w ↦ past-marks c.args.live.now c.args.marks.now c.args.index c.requires.size w.if-index-marks.false
     ]

@@ -21,6 +21,6 @@ pub returns-else-is_some : goal.returns-else-is_some
 returns-else-is_some c = record {
   thinned = thinned-same _ c.args.tickets.now.items;
   gone = λ i.
-      none-found c.place_in.result (In c.args.ticket c.as_slice.result.now → ⊥) (λ k. slice_get c.as_slice.result.now k ≡ Some c.args.ticket)
-      (sym c.is_some.ensures ∙ c.if-is_some.false) c.place_in.ensures (subst (λ (ts : List ℕ). In c.args.ticket ts) (sym c.as_slice.ensures.value) i);
+      none-found c.index_in.result (In c.args.ticket c.as_slice.result.now → ⊥) (λ k. slice_get c.as_slice.result.now k ≡ Some c.args.ticket)
+      (sym c.is_some.ensures ∙ c.if-is_some.false) c.index_in.ensures (subst (λ (ts : List ℕ). In c.args.ticket ts) (sym c.as_slice.ensures.value) i);
 }

@@ -6,8 +6,8 @@ use Rattle.dependence.specs.declared.links.Links.{Links}
 use Rattle.dependence.specs.walking.Unmarked.{AllThinned, NotBehind}
 use Rattle.dependence.proofs.taking.unlink_at.Given as goal
 
-abbrev pub invariant-loop-index : goal.invariant-loop-index
-invariant-loop-index l = record {
+abbrev pub invariant-loop-lead_index : goal.invariant-loop-lead_index
+invariant-loop-lead_index l = record {
   thinned : AllThinned (λ (t : ℕ). In t (tickets_marked l.live l.marks)) l.initial.links l.links;
-  loose : (n : Links) → slice_get l.initial.links l.place ≡ Some n → (u : ℕ) → In u (take l.index n.leads.items) → NotBehind l.live l.links l.ticket u;
+  loose : (n : Links) → slice_get l.initial.links l.index ≡ Some n → (u : ℕ) → In u (take l.lead_index n.leads.items) → NotBehind l.live l.links l.ticket u;
 }

@@ -5,8 +5,8 @@ use Rattle.dependence.specs.Shown.{tickets_marked}
 use Rattle.dependence.specs.walking.Unmarked.{AllThinned, IsLoose}
 use Rattle.dependence.proofs.taking.unlink_marked.Given as goal
 
-abbrev pub invariant-loop-place : goal.invariant-loop-place
-invariant-loop-place l = record {
+abbrev pub invariant-loop-index : goal.invariant-loop-index
+invariant-loop-index l = record {
   thinned : AllThinned (λ (t : ℕ). In t (tickets_marked l.live l.marks)) l.initial.links l.links;
-  loose : (j : ℕ) → j < l.place → slice_get l.marks j ≡ Some true → IsLoose l.live l.initial.links l.links j;
+  loose : (j : ℕ) → j < l.index → slice_get l.marks j ≡ Some true → IsLoose l.live l.initial.links l.links j;
 }

@@ -14,32 +14,32 @@ use Rattle.dependence.proofs.topmost.topmost.Goals as goal
 
 pub is_flagged-below-requires-clause-live : goal.is_flagged-below-requires-clause-live
 is_flagged-below-requires-clause-live c = λ t i.
-    let p : ℕ = c.loop-place.place - 1 in
+    let p : ℕ = c.loop-index.index - 1 in
     let less : p < length c.args.live.now = omega arith in
-    let here = linked-here c.args.live.now c.args.links.now p c.index-links-place.result c.requires.linked less in
-    let f = (here.followers.exactly t).0 (subst (λ (k : List ℕ). In t k) (c.as_slice-in-loop-place.ensures.value ∙ ap (λ (m : Links). m.followers.items) (c.get.ensures ∙ c.index-links-place.is)) i) in
+    let here = linked-here c.args.live.now c.args.links.now p c.index-links-index.result c.requires.linked less in
+    let f = (here.followers.exactly t).0 (subst (λ (k : List ℕ). In t k) (c.as_slice-in-loop-index.ensures.value ∙ ap (λ (m : Links). m.followers.items) (c.get.ensures ∙ c.index-links-index.is)) i) in
     (f.dependent.dependent, f.dependent.dependent_live)
 
 pub is_flagged-below-requires-clause-passed : goal.is_flagged-below-requires-clause-passed
 is_flagged-below-requires-clause-passed c = λ t i j on.
-    let p : ℕ = c.loop-place.place - 1 in
+    let p : ℕ = c.loop-index.index - 1 in
     let less : p < length c.args.live.now = omega arith in
-    let here = linked-here c.args.live.now c.args.links.now p c.index-links-place.result c.requires.linked less in
-    let f = (here.followers.exactly t).0 (subst (λ (k : List ℕ). In t k) (c.as_slice-in-loop-place.ensures.value ∙ ap (λ (m : Links). m.followers.items) (c.get.ensures ∙ c.index-links-place.is)) j) in
+    let here = linked-here c.args.live.now c.args.links.now p c.index-links-index.result c.requires.linked less in
+    let f = (here.followers.exactly t).0 (subst (λ (k : List ℕ). In t k) (c.as_slice-in-loop-index.ensures.value ∙ ap (λ (m : Links). m.followers.items) (c.get.ensures ∙ c.index-links-index.is)) j) in
     let above : p < i = lesser-stands 0 c.requires.rising.0 c.args.live.now p i here.ticket t here.event on.0 c.requires.rising.1 here.stands on.1 f.dependent.less in
-    let count : c.loop-place.place + length c.loop-place.flags.items ≡ c.args.high = c.loop-place.invariant.swept.count in
-    let size : length c.as_slice.result.now ≡ length c.loop-place.flags.items = ap length c.as_slice.ensures.value in
+    let count : c.loop-index.index + length c.loop-index.flags.items ≡ c.args.high = c.loop-index.invariant.swept.count in
+    let size : length c.as_slice.result.now ≡ length c.loop-index.flags.items = ap length c.as_slice.ensures.value in
     omega arith
 
 pub is_flagged-below-requires-clause-ascending : goal.is_flagged-below-requires-clause-ascending
 is_flagged-below-requires-clause-ascending c =
-    let p : ℕ = c.loop-place.place - 1 in
+    let p : ℕ = c.loop-index.index - 1 in
     let less : p < length c.args.live.now = omega arith in
-    let here = linked-here c.args.live.now c.args.links.now p c.index-links-place.result c.requires.linked less in
-    subst (λ (k : List ℕ). InOrder ◌<◌ k) (sym (c.as_slice-in-loop-place.ensures.value ∙ ap (λ (m : Links). m.followers.items) (c.get.ensures ∙ c.index-links-place.is))) here.followers.ascending
+    let here = linked-here c.args.live.now c.args.links.now p c.index-links-index.result c.requires.linked less in
+    subst (λ (k : List ℕ). InOrder ◌<◌ k) (sym (c.as_slice-in-loop-index.ensures.value ∙ ap (λ (m : Links). m.followers.items) (c.get.ensures ∙ c.index-links-index.is))) here.followers.ascending
 
-pub loop-place-init : goal.loop-place-init
-loop-place-init c =
+pub loop-index-init : goal.loop-index-init
+loop-index-init c =
     let first = swept-none c.args.live.now c.args.candidates.now c.args.low c.args.high c.requires.stand c.requires.rising.0 0 c.requires.rising.1 in
     record {
       low = c.requires.order;
@@ -48,36 +48,36 @@ loop-place-init c =
           (subst (λ (k : List ℕ). Swept c.args.live.now c.args.candidates.now c.args.high c.args.high [] k) (sym c.new-kept.ensures.items) first);
     }
 
-pub loop-place-preserved : goal.loop-place-preserved
-loop-place-preserved c =
-    let p : ℕ = c.loop-place.place - 1 in
+pub loop-index-preserved : goal.loop-index-preserved
+loop-index-preserved c =
+    let p : ℕ = c.loop-index.index - 1 in
     let less : p < length c.args.live.now = omega arith in
     let below : p < c.args.high = omega arith in
-    let step : suc p ≡ c.loop-place.place = omega arith in
-    let here = linked-here c.args.live.now c.args.links.now p c.index-links-place.result c.requires.linked less in
-    let ticket : (get_or c.args.live.now p c.index-live-place.result).0 ≡ here.ticket =
-    ap (λ (x : ℕ × Event). x.0) (got-here c.args.live.now p (here.ticket, here.event) c.index-live-place.result here.stands) in
-    let ticket_again : (get_or c.args.live.now p c.index-live-place-in-loop-place.result).0 ≡ here.ticket =
-    ap (λ (x : ℕ × Event). x.0) (got-here c.args.live.now p (here.ticket, here.event) c.index-live-place-in-loop-place.result here.stands) in
-    let flags : c.as_slice.result.now ≡ c.loop-place.flags.items = c.as_slice.ensures.value in
-    let told : IsTrue c.is_flagged-below.result ↔ ((v : ℕ) × In v c.as_slice-in-loop-place.result.now × FlagAt c.args.live.now c.args.high c.loop-place.flags.items v) =
-    subst (λ (k : List Bool). IsTrue c.is_flagged-below.result ↔ ((v : ℕ) × In v c.as_slice-in-loop-place.result.now × FlagAt c.args.live.now c.args.high k v)) flags
+    let step : suc p ≡ c.loop-index.index = omega arith in
+    let here = linked-here c.args.live.now c.args.links.now p c.index-links-index.result c.requires.linked less in
+    let ticket : (get_or c.args.live.now p c.index-live-index.result).0 ≡ here.ticket =
+    ap (λ (x : ℕ × Event). x.0) (got-here c.args.live.now p (here.ticket, here.event) c.index-live-index.result here.stands) in
+    let ticket_again : (get_or c.args.live.now p c.index-live-index-in-loop-index.result).0 ≡ here.ticket =
+    ap (λ (x : ℕ × Event). x.0) (got-here c.args.live.now p (here.ticket, here.event) c.index-live-index-in-loop-index.result here.stands) in
+    let flags : c.as_slice.result.now ≡ c.loop-index.flags.items = c.as_slice.ensures.value in
+    let told : IsTrue c.is_flagged-below.result ↔ ((v : ℕ) × In v c.as_slice-in-loop-index.result.now × FlagAt c.args.live.now c.args.high c.loop-index.flags.items v) =
+    subst (λ (k : List Bool). IsTrue c.is_flagged-below.result ↔ ((v : ℕ) × In v c.as_slice-in-loop-index.result.now × FlagAt c.args.live.now c.args.high k v)) flags
     c.is_flagged-below.ensures in
     record {
       low = omega arith;
       high = omega arith;
-      swept = swept-next 0 c.requires.rising.0 c.args.live.now c.args.candidates.now c.args.low c.args.high c.loop-place.place p here.ticket here.event
-          c.loop-place.flags.items c.push.new.self.items c.loop-place.kept.items c.add_if.new.found.items c.as_slice-in-loop-place.result.now
+      swept = swept-next 0 c.requires.rising.0 c.args.live.now c.args.candidates.now c.args.low c.args.high c.loop-index.index p here.ticket here.event
+          c.loop-index.flags.items c.push.new.self.items c.loop-index.kept.items c.add_if.new.found.items c.as_slice-in-loop-index.result.now
           c.is_among-is_one.result c.is_flagged-below.result c.either.result c.alone.result c.requires.rising.1 c.requires.stand step here.stands below
-          (subst (λ (k : List ℕ). ListsFollowers c.args.live.now here.ticket k) (sym (c.as_slice-in-loop-place.ensures.value ∙ ap (λ (m : Links). m.followers.items) (c.get.ensures ∙ c.index-links-place.is))) here.followers)
-          c.loop-place.invariant.swept
+          (subst (λ (k : List ℕ). ListsFollowers c.args.live.now here.ticket k) (sym (c.as_slice-in-loop-index.ensures.value ∙ ap (λ (m : Links). m.followers.items) (c.get.ensures ∙ c.index-links-index.is))) here.followers)
+          c.loop-index.invariant.swept
           (c.is_among-is_one.ensures ∙ ap (λ (k : ℕ). is_in k c.args.candidates.now) ticket) told c.either.ensures c.alone.ensures c.in_ok-push.ensures.items
-          (c.in_ok-add_if.ensures ∙ ap (λ (k : ℕ). cond c.alone.result (c.loop-place.kept.items ++ k ∷ []) c.loop-place.kept.items) ticket_again);
+          (c.in_ok-add_if.ensures ∙ ap (λ (k : ℕ). cond c.alone.result (c.loop-index.kept.items ++ k ∷ []) c.loop-index.kept.items) ticket_again);
     }
 
 pub returns : goal.returns
 returns c = record {
-  falling = c.loop-place.invariant.swept.falling;
-  topmost = swept-all 0 c.requires.rising.0 c.args.live.now c.args.candidates.now c.args.low c.args.high c.loop-place.place c.loop-place.flags.items
-      c.loop-place.kept.items c.requires.rising.1 c.requires.stand c.loop-place-test.false c.loop-place.invariant.swept;
+  falling = c.loop-index.invariant.swept.falling;
+  topmost = swept-all 0 c.requires.rising.0 c.args.live.now c.args.candidates.now c.args.low c.args.high c.loop-index.index c.loop-index.flags.items
+      c.loop-index.kept.items c.requires.rising.1 c.requires.stand c.loop-index-test.false c.loop-index.invariant.swept;
 }

@@ -3,7 +3,7 @@ use Rattle.rendezvous.proofs.choosing.first_with.Goals as goal
 
 pub returns-in-Some : goal.returns-in-Some
 returns-in-Some c = λ S ready.
-    chosen-here S c.args.choice.now _ _ _ c.in-Some.place c.swap_remove.result ready c.into_vec-events.ensures c.as_slice.ensures.value c.in-Some.ensures
+    chosen-here S c.args.choice.now _ _ _ c.in-Some.index c.swap_remove.result ready c.into_vec-events.ensures c.as_slice.ensures.value c.in-Some.ensures
     c.swap_remove.ensures.value
 
 pub returns : goal.returns

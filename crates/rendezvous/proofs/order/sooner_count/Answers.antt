@@ -4,21 +4,21 @@ use Rattle.rendezvous.proofs.order.sooner_count.Goals as goal
 
 pub returns-then-is_sooner-clause-counted : goal.returns-then-is_sooner-clause-counted
 returns-then-is_sooner-clause-counted c = λ order.
-    let next : suc (c.loop-place.place - 1) ≡ c.loop-place.place = omega arith in
-    let less : c.loop-place.place - 1 < length c.args.sorted.now = omega arith in
-    count-here c.args.event.now c.index-sorted-place.result c.args.sorted.now (c.loop-place.place - 1) c.loop-place.place c.is_sooner.result order next less
-    c.index-sorted-place.is c.is_sooner.ensures c.if-is_sooner.true c.loop-place.invariant.past
+    let next : suc (c.loop-index.index - 1) ≡ c.loop-index.index = omega arith in
+    let less : c.loop-index.index - 1 < length c.args.sorted.now = omega arith in
+    count-here c.args.event.now c.index-sorted-index.result c.args.sorted.now (c.loop-index.index - 1) c.loop-index.index c.is_sooner.result order next less
+    c.index-sorted-index.is c.is_sooner.ensures c.if-is_sooner.true c.loop-index.invariant.past
 
-pub loop-place-preserved : goal.loop-place-preserved
-loop-place-preserved c =
-    let next : suc (c.loop-place.place - 1) ≡ c.loop-place.place = omega arith in
-    let less : c.loop-place.place - 1 < length c.args.sorted.now = omega arith in
+pub loop-index-preserved : goal.loop-index-preserved
+loop-index-preserved c =
+    let next : suc (c.loop-index.index - 1) ≡ c.loop-index.index = omega arith in
+    let less : c.loop-index.index - 1 < length c.args.sorted.now = omega arith in
     record {
       within = omega arith;
       past =
-          past-more c.args.event.now c.index-sorted-place.result c.args.sorted.now (c.loop-place.place - 1) c.loop-place.place c.is_sooner.result next less
-          c.index-sorted-place.is c.is_sooner.ensures c.if-is_sooner.false c.loop-place.invariant.past;
+          past-more c.args.event.now c.index-sorted-index.result c.args.sorted.now (c.loop-index.index - 1) c.loop-index.index c.is_sooner.result next less
+          c.index-sorted-index.is c.is_sooner.ensures c.if-is_sooner.false c.loop-index.invariant.past;
     }
 
 pub returns-clause-counted : goal.returns-clause-counted
-returns-clause-counted c = λ order. count-none c.args.event.now c.args.sorted.now c.loop-place.place c.loop-place-test.false c.loop-place.invariant.past
+returns-clause-counted c = λ order. count-none c.args.event.now c.args.sorted.now c.loop-index.index c.loop-index-test.false c.loop-index.invariant.past

@@ -3,11 +3,11 @@ use Rattle.syntax.specs.Lists.{Every}
 use Rattle.rendezvous.specs.walking.Sorting.{is_sooner}
 use Rattle.rendezvous.proofs.order.sooner_count.Given as goal
 
-abbrev pub invariant-loop-place : goal.invariant-loop-place
-invariant-loop-place l = record {
-  within : l.place ≤ length l.sorted;
-  past : Every (λ f. is_sooner f l.event ≡ false) (drop l.place l.sorted);
+abbrev pub invariant-loop-index : goal.invariant-loop-index
+invariant-loop-index l = record {
+  within : l.index ≤ length l.sorted;
+  past : Every (λ f. is_sooner f l.event ≡ false) (drop l.index l.sorted);
 }
 
-abbrev pub decreases-loop-place : goal.decreases-loop-place
-decreases-loop-place l = l.place
+abbrev pub decreases-loop-index : goal.decreases-loop-index
+decreases-loop-index l = l.index

@@ -6,7 +6,7 @@ use Rattle.trace_file.proofs.order.refuse_moved.Goals as goal
 pub returns-in-Some : goal.returns-in-Some
 returns-in-Some c =
     let order = c.in_ok-order.ensures in
-    one-moved c.args.live.now.live c.as_slice.result.now c.in-Some.place (c.in-Some.place + 2)
+    one-moved c.args.live.now.live c.as_slice.result.now c.in-Some.index (c.in-Some.index + 2)
     (order.0, order.1, subst (λ (p : List ℕ). StandAt c.args.live.now.live p order.0) (sym c.as_slice.ensures.value) order.2)
     c.requires.runs c.requires.lines c.in-Some.ensures refl
 

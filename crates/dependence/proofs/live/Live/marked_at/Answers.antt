@@ -14,8 +14,8 @@ marked_at-requires c = record {
 
 pub returns : goal.returns
 returns c =
-    subst (λ (s : Shown). MatchOption c.marked_at.result (NoneMarkedAt s.live s.marked c.args.place) (λ found. OneMarkedAt s.live s.marked c.args.place found.now)) c.self.view_is
-    (subst (λ (ms : List Bool). MatchOption c.marked_at.result (NoneMarkedAt c.self.inside.pairs.items (tickets_marked c.self.inside.pairs.items ms) c.args.place)
-    (λ found. OneMarkedAt c.self.inside.pairs.items (tickets_marked c.self.inside.pairs.items ms) c.args.place found.now)) c.as_slice-2.ensures.value
-    (subst (λ (k : Live). MatchOption c.marked_at.result (NoneMarkedAt k (tickets_marked k c.as_slice-2.result.now) c.args.place)
-    (λ found. OneMarkedAt k (tickets_marked k c.as_slice-2.result.now) c.args.place found.now)) c.as_slice.ensures.value c.marked_at.ensures))
+    subst (λ (s : Shown). MatchOption c.marked_at.result (NoneMarkedAt s.live s.marked c.args.index) (λ found. OneMarkedAt s.live s.marked c.args.index found.now)) c.self.view_is
+    (subst (λ (ms : List Bool). MatchOption c.marked_at.result (NoneMarkedAt c.self.inside.pairs.items (tickets_marked c.self.inside.pairs.items ms) c.args.index)
+    (λ found. OneMarkedAt c.self.inside.pairs.items (tickets_marked c.self.inside.pairs.items ms) c.args.index found.now)) c.as_slice-2.ensures.value
+    (subst (λ (k : Live). MatchOption c.marked_at.result (NoneMarkedAt k (tickets_marked k c.as_slice-2.result.now) c.args.index)
+    (λ found. OneMarkedAt k (tickets_marked k c.as_slice-2.result.now) c.args.index found.now)) c.as_slice.ensures.value c.marked_at.ensures))

@@ -14,7 +14,7 @@ pub insert-requires : goal.insert-requires
 insert-requires c = (
   lit< tt,
   (
-    place-within c.args.line c.lesser_count-place.result c.as_slice.result.now c.self.inside.lines.items c.lesser_count-place.ensures c.as_slice.ensures.value,
+    place-within c.args.line c.lesser_count-index.result c.as_slice.result.now c.self.inside.lines.items c.lesser_count-index.ensures c.as_slice.ensures.value,
     room-left _ _ c.is_full.result c.is_full.ensures.value c.if-is_full.false c.is_full.ensures.fits,
   ),
 )
@@ -25,8 +25,8 @@ invariant_of-self c =
     let room : length c.self.inside.lines.items < 64 = room-left _ _ c.is_full.result c.is_full.ensures.value c.if-is_full.false c.is_full.ensures.fits in
     let more : length c.insert.new.self.items ≡ length c.self.inside.lines.items + 1 = c.insert.ensures.len in (
       put-ordered c.args.line c.self.inside.lines.items c.insert.new.self.items c.self.invariant.0
-          (put-line c.args.line c.lesser_count-place.result c.as_slice.result.now c.self.inside.lines.items c.insert.new.self.items out
-          c.lesser_count-place.ensures c.as_slice.ensures.value c.insert.ensures.items),
+          (put-line c.args.line c.lesser_count-index.result c.as_slice.result.now c.self.inside.lines.items c.insert.new.self.items out
+          c.lesser_count-index.ensures c.as_slice.ensures.value c.insert.ensures.items),
       omega arith,
     )
 
@@ -35,7 +35,7 @@ returns c =
     let out : is_in c.args.line c.self.inside.lines.items ≡ false = ap (is_in c.args.line) c.self.view_is ∙ sym c.has.ensures ∙ c.if-has.false in
     let room : length c.self.inside.lines.items < 64 = room-left _ _ c.is_full.result c.is_full.ensures.value c.if-is_full.false c.is_full.ensures.fits in (
       inr (subst (λ (l : List ℕ). length l < 64) c.self.view_is room),
-      put-line c.args.line c.lesser_count-place.result c.as_slice.result.now c.self.inside.lines.items c.insert.new.self.items out
-          c.lesser_count-place.ensures c.as_slice.ensures.value c.insert.ensures.items
+      put-line c.args.line c.lesser_count-index.result c.as_slice.result.now c.self.inside.lines.items c.insert.new.self.items out
+          c.lesser_count-index.ensures c.as_slice.ensures.value c.insert.ensures.items
           ∙ ap (with_line c.args.line) c.self.view_is,
     )

@@ -18,14 +18,14 @@ pub take_ready-requires : goal.take_ready-requires
 take_ready-requires c =
     let h = at_machine c.args.system.now c.args.self.now in
     let T = state_of_tree (tree_of c.args.self.now) in
-    let first : FirstAt (moves h c.args.branch c.args.breaks.now) c.in_ok-events.events c.in-Some.place =
-    subst (λ (k : List Event). FirstAt (moves h c.args.branch c.args.breaks.now) k c.in-Some.place) c.as_slice.ensures c.in-Some.ensures in
+    let first : FirstAt (moves h c.args.branch c.args.breaks.now) c.in_ok-events.events c.in-Some.index =
+    subst (λ (k : List Event). FirstAt (moves h c.args.branch c.args.breaks.now) k c.in-Some.index) c.as_slice.ensures c.in-Some.ensures in
     record {
       holds = c.requires.holds;
       chosen = (
         first.0,
         first.1,
-        moving-with h c.args.branch c.args.breaks.now T c.in_ok-events.events c.in-Some.place c.in_ok-events.ensures first,
+        moving-with h c.args.branch c.args.breaks.now T c.in_ok-events.events c.in-Some.index c.in_ok-events.ensures first,
       );
     }
 
@@ -35,11 +35,11 @@ returns-in-Some-clause-done c =
     let h' = at_machine c.args.system.now c.take_ready.new.self in
     let T = state_of_tree (tree_of c.args.self.now) in
     let all = stands-ready c.args.system.now (tree_of c.args.self.now) _ _ _ c.requires.holds in
-    let first : FirstAt (moves h c.args.branch c.args.breaks.now) c.in_ok-events.events c.in-Some.place =
-    subst (λ (k : List Event). FirstAt (moves h c.args.branch c.args.breaks.now) k c.in-Some.place) c.as_slice.ensures c.in-Some.ensures in
+    let first : FirstAt (moves h c.args.branch c.args.breaks.now) c.in_ok-events.events c.in-Some.index =
+    subst (λ (k : List Event). FirstAt (moves h c.args.branch c.args.breaks.now) k c.in-Some.index) c.as_slice.ensures c.in-Some.ensures in
     IfOk-weaker c.take_ready.result (λ reply. Takes h first.0 reply h') (λ reply. StepsBranch h c.args.branch c.args.breaks.now reply h')
     (λ reply takes.
-    taken-with h h' c.args.branch c.args.breaks.now T all.0 c.in_ok-events.events c.in-Some.place reply c.requires.holds.run.runs all.1
+    taken-with h h' c.args.branch c.args.breaks.now T all.0 c.in_ok-events.events c.in-Some.index reply c.requires.holds.run.runs all.1
     (filter-same T (acts_in h c.args.branch) all.0 c.in_ok-events.events all.1 c.in_ok-events.ensures) first takes)
     (c.take_ready.ensures.done first.0 first.1)
 

@@ -11,27 +11,27 @@ use Rattle.machine.specs.walking.Marking.{StandsFrom}
 use Rattle.machine.proofs.Marked.{from-end, from-unmarked, from-below, can-go, from-marked}
 use Rattle.machine.proofs.history.History.revert_marked.Goals as goal
 
-pub loop-place-init : goal.loop-place-init
-loop-place-init c =
+pub loop-index-init : goal.loop-index-init
+loop-index-init c =
     let h = c.args.self.now in
-    let len = c.len-place.ensures in
+    let len = c.len-index.ensures in
     record {
       range = omega arith;
       same = refl;
       next = refl;
       even = refl;
-      some = (c.requires.holds.0, from-end c.requires.holds.0 c.len-place.result (tree_of h) h.live h.inverses.items h.next c.requires.holds.1 len);
-      holds = λ system held. from-end system c.len-place.result (tree_of h) h.live h.inverses.items h.next held len;
+      some = (c.requires.holds.0, from-end c.requires.holds.0 c.len-index.result (tree_of h) h.live h.inverses.items h.next c.requires.holds.1 len);
+      holds = λ system held. from-end system c.len-index.result (tree_of h) h.live h.inverses.items h.next held len;
     }
 
 pub invert_by-requires : goal.invert_by-requires
 invert_by-requires c =
-    let h = c.loop-place.self in
-    let inv = c.loop-place.invariant in
-    let q : ℕ = c.loop-place.place - 1 in
-    let test : c.unmarked_below-low.result < c.loop-place.place = c.loop-place-test.true in
-    let back : c.loop-place.place ≡ suc q = omega arith in
-    let range : c.loop-place.place ≤ length h.live.live = inv.range in
+    let h = c.loop-index.self in
+    let inv = c.loop-index.invariant in
+    let q : ℕ = c.loop-index.index - 1 in
+    let test : c.unmarked_below-low.result < c.loop-index.index = c.loop-index-test.true in
+    let back : c.loop-index.index ≡ suc q = omega arith in
+    let range : c.loop-index.index ≤ length h.live.live = inv.range in
     let sizes : length h.live.live ≡ length c.args.self.now.live.live = ap (λ (s : Shown). length s.live) inv.same in
     let even : length h.inverses.items ≡ length c.args.self.now.inverses.items = inv.even in
     let whole : length c.args.self.now.inverses.items ≡ length c.args.self.now.live.live = c.requires.holds.1.even in
@@ -47,14 +47,14 @@ invert_by-requires c =
       possible = can-go inv.some.0 q (tree_of h) h.live h.inverses.items h.next one.0 c.in-Some.event.now x from one.1 beside marks one.2;
     }
 
-pub loop-place-preserved-in-Some : goal.loop-place-preserved-in-Some
-loop-place-preserved-in-Some c =
-    let h = c.loop-place.self in
-    let inv = c.loop-place.invariant in
-    let q : ℕ = c.loop-place.place - 1 in
-    let test : c.unmarked_below-low.result < c.loop-place.place = c.loop-place-test.true in
-    let back : c.loop-place.place ≡ suc q = omega arith in
-    let range : c.loop-place.place ≤ length h.live.live = inv.range in
+pub loop-index-preserved-in-Some : goal.loop-index-preserved-in-Some
+loop-index-preserved-in-Some c =
+    let h = c.loop-index.self in
+    let inv = c.loop-index.invariant in
+    let q : ℕ = c.loop-index.index - 1 in
+    let test : c.unmarked_below-low.result < c.loop-index.index = c.loop-index-test.true in
+    let back : c.loop-index.index ≡ suc q = omega arith in
+    let range : c.loop-index.index ≤ length h.live.live = inv.range in
     let sizes : length h.live.live ≡ length c.args.self.now.live.live = ap (λ (s : Shown). length s.live) inv.same in
     let even : length h.inverses.items ≡ length c.args.self.now.inverses.items = inv.even in
     let whole : length c.args.self.now.inverses.items ≡ length c.args.self.now.live.live = c.requires.holds.1.even in
@@ -65,7 +65,7 @@ loop-place-preserved-in-Some c =
     let beside : slice_get h.inverses.items q ≡ Some x =
     slice_get-get_or h.inverses.items q x within ∙ ap (λ (y : Inverse). Some y) (sym c.index_mut-inverse.ensures.value) in
     let marks : MarksAllDependents h.live = subst (λ (s : Shown). MarksAllDependents s) (sym inv.same) c.requires.marked in
-    let next = λ (system : Checked) (from : StandsFrom system c.loop-place.place (tree_of h) h.live h.inverses.items h.next).
+    let next = λ (system : Checked) (from : StandsFrom system c.loop-index.index (tree_of h) h.live h.inverses.items h.next).
     from-marked system q (tree_of h) h.live h.inverses.items h.next one.0 c.in-Some.event.now x
     (subst (λ (k : ℕ). StandsFrom system k (tree_of h) h.live h.inverses.items h.next) back from) one.1 beside marks one.2
     (both_view c.invert_by.new.tree c.invert_by.new.store) c.invert_by.new.inverse c.invert_by.ensures.undone in
@@ -78,14 +78,14 @@ loop-place-preserved-in-Some c =
       holds = λ system held. next system (inv.holds system held);
     }
 
-pub loop-place-preserved : goal.loop-place-preserved
-loop-place-preserved c =
-    let h = c.loop-place.self in
-    let inv = c.loop-place.invariant in
-    let q : ℕ = c.loop-place.place - 1 in
-    let test : c.unmarked_below-low.result < c.loop-place.place = c.loop-place-test.true in
-    let back : c.loop-place.place ≡ suc q = omega arith in
-    let range : c.loop-place.place ≤ length h.live.live = inv.range in
+pub loop-index-preserved : goal.loop-index-preserved
+loop-index-preserved c =
+    let h = c.loop-index.self in
+    let inv = c.loop-index.invariant in
+    let q : ℕ = c.loop-index.index - 1 in
+    let test : c.unmarked_below-low.result < c.loop-index.index = c.loop-index-test.true in
+    let back : c.loop-index.index ≡ suc q = omega arith in
+    let range : c.loop-index.index ≤ length h.live.live = inv.range in
     let sizes : length h.live.live ≡ length c.args.self.now.live.live = ap (λ (s : Shown). length s.live) inv.same in
     let even : length h.inverses.items ≡ length c.args.self.now.inverses.items = inv.even in
     let whole : length c.args.self.now.inverses.items ≡ length c.args.self.now.live.live = c.requires.holds.1.even in
@@ -93,7 +93,7 @@ loop-place-preserved c =
     let within : q < length h.inverses.items = omega arith in
     let at = at-within h.live.live q inside in
     let x = at-within h.inverses.items q within in
-    let next = λ (system : Checked) (from : StandsFrom system c.loop-place.place (tree_of h) h.live h.inverses.items h.next).
+    let next = λ (system : Checked) (from : StandsFrom system c.loop-index.index (tree_of h) h.live h.inverses.items h.next).
     from-unmarked system q (tree_of h) h.live h.inverses.items h.next at.0.0 at.0.1 x.0
     (subst (λ (k : ℕ). StandsFrom system k (tree_of h) h.live h.inverses.items h.next) back from) at.1 x.1 c.in_default.ensures in
     record {
@@ -107,14 +107,14 @@ loop-place-preserved c =
 
 pub returns-clause-holds : goal.returns-clause-holds
 returns-clause-holds c = λ system held.
-    let h = c.loop-place.self in
-    let inv = c.loop-place.invariant in
-    let past : c.loop-place.place ≤ c.unmarked_below-low.result = c.loop-place-test.false in
+    let h = c.loop-index.self in
+    let inv = c.loop-index.invariant in
+    let past : c.loop-index.index ≤ c.unmarked_below-low.result = c.loop-index-test.false in
     let sizes : length h.live.live ≡ length c.args.self.now.live.live = ap (λ (s : Shown). length s.live) inv.same in
     let before : length h.inverses.items ≡ length c.args.self.now.inverses.items = inv.even in
     let whole : length c.args.self.now.inverses.items ≡ length c.args.self.now.live.live = c.requires.holds.1.even in
     let even : length h.inverses.items ≡ length h.live.live = omega arith in
-    from-below system c.loop-place.place (tree_of h) h.live h.inverses.items h.next inv.range even
+    from-below system c.loop-index.index (tree_of h) h.live h.inverses.items h.next inv.range even
     (λ i less.
     let low : i < c.unmarked_below-low.result = omega arith in
     subst (λ (s : Shown). NoneMarkedAt s.live s.marked i) (sym inv.same) (c.unmarked_below-low.ensures.none i low)) (inv.holds system held)

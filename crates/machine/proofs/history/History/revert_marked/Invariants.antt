@@ -4,15 +4,15 @@ use Rattle.machine.specs.walking.Histories.{Holds}
 use Rattle.machine.specs.walking.Marking.{HoldsFrom}
 use Rattle.machine.proofs.history.History.revert_marked.Given as goal
 
-abbrev pub invariant-loop-place : goal.invariant-loop-place
-invariant-loop-place l = record {
-  range : l.place ≤ length l.self.live.live;
+abbrev pub invariant-loop-index : goal.invariant-loop-index
+invariant-loop-index l = record {
+  range : l.index ≤ length l.self.live.live;
   same : l.self.live ≡ l.initial.self.live;
   next : l.self.next ≡ l.initial.self.next;
   even : length l.self.inverses.items ≡ length l.initial.self.inverses.items;
-  some : (system : Checked) × HoldsFrom system l.place l.self;
-  holds : (system : Checked) → Holds system l.initial.self → HoldsFrom system l.place l.self;
+  some : (system : Checked) × HoldsFrom system l.index l.self;
+  holds : (system : Checked) → Holds system l.initial.self → HoldsFrom system l.index l.self;
 }
 
-abbrev pub decreases-loop-place : goal.decreases-loop-place
-decreases-loop-place l = l.place
+abbrev pub decreases-loop-index : goal.decreases-loop-index
+decreases-loop-index l = l.index

@@ -5,12 +5,12 @@ use Rattle.machine.proofs.Standing.{live-at, place-within, can-revert, stands-le
 use Rattle.machine.proofs.history.History.take_back.Goals as goal
 
 pub take-event-requires-clause-live : goal.take-event-requires-clause-live
-take-event-requires-clause-live c = (c.requires.at.0, live-at c.args.self.now.live.live c.args.ticket c.args.place c.requires.at.0 c.requires.at.1)
+take-event-requires-clause-live c = (c.requires.at.0, live-at c.args.self.now.live.live c.args.ticket c.args.index c.requires.at.0 c.requires.at.1)
 
 pub remove-inverse-requires : goal.remove-inverse-requires
 remove-inverse-requires c =
     let h = c.args.self.now in
-    let within = place-within c.requires.holds.0 (tree_of h) h.live.live h.inverses.items h.next c.args.ticket c.args.place c.requires.at.0 c.requires.holds.1 c.requires.at.1 in
+    let within = place-within c.requires.holds.0 (tree_of h) h.live.live h.inverses.items h.next c.args.ticket c.args.index c.requires.at.0 c.requires.holds.1 c.requires.at.1 in
     let size = h.inverses.ok.0 in
     omega arith
 
@@ -19,7 +19,7 @@ invert-requires c =
     let h = c.args.self.now in
     record {
       possible =
-          can-revert c.requires.holds.0 (tree_of h) h.live.live h.inverses.items h.next c.args.ticket c.args.place c.requires.at.0 c.take-event.result
+          can-revert c.requires.holds.0 (tree_of h) h.live.live h.inverses.items h.next c.args.ticket c.args.index c.requires.at.0 c.take-event.result
           c.remove-inverse.result c.requires.holds.1 c.requires.at.1 c.requires.alone c.take-event.ensures.event c.remove-inverse.ensures.value;
     }
 
@@ -27,5 +27,5 @@ pub returns-clause-holds : goal.returns-clause-holds
 returns-clause-holds c = λ system holds.
     let h = c.args.self.now in
     stands-less system (tree_of h) (both_view c.invert.new.tree c.invert.new.store) h.live.live c.take-event.new.self.live h.inverses.items
-    c.remove-inverse.new.self.items h.next c.args.ticket c.args.place c.requires.at.0 c.take-event.result c.remove-inverse.result holds c.requires.at.1
+    c.remove-inverse.new.self.items h.next c.args.ticket c.args.index c.requires.at.0 c.take-event.result c.remove-inverse.result holds c.requires.at.1
     c.requires.alone c.take-event.ensures.live c.take-event.ensures.event c.remove-inverse.ensures.value c.remove-inverse.ensures.items c.invert.ensures.undone

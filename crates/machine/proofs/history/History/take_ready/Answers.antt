@@ -17,7 +17,7 @@ add-requires-clause-allowed c =
     let T = state_of_tree (tree_of c.args.self.now) in
     let at = c.requires.chosen in
     let is : c.swap_remove.result ≡ at.0 =
-    c.swap_remove.ensures.value ∙ got-at _ c.args.place at.0 c.swap_remove.result (ap (λ (k : List Event). slice_get k c.args.place) c.into_vec-events.ensures ∙ at.1) in
+    c.swap_remove.ensures.value ∙ got-at _ c.args.index at.0 c.swap_remove.result (ap (λ (k : List Event). slice_get k c.args.index) c.into_vec-events.ensures ∙ at.1) in
     let one : c.in-Ok.event ≡ at.0 = sym (some-injective c.swap_remove.result c.in-Ok.event c.in-Ok.ensures.taken.0) ∙ is in
     (subst (λ (e : Event). Chosen T (choice_of e) e) (sym one) at.2).allowed
 
@@ -26,8 +26,8 @@ returns-in-Ok-clause-done c = λ e at.
     let h = c.args.self.now in
     let T = state_of_tree (tree_of h) in
     take-done (at_machine c.args.system.now h) (at_machine c.args.system.now c.add.new.self) T e c.swap_remove.result c.in-Ok.event c.in_ok-entry-in-Ok.entry
-    c.requires.holds.run.runs (chosen-there T c.args.events c.args.place e c.requires.chosen at)
-    (c.swap_remove.ensures.value ∙ got-at _ c.args.place e c.swap_remove.result (ap (λ (k : List Event). slice_get k c.args.place) c.into_vec-events.ensures ∙ at))
+    c.requires.holds.run.runs (chosen-there T c.args.events c.args.index e c.requires.chosen at)
+    (c.swap_remove.ensures.value ∙ got-at _ c.args.index e c.swap_remove.result (ap (λ (k : List Event). slice_get k c.args.index) c.into_vec-events.ensures ∙ at))
     c.in-Ok.ensures.taken.0 c.in-Ok.ensures.taken.1 c.in-Ok.ensures.taken.2 c.in_ok-entry-in-Ok.ensures.done c.in_ok-entry-in-Ok.ensures.added
 
 pub returns-in_err-entry-in-Ok-clause-unchanged : goal.returns-in_err-entry-in-Ok-clause-unchanged

@@ -3,10 +3,10 @@ use Rattle.machine.proofs.Standing.{live-at}
 use Rattle.machine.proofs.history.History.undo_at.Goals as goal
 
 pub first_dependent-requires : goal.first_dependent-requires
-first_dependent-requires c = (c.requires.at.0, live-at c.args.self.now.live.live c.args.ticket c.args.place c.requires.at.0 c.requires.at.1)
+first_dependent-requires c = (c.requires.at.0, live-at c.args.self.now.live.live c.args.ticket c.args.index c.requires.at.0 c.requires.at.1)
 
 pub returns-in-Some-clause-answers : goal.returns-in-Some-clause-answers
 returns-in-Some-clause-answers c = λ system. (
-  ((c.requires.at.0, live-at c.args.self.now.live.live c.args.ticket c.args.place c.requires.at.0 c.requires.at.1), c.in-Some.ensures),
+  ((c.requires.at.0, live-at c.args.self.now.live.live c.args.ticket c.args.index c.requires.at.0 c.requires.at.1), c.in-Some.ensures),
   refl,
 )

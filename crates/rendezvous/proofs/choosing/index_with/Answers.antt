@@ -1,5 +1,5 @@
 use Rattle.rendezvous.proofs.FirstChosen.{none-more}
-use Rattle.rendezvous.proofs.choosing.place_with.Goals as goal
+use Rattle.rendezvous.proofs.choosing.index_with.Goals as goal
 
 pub loop-i-preserved : goal.loop-i-preserved
 loop-i-preserved c =

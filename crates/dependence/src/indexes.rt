@@ -8,35 +8,35 @@ ghost use Rattle.dependence.specs.walking.Tables.{IsRising, StandsAt};
 use crate::live::LiveEvent;
 
 /// Where the event of this ticket stands.
-pub(crate) fn place_of(live: &[LiveEvent], ticket: u64) -> Option<usize>
+pub(crate) fn index_of(live: &[LiveEvent], ticket: u64) -> Option<usize>
     requires { IsRising live.now }
     ensures { MatchOption result (NoneAt live.now ticket) (λ i. StandsAt live.now ticket i) }
 {
     match live.binary_search_by_key(&ticket, |entry| entry.0) {
-        Ok(place) => Some(place),
+        Ok(index) => Some(index),
         Err(_) => None,
     }
 }
 
 /// Where the live event of this ticket stands.
-pub(crate) fn place_of_live(live: &[LiveEvent], ticket: u64) -> usize
+pub(crate) fn index_of_live(live: &[LiveEvent], ticket: u64) -> usize
     requires rising { IsRising live.now }
     requires live { IsLive live.now ticket }
     ensures { StandsAt live.now ticket result }
 {
-    match place_of(live, ticket) {
-        Some(place) => place,
+    match index_of(live, ticket) {
+        Some(index) => index,
         None => unreachable!(),
     }
 }
 
 /// Where the ticket stands among others that ascend.
-pub(crate) fn place_in(tickets: &[u64], ticket: u64) -> Option<usize>
+pub(crate) fn index_in(tickets: &[u64], ticket: u64) -> Option<usize>
     requires { InOrder ◌<◌ tickets.now }
     ensures { MatchOption result (In ticket tickets.now → ⊥) (λ i. slice_get tickets.now i ≡ Some ticket) }
 {
     match tickets.binary_search(&ticket) {
-        Ok(place) => Some(place),
+        Ok(index) => Some(index),
         Err(_) => None,
     }
 }

@@ -1,6 +1,6 @@
 use Rattle.std.proofs.Common.{ℕ, Err, refl}
 use Rattle.dependence.proofs.ListPlaces.{searched-by}
-use Rattle.dependence.proofs.places.place_in.Goals as goal
+use Rattle.dependence.proofs.indexes.index_in.Goals as goal
 
 pub returns-in-Err : goal.returns-in-Err
 returns-in-Err c =

@@ -3,13 +3,13 @@ use Rattle.std.proofs.lemmas.List.Sorted.{answers_always}
 use Rattle.calculus.specs.declared.event.Event.{Event}
 use Rattle.dependence.proofs.ListPlaces.{searched-by}
 use Rattle.dependence.proofs.Standing.{rising-order}
-use Rattle.dependence.proofs.places.place_of.Goals as goal
+use Rattle.dependence.proofs.indexes.index_of.Goals as goal
 
 pub returns-in-Ok : goal.returns-in-Ok
 returns-in-Ok c =
     let facts = c.in-Ok.ensures in
     let found =
-    searched-by (λ (x : ℕ × Event). x.0) c.args.live.now c.args.ticket (rising-order 0 c.requires.0 c.args.live.now c.requires.1) (Ok c.in-Ok.place) facts.bound
+    searched-by (λ (x : ℕ × Event). x.0) c.args.live.now c.args.ticket (rising-order 0 c.requires.0 c.args.live.now c.requires.1) (Ok c.in-Ok.index) facts.bound
     (facts.position (λ x. x.0) (answers_always _ _ _ (λ f a r g called. search rules))) in
     (found.0.1, found.1 ∙ ap (λ (v : ℕ). Some (v, found.0.1)) found.2)
 
