@@ -2,7 +2,7 @@
 
 kept=out/balsadbg
 # What docs/STATUS.md measured.
-build_takes="half an hour to an hour on 4 processors"
+build_takes="one to two hours on 4 processors"
 
 needs_toolchain() {
     command -v rt >/dev/null && return

@@ -12,7 +12,7 @@ pub use laws::{compare_laws, place_laws, text_laws};
 pub use order::{before, compare};
 use std::alloc::{AllocError, Global};
 use std::marker::Model;
-pub use text::read;
+pub use text::{read, read_entry};
 
 /// One step of an address. In the order of steps each ordered number is less than each branch.
 #[derive(Clone, Copy, PartialEq, Eq, PartialOrd, Ord, Debug)]

@@ -1,6 +1,5 @@
 -- The rule on sharing as limits of the widths of a residual, which steps keep.
 use Rattle.std.specs.Prelude.{ℕ, zero, suc, max, ◌≡◌, ◌≤◌, Bool, true, false}
-use Rattle.system.specs.Expression.{variables}
 use Rattle.system.specs.Residual.{Residual}
 use Rattle.sharing_check.specs.Measure.{amount, sending, receiving, syncing, Measure, only, nothing}
 

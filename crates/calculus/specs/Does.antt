@@ -4,7 +4,6 @@ use Rattle.calculus.specs.Steps.{State}
 use Rattle.calculus.specs.Ready.{ReadyList, ChoiceAllowed, Chosen}
 use Rattle.calculus.specs.Live.{Live, LiveAt, IsLive, NoneAt, DependsOn, WithoutTickets, FirstDependent, NoDependent, LastWriter, NoWriter, ConsequencesList}
 use Rattle.calculus.specs.Object.{Object, Reaches, most_live, last_ticket, with_event, with_live}
-use Rattle.calculus.specs.declared.event.Event.{Event}
 use Rattle.calculus.specs.declared.event.Choice.{Choice}
 use Rattle.calculus.specs.declared.command.Command.{Command}
 use Rattle.calculus.specs.declared.command.Reply.{Reply}

@@ -22,8 +22,8 @@ pub fn depends_directly(earlier: &Event, later: &Event) -> bool
     by_place || by_channel || by_writing || by_reading
 }
 
-/// Whether a place of the first event is before a place of the second.
-fn some_before(earlier: &Event, later: &Event) -> bool
+/// Whether an address of the first event is before an address of the second.
+pub fn some_before(earlier: &Event, later: &Event) -> bool
     ensures { IsTrue result ↔ SomeBefore earlier.now later.now }
 {
     let first = before_some(&earlier.first, later);
@@ -34,7 +34,7 @@ fn some_before(earlier: &Event, later: &Event) -> bool
     first || second
 }
 
-/// Whether the place is before a place of the event.
+/// Whether the address is before one of the event's.
 fn before_some(place: &Address, later: &Event) -> bool
     ensures { IsTrue result ↔ ((b : Place) × In b (places later.now) × Before place.now b) }
 {

@@ -10,6 +10,7 @@ mod ask;
 mod command;
 mod dependence;
 mod event;
+mod event_of_parts;
 mod laws;
 mod left;
 mod making;
@@ -27,7 +28,7 @@ mod walk;
 
 pub use ask::Ask;
 pub use command::{Command, LAST_TICKET, MOST_LIVE_EVENTS, Refusal, Reply};
-pub use dependence::{depends_directly, writes};
+pub use dependence::{depends_directly, some_before, writes};
 pub use event::{Choice, Event, Kind};
 pub use laws::{
     acting_once, allowed_are_listed, apart_moves_meet, causes_alone, earlier_places,

@@ -1,5 +1,5 @@
 // The event that moves make over the values of the variables.
-ghost use Rattle.std.specs.Prelude.{◌≡◌, [], Some, None, IfOk};
+ghost use Rattle.std.specs.Prelude.{◌≡◌, [], IfOk};
 ghost use Rattle.system.specs.Translation.{expression_of, decision_of};
 ghost use Rattle.calculus.specs.Events.{sent};
 ghost use Rattle.calculus.specs.walking.Made as model;
@@ -7,9 +7,9 @@ ghost use Rattle.calculus.specs.Moves as moves;
 ghost use Rattle.calculus.specs.walking.Meets.{met, opened_by_send, is_first};
 ghost use Rattle.calculus.specs.walking.Meanings.{move_of};
 
+use crate::Event;
 use crate::moves::Move;
 use crate::same::{same_arms, same_values};
-use crate::{Event, Kind};
 use address::{Address, compare};
 use std::alloc::{AllocError, Global};
 use system::{Decision, Expression, Variables};
@@ -57,18 +57,9 @@ fn assigned(
 ) -> Result<Option<Event>, AllocError>
     ensures { IfOk result (λ r. r ≡ model.made_alone values.now place.now (moves.assigns variable width (expression_of value.now))) }
 {
-    let first = place.copy(alloc)?;
     let read = value.variables(alloc)?;
-    Ok(Some(Event {
-        kind: Kind::Assign,
-        first,
-        second: None,
-        arm: None,
-        channel: None,
-        value: Some(sent(values, width, value)),
-        written: Some(variable),
-        read,
-    }))
+    let value = sent(values, width, value);
+    Ok(Some(Event::assignment(alloc, place, variable, value, read)?))
 }
 
 /// The event of a test, if the test takes the arm.
@@ -84,36 +75,15 @@ fn tested(
     if !same_arms(decision.decide(values), arm) {
         return Ok(None);
     }
-    let first = place.copy(alloc)?;
     let read = decision.variables(alloc)?;
-    Ok(Some(Event {
-        kind: Kind::Test,
-        first,
-        second: None,
-        arm,
-        channel: None,
-        value: None,
-        written: None,
-        read,
-    }))
+    Ok(Some(Event::test(alloc, place, arm, read)?))
 }
 
 /// The event of a turn.
 fn turned(alloc: Global, place: &Address) -> Result<Option<Event>, AllocError>
     ensures { IfOk result (λ r. r ≡ model.made_alone [] place.now moves.turns) }
 {
-    let first = place.copy(alloc)?;
-    let read = Variables::none(alloc);
-    Ok(Some(Event {
-        kind: Kind::Turn,
-        first,
-        second: None,
-        arm: None,
-        channel: None,
-        value: None,
-        written: None,
-        read,
-    }))
+    Ok(Some(Event::turn(alloc, place)?))
 }
 
 /// Whether the move can be the first of two that make an event.
@@ -188,18 +158,8 @@ fn by_send(
             if channel != *on {
                 return Ok(None);
             }
-            let first = first.copy(alloc)?;
-            let second = second.copy(alloc)?;
-            Ok(Some(Event {
-                kind: Kind::Meet,
-                first,
-                second: Some(second),
-                arm: None,
-                channel: Some(channel),
-                value: Some(value),
-                written: *variable,
-                read,
-            }))
+            let event = Event::meeting(alloc, first, second, channel, value, *variable, read)?;
+            Ok(Some(event))
         }
         _ => Ok(None),
     }
@@ -226,7 +186,8 @@ fn by_held_send(
             if !same_values(Some(value), *received) {
                 return Ok(None);
             }
-            opened(alloc, first, second, channel, *arm, *received, read)
+            let event = Event::opening(alloc, first, second, channel, *arm, *received, read)?;
+            Ok(Some(event))
         }
         _ => Ok(None),
     }
@@ -252,36 +213,11 @@ fn by_held_sync(
                 return Ok(None);
             }
             let read = Variables::none(alloc);
-            opened(alloc, first, second, channel, *arm, *received, read)
+            let event = Event::opening(alloc, first, second, channel, *arm, *received, read)?;
+            Ok(Some(event))
         }
         _ => Ok(None),
     }
-}
-
-/// The event of an open.
-fn opened(
-    alloc: Global,
-    first: &Address,
-    second: &Address,
-    channel: u32,
-    arm: u32,
-    received: Option<Value>,
-    read: Variables,
-) -> Result<Option<Event>, AllocError>
-    ensures { IfOk result (λ r. r ≡ Some (record { kind = Kind.Open; first = first.now; second = Some second.now; arm = Some arm; channel = Some channel; value = received; written = None; read = read })) }
-{
-    let first = first.copy(alloc)?;
-    let second = second.copy(alloc)?;
-    Ok(Some(Event {
-        kind: Kind::Open,
-        first,
-        second: Some(second),
-        arm: Some(arm),
-        channel: Some(channel),
-        value: received,
-        written: None,
-        read,
-    }))
 }
 
 /// The event of a release and the close that meets it.
@@ -300,7 +236,7 @@ fn by_release(
             if channel != *on {
                 return Ok(None);
             }
-            without_data(alloc, Kind::Close, first, second, channel)
+            Ok(Some(Event::close(alloc, first, second, channel)?))
         }
         _ => Ok(None),
     }
@@ -328,33 +264,8 @@ fn by_sync(
             if !compare(first, second).is_lt() {
                 return Ok(None);
             }
-            without_data(alloc, Kind::Sync, first, second, channel)
+            Ok(Some(Event::sync(alloc, first, second, channel)?))
         }
         _ => Ok(None),
     }
-}
-
-/// The event of two sides that pass no data.
-fn without_data(
-    alloc: Global,
-    kind: Kind,
-    first: &Address,
-    second: &Address,
-    channel: u32,
-) -> Result<Option<Event>, AllocError>
-    ensures { IfOk result (λ r. r ≡ Some (record { kind = kind; first = first.now; second = Some second.now; arm = None; channel = Some channel; value = None; written = None; read = [] })) }
-{
-    let first = first.copy(alloc)?;
-    let second = second.copy(alloc)?;
-    let read = Variables::none(alloc);
-    Ok(Some(Event {
-        kind,
-        first,
-        second: Some(second),
-        arm: None,
-        channel: Some(channel),
-        value: None,
-        written: None,
-        read,
-    }))
 }

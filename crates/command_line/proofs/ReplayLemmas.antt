@@ -1,5 +1,5 @@
 -- How the answer to a trace becomes the end of a request.
-use Rattle.std.proofs.Common.{◌≡◌, ◌⊎◌, inl, inr, ℕ, List, Option, Some, Result, Ok, Err, sym, subst}
+use Rattle.std.proofs.Common.{◌≡◌, ◌⊎◌, inl, inr, ℕ, List, Option, Some, subst}
 use Rattle.std.specs.Result.{IsErrAnd}
 use Rattle.system.specs.declared.system.System.{System}
 use Rattle.debug_session.specs.Accepting.{AcceptedAs, IsRefused}

@@ -1,9 +1,13 @@
 -- What a parse reads of a command as it is made, and what the matches hold of a word.
-use Rattle.std.proofs.Common.{◌≡◌, ℕ, List, Option, Some, None, Result, Ok, ◌||◌, true, ◌∙◌, sym, ap, ap₂, refl, subst}
-use Rattle.std.specs.Prelude.{option_map}
+use Rattle.std.proofs.Common.{◌≡◌, ℕ, ◌<◌, ◌^◌, List, Option, Some, None, Result, Ok, Err, ◌||◌, true, ◌∙◌, sym, ap, ap₂, refl, subst, arith, codes, length, Bool, false, ◌⊎◌, inl, inr, ◌≢◌, []}
+use Rattle.std.proofs.lemmas.Bool.{false≢true}
+use Rattle.std.proofs.lemmas.Slice.Eq.{bytes_eq-Decides}
+use Rattle.std.specs.Str.{bytes_eq}
+use Rattle.std.specs.Bool.{Decides}
+use Rattle.std.specs.Prelude.{IfErr, IsErrAnd, MatchOption, option_map, unwrap_or}
 use Rattle.std.specs.Borrow.{Bor}
-use Rattle.std.specs.Str.Parse.{digits_value, without_leading_plus}
-use Rattle.clap.specs.Words.{AddsArg, AddsSubcommand, App, ReadsOne, Rule, Text, app_of, first_of, first_value, one_of, one_text, rows_of, with_rule, with_subcommand, HasMatchesOf, Row, found_of, is_simple, subcommand_name_of, subcommand_of, subcommand_rows, subcommand_rows_of}
+use Rattle.std.specs.Str.Parse.{IsNumeral, digits_value, without_leading_plus}
+use Rattle.clap.specs.Words.{AddsArg, AddsSubcommand, App, ReadsOne, Rule, Text, app_of, first_of, first_value, one_of, one_text, rows_of, with_rule, with_subcommand, HasMatchesOf, Row, found_of, is_simple, kind_of, subcommand_name_of, subcommand_of, subcommand_rows, subcommand_rows_of, takes, HasKind, IsAmong, fault_of, is_simple_and_free}
 use Rattle.clap.specs.declared.builder.arg.Arg.{Arg}
 use Rattle.clap.specs.declared.builder.command.Command.{Command}
 use Rattle.clap.specs.declared.parser.matches.Found.{Found}
@@ -13,10 +17,13 @@ use Rattle.clap.specs.declared.parser.matches.ArgMatches.TheViews.{out-ArgMatche
 use Rattle.clap.specs.declared.parser.matches.SubCommand.{SubCommand}
 use Rattle.std.specs.Prelude.{Box}
 use Rattle.std.specs.Box.{box_value}
+use Rattle.clap.specs.declared.error.Error.{Error}
+use Rattle.clap.specs.declared.error.kind.ErrorKind.TheVariants.{MissingSubcommand, OutOfMemory}
 use Rattle.clap.proofs.OnLiterals.{clap_on_literals}
 use Rattle.command_line.specs.declared.request.Request.{Request}
-use Rattle.command_line.specs.Words.{AskFor, IsNumber, IsRequest, Named, program}
-use Rattle.command_line.specs.walking.Building.{IsArgument, IsCommand}
+use Rattle.command_line.specs.Words.{AskFor, AskForSome, AskForNone, IsFaultOf, IsNumber, IsRequest, Named, program}
+use Rattle.locked_execution.specs.declared.crew.Crew.{Crew}
+use Rattle.command_line.specs.walking.Building.{Chooses, ChoosesNone, IsArgument, IsCommand, IsNoRequest}
 
 -- one more argument
 pub with_argument : (old new : Command) (a : Arg) (app : App) (rule : Rule) → IsCommand app old → IsArgument rule a → AddsArg old a new → IsCommand (with_rule app rule) new
@@ -39,7 +46,7 @@ text_of_row f id o s got is = sym (first_value-rows f id) ∙ (sym got ∙ ap (o
 -- the number that was got is that of the row
 pub number_of_row : {E : Type 0} (G : List ℕ → Result ℕ E → Type 0) (f : Found) (id : Text) (o : Option ℕ) (n : ℕ)
     → (one_text f id ≡ None → o ≡ None) → ((t : List ℕ) → one_text f id ≡ Some t → ReadsOne G t o)
-    → ((u : List ℕ) (x : ℕ) → G u (Ok x) → x ≡ digits_value 10 (without_leading_plus u))
+    → ((u : List ℕ) (x : ℕ) → G u (Ok x) → IsNumeral 10 (without_leading_plus u) × (x ≡ digits_value 10 (without_leading_plus u)))
     → o ≡ Some n → IsNumber (one_of id (rows_of f)) n
 number_of_row {E} G f id o n none value tells is =
     subst (λ (t : Option Text). IsNumber t n) (one_text-rows f id) (go (one_text f id) refl)
@@ -47,6 +54,81 @@ number_of_row {E} G f id o n none value tells is =
     go : (t : Option Text) → one_text f id ≡ t → IsNumber t n
     go None e = let gone : o ≡ None = none e in cc
     go (Some t) e = tells t n (subst (λ (r : Option ℕ). ReadsOne G t r) is (value t e))
+
+-- no text was got where the row has none
+pub no_text : (f : Found) (id : Text) (o : Option (Bor Text)) → option_map (λ (x : Bor Text). x.now) o ≡ first_value f id → o ≡ None
+    → (s : Text) → first_of id (rows_of f) ≡ Some s → ⊥
+no_text f id o got none s is =
+    let gone : Some s ≡ None = sym is ∙ (sym (first_value-rows f id) ∙ (sym got ∙ ap (option_map (λ (x : Bor Text). x.now)) none)) in cc
+
+-- no number of so many bits was got where the row has none
+pub no_number : {E : Type 0} (k : ℕ) (G : List ℕ → Result ℕ E → Type 0) (f : Found) (id : Text) (o : Option ℕ)
+    → ((t : List ℕ) → one_text f id ≡ Some t → ReadsOne G t o)
+    → ((u : List ℕ) (e : E) → G u (Err e) → IsNumeral 10 (without_leading_plus u) × (digits_value 10 (without_leading_plus u) < 2 ^ k) → ⊥)
+    → o ≡ None → (n : ℕ) → IsNumber (one_of id (rows_of f)) n → n < 2 ^ k → ⊥
+no_number {E} k G f id o value tells is n number small =
+    go (one_text f id) refl (subst (λ (t : Option Text). IsNumber t n) (sym (one_text-rows f id)) number)
+  where
+    go : (t : Option Text) → one_text f id ≡ t → IsNumber t n → ⊥
+    go None e h = h
+    go (Some t) e h =
+        let read : ReadsOne G t None = subst (λ (r : Option ℕ). ReadsOne G t r) is (value t e) in
+        tells t read.0 read.1 (h.0, subst (λ (m : ℕ). m < 2 ^ k) h.1 small)
+
+-- a text tells one number
+pub one_number : (o : Option Text) (m n : ℕ) → IsNumber o m → IsNumber o n → m ≡ n
+one_number None m n h g = absurd h
+one_number (Some text) m n h g = h.1 ∙ sym g.1
+
+-- a crew has no more workers and turns than a crew may have
+pub no_crew : (workers turns : ℕ) (crew : Crew) (o : Option Crew)
+    → MatchOption o ((16 < workers) ⊎ (1000000 < turns)) (λ made. (made.workers ≡ workers) × (made.turns ≡ turns)) → o ≡ None
+    → crew.workers ≡ workers → crew.turns ≡ turns → ⊥
+no_crew workers turns crew o told none w t =
+    let many = subst (λ (r : Option Crew). MatchOption r ((16 < workers) ⊎ (1000000 < turns)) (λ made. (made.workers ≡ workers) × (made.turns ≡ turns))) none told in
+    let few = crew.few in
+    let short = crew.short in
+    omega (arith, few, short, w, t, many)
+
+-- a test for a name that failed, and one that held
+pub differs : (name text : Text) (r : Bool) → r ≡ bytes_eq name text → r ≡ false → name ≡ text → ⊥
+differs name text r is fails e = false≢true ((subst (λ (b : Bool). Decides b (name ≡ text)) (sym is ∙ fails) (bytes_eq-Decides name text)).1 e)
+
+pub is_same : (name text : Text) (r : Bool) → r ≡ bytes_eq name text → r ≡ true → name ≡ text
+is_same name text r is holds = (subst (λ (b : Bool). Decides b (name ≡ text)) (sym is ∙ holds) (bytes_eq-Decides name text)).0 refl
+
+-- every request has a file
+pub no_file : (name : Text) (rows : List Row) → ((s : Text) → first_of (codes "FILE") rows ≡ Some s → ⊥) → IsNoRequest name rows
+no_file name rows none (Request.Check file) h = none file.now h.1
+no_file name rows none (Request.Debug file stimulus) h = none file.now h.1
+no_file name rows none (Request.Replay file stimulus trace) h = none file.now h.1
+no_file name rows none (Request.Work file stimulus crew) h = none file.now h.1
+
+-- all but one have a stimulus
+pub no_stimulus : (name : Text) (rows : List Row) → (name ≡ codes "check" → ⊥) → ((s : Text) → first_of (codes "STIMULUS") rows ≡ Some s → ⊥)
+    → IsNoRequest name rows
+no_stimulus name rows check none (Request.Check file) h = check h.0
+no_stimulus name rows check none (Request.Debug file stimulus) h = none stimulus.now h.2
+no_stimulus name rows check none (Request.Replay file stimulus trace) h = none stimulus.now h.2
+no_stimulus name rows check none (Request.Work file stimulus crew) h = none stimulus.now h.2
+
+-- a replay has a trace
+pub no_trace : (name : Text) (rows : List Row) → (name ≡ codes "check" → ⊥) → (name ≡ codes "debug" → ⊥) → name ≡ codes "replay"
+    → ((s : Text) → first_of (codes "TRACE") rows ≡ Some s → ⊥) → IsNoRequest name rows
+no_trace name rows check debug is none (Request.Check file) h = check h.0
+no_trace name rows check debug is none (Request.Debug file stimulus) h = debug h.0
+no_trace name rows check debug is none (Request.Replay file stimulus trace) h = none trace.now h.3
+no_trace name rows check debug is none (Request.Work file stimulus crew) h =
+    let lengths : length (codes "replay") ≡ length (codes "work") = ap (λ (t : Text). length t) (sym is ∙ h.0) in omega (arith, lengths)
+
+-- a request is none of the others, and no work, whose numbers no crew has
+pub no_work : (name : Text) (rows : List Row) → (name ≡ codes "check" → ⊥) → (name ≡ codes "debug" → ⊥) → (name ≡ codes "replay" → ⊥)
+    → ((crew : Crew) → name ≡ codes "work" → IsNumber (one_of (codes "workers") rows) crew.workers → IsNumber (one_of (codes "turns") rows) crew.turns → ⊥)
+    → IsNoRequest name rows
+no_work name rows check debug replay none (Request.Check file) h = check h.0
+no_work name rows check debug replay none (Request.Debug file stimulus) h = debug h.0
+no_work name rows check debug replay none (Request.Replay file stimulus trace) h = replay h.0
+no_work name rows check debug replay none (Request.Work file stimulus crew) h = none crew h.0 h.3 h.4
 
 -- the subcommand that was met, with its rows
 pub named_in : (m : ArgMatches) (o : Option (Bor Text × Bor ArgMatches)) (p : Bor Text × Bor ArgMatches)
@@ -66,6 +148,21 @@ named_in m o p name rows is =
         let second : rows_of (found_of (out-SubCommand (box_value b)).matches) ≡ rows_of (found_of p.1.now) = cc in
         ap₂ (λ (a : Text) (l : List Row). Some (a, l)) first second
 
+-- no subcommand was met where none was got
+pub none_in : (m : ArgMatches) (o : Option (Bor Text × Bor ArgMatches))
+    → option_map (λ (x : Bor Text × Bor ArgMatches). rows_of (found_of x.1.now)) o ≡ option_map (λ (x : Named). x.1) (subcommand_rows_of m)
+    → o ≡ None → ChoosesNone m
+none_in m o rows none request chosen =
+    let gone : None ≡ Some chosen.0.1 =
+    sym (ap (option_map (λ (x : Bor Text × Bor ArgMatches). rows_of (found_of x.1.now))) none) ∙ (rows ∙ ap (option_map (λ (x : Named). x.1)) chosen.1) in cc
+
+-- the request of the subcommand that was met is the one that the matches make
+pub chosen_by : (m : ArgMatches) (name : Text) (rows : List Row) (o : Option Request) → subcommand_rows_of m ≡ Some (name, rows)
+    → MatchOption o (IsNoRequest name rows) (IsRequest name rows) → MatchOption o (ChoosesNone m) (Chooses m)
+chosen_by m name rows None met none = λ request chosen.
+    none request (subst (λ (q : Named). IsRequest q.0 q.1 request) (ap (λ (r : Option Named). unwrap_or r (name, rows)) (sym chosen.1 ∙ met)) chosen.2)
+chosen_by m name rows (Some request) met is = ((name, rows), met, is)
+
 -- what `clap` says of the matches holds of the program
 program_is_simple : is_simple program ≡ true
 unfolding clap_on_literals
@@ -73,7 +170,45 @@ program_is_simple = refl
 
 -- the request of the subcommand that was met is what the words ask for
 pub asks : (words : List Text) (command : Command) (m : ArgMatches) (request : Request) → IsCommand program command → HasMatchesOf (app_of command) words m
-    → ((p : Named) × (subcommand_rows_of m ≡ Some p) × IsRequest p.0 p.1 request) → AskFor words request
+    → Chooses m request → AskFor words request
 asks words command m request is has chosen =
     let met = has (ap is_simple is.app ∙ program_is_simple) in
     (chosen.0, subst (λ (a : App). subcommand_of a words ≡ Some chosen.0) is.app (sym met.1 ∙ chosen.1), chosen.2)
+
+-- words that ask for a request have matches that make one
+pub none_asked : (words : List Text) (command : Command) (m : ArgMatches) → IsCommand program command → HasMatchesOf (app_of command) words m
+    → ChoosesNone m → AskForNone words
+none_asked words command m is has none request of =
+    let met = has (ap is_simple is.app ∙ program_is_simple) in
+    none request (of.0, met.1 ∙ subst (λ (a : App). subcommand_of a words ≡ Some of.0) (sym is.app) of.1, of.2)
+
+-- words that the program takes are refused for want of memory alone
+pub passed : (words : List Text) (command : Command) (error : Error) → IsCommand program command
+    → (takes (app_of command) words ≡ true → kind_of error ≡ OutOfMemory) → AskForSome words → kind_of error ≡ OutOfMemory
+passed words command error is passes asked = passes (subst (λ (a : App). takes a words ≡ true) (sym is.app) asked.0)
+
+-- the faults of the words are those that `clap` finds
+program_is_free : is_simple_and_free program ≡ true
+unfolding clap_on_literals
+program_is_free = refl
+
+pub faulty : (words : List Text) (command : Command) (error : Error) → IsCommand program command
+    → (is_simple_and_free (app_of command) ≡ true → HasKind (fault_of (app_of command) words) error) → kind_of error ≢ OutOfMemory
+    → IsFaultOf words (kind_of error)
+faulty words command error is kinds some = elim (kinds (ap is_simple_and_free is.app ∙ program_is_free)) [
+  | inl memory ↦ absurd (some memory)
+  | inr among ↦ inl (subst (λ (a : App). IsAmong (kind_of error) (fault_of a words)) is.app among)
+]
+
+-- words in which none is found, and which ask for no request
+pub unasked : (words : List Text) (command : Command) (m : ArgMatches) (error : Error) → IsCommand program command
+    → HasMatchesOf (app_of command) words m → (is_simple_and_free (app_of command) ≡ true → fault_of (app_of command) words ≡ [])
+    → ChoosesNone m → kind_of error ≡ MissingSubcommand → IsFaultOf words (kind_of error)
+unasked words command m error is has kinds none missing =
+    inr (subst (λ (a : App). fault_of a words ≡ []) is.app (kinds (ap is_simple_and_free is.app ∙ program_is_free)), missing, none_asked words command m is has none)
+
+-- an error that is want of memory has no other fault
+pub memory_alone : {T : Type 0} (r : Result T Error) (words : List Text) → IsErrAnd r (λ e. kind_of e ≡ OutOfMemory)
+    → IfErr r (λ e. kind_of e ≢ OutOfMemory → IsFaultOf words (kind_of e))
+memory_alone (Ok x) words h = tt
+memory_alone (Err e) words h = λ some. absurd (some h)

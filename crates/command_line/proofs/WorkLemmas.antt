@@ -1,11 +1,11 @@
 -- How what workers did becomes the end of a request.
-use Rattle.std.proofs.Common.{◌≡◌, ◌⊎◌, inl, inr, ℕ, List, Option, Some, None, Result, Ok, Err, refl, ap, ◌∙◌, subst}
+use Rattle.std.proofs.Common.{◌≡◌, ◌⊎◌, inl, inr, ℕ, List, Option, Some, Err, ap, ◌∙◌, subst}
 use Rattle.std.specs.Result.{IsErrAnd}
 use Rattle.system.specs.declared.system.System.{System}
-use Rattle.debug_session.specs.Accepting.{AcceptedAs, IsRefused}
+use Rattle.debug_session.specs.Accepting.{IsRefused}
 use Rattle.debug_session.specs.declared.fault.Fault.{Fault}
 use Rattle.debug_session.specs.declared.fault.Fault.TheVariants.{Memory}
-use Rattle.command_line.specs.Serving.{Outcome, Told, NotHad, AnswersWork, WorksSource, WorksFiles}
+use Rattle.command_line.specs.Serving.{Outcome, NotHad, AnswersWork, WorksSource, WorksFiles}
 use Rattle.command_line.proofs.ServingLemmas.{handed-on}
 
 -- there was no memory for the workers

@@ -20,13 +20,13 @@ TellsHelp status untold written told wrote contents before behind =
     (text : List ℕ) × (ended : Outcome) × (text ≢ []) × Told text wrote contents ended × written ended × (status ≡ status_of ended)
     × (((ended ≡ Ok tt) × untold) ⊎ ((ended ≡ Err WriteFailed) × TellsFault WriteFailed told before behind))
 
--- there is no request: there was no memory for it, or the words are mistaken, which is told on standard error, or help or the version is told
--- on the output
-abbrev pub Explains : ℕ → Type 0 → Type 0 → (Outcome → Type 0) → (Outcome → Type 0) → Option (List ℕ) → Option (List ℕ) → Option (List ℕ) → Option (List ℕ) → Type 0
-Explains status unwritten untold written told wrote contents before behind =
+-- no request is served: there was no memory for it; or none is asked for, as `unasked` has it, and either the words are mistaken, as
+-- `mistaken` has it, which is told on standard error; or help or the version is asked for, as `helped` has it, and told on the output
+abbrev pub Explains : Type 0 → Type 0 → Type 0 → ℕ → Type 0 → Type 0 → (Outcome → Type 0) → (Outcome → Type 0) → Option (List ℕ) → Option (List ℕ) → Option (List ℕ) → Option (List ℕ) → Type 0
+Explains unasked mistaken helped status unwritten untold written told wrote contents before behind =
     ((status ≡ 1) × unwritten × TellsFault Memory told before behind)
-    ⊎ (((status ≡ 2) × unwritten × TellsSome told before behind)
-    ⊎ TellsHelp status untold written told wrote contents before behind)
+    ⊎ (unasked × ((mistaken × (status ≡ 2) × unwritten × TellsSome told before behind)
+    ⊎ (helped × TellsHelp status untold written told wrote contents before behind)))
 
 -- a request that is asked for is served, and a refusal of it is told on standard error
 abbrev pub ServesAsked : (Request → Type 0) → (List ℕ → Option (List ℕ) → Type 0) → ℕ → Type 0 → Type 0 → (Outcome → Type 0) → (Outcome → Type 0) → (Outcome → Type 0) → Option (List ℕ) → Option (List ℕ) → Option (List ℕ) → Option (List ℕ) → Option (List ℕ) → Option (List ℕ) → Type 0

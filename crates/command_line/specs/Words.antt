@@ -1,7 +1,10 @@
 -- What the words of the command line ask for, of which the first is the program's name.
-use Rattle.std.specs.Prelude.{◌≡◌, ℕ, List, Option, Some, None, pos, codes, true}
-use Rattle.std.specs.Str.Parse.{digits_value, without_leading_plus}
-use Rattle.clap.specs.Words.{App, Row, Rule, Text, first_of, one_of, new_app, new_rule, subcommand_of, with_rule, with_subcommand}
+use Rattle.std.specs.Prelude.{◌≡◌, ◌⊎◌, [], ℕ, List, Option, Some, None, pos, codes, true}
+use Rattle.std.specs.Str.Parse.{IsNumeral, digits_value, without_leading_plus}
+use Rattle.clap.specs.Kinds.{IsAmong}
+use Rattle.clap.specs.declared.error.kind.ErrorKind.{ErrorKind}
+use Rattle.clap.specs.declared.error.kind.ErrorKind.TheVariants.{DisplayHelp, DisplayVersion, MissingSubcommand}
+use Rattle.clap.specs.Words.{App, Row, Rule, Text, first_of, one_of, new_app, new_rule, subcommand_of, fault_of, takes, with_rule, with_subcommand}
 use Rattle.clap.specs.Simple.{on_top}
 use Rattle.clap.specs.declared.builder.action.ArgAction.TheVariants.{Set}
 use Rattle.clap.specs.declared.builder.value_parser.ValueParser.{ValueParser}
@@ -45,7 +48,7 @@ Named = Text × List Row
 -- the number that a text tells in decimal
 abbrev pub IsNumber : Option Text → ℕ → Type 0
 IsNumber None n = ⊥
-IsNumber (Some text) n = n ≡ digits_value 10 (without_leading_plus text)
+IsNumber (Some text) n = IsNumeral 10 (without_leading_plus text) × (n ≡ digits_value 10 (without_leading_plus text))
 
 -- the subcommand of this name with these values is this request
 abbrev pub IsRequest : Text → List Row → Request → Type 0
@@ -62,3 +65,29 @@ IsRequest name rows (Request.Work file stimulus crew) =
 -- the words ask for this request
 abbrev pub AskFor : List Text → Request → Type 0
 AskFor words request = (p : Named) × (subcommand_of program words ≡ Some p) × IsRequest p.0 p.1 request
+
+-- the words are such that the program takes them, and ask for a request
+abbrev pub AskForSome : List Text → Type 0
+AskForSome words = (takes program words ≡ true) × ((request : Request) × AskFor words request)
+
+-- the words ask for no request
+abbrev pub AskForNone : List Text → Type 0
+AskForNone words = (request : Request) → AskFor words request → ⊥
+
+-- a fault that is found in the words; where none is found, that no subcommand is asked for
+abbrev pub IsFaultOf : List Text → ErrorKind → Type 0
+IsFaultOf words kind =
+    IsAmong kind (fault_of program words)
+    ⊎ ((fault_of program words ≡ []) × (kind ≡ MissingSubcommand) × AskForNone words)
+
+-- a fault by which help or the version is asked for
+abbrev pub IsHelp : ErrorKind → Type 0
+IsHelp kind = (kind ≡ DisplayHelp) ⊎ (kind ≡ DisplayVersion)
+
+-- the words ask for help, or for the version
+abbrev pub AskForHelp : List Text → Type 0
+AskForHelp words = (kind : ErrorKind) × IsFaultOf words kind × IsHelp kind
+
+-- the words have another fault
+abbrev pub AreMistaken : List Text → Type 0
+AreMistaken words = (kind : ErrorKind) × IsFaultOf words kind × (IsHelp kind → ⊥)

@@ -1,10 +1,11 @@
 //! What the words of the command line ask for.
 
-ghost use Rattle.std.specs.Prelude.{◌≡◌, Some, map, codes, pos, IfOk, IfSome};
-ghost use Rattle.clap.specs.Words.{found_of, rows_of, subcommand_rows_of};
+ghost use Rattle.std.specs.Prelude.{◌≡◌, ◌≢◌, map, codes, pos, IfOk, IfErr, MatchOption};
+ghost use Rattle.clap.specs.Words.{found_of, kind_of, rows_of};
+ghost use Rattle.clap.specs.declared.error.kind.ErrorKind.TheVariants.{OutOfMemory};
 ghost use Rattle.clap.specs.declared.builder.value_parser.ValueParser.TheVariants.{Signed, Unsigned};
 ghost use Rattle.command_line.specs.Words as spec;
-ghost use Rattle.command_line.specs.walking.Building.{IsArgument, IsCommand};
+ghost use Rattle.command_line.specs.walking.Building.{Chooses, ChoosesNone, IsArgument, IsCommand, IsNoRequest};
 
 use crate::help;
 use clap::error::ErrorKind;
@@ -155,7 +156,7 @@ fn balsadbg<'a>(alloc: Global) -> Result<Command<'a>, AllocError>
 
 /// The request that the matches of the program's words make.
 fn chosen<'a>(matches: &ArgMatches<'a>) -> Option<Request<'a>>
-    ensures { IfSome result (λ request. (p : spec.Named) × (subcommand_rows_of matches.now ≡ Some p) × spec.IsRequest p.0 p.1 request) }
+    ensures { MatchOption result (ChoosesNone matches.now) (Chooses matches.now) }
 {
     let found = matches.subcommand()?;
     request_of(found.0, found.1)
@@ -163,7 +164,7 @@ fn chosen<'a>(matches: &ArgMatches<'a>) -> Option<Request<'a>>
 
 /// The request of the subcommand of this name with these matches.
 fn request_of<'a>(name: &str, words: &ArgMatches<'a>) -> Option<Request<'a>>
-    ensures { IfSome result (spec.IsRequest name.now (rows_of (found_of words.now))) }
+    ensures { MatchOption result (IsNoRequest name.now (rows_of (found_of words.now))) (spec.IsRequest name.now (rows_of (found_of words.now))) }
 {
     let file = words.get_str("FILE")?;
     if name == "check" {
@@ -193,9 +194,12 @@ fn request_of<'a>(name: &str, words: &ArgMatches<'a>) -> Option<Request<'a>>
     None
 }
 
-/// What `words` ask for, of which the first is the program's name; or the text to show instead.
+/// What `words` ask for, of which the first is the program's name; or the text to show instead. Of words that ask for a
+/// request the only error is that there is no memory.
 pub fn requested<'a, S: AsStr>(alloc: Global, words: &'a [S]) -> Result<Request<'a>, Error>
-    ensures { IfOk result (spec.AskFor (map S.text words.entry.now)) }
+    ensures ok { IfOk result (spec.AskFor (map S.text words.entry.now)) }
+    ensures refused { IfErr result (λ error. spec.AskForSome (map S.text words.entry.now) → kind_of error ≡ OutOfMemory) }
+    ensures fault { IfErr result (λ error. kind_of error ≢ OutOfMemory → spec.IsFaultOf (map S.text words.entry.now) (kind_of error)) }
 {
     let mut command = balsadbg(alloc)?;
     let matches = command.try_get_matches_from_mut(words)?;

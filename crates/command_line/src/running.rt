@@ -6,7 +6,9 @@ ghost use Rattle.devices.specs.Counting.{device, failures};
 ghost use Rattle.debug_session.specs.Counting.{after_writing};
 ghost use Rattle.command_line.specs.Serving.{Outcome, Told, status_of, told_text, WriterBlamed, DevicesBlamed, ChecksSource, ChecksFile, DebugsFiles, Serves};
 ghost use Rattle.command_line.specs.Running.{TellsSome, TellsHelp, Explains, ServesAsked};
-ghost use Rattle.command_line.specs.Words.{AskFor};
+ghost use Rattle.command_line.specs.Words.{AreMistaken, AskFor, AskForHelp, AskForSome, IsHelp};
+ghost use Rattle.clap.specs.Words.{kind_of};
+ghost use Rattle.clap.specs.declared.error.kind.ErrorKind.TheVariants.{OutOfMemory};
 
 use crate::files::Files;
 use crate::replaying::replay_files;
@@ -195,7 +197,7 @@ fn explain<O: Write, E: Write>(
     ensures status { result ≤ 2 }
     ensures mistake { result ≡ 2 → out.new ≡ out.old }
     ensures quiet { result ≡ 0 → err.new ≡ err.old }
-    ensures explained { Explains result (out.new ≡ out.old) (err.new ≡ err.old)
+    ensures explained { Explains (kind_of error.now ≢ OutOfMemory) (IsHelp (kind_of error.now) → ⊥) (IsHelp (kind_of error.now)) result (out.new ≡ out.old) (err.new ≡ err.old)
         (WriterBlamed (failures out.old) (failures out.new)) (WriterBlamed (failures err.old) (failures err.new))
         (O.contents (device out.old)) (O.contents (device out.new)) (E.contents (device err.old)) (E.contents (device err.new)) }
 {
@@ -229,7 +231,7 @@ pub fn run<R: AllocGlobal + Threads + Wait + Sync, S: AsStr, F: Files, I: Read, 
         (DevicesBlamed (failures reader.old) (failures reader.new) (failures out.old) (failures out.new))
         (reader_remaining I.remaining (device reader.old)) (reader_remaining I.remaining (device reader.new)) (O.contents (device out.old)) (O.contents (device out.new))
         (E.contents (device err.old)) (E.contents (device err.new))
-        ⊎ ((reader.new ≡ reader.old) × Explains result (out.new ≡ out.old) (err.new ≡ err.old)
+        ⊎ ((reader.new ≡ reader.old) × Explains (AskForSome (map S.text words.now) → ⊥) (AreMistaken (map S.text words.now)) (AskForHelp (map S.text words.now)) result (out.new ≡ out.old) (err.new ≡ err.old)
         (WriterBlamed (failures out.old) (failures out.new)) (WriterBlamed (failures err.old) (failures err.new))
         (O.contents (device out.old)) (O.contents (device out.new)) (E.contents (device err.old)) (E.contents (device err.new))) }
     ensures status { result ≤ 2 }

@@ -3,10 +3,6 @@
 // old write.
 ghost use Rattle.std.specs.Prelude.{◌≡◌, ◌≤◌, ◌⊎◌, ◌↔◌, ℕ, Some, IsTrue, IfOk};
 ghost use Rattle.syntax.specs.Lists.{In};
-ghost use Rattle.calculus.specs.Dependence.{SomeBefore};
-ghost use Rattle.calculus.specs.Events.{places};
-ghost use Rattle.calculus.specs.Moves.{Place};
-ghost use Rattle.address.specs.Places.{Before};
 ghost use Rattle.calculus.specs.Live.{IsLive, LastWriter};
 ghost use Rattle.dependence.specs.walking.Found.{AccessesFound, FirstBehind, IsBefore, IsDirect, IsReadBefore, ReaderSince, WritesOneRead, UsesWritten, IsNewcomer};
 
@@ -14,8 +10,7 @@ use crate::candidates::add_if;
 use crate::indexes::index_of_live;
 use crate::live::LiveEvent;
 use crate::tables::Tables;
-use address::{Address, before};
-use calculus::Event;
+use calculus::{Event, some_before};
 use std::alloc::{AllocError, Global};
 
 /// A new event, of a ticket greater than the live ones, and the live events with their tables.
@@ -178,28 +173,4 @@ fn behind_all(tickets: &[u64]) -> u64
         }
     }
     end
-}
-
-/// Whether a place of the first event is before a place of the second.
-fn some_before(earlier: &Event, later: &Event) -> bool
-    ensures { IsTrue result ↔ SomeBefore earlier.now later.now }
-{
-    let first = before_some(&earlier.first, later);
-    let second = match &earlier.second {
-        Some(place) => before_some(place, later),
-        None => false,
-    };
-    first || second
-}
-
-/// Whether the place is before a place of the event.
-fn before_some(place: &Address, later: &Event) -> bool
-    ensures { IsTrue result ↔ ((b : Place) × In b (places later.now) × Before place.now b) }
-{
-    let first = before(place, &later.first);
-    let second = match &later.second {
-        Some(other) => before(place, other),
-        None => false,
-    };
-    first || second
 }

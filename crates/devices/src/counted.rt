@@ -30,6 +30,7 @@ pub struct Counted<D> {
 }
 
 impl<D> Counted<D> {
+    /// The device with no failure counted yet, and with patience for 2^64 - 1 interruptions.
     pub fn new(inner: D) -> Counted<D>
         ensures whole { device result ≡ inner }
         ensures none { failures result ≡ 0 }

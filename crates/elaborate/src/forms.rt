@@ -8,6 +8,7 @@ use system::{Action, Arm, Command, Guarded, Labelled};
 use typed::{ChannelUse, VariableUse};
 use value::Width;
 
+/// `continue`.
 #[inline(never)]
 pub fn continue_command(alloc: Global, line: u64) -> Result<Command, AllocError>
     ensures { IfOk result (λ made. made ≡ record { line = line; action = Action.Continue }) }
@@ -15,6 +16,7 @@ pub fn continue_command(alloc: Global, line: u64) -> Result<Command, AllocError>
     Command::new(alloc, line, Action::Continue)
 }
 
+/// `halt`.
 #[inline(never)]
 pub fn halt_command(alloc: Global, line: u64) -> Result<Command, AllocError>
     ensures { IfOk result (λ made. made ≡ record { line = line; action = Action.Halt }) }
@@ -22,6 +24,7 @@ pub fn halt_command(alloc: Global, line: u64) -> Result<Command, AllocError>
     Command::new(alloc, line, Action::Halt)
 }
 
+/// A `loop` over the body.
 #[inline(never)]
 pub fn loop_command(alloc: Global, line: u64, body: Command) -> Result<Command, AllocError>
     ensures { IfOk result (λ made. made ≡ record { line = line; action = Action.Loop body }) }
@@ -29,6 +32,7 @@ pub fn loop_command(alloc: Global, line: u64, body: Command) -> Result<Command, 
     Command::new(alloc, line, Action::Loop(body))
 }
 
+/// An `if` of these arms, with what its `else` holds, if it has one.
 #[inline(never)]
 pub fn if_command(
     alloc: Global,
@@ -41,6 +45,7 @@ pub fn if_command(
     Command::new(alloc, line, Action::If(arms, last))
 }
 
+/// A `select` of these arms.
 #[inline(never)]
 pub fn select_command(alloc: Global, line: u64, arms: Items<Arm>) -> Result<Command, AllocError>
     ensures { IfOk result (λ made. made ≡ record { line = line; action = Action.Select arms }) }
@@ -48,6 +53,7 @@ pub fn select_command(alloc: Global, line: u64, arms: Items<Arm>) -> Result<Comm
     Command::new(alloc, line, Action::Select(arms))
 }
 
+/// An `arbitrate` of these arms.
 #[inline(never)]
 pub fn arbitrate_command(alloc: Global, line: u64, arms: Items<Arm>) -> Result<Command, AllocError>
     ensures { IfOk result (λ made. made ≡ record { line = line; action = Action.Arbitrate arms }) }
@@ -55,6 +61,7 @@ pub fn arbitrate_command(alloc: Global, line: u64, arms: Items<Arm>) -> Result<C
     Command::new(alloc, line, Action::Arbitrate(arms))
 }
 
+/// The children one after the other.
 #[inline(never)]
 pub fn sequence_command(
     alloc: Global,
@@ -66,6 +73,7 @@ pub fn sequence_command(
     Command::new(alloc, line, Action::Sequence(children))
 }
 
+/// The children side by side.
 #[inline(never)]
 pub fn parallel_command(
     alloc: Global,
@@ -80,6 +88,7 @@ pub fn parallel_command(
 impl Instance {
     ghost use Rattle.elaborate.specs.Instances as instances;
 
+    /// A `loop` that ends where the guard is 0.
     #[inline(never)]
     pub fn while_command(
         &self,
@@ -94,6 +103,7 @@ impl Instance {
         Command::new(alloc, line, Action::While(guard, body))
     }
 
+    /// A `case` of these arms, with what its `else` holds, if it has one.
     #[inline(never)]
     pub fn case_command(
         &self,
@@ -109,6 +119,7 @@ impl Instance {
         Command::new(alloc, line, Action::Case(subject, arms, last))
     }
 
+    /// An input on the channel that encloses the body.
     #[inline(never)]
     pub fn input_command(
         &self,
@@ -122,6 +133,7 @@ impl Instance {
         Command::new(alloc, line, Action::Input(self.channel_use(channel), body))
     }
 
+    /// An assignment of the value to the variable.
     #[inline(never)]
     pub fn assign_command(
         &self,
@@ -141,6 +153,7 @@ impl Instance {
         )
     }
 
+    /// A send of the value on the channel.
     #[inline(never)]
     pub fn send_command(
         &self,
@@ -160,6 +173,7 @@ impl Instance {
         )
     }
 
+    /// A receive from the channel into the variable.
     #[inline(never)]
     pub fn receive_command(
         &self,
@@ -177,6 +191,7 @@ impl Instance {
         )
     }
 
+    /// A sync on the channel.
     #[inline(never)]
     pub fn sync_command(
         &self,

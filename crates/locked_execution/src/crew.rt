@@ -22,7 +22,7 @@ pub const MOST_WORKERS: u32 = 16;
 /// The most turns of each.
 pub const MOST_TURNS: u32 = 1_000_000;
 
-/// How many workers there are, 16 at most, and how many turns each takes, 1,000,000 at most.
+/// How many workers there are, 0 to 16, and how many turns each takes, 0 to 1,000,000.
 #[derive(Clone, Copy)]
 pub struct Crew {
     pub workers: u32,

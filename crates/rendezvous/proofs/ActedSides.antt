@@ -1,5 +1,5 @@
 -- The events in which sides act, the choice among them, and the list of them.
-use Rattle.std.proofs.Common.{◌≡◌, ◌⊎◌, inl, inr, ℕ, ◌==◌, List, [], ◌∷◌, ◌++◌, Bool, true, false, ◌&&◌, cond, Option, Some, None, refl, sym, ◌∙◌, ap, subst}
+use Rattle.std.proofs.Common.{◌≡◌, ◌⊎◌, inl, inr, ℕ, ◌==◌, List, [], ◌∷◌, ◌++◌, true, ◌&&◌, Option, Some, None, refl, sym, ◌∙◌, ap, subst}
 use Rattle.std.proofs.lemmas.Bool.{eqb-true, eq-eqb, and_parts}
 use Rattle.std.specs.Prelude.{◌↔◌}
 use Rattle.std.specs.Ordering.{is_lt}
@@ -18,7 +18,7 @@ use Rattle.calculus.proofs.Options.{none-some, cond-some}
 use Rattle.offered_sides.specs.Sides.{Offered, Under}
 use Rattle.offered_sides.specs.declared.side.OfferedSide.{OfferedSide}
 use Rattle.offered_sides.specs.declared.side.Side.{Side}
-use Rattle.offered_sides.specs.declared.side.Side.TheVariants.{Assigns, Tests, Turns, Sends, Receives, Syncs, Opens, Releases, Closes}
+use Rattle.offered_sides.specs.declared.side.Side.TheVariants.{Sends, Receives, Syncs, Opens, Releases, Closes}
 use Rattle.channel_uses.specs.OnChannel.{is_on}
 use Rattle.rendezvous.specs.ReadyBelow.{ReadyBelow}
 use Rattle.rendezvous.specs.walking.Acting.{ActedBy, ActedByOne, ReadyWith, SortedOf}

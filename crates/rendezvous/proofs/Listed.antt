@@ -1,5 +1,5 @@
 -- The events of a side with those of a list.
-use Rattle.std.proofs.Common.{◌≡◌, ◌⊎◌, inl, inr, ◌==◌, List, [], ◌∷◌, ◌++◌, Bool, true, false, cond, Option, Some, None, refl, sym, ◌∙◌, ap, subst}
+use Rattle.std.proofs.Common.{◌≡◌, ◌⊎◌, inl, inr, List, [], ◌∷◌, Option, Some, None, refl, sym, ap, subst}
 use Rattle.syntax.specs.Lists.{In}
 use Rattle.calculus.specs.walking.AllowedEvents.{those}
 use Rattle.calculus.specs.declared.event.Event.{Event}

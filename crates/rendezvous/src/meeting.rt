@@ -1,10 +1,10 @@
 // The events that sides make.
-ghost use Rattle.std.specs.Prelude.{◌≡◌, ℕ, [], Some, None, IfOk};
+ghost use Rattle.std.specs.Prelude.{◌≡◌, IfOk};
 ghost use Rattle.rendezvous.specs.walking.Meeting as model;
 ghost use Rattle.offered_sides.specs.declared.side.Side.TheVariants as side;
 
 use address::{Address, compare};
-use calculus::{Event, Kind};
+use calculus::Event;
 use offered_sides::Side;
 use std::alloc::{AllocError, Global};
 use system::Variables;
@@ -37,18 +37,8 @@ fn assigned(
 ) -> Result<Option<Event>, AllocError>
     ensures { IfOk result (λ made. made ≡ model.solo place.now (side.Assigns variable value read.now)) }
 {
-    let first = place.copy(alloc)?;
     let read = read.copy(alloc)?;
-    Ok(Some(Event {
-        kind: Kind::Assign,
-        first,
-        second: None,
-        arm: None,
-        channel: None,
-        value: Some(value),
-        written: Some(variable),
-        read,
-    }))
+    Ok(Some(Event::assignment(alloc, place, variable, value, read)?))
 }
 
 /// The event of a test.
@@ -60,35 +50,15 @@ fn tested(
 ) -> Result<Option<Event>, AllocError>
     ensures { IfOk result (λ made. made ≡ model.solo place.now (side.Tests arm read.now)) }
 {
-    let first = place.copy(alloc)?;
     let read = read.copy(alloc)?;
-    Ok(Some(Event {
-        kind: Kind::Test,
-        first,
-        second: None,
-        arm,
-        channel: None,
-        value: None,
-        written: None,
-        read,
-    }))
+    Ok(Some(Event::test(alloc, place, arm, read)?))
 }
 
 /// The event of a turn.
 fn turned(alloc: Global, place: &Address) -> Result<Option<Event>, AllocError>
     ensures { IfOk result (λ made. made ≡ model.solo place.now side.Turns) }
 {
-    let first = place.copy(alloc)?;
-    Ok(Some(Event {
-        kind: Kind::Turn,
-        first,
-        second: None,
-        arm: None,
-        channel: None,
-        value: None,
-        written: None,
-        read: Variables::none(alloc),
-    }))
+    Ok(Some(Event::turn(alloc, place)?))
 }
 
 /// The event in which a side acts with the other as its partner, if they make one.
@@ -133,19 +103,9 @@ fn received(
             if channel != *on {
                 return Ok(None);
             }
-            let first = other.copy(alloc)?;
-            let second = place.copy(alloc)?;
             let read = read.copy(alloc)?;
-            Ok(Some(Event {
-                kind: Kind::Meet,
-                first,
-                second: Some(second),
-                arm: None,
-                channel: Some(channel),
-                value: Some(*value),
-                written: variable,
-                read,
-            }))
+            let event = Event::meeting(alloc, other, place, channel, *value, variable, read)?;
+            Ok(Some(event))
         }
         _ => Ok(None),
     }
@@ -169,50 +129,19 @@ fn opened(
                 return Ok(None);
             }
             let read = read.copy(alloc)?;
-            opening(alloc, place, channel, arm, other, Some(*value), read)
+            let event = Event::opening(alloc, other, place, channel, arm, Some(*value), read)?;
+            Ok(Some(event))
         }
         Side::Syncs(on) => {
             if channel != *on {
                 return Ok(None);
             }
-            opening(
-                alloc,
-                place,
-                channel,
-                arm,
-                other,
-                None,
-                Variables::none(alloc),
-            )
+            let read = Variables::none(alloc);
+            let event = Event::opening(alloc, other, place, channel, arm, None, read)?;
+            Ok(Some(event))
         }
         _ => Ok(None),
     }
-}
-
-/// The event of the opening of an arm.
-fn opening(
-    alloc: Global,
-    place: &Address,
-    channel: u32,
-    arm: u32,
-    other: &Address,
-    value: Option<Value>,
-    read: Variables,
-) -> Result<Option<Event>, AllocError>
-    ensures { IfOk result (λ made. made ≡ Some (record { kind = Kind.Open; first = other.now; second = Some place.now; arm = Some arm; channel = Some channel; value = value; written = None; read = read })) }
-{
-    let first = other.copy(alloc)?;
-    let second = place.copy(alloc)?;
-    Ok(Some(Event {
-        kind: Kind::Open,
-        first,
-        second: Some(second),
-        arm: Some(arm),
-        channel: Some(channel),
-        value,
-        written: None,
-        read,
-    }))
 }
 
 /// The event of a close and its partner.
@@ -231,7 +160,7 @@ fn closed(
             if channel != *on {
                 return Ok(None);
             }
-            without_data(alloc, Kind::Close, other, place, channel)
+            Ok(Some(Event::close(alloc, other, place, channel)?))
         }
         _ => Ok(None),
     }
@@ -256,32 +185,8 @@ fn synced(
             if !compare(place, other).is_lt() {
                 return Ok(None);
             }
-            without_data(alloc, Kind::Sync, place, other, channel)
+            Ok(Some(Event::sync(alloc, place, other, channel)?))
         }
         _ => Ok(None),
     }
-}
-
-/// The event of two sides that pass no data.
-fn without_data(
-    alloc: Global,
-    kind: Kind,
-    first: &Address,
-    second: &Address,
-    channel: u32,
-) -> Result<Option<Event>, AllocError>
-    ensures { IfOk result (λ made. made ≡ Some (record { kind = kind; first = first.now; second = Some second.now; arm = None; channel = Some channel; value = None; written = None; read = [] })) }
-{
-    let first = first.copy(alloc)?;
-    let second = second.copy(alloc)?;
-    Ok(Some(Event {
-        kind,
-        first,
-        second: Some(second),
-        arm: None,
-        channel: Some(channel),
-        value: None,
-        written: None,
-        read: Variables::none(alloc),
-    }))
 }

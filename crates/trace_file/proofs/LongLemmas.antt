@@ -1,5 +1,5 @@
 -- A line with a long place: it is none of an event that acts at a place of fewer entries.
-use Rattle.std.proofs.Common.{◌≡◌, ◌⊎◌, inl, inr, ℕ, ◌+◌, ◌*◌, ◌/◌, ◌<◌, ◌≤◌, List, [], ◌∷◌, ◌++◌, length, take, get_or, drop, refl, sym, ap, ◌∙◌, subst, arith, length-append, Bool, true, false, ◌↔◌}
+use Rattle.std.proofs.Common.{◌≡◌, ℕ, ◌+◌, ◌*◌, ◌/◌, ◌<◌, ◌≤◌, List, [], ◌∷◌, ◌++◌, length, take, get_or, refl, sym, ap, ◌∙◌, subst, arith, length-append, Bool, false, ◌↔◌}
 use Rattle.std.specs.Prelude.{IsTrue}
 use Rattle.std.specs.Fmt.{decimal}
 use Rattle.std.proofs.lemmas.Bool.{false≢true}
@@ -10,8 +10,8 @@ use Rattle.address.specs.declared.Entry.{Entry}
 use Rattle.address.specs.declared.Entry.TheVariants.{Ordered, Branch}
 use Rattle.address.specs.Text.{text_of}
 use Rattle.address.specs.Reading.{NumbersFit, IsTextOf, HasNoText}
-use Rattle.address.specs.walking.Entries.{IsDigitsEnd, ReadsNumber, ReadsNoNumber, ReadsEntry, BeginsNoEntry}
-use Rattle.address.proofs.Finds.{Pending, pending-more, pending-stuck, pending-end, no-entry-number, no-entry-mark, entry-ordered, entry-branch}
+use Rattle.address.specs.walking.Entries.{ReadsEntry, BeginsNoEntry}
+use Rattle.address.proofs.Finds.{Pending, pending-more, pending-stuck, pending-end}
 use Rattle.calculus.proofs.Lists.{every-in}
 use Rattle.calculus.specs.Events.{acting}
 use Rattle.calculus.specs.Object.{Reaches}
@@ -110,31 +110,6 @@ passed-stuck text rest p some none = pending-stuck text p.0 rest p.1 some none
 -- an address has it where nothing is left
 pub passed-end : (text rest : List ℕ) → Passed text rest → rest ≡ [] → (a : List Entry) × IsTextOf a text
 passed-end text rest p e = (p.0, pending-end text p.0 rest p.1 e)
-
--- what is no arm is no number of an entry
-no-number : (digits : List ℕ) → IsNoArm digits → ReadsNoNumber digits
-no-number digits none n h = none n (h.1, h.0)
-
--- no entry begins with a byte that is no mark
-pub no-mark : (m : ℕ) (rest : List ℕ) (r : Bool) → (IsTrue r ↔ ((m ≡ 46) ⊎ (m ≡ 47))) → r ≡ false → BeginsNoEntry (m ∷ rest)
-no-mark m rest r is fails-it =
-    no-entry-mark m rest (λ e. false≢true (sym fails-it ∙ is.1 (inl e))) (λ e. false≢true (sym fails-it ∙ is.1 (inr e)))
-
--- nor is there one where no number is behind it
-pub no-digits : (m : ℕ) (rest digits : List ℕ) (count : ℕ) → IsDigitsEnd rest count → digits ≡ take count rest → IsNoArm digits
-    → BeginsNoEntry (m ∷ rest)
-no-digits m rest digits count d is none = no-entry-number m rest count d (no-number (take count rest) (subst IsNoArm is none))
-
--- a mark and a number are an entry
-pub an-entry : (m : ℕ) (rest digits after : List ℕ) (count n : ℕ) (r : Bool) → (IsTrue r ↔ ((m ≡ 46) ⊎ (m ≡ 47))) → r ≡ true
-    → IsDigitsEnd rest count → digits ≡ take count rest → after ≡ drop count rest → IsArm n digits
-    → (e : Entry) × ReadsEntry (m ∷ rest) e after
-an-entry m rest digits after count n r is on d front back arm =
-    let number : ReadsNumber (take count rest) n = (arm.1, arm.0 ∙ front) in
-    subst (λ (t : List ℕ). (e : Entry) × ReadsEntry (m ∷ rest) e t) (sym back) (elim (is.0 on) [
-      | inl dot ↦ (Ordered n, entry-ordered m rest count n dot d number)
-      | inr slash ↦ (Branch n, entry-branch m rest count n slash d number)
-    ])
 
 -- what was passed is no address, where no entry goes on
 pub not-passed : (text rest : List ℕ) → Passed text rest → (rest ≡ [] → ⊥) → BeginsNoEntry rest

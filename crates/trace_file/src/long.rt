@@ -1,14 +1,14 @@
 // A line with a long place: where no ready event acts so deep, it is refused without its place being made.
-ghost use Rattle.std.specs.Prelude.{◌≡◌, ◌⊎◌, ◌↔◌, ◌<◌, List, length, false, IsTrue, IfErr, MatchOption};
+ghost use Rattle.std.specs.Prelude.{◌≡◌, ◌↔◌, ◌<◌, List, length, false, IsTrue, IfErr};
 ghost use Rattle.syntax.specs.Lists.{Every};
 ghost use Rattle.address.specs.Reading.{IsTextOf};
-ghost use Rattle.address.specs.walking.Entries.{IsDigitsEnd, ReadsEntry, BeginsNoEntry};
 ghost use Rattle.address.specs.declared.Entry.{Entry};
 ghost use Rattle.calculus.specs.Events.{acting};
 ghost use Rattle.trace_file.specs.walking.OneStep.{LineStops};
 
 use crate::Fault;
 use crate::line::{fields, read_arm};
+use address::read_entry;
 use calculus::Event;
 use machine::Machine;
 
@@ -59,42 +59,10 @@ fn is_place(text: &[u8]) -> bool
 {
     let mut rest = text;
     while !rest.is_empty() {
-        let Some(after) = behind_entry(rest) else {
+        let Some((_, after)) = read_entry(rest) else {
             return false;
         };
         rest = after;
     }
     true
-}
-
-/// What is behind the entry at the start of the text.
-fn behind_entry(text: &[u8]) -> Option<&[u8]>
-    ensures { MatchOption result (BeginsNoEntry text.entry.now) (λ after. (e : Entry) × ReadsEntry text.entry.now e after.now) }
-{
-    let (mark, rest) = text.split_first()?;
-    if !is_mark(*mark) {
-        return None;
-    }
-    let (digits, after) = rest.split_at(count_digits(rest));
-    read_arm(digits)?;
-    Some(after)
-}
-
-/// Whether an entry begins with this byte.
-fn is_mark(byte: u8) -> bool
-    ensures { IsTrue result ↔ ((byte ≡ 46) ⊎ (byte ≡ 47)) }
-{
-    byte == b'.' || byte == b'/'
-}
-
-/// How many digits the text starts with.
-fn count_digits(text: &[u8]) -> usize
-    ensures { IsDigitsEnd text.now result }
-{
-    for (i, byte) in text.iter().enumerate() {
-        if !byte.is_ascii_digit() {
-            return i;
-        }
-    }
-    text.len()
 }

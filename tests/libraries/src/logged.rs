@@ -78,6 +78,11 @@ impl Logged {
         self.calls.len() as u64
     }
 
+    /// The number of the pass that made the call which is noted at this place.
+    pub fn caller(&self, place: usize) -> Option<u32> {
+        Some(self.calls.as_slice().get(place)?.pass)
+    }
+
     /// How many calls of the pass are noted from this place on, and a number for the list of their replies.
     pub fn told_to(&self, pass: u32, from: u64) -> (u64, u64) {
         let mut count = 0;

@@ -4,7 +4,6 @@ use Rattle.std.specs.Prelude.{ℕ, ◌==◌, List, [], ◌∷◌, true, false, c
 use Rattle.std.specs.Ordering.{is_lt}
 use Rattle.calculus.specs.Moves.{Place, Move, assigns, tests, turns, sends, receives, syncs, opens, releases, closes}
 use Rattle.address.specs.Order.{order_of}
-use Rattle.value.specs.Word.{Word}
 use Rattle.system.specs.Expression.{Expression, Store, variables, decision_variables, decide, ascending}
 use Rattle.calculus.specs.Events.{Located, sent}
 use Rattle.calculus.specs.Asking.{ask_of}

@@ -1,7 +1,6 @@
 use Rattle.std.proofs.Common.{ap, ◌∙◌, Err, refl}
 use Rattle.std.proofs.lemmas.Result.{err_from_is_err_and}
 use Rattle.devices.specs.Counting.{failures}
-use Rattle.debug_session.specs.Counting.{after_writing}
 use Rattle.debug_session.proofs.CountLemmas.{writes-on}
 use Rattle.command_line.proofs.TellingLemmas.{told-then, told-stops}
 use Rattle.command_line.proofs.telling.write_both.Goals as goal

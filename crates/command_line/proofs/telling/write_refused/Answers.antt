@@ -1,4 +1,4 @@
-use Rattle.std.proofs.Common.{ap, ◌∙◌, ◌++◌, codes, Err, Some, sym}
+use Rattle.std.proofs.Common.{ap, ◌∙◌, ◌++◌, codes, Err, Some}
 use Rattle.std.specs.Fmt.{decimal}
 use Rattle.std.proofs.lemmas.Result.{err_from_is_err_and}
 use Rattle.debug_session.specs.ReplyText.{ending}

@@ -9,4 +9,4 @@ returns-in_default c =
 
 pub loop-rest-preserved : goal.loop-rest-preserved
 loop-rest-preserved c =
-    passed-more c.args.text.now c.loop-rest.rest.now c.in-Some.after.now c.loop-rest.invariant c.in-Some.ensures
+    passed-more c.args.text.now c.loop-rest.rest.now c.in-Some.after.now c.loop-rest.invariant (c.in-Some.field-0-0, c.in-Some.ensures)
