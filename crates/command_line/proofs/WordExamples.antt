@@ -15,6 +15,10 @@ pub a_check_is_taken : takes program check_of_a ≡ true
 unfolding clap_on_literals
 a_check_is_taken = refl
 
+pub no_fault_is_in_it : fault_of program check_of_a ≡ []
+unfolding clap_on_literals
+no_fault_is_in_it = refl
+
 pub its_file_is_a : option_map (λ (p : Named). first_of (codes "FILE") p.1) (subcommand_of program check_of_a) ≡ Some (Some (codes "a"))
 unfolding clap_on_literals
 its_file_is_a = refl

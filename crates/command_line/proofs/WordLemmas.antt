@@ -168,29 +168,32 @@ program_is_simple : is_simple program ≡ true
 unfolding clap_on_literals
 program_is_simple = refl
 
+-- the faults of the words are those that `clap` finds
+program_is_free : is_simple_and_free program ≡ true
+unfolding clap_on_literals
+program_is_free = refl
+
 -- the request of the subcommand that was met is what the words ask for
 pub asks : (words : List Text) (command : Command) (m : ArgMatches) (request : Request) → IsCommand program command → HasMatchesOf (app_of command) words m
-    → Chooses m request → AskFor words request
-asks words command m request is has chosen =
-    let met = has (ap is_simple is.app ∙ program_is_simple) in
-    (chosen.0, subst (λ (a : App). subcommand_of a words ≡ Some chosen.0) is.app (sym met.1 ∙ chosen.1), chosen.2)
+    → (is_simple_and_free (app_of command) ≡ true → fault_of (app_of command) words ≡ []) → Chooses m request → AskFor words request
+asks words command m request is has kinds chosen =
+    let met = has (ap is_simple is.app ∙ program_is_simple) in (
+      subst (λ (a : App). fault_of a words ≡ []) is.app (kinds (ap is_simple_and_free is.app ∙ program_is_free)),
+      (chosen.0, subst (λ (a : App). subcommand_of a words ≡ Some chosen.0) is.app (sym met.1 ∙ chosen.1), chosen.2),
+    )
 
 -- words that ask for a request have matches that make one
 pub none_asked : (words : List Text) (command : Command) (m : ArgMatches) → IsCommand program command → HasMatchesOf (app_of command) words m
     → ChoosesNone m → AskForNone words
 none_asked words command m is has none request of =
     let met = has (ap is_simple is.app ∙ program_is_simple) in
-    none request (of.0, met.1 ∙ subst (λ (a : App). subcommand_of a words ≡ Some of.0) (sym is.app) of.1, of.2)
+    let named = of.1 in
+    none request (named.0, met.1 ∙ subst (λ (a : App). subcommand_of a words ≡ Some named.0) (sym is.app) named.1, named.2)
 
 -- words that the program takes are refused for want of memory alone
 pub passed : (words : List Text) (command : Command) (error : Error) → IsCommand program command
     → (takes (app_of command) words ≡ true → kind_of error ≡ OutOfMemory) → AskForSome words → kind_of error ≡ OutOfMemory
 passed words command error is passes asked = passes (subst (λ (a : App). takes a words ≡ true) (sym is.app) asked.0)
-
--- the faults of the words are those that `clap` finds
-program_is_free : is_simple_and_free program ≡ true
-unfolding clap_on_literals
-program_is_free = refl
 
 pub faulty : (words : List Text) (command : Command) (error : Error) → IsCommand program command
     → (is_simple_and_free (app_of command) ≡ true → HasKind (fault_of (app_of command) words) error) → kind_of error ≢ OutOfMemory
@@ -200,7 +203,7 @@ faulty words command error is kinds some = elim (kinds (ap is_simple_and_free is
   | inr among ↦ inl (subst (λ (a : App). IsAmong (kind_of error) (fault_of a words)) is.app among)
 ]
 
--- words in which none is found, and which ask for no request
+-- words in which `clap` finds none, and which ask for no request
 pub unasked : (words : List Text) (command : Command) (m : ArgMatches) (error : Error) → IsCommand program command
     → HasMatchesOf (app_of command) words m → (is_simple_and_free (app_of command) ≡ true → fault_of (app_of command) words ≡ [])
     → ChoosesNone m → kind_of error ≡ MissingSubcommand → IsFaultOf words (kind_of error)

@@ -62,9 +62,10 @@ IsRequest name rows (Request.Work file stimulus crew) =
     (name ≡ codes "work") × (first_of (codes "FILE") rows ≡ Some file.now) × (first_of (codes "STIMULUS") rows ≡ Some stimulus.now)
     × IsNumber (one_of (codes "workers") rows) crew.workers × IsNumber (one_of (codes "turns") rows) crew.turns
 
--- the words ask for this request
+-- `clap` finds no fault in the words, and they ask for this request
 abbrev pub AskFor : List Text → Request → Type 0
-AskFor words request = (p : Named) × (subcommand_of program words ≡ Some p) × IsRequest p.0 p.1 request
+AskFor words request =
+    (fault_of program words ≡ []) × ((p : Named) × (subcommand_of program words ≡ Some p) × IsRequest p.0 p.1 request)
 
 -- the words are such that the program takes them, and ask for a request
 abbrev pub AskForSome : List Text → Type 0
@@ -74,7 +75,7 @@ AskForSome words = (takes program words ≡ true) × ((request : Request) × Ask
 abbrev pub AskForNone : List Text → Type 0
 AskForNone words = (request : Request) → AskFor words request → ⊥
 
--- a fault that is found in the words; where none is found, that no subcommand is asked for
+-- a fault that `clap` finds in the words (of some words it says two, and either may be told); where it finds none, that no subcommand is asked for
 abbrev pub IsFaultOf : List Text → ErrorKind → Type 0
 IsFaultOf words kind =
     IsAmong kind (fault_of program words)

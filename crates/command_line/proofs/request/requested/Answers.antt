@@ -4,7 +4,7 @@ use Rattle.command_line.proofs.WordLemmas.{asks, faulty, memory_alone, none_aske
 use Rattle.command_line.proofs.request.requested.Goals as goal
 
 pub returns-in-Some-clause-ok : goal.returns-in-Some-clause-ok
-returns-in-Some-clause-ok g c = asks (map g.S.AsStr.text c.args.words.now) c.in_ok-command.command c.in_ok-matches.matches _ c.in_ok-command.ensures c.in_ok-matches.ensures.ok.2 c.in-Some.ensures
+returns-in-Some-clause-ok g c = asks (map g.S.AsStr.text c.args.words.now) c.in_ok-command.command c.in_ok-matches.matches _ c.in_ok-command.ensures c.in_ok-matches.ensures.ok.2 c.in_ok-matches.ensures.kinds c.in-Some.ensures
 
 pub returns-in_err-matches-clause-refused : goal.returns-in_err-matches-clause-refused
 returns-in_err-matches-clause-refused g c =
