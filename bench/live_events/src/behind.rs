@@ -2,14 +2,14 @@
 ghost use Rattle.std.specs.Prelude.{◌≡◌, ◌⊎◌, ◌↔◌, ℕ, Some, IsTrue};
 ghost use Rattle.address.specs.Places.{Before, Apart};
 ghost use Rattle.syntax.specs.Lists.{In};
-ghost use Rattle.calculus.specs.Dependence.{SomeBefore, OnOneChannel};
-ghost use Rattle.calculus.specs.Events.{places};
-ghost use Rattle.calculus.specs.Moves.{Place};
-ghost use Rattle.calculus.specs.walking.Below.{apart};
+ghost use Rattle.runs.specs.Dependence.{SomeBefore, OnOneChannel};
+ghost use Rattle.runs.specs.Events.{places};
+ghost use Rattle.runs.specs.Moves.{Place};
+ghost use Rattle.runs.specs.walking.Below.{apart};
 ghost use Rattle.dependence_bench.specs.Pairs.{Follows, IsBehind};
 
 use address::{Address, Entry, before};
-use calculus::Event;
+use runs::Event;
 use dependence::Live;
 
 /// Whether the new event of this ticket comes behind the live ones, of which there are so many.

@@ -1,7 +1,7 @@
 // The lists of events that are timed, each as it runs from its opening.
 
 use address::{Address, Entry};
-use calculus::{Event, Kind};
+use runs::{Event, Kind};
 use std::alloc::{AllocError, Global};
 use system::Variables;
 

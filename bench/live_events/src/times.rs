@@ -1,9 +1,9 @@
 // How long the calls of a `Live` take.
-ghost use Rattle.calculus.specs.Live.{IsLive};
+ghost use Rattle.runs.specs.Live.{IsLive};
 
 use crate::behind::comes_behind;
 use crate::lists::Row;
-use calculus::Event;
+use runs::Event;
 use dependence::Live;
 use std::io;
 use std::io::ErrorKind;

@@ -1,12 +1,12 @@
 -- A move that is no first of two makes no event with another.
 use Rattle.std.proofs.Common.{◌≡◌, List, [], ◌∷◌, Bool, true, false, true≢false, cond, Option, None, refl, ap, ◌∙◌}
 use Rattle.system.specs.Expression.{Store}
-use Rattle.calculus.specs.Moves.{Place, Move, sends, syncs, releases}
-use Rattle.calculus.specs.Events.{Located}
-use Rattle.calculus.specs.walking.Made.{made_together}
+use Rattle.runs.specs.Moves.{Place, Move, sends, syncs, releases}
+use Rattle.runs.specs.Events.{Located}
+use Rattle.runs.specs.walking.Made.{made_together}
 use Rattle.calculus.specs.walking.Meets.{is_first}
-use Rattle.calculus.specs.walking.AllowedEvents.{meets, those, events_with}
-use Rattle.calculus.specs.declared.event.Event.{Event}
+use Rattle.runs.specs.walking.AllowedEvents.{meets, those, events_with}
+use Rattle.runs.specs.declared.event.Event.{Event}
 
 none_together : (s : Store) (a : Place) (m : Move) (b : Place) (n : Move) → is_first m ≡ false → made_together s a m b n ≡ None
 none_together s a (sends c w e held) b n h = absurd (true≢false h)

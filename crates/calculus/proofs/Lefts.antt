@@ -8,7 +8,7 @@ use Rattle.system.specs.Translation.{arms_of, residual_of}
 use Rattle.calculus.specs.declared.left.Left.{Left}
 use Rattle.calculus.specs.Left.{residual_of_left}
 use Rattle.calculus.proofs.Arms.{arms_of_last}
-use Rattle.calculus.proofs.Options.{none-some, some-injective}
+use Rattle.runs.proofs.Options.{none-some, some-injective}
 
 -- an else is the last arm
 arms_with_last : (xs : List Left) (x : Left)

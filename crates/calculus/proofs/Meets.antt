@@ -2,10 +2,10 @@
 use Rattle.std.proofs.Common.{◌≡◌, ℕ, List, Bool, Option, None, refl}
 use Rattle.value.specs.Word.{Word}
 use Rattle.system.specs.Expression.{Expression, Store, variables, ascending}
-use Rattle.calculus.specs.Moves as model
-use Rattle.calculus.specs.Moves.{Place}
-use Rattle.calculus.specs.Events.{sent}
-use Rattle.calculus.specs.walking.Made.{made_by_send, made_by_held_send, made_by_held_sync, made_by_release, made_by_sync}
+use Rattle.runs.specs.Moves as model
+use Rattle.runs.specs.Moves.{Place}
+use Rattle.runs.specs.Events.{sent}
+use Rattle.runs.specs.walking.Made.{made_by_send, made_by_held_send, made_by_held_sync, made_by_release, made_by_sync}
 use Rattle.calculus.specs.walking.Meets.{met, opened_by_send}
 use Rattle.calculus.specs.walking.Meanings.{move_of}
 use Rattle.calculus.specs.declared.moves.Move.{Move}

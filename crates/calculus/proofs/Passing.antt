@@ -2,10 +2,10 @@
 use Rattle.std.proofs.Common.{◌≡◌, ◌≤◌, ℕ, List, [], ◌∷◌, ◌++◌, false, true≢false, Some, None, arith, refl, sym, ap, ◌∙◌}
 use Rattle.value.specs.Word.{Word}
 use Rattle.system.specs.Residual.{Residual, inside, beside, along, put_residual}
-use Rattle.calculus.specs.Moves.{Place}
-use Rattle.calculus.specs.walking.After.{Answer, around, after}
-use Rattle.calculus.specs.declared.ask.Ask.{Ask}
-use Rattle.calculus.specs.walking.Below.{below_branch}
+use Rattle.runs.specs.Moves.{Place}
+use Rattle.runs.specs.walking.After.{Answer, around, after}
+use Rattle.runs.specs.declared.ask.Ask.{Ask}
+use Rattle.runs.specs.walking.Below.{below_branch}
 use Rattle.calculus.specs.Left.{left_layer, residual_of_left}
 use Rattle.calculus.specs.declared.left.Left.{Left}
 use Rattle.calculus.specs.declared.left.Left.TheVariants.{Inside, Beside, rolls-Inside, rolls-Beside}

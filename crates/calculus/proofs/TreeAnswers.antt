@@ -4,10 +4,10 @@ use Rattle.std.specs.Prelude.{IfOk, MatchResult}
 use Rattle.std.proofs.lemmas.Result.{IfOk-weaker}
 use Rattle.system.specs.Residual.{Residual, done, inside, beside, within, along, arm_at}
 use Rattle.system.specs.Translation.{arms_of}
-use Rattle.calculus.specs.Moves.{Place}
-use Rattle.calculus.specs.walking.After.{around, after}
-use Rattle.calculus.specs.declared.ask.Ask.{Ask}
-use Rattle.calculus.specs.walking.Below.{below_child, below_branch}
+use Rattle.runs.specs.Moves.{Place}
+use Rattle.runs.specs.walking.After.{around, after}
+use Rattle.runs.specs.declared.ask.Ask.{Ask}
+use Rattle.runs.specs.walking.Below.{below_child, below_branch}
 use Rattle.calculus.specs.walking.Meanings.{answer_of}
 use Rattle.calculus.specs.declared.left.Left.{Left}
 use Rattle.calculus.specs.declared.left.Left.TheVariants.{Inside, Beside, rolls-Inside, rolls-Beside}

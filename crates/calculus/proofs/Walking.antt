@@ -6,9 +6,9 @@ use Rattle.address.specs.declared.Entry.{Entry}
 use Rattle.address.specs.declared.Entry.TheVariants.{Ordered, Branch}
 use Rattle.system.specs.Expression.{Store}
 use Rattle.system.specs.Residual.{Residual}
-use Rattle.calculus.specs.Moves.{Place}
-use Rattle.calculus.specs.Events.{Located, at}
-use Rattle.calculus.specs.walking.AllowedEvents.{behind, offers, events_among, allowed_events}
+use Rattle.runs.specs.Moves.{Place}
+use Rattle.runs.specs.Events.{Located, at}
+use Rattle.runs.specs.walking.AllowedEvents.{behind, offers, events_among, allowed_events}
 use Rattle.calculus.specs.Left.{residual_of_left, state_of}
 use Rattle.calculus.specs.walking.Walk.{located_of, below}
 use Rattle.calculus.specs.declared.plain.Plain.{Plain}

@@ -5,7 +5,7 @@ use Rattle.system.specs.Translation.{expression_of, arms_of, decision_of}
 use Rattle.calculus.specs.declared.left.Left.{Left}
 use Rattle.calculus.specs.declared.left.Left.TheOpen.{Left-F}
 use Rattle.calculus.specs.declared.left.Left.TheFolds.{fold-Left}
-use Rattle.calculus.specs.Steps.{State}
+use Rattle.runs.specs.Steps.{State}
 use Rattle.calculus.specs.declared.plain.Plain.{Plain}
 
 -- one layer, with the residuals of the children in their places

@@ -2,11 +2,11 @@
 use Rattle.std.specs.Prelude.{◌≡◌, List}
 use Rattle.system.specs.declared.system.System.{System}
 use Rattle.sharing_check.specs.Rule.{is_shared}
-use Rattle.calculus.specs.Choices.{choice_of}
-use Rattle.calculus.specs.Dependence.{SomeBefore, Earlier}
-use Rattle.calculus.specs.Related.{Related}
-use Rattle.calculus.specs.Steps.{State, Allowed}
-use Rattle.calculus.specs.declared.event.Event.{Event}
+use Rattle.runs.specs.Choices.{choice_of}
+use Rattle.runs.specs.Dependence.{SomeBefore, Earlier}
+use Rattle.runs.specs.Related.{Related}
+use Rattle.runs.specs.Steps.{State, Allowed}
+use Rattle.runs.specs.declared.event.Event.{Event}
 
 -- of two events on one channel, or on one variable that is not shared and that one of them writes, the earlier has an
 -- address before an address of the later

@@ -1,12 +1,6 @@
-pub mod After
-pub mod Agreement
-pub mod AllowedEvents
-pub mod Below
-pub mod EventLaws
-pub mod Made
+pub mod Comparing
 pub mod Meanings
 pub mod Meets
 pub mod Passed
 pub mod Sides
-pub mod StepOf
 pub mod Walk

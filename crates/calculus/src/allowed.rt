@@ -1,22 +1,23 @@
 // The events that are allowed now.
 ghost use Rattle.std.specs.Prelude.{◌≡◌, ◌↔◌, [], ◌∷◌, ◌++◌, map, Some, IfOk, OnOk};
-ghost use Rattle.calculus.specs.Moves as moves;
+ghost use Rattle.runs.specs.Moves as moves;
 ghost use Rattle.syntax.specs.Lists.{In};
-ghost use Rattle.calculus.specs.Events.{at};
-ghost use Rattle.calculus.specs.Steps.{Allowed};
-ghost use Rattle.calculus.specs.WellFormed.{WellFormed};
-ghost use Rattle.calculus.specs.declared.event.Event.{Event};
-ghost use Rattle.calculus.specs.walking.Made as made;
-ghost use Rattle.calculus.specs.walking.AllowedEvents as model;
+ghost use Rattle.runs.specs.Events.{at};
+ghost use Rattle.runs.specs.Steps.{Allowed};
+ghost use Rattle.runs.specs.WellFormed.{WellFormed};
+ghost use Rattle.runs.specs.declared.event.Event.{Event};
+ghost use Rattle.runs.specs.walking.Made as made;
+ghost use Rattle.runs.specs.walking.AllowedEvents as model;
 ghost use Rattle.calculus.specs.Left.{state_of};
 ghost use Rattle.calculus.specs.walking.Walk.{located_of};
 
+use crate::Plain;
 use crate::making::{is_first, made_alone, sent};
 use crate::moves::Move;
 use crate::step::made_apart;
 use crate::walk::{Offer, add_offers};
-use crate::{Event, Plain};
 use address::Address;
+use runs::Event;
 use std::alloc::{AllocError, Global};
 use syntax::Items;
 use value::Value;

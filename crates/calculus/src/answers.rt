@@ -3,18 +3,18 @@ ghost use Rattle.std.specs.Prelude.{◌≡◌, ◌+◌, ◌*◌, ◌<◌, ◌^�
 ghost use Rattle.system.specs.Expression as expression;
 ghost use Rattle.system.specs.Residual as residual;
 ghost use Rattle.system.specs.Translation.{expression_of, arms_of, decision_of};
-ghost use Rattle.calculus.specs.ByPlace.{if_here, if_act};
-ghost use Rattle.calculus.specs.walking.After as model;
-ghost use Rattle.calculus.specs.Moves as moves;
+ghost use Rattle.runs.specs.ByPlace.{if_here, if_act};
+ghost use Rattle.runs.specs.walking.After as model;
+ghost use Rattle.runs.specs.Moves as moves;
 ghost use Rattle.calculus.specs.Left.{residual_of_left};
 ghost use Rattle.calculus.specs.walking.Meanings.{move_of, answer_of};
 ghost use Rattle.calculus.specs.walking.Passed.{along_all};
 
-use crate::ask::Ask;
 use crate::left::{Left, along, along_all, with_received, within};
 use crate::moves::{Move, Moved};
 use crate::place::{is_act, is_here, is_turn};
 use address::Entry;
+use runs::Ask;
 use std::alloc::{AllocError, Global};
 use syntax::{Boxed, Items, Shared};
 use system::{Decision, Expression};

@@ -3,7 +3,8 @@ ghost use Rattle.system.specs.Residual as model;
 ghost use Rattle.system.specs.Expression.{put_value, put_decision};
 ghost use Rattle.system.specs.Translation.{expression_of, arms_of, decision_of};
 ghost use Rattle.calculus.specs.Left.{residual_of_left};
-ghost use Rattle.calculus.specs.walking.Passed.{is_done, along_all, before, behind, goes_on};
+ghost use Rattle.runs.specs.walking.After.{is_done};
+ghost use Rattle.calculus.specs.walking.Passed.{along_all, before, behind, goes_on};
 
 use std::alloc::{AllocError, Global};
 use syntax::{Items, Shared};

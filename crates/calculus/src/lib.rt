@@ -1,22 +1,19 @@
-//! What a run of a description is: local moves, events, steps, runs, dependence, and the laws of them;
-//! what one execution is: its live events, what each command answers and leaves, and the laws of it;
-//! and the slow replay, which runs a list of events step by step.
+//! The slow replay, which runs a list of events step by step and is the run; and whether two lists of events are one run: the
+//! same events, taken in orders that differ only where nothing depends on it. What a run is stands in crate `runs`, all of
+//! which is handed on here.
 #![tactic(auto)]
 
+mod alike;
 mod allowed;
 mod answers;
 mod apart;
-mod ask;
-mod command;
-mod dependence;
-mod event;
-mod event_of_parts;
+mod index;
 mod laws;
 mod left;
 mod making;
 mod moves;
-mod object_laws;
 mod offers;
+mod one_run;
 mod place;
 mod plain;
 mod same;
@@ -24,21 +21,19 @@ mod slow;
 mod start;
 mod step;
 mod translate;
+mod uses;
 mod walk;
 
-pub use ask::Ask;
-pub use command::{Command, LAST_TICKET, MOST_LIVE_EVENTS, Refusal, Reply};
-pub use dependence::{depends_directly, some_before, writes};
-pub use event::{Choice, Event, Kind};
-pub use laws::{
-    acting_once, allowed_are_listed, apart_moves_meet, causes_alone, earlier_places,
-    events_are_distinct, neighbours_swap, one_choice, one_state, opening_is_well_formed, ordered,
-    respecting_orders, run_as_function, runs_without, runs_without_consequences, same_dependents,
-    same_events,
-};
-pub use object_laws::{
-    back_then_forth_law, dependence_laws, least_rollback_law, limit_laws, ready_law, reply_laws,
-    roll_laws, rolled_value_law, soundness_laws, state_laws, step_laws, ticket_law, undo_laws,
-};
+pub use laws::one_run_laws;
+pub use one_run::same_run;
 pub use plain::Plain;
+pub use runs::{
+    Ask, Choice, Command, Event, Kind, LAST_TICKET, MOST_LIVE_EVENTS, Refusal, Reply, acting_once,
+    allowed_are_listed, apart_moves_meet, back_then_forth_law, causes_alone, dependence_laws,
+    depends_directly, earlier_places, events_are_distinct, least_rollback_law, limit_laws,
+    neighbours_swap, one_choice, one_state, opening_is_well_formed, ordered, ready_law, reply_laws,
+    respecting_orders, roll_laws, rolled_value_law, run_as_function, runs_without,
+    runs_without_consequences, same_dependents, same_events, same_values, some_before,
+    soundness_laws, state_laws, step_laws, ticket_law, undo_laws, writes,
+};
 pub use slow::{replay, replay_live};

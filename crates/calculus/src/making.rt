@@ -1,16 +1,16 @@
 // The event that moves make over the values of the variables.
 ghost use Rattle.std.specs.Prelude.{◌≡◌, [], IfOk};
 ghost use Rattle.system.specs.Translation.{expression_of, decision_of};
-ghost use Rattle.calculus.specs.Events.{sent};
-ghost use Rattle.calculus.specs.walking.Made as model;
-ghost use Rattle.calculus.specs.Moves as moves;
+ghost use Rattle.runs.specs.Events.{sent};
+ghost use Rattle.runs.specs.walking.Made as model;
+ghost use Rattle.runs.specs.Moves as moves;
 ghost use Rattle.calculus.specs.walking.Meets.{met, opened_by_send, is_first};
 ghost use Rattle.calculus.specs.walking.Meanings.{move_of};
 
-use crate::Event;
 use crate::moves::Move;
-use crate::same::{same_arms, same_values};
+use crate::same::same_arms;
 use address::{Address, compare};
+use runs::{Event, same_values};
 use std::alloc::{AllocError, Global};
 use system::{Decision, Expression, Variables};
 use value::{Value, Width};

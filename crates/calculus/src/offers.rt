@@ -1,16 +1,16 @@
 // Local moves in memory: the move that is asked for at a place, and what is left after it.
 ghost use Rattle.std.specs.Prelude.{◌≡◌, IfOk, IsFalse};
-ghost use Rattle.calculus.specs.walking.After as model;
+ghost use Rattle.runs.specs.walking.After as model;
 ghost use Rattle.calculus.specs.Left.{residual_of_left};
 ghost use Rattle.calculus.specs.walking.Meanings.{answer_of};
 ghost use Rattle.calculus.specs.walking.Passed.{is_passed};
 
 use crate::answers;
-use crate::ask::Ask;
 use crate::left::Left;
 use crate::moves::Moved;
 use crate::place::{below_branch, below_child};
 use address::Entry;
+use runs::Ask;
 use std::alloc::{AllocError, Global};
 use syntax::Items;
 

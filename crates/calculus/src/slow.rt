@@ -1,14 +1,15 @@
 ghost use Rattle.std.specs.Prelude.{◌≡◌, IfOk, MatchOption};
 ghost use Rattle.std.specs.Option.{option_map, IfSome};
-ghost use Rattle.calculus.specs.Steps.{State, Run, opening};
+ghost use Rattle.runs.specs.Steps.{State, Run, opening};
 ghost use Rattle.calculus.specs.Ruled.{RelatedInOrder, OneForEachChoice};
-ghost use Rattle.calculus.specs.walking.StepOf.{run_of};
+ghost use Rattle.runs.specs.walking.StepOf.{run_of};
 ghost use Rattle.calculus.specs.Left.{state_of};
-ghost use Rattle.calculus.specs.Live.{events};
+ghost use Rattle.runs.specs.Live.{events};
 
+use crate::Plain;
 use crate::start::opening;
 use crate::step::step;
-use crate::{Event, Plain};
+use runs::Event;
 use sharing_check::Checked;
 use std::alloc::{AllocError, Global};
 use system::System;

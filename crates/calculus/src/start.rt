@@ -4,7 +4,7 @@ ghost use Rattle.system.specs.Expression.{constant, word};
 ghost use Rattle.system.specs.Residual as residual;
 ghost use Rattle.system.specs.Translation as translation;
 ghost use Rattle.calculus.specs.Left.{residual_of_left, state_of};
-ghost use Rattle.calculus.specs.Steps.{opening};
+ghost use Rattle.runs.specs.Steps.{opening};
 
 use crate::Plain;
 use crate::left::{Left, within};

@@ -2,11 +2,11 @@
 ghost use Rattle.std.specs.Prelude.{◌≡◌, ◌*◌, ◌^◌, ◌≤◌, [], ◌∷◌, ◌++◌, map, Some, None, true, false, IfOk, IsFalse, OnErr};
 ghost use Rattle.system.specs.Expression as expression;
 ghost use Rattle.system.specs.Translation.{expression_of, decision_of};
-ghost use Rattle.calculus.specs.Moves as moves;
-ghost use Rattle.calculus.specs.Events.{at};
+ghost use Rattle.runs.specs.Moves as moves;
+ghost use Rattle.runs.specs.Events.{at};
 ghost use Rattle.calculus.specs.Left.{residual_of_left};
 ghost use Rattle.calculus.specs.walking.Meanings.{move_of};
-ghost use Rattle.calculus.specs.walking.AllowedEvents as model;
+ghost use Rattle.runs.specs.walking.AllowedEvents as model;
 ghost use Rattle.calculus.specs.walking.Passed.{goes_on};
 ghost use Rattle.calculus.specs.walking.Walk.{located_of, below};
 

@@ -4,13 +4,13 @@ use Rattle.std.specs.declared.cmp.Ordering.TheVariants.{Less}
 use Rattle.address.proofs.Total.{order-total}
 use Rattle.address.specs.Order.{order_of}
 use Rattle.syntax.specs.Lists.{In}
-use Rattle.calculus.specs.Dependence.{Directly, Earlier, Rearranged, Respecting}
-use Rattle.calculus.specs.Events.{acting}
-use Rattle.calculus.specs.Moves.{Place}
-use Rattle.calculus.specs.declared.event.Event.{Event}
-use Rattle.calculus.proofs.Elements.{Distinct, rearranged-in, in-rearranged, rearranged-turned, rearranged-distinct, earlier-more, earlier-before, earlier-first, earlier-second}
-use Rattle.calculus.proofs.Lists.{in-right}
-use Rattle.calculus.proofs.FromOpening.{acting_once, respecting_orders}
+use Rattle.runs.specs.Dependence.{Directly, Earlier, Rearranged, Respecting}
+use Rattle.runs.specs.Events.{acting}
+use Rattle.runs.specs.Moves.{Place}
+use Rattle.runs.specs.declared.event.Event.{Event}
+use Rattle.runs.proofs.Elements.{Distinct, rearranged-in, in-rearranged, rearranged-turned, rearranged-distinct, earlier-more, earlier-before, earlier-first, earlier-second}
+use Rattle.runs.proofs.Lists.{in-right}
+use Rattle.runs.proofs.FromOpening.{acting_once, respecting_orders}
 use Rattle.canonical_order.specs.Canonical.{Free, LeastFree, IsCanonicalOrder}
 use Rattle.canonical_order.specs.Laws.{CanonicalRespects, CanonicalRuns, OrdersAgree, OneCanonicalOrder, IsItsOwnOrder}
 use Rattle.canonical_order.proofs.Orders.{ActsOnce, once-distinct, once-less, earlier-parts, earlier-less, in-less, in-more, other-than, same-acting}

@@ -1,11 +1,11 @@
 -- Which elements of a list stand before which, and lists in which each event acts at an index of its own.
 use Rattle.std.proofs.Common.{◌≡◌, ◌⊎◌, inl, inr, List, [], ◌∷◌, ◌++◌, refl, sym, ◌∙◌, subst}
 use Rattle.syntax.specs.Lists.{In}
-use Rattle.calculus.specs.Dependence.{Earlier}
-use Rattle.calculus.specs.Events.{acting}
-use Rattle.calculus.specs.declared.event.Event.{Event}
-use Rattle.calculus.proofs.Elements.{Distinct, earlier-more, earlier-before}
-use Rattle.calculus.proofs.Lists.{in-left, in-right, in-parts}
+use Rattle.runs.specs.Dependence.{Earlier}
+use Rattle.runs.specs.Events.{acting}
+use Rattle.runs.specs.declared.event.Event.{Event}
+use Rattle.runs.proofs.Elements.{Distinct, earlier-more, earlier-before}
+use Rattle.runs.proofs.Lists.{in-left, in-right, in-parts}
 
 -- no event acts where a later one does
 abbrev pub ActsOnce : List Event → Type 0

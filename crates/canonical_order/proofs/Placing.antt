@@ -4,14 +4,14 @@ use Rattle.std.specs.declared.cmp.Ordering.TheVariants.{Less}
 use Rattle.address.proofs.Total.{order-itself, order-total, order-transitive}
 use Rattle.address.specs.Order.{order_of}
 use Rattle.syntax.specs.Lists.{In}
-use Rattle.calculus.specs.Dependence.{Directly, Earlier, Rearranged}
-use Rattle.calculus.specs.Events.{acting}
-use Rattle.calculus.specs.Moves.{Place}
-use Rattle.calculus.specs.declared.event.Event.{Event}
-use Rattle.calculus.proofs.Decisions.{Or, search-list, directly?}
-use Rattle.calculus.proofs.Elements.{earlier-before, earlier-first, rearranged-in, in-rearranged}
-use Rattle.calculus.proofs.FromOpening.{acting_once}
-use Rattle.calculus.proofs.Lists.{in-left, in-right, in-parts}
+use Rattle.runs.specs.Dependence.{Directly, Earlier, Rearranged}
+use Rattle.runs.specs.Events.{acting}
+use Rattle.runs.specs.Moves.{Place}
+use Rattle.runs.specs.declared.event.Event.{Event}
+use Rattle.runs.proofs.Decisions.{Or, search-list, directly?}
+use Rattle.runs.proofs.Elements.{earlier-before, earlier-first, rearranged-in, in-rearranged}
+use Rattle.runs.proofs.FromOpening.{acting_once}
+use Rattle.runs.proofs.Lists.{in-left, in-right, in-parts}
 use Rattle.canonical_order.specs.Canonical.{Free, LeastFree, IsCanonicalOrder}
 use Rattle.canonical_order.specs.Laws.{SomeCanonicalOrder}
 use Rattle.canonical_order.proofs.Canonicals.{canonical-rearranged}

@@ -16,10 +16,10 @@ use Rattle.std.proofs.lemmas.Map.Keys.{IsDistinct-head, IsDistinct-tail, IsDisti
 use Rattle.address.specs.Order.{order_of}
 use Rattle.address.proofs.Entries.{entries_cmp-is}
 use Rattle.syntax.specs.Lists.{In}
-use Rattle.calculus.specs.Events.{acting}
-use Rattle.calculus.specs.Live.{Live}
-use Rattle.calculus.specs.declared.event.Event.{Event}
-use Rattle.calculus.proofs.Options.{none-some, some-injective}
+use Rattle.runs.specs.Events.{acting}
+use Rattle.runs.specs.Live.{Live}
+use Rattle.runs.specs.declared.event.Event.{Event}
+use Rattle.runs.proofs.Options.{none-some, some-injective}
 use Rattle.dependence.proofs.ListPlaces.{at-within, at-one}
 use Rattle.canonical_order.specs.declared.queue.Free.{Free}
 use Rattle.canonical_order.specs.walking.Waiting.{IsEntry, IsFree, IsQueue, Joins, queue_order, same_index}

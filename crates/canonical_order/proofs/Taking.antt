@@ -10,16 +10,16 @@ use Rattle.std.proofs.lemmas.List.{length-append}
 use Rattle.std.proofs.lemmas.Option.{slice_get_within}
 use Rattle.syntax.specs.Lists.{In}
 use Rattle.system.specs.declared.system.System.{System}
-use Rattle.calculus.specs.Dependence.{Directly, Earlier}
-use Rattle.calculus.specs.Events.{acting}
-use Rattle.calculus.specs.Live.{Live, Rising, LiveAt, IsLive, events}
-use Rattle.calculus.specs.Steps.{State, Run, opening}
-use Rattle.calculus.specs.declared.event.Event.{Event}
-use Rattle.calculus.proofs.DependsOnLaw.{earlier-by-tickets, tickets-of-earlier}
-use Rattle.calculus.proofs.FromOpening.{acting_once}
-use Rattle.calculus.proofs.Lists.{in-left, in-right, in-parts}
-use Rattle.calculus.proofs.Options.{some-injective}
-use Rattle.calculus.proofs.Tickets.{rising-in, rising-parts, rising-join, rising-lower, events-join, event-in, in-event}
+use Rattle.runs.specs.Dependence.{Directly, Earlier}
+use Rattle.runs.specs.Events.{acting}
+use Rattle.runs.specs.Live.{Live, Rising, LiveAt, IsLive, events}
+use Rattle.runs.specs.Steps.{State, Run, opening}
+use Rattle.runs.specs.declared.event.Event.{Event}
+use Rattle.runs.proofs.DependsOnLaw.{earlier-by-tickets, tickets-of-earlier}
+use Rattle.runs.proofs.FromOpening.{acting_once}
+use Rattle.runs.proofs.Lists.{in-left, in-right, in-parts}
+use Rattle.runs.proofs.Options.{some-injective}
+use Rattle.runs.proofs.Tickets.{rising-in, rising-parts, rising-join, rising-lower, events-join, event-in, in-event}
 use Rattle.dependence.specs.Followers.{Follower}
 use Rattle.dependence.proofs.ListPlaces.{at-within, index-in}
 use Rattle.canonical_order.specs.Canonical.{LeastFree, IsCanonicalOrder, StandAt}

@@ -5,11 +5,11 @@ use Rattle.std.proofs.lemmas.Bool.{cases_eq}
 use Rattle.std.proofs.lemmas.Option.{slice_get_within, slice_get-get_or}
 use Rattle.std.specs.declared.cmp.Reverse.{Reverse}
 use Rattle.syntax.specs.Lists.{In}
-use Rattle.calculus.specs.InOrder.{InOrder}
-use Rattle.calculus.specs.Live.{Live, LiveAt, IsLive}
-use Rattle.calculus.specs.declared.event.Event.{Event}
-use Rattle.calculus.proofs.Lists.{in-left, in-right, in-parts}
-use Rattle.calculus.proofs.Options.{some-injective}
+use Rattle.runs.specs.InOrder.{InOrder}
+use Rattle.runs.specs.Live.{Live, LiveAt, IsLive}
+use Rattle.runs.specs.declared.event.Event.{Event}
+use Rattle.runs.proofs.Lists.{in-left, in-right, in-parts}
+use Rattle.runs.proofs.Options.{some-injective}
 use Rattle.dependence.specs.Followers.{Follower, ListsFollowers}
 use Rattle.dependence.proofs.ListPlaces.{at-within, at-one, in-at, set-here, set-other, parts-at, take-next, in-order-across, got-here}
 use Rattle.canonical_order.specs.declared.queue.Free.{Free}

@@ -4,13 +4,13 @@ use Rattle.std.specs.Prelude.{slice_get}
 use Rattle.std.proofs.lemmas.List.{length-append}
 use Rattle.std.proofs.lemmas.Option.{slice_get-get_or}
 use Rattle.syntax.specs.Lists.{In}
-use Rattle.calculus.specs.Dependence.{Directly}
-use Rattle.calculus.specs.InOrder.{InOrder}
-use Rattle.calculus.specs.Live.{Live, Rising, LiveAt, IsLive, same, later}
-use Rattle.calculus.specs.declared.event.Event.{Event}
-use Rattle.calculus.proofs.Lists.{every-in, every-of}
-use Rattle.calculus.proofs.Options.{none-some, some-injective}
-use Rattle.calculus.proofs.Tickets.{rising-in, rising-one}
+use Rattle.runs.specs.Dependence.{Directly}
+use Rattle.runs.specs.InOrder.{InOrder}
+use Rattle.runs.specs.Live.{Live, Rising, LiveAt, IsLive, same, later}
+use Rattle.runs.specs.declared.event.Event.{Event}
+use Rattle.runs.proofs.Lists.{every-in, every-of}
+use Rattle.runs.proofs.Options.{none-some, some-injective}
+use Rattle.runs.proofs.Tickets.{rising-in, rising-one}
 use Rattle.dependence.specs.Followers.{Follower, ListsLeads, Reached, here, along}
 use Rattle.dependence.proofs.FollowerLaws.{reached-through-followers}
 use Rattle.dependence.proofs.ListPlaces.{in-at, at-one}

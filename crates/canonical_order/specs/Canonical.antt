@@ -3,10 +3,10 @@ use Rattle.std.specs.Prelude.{◌≡◌, ℕ, List, [], ◌∷◌, ◌++◌, Som
 use Rattle.std.specs.declared.cmp.Ordering.TheVariants.{Less}
 use Rattle.address.specs.Order.{order_of}
 use Rattle.syntax.specs.Lists.{In}
-use Rattle.calculus.specs.Dependence.{Directly, Earlier}
-use Rattle.calculus.specs.Events.{acting}
-use Rattle.calculus.specs.Live.{Live}
-use Rattle.calculus.specs.declared.event.Event.{Event}
+use Rattle.runs.specs.Dependence.{Directly, Earlier}
+use Rattle.runs.specs.Events.{acting}
+use Rattle.runs.specs.Live.{Live}
+use Rattle.runs.specs.declared.event.Event.{Event}
 
 -- e is in the list and has no direct cause there: it depends directly on none that stands before it
 pub record Free (h : List Event) (e : Event) : Type 0 where

@@ -1,9 +1,9 @@
 -- The laws of the canonical order, for lists that run in any system from its opening state.
 use Rattle.std.specs.Prelude.{◌≡◌, List}
 use Rattle.system.specs.declared.system.System.{System}
-use Rattle.calculus.specs.Dependence.{Respecting}
-use Rattle.calculus.specs.Steps.{State, Run, opening}
-use Rattle.calculus.specs.declared.event.Event.{Event}
+use Rattle.runs.specs.Dependence.{Respecting}
+use Rattle.runs.specs.Steps.{State, Run, opening}
+use Rattle.runs.specs.declared.event.Event.{Event}
 use Rattle.canonical_order.specs.Canonical.{IsCanonicalOrder}
 
 -- the canonical order of a list is a respecting order of it

@@ -1,9 +1,9 @@
 // The canonical order: what waits for nothing that is left is taken, the least acting address first.
 ghost use Rattle.std.specs.Prelude.{List, IfOk};
 ghost use Rattle.system.specs.declared.system.System.{System};
-ghost use Rattle.calculus.specs.Live.{events};
-ghost use Rattle.calculus.specs.Steps.{State, Run, opening};
-ghost use Rattle.calculus.specs.declared.event.Event.{Event};
+ghost use Rattle.runs.specs.Live.{events};
+ghost use Rattle.runs.specs.Steps.{State, Run, opening};
+ghost use Rattle.runs.specs.declared.event.Event.{Event};
 ghost use Rattle.canonical_order.specs.Canonical.{IsCanonicalOrder, StandAt};
 
 use crate::queue::{first_free, leads_of_all, tell_followers};

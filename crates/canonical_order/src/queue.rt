@@ -1,8 +1,8 @@
 // The events that wait for none that is left, and for how many each of the others waits.
 ghost use Rattle.std.specs.Prelude.{◌≡◌, ◌<◌, ℕ, length, Some, slice_get, IfOk};
 ghost use Rattle.std.specs.BinaryHeap.{heap_items};
-ghost use Rattle.calculus.specs.Live.{IsLive};
-ghost use Rattle.calculus.specs.declared.event.Event.{Event};
+ghost use Rattle.runs.specs.Live.{IsLive};
+ghost use Rattle.runs.specs.declared.event.Event.{Event};
 ghost use Rattle.dependence.specs.walking.Tables.{IsRising};
 ghost use Rattle.canonical_order.specs.walking.Waiting.{Counts, IsQueue, SomeTelling, TellsAll, TellsOne, CanTell, Joins};
 

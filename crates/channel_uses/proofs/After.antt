@@ -1,8 +1,8 @@
 -- What a move leads to, by the forms of places.
 use Rattle.std.proofs.Common.{◌≡◌, ℕ, ◌==◌, [], ◌∷◌, Bool, true, false, cond, Option, Some, None, refl}
 use Rattle.address.specs.declared.Entry.TheVariants.{Ordered, Branch}
-use Rattle.calculus.specs.Moves.{Place}
-use Rattle.calculus.specs.ByPlace.{if_here, if_act, if_child, if_branch}
+use Rattle.runs.specs.Moves.{Place}
+use Rattle.runs.specs.ByPlace.{if_here, if_act, if_child, if_branch}
 use Rattle.process_tree.specs.Proc.{Proc}
 use Rattle.process_tree.specs.Places.{wrap}
 

@@ -4,7 +4,7 @@ use Rattle.address.specs.declared.Entry.{Entry}
 use Rattle.address.specs.declared.Entry.TheVariants.{Ordered, Branch}
 use Rattle.syntax.specs.Lists.{In}
 use Rattle.system.specs.Expression.{Store, Expression}
-use Rattle.calculus.proofs.Options.{none-some, some-injective}
+use Rattle.runs.proofs.Options.{none-some, some-injective}
 use Rattle.process_tree.specs.Children.{proc_at}
 use Rattle.process_tree.specs.Code.{Once, assigning, receiving, Sender, sending, syncing, Code, Codes, no_code, code, code_at}
 use Rattle.process_tree.specs.Left.{Received, with_value, residual_once, residual_sender, channel_of}

@@ -1,7 +1,7 @@
 -- What is known of the parts of children.
 use Rattle.std.proofs.Common.{◌≡◌, ℕ, zero, suc, ◌+◌, ◌≤◌, List, [], ◌∷◌, length, Some, None, Option, IfSome, slice_get, Bor, sym, ◌∙◌, subst, arith}
 use Rattle.std.specs.Option.{option_copied}
-use Rattle.calculus.proofs.Options.{none-some, some-injective}
+use Rattle.runs.proofs.Options.{none-some, some-injective}
 use Rattle.process_tree.specs.Code.{Code, Codes, no_code, code, code_at, in_turn, side_by_side}
 use Rattle.last_events.specs.LastEvents.{Uses}
 use Rattle.last_events.specs.declared.uses.UseTable.{UseTable}

@@ -5,8 +5,8 @@ use Rattle.address.specs.declared.Entry.TheVariants.{Ordered, Branch}
 use Rattle.syntax.specs.Lists.{In}
 use Rattle.system.specs.Expression.{Store, Expression, Decision}
 use Rattle.system.specs.Residual.{Residual, done, test, choose, closing, within, along}
-use Rattle.calculus.specs.walking.Passed.{is_done}
-use Rattle.calculus.proofs.Options.{none-some, some-injective}
+use Rattle.runs.specs.walking.After.{is_done}
+use Rattle.runs.proofs.Options.{none-some, some-injective}
 use Rattle.process_tree.specs.Code.{Once, assigning, receiving, Sender, sending, syncing, Codes, no_code, code, code_at}
 use Rattle.process_tree.specs.Proc.{waiting, holding, past, idle, stopped, once, sender, fresh, turn, ended_at_once, ended, untested, skipped, took, unopened, entered, closed, sequence, parallel, drained, Procs, no_procs, proc}
 use Rattle.process_tree.specs.Left.{Received, with_value, puts, residual_once, residual_sender, channel_of, again, residual, residual_arms, left, left_sequence, left_parallel}

@@ -4,7 +4,7 @@ use Rattle.std.specs.Global.{Box}
 use Rattle.address.specs.declared.Entry.TheVariants.{Ordered}
 use Rattle.value.specs.Word.{Word}
 use Rattle.system.specs.Expression.{Store, Expression, Decision}
-use Rattle.calculus.proofs.Options.{none-some, some-injective}
+use Rattle.runs.proofs.Options.{none-some, some-injective}
 use Rattle.last_events.specs.LastEvents.{Uses}
 use Rattle.last_events.specs.declared.uses.UseTable.{UseTable}
 use Rattle.process_tree.specs.Children.{proc_at}

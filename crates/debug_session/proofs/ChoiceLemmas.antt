@@ -5,7 +5,7 @@ use Rattle.address.specs.declared.Entry.{Entry}
 use Rattle.address.specs.declared.Entry.TheVariants.{Ordered, Branch}
 use Rattle.address.specs.Text.{text_of}
 use Rattle.address.specs.Reading.{IsTextOf, HasNoText}
-use Rattle.calculus.specs.declared.event.Choice.{Choice}
+use Rattle.runs.specs.declared.event.Choice.{Choice}
 use Rattle.debug_session.specs.EventText.{field}
 use Rattle.debug_session.specs.Fields.{BeginsField, CutAtSpace}
 use Rattle.debug_session.specs.walking.FieldParts.{IsNoField}

@@ -1,11 +1,11 @@
 -- The answer to a trace.
 use Rattle.std.proofs.Common.{◌≡◌, ℕ, List, Result, Ok, Err, MatchResult, sym, ap, ◌∙◌, subst, inl, inr}
 use Rattle.system.specs.declared.system.System.{System}
-use Rattle.calculus.specs.Does.{Answers}
-use Rattle.calculus.specs.Live.{Live}
-use Rattle.calculus.specs.declared.command.Command.{Command}
-use Rattle.calculus.specs.declared.command.Reply.{Reply}
-use Rattle.calculus.specs.declared.command.Refusal.{Refusal}
+use Rattle.runs.specs.Does.{Answers}
+use Rattle.runs.specs.Live.{Live}
+use Rattle.runs.specs.declared.command.Command.{Command}
+use Rattle.runs.specs.declared.command.Reply.{Reply}
+use Rattle.runs.specs.declared.command.Refusal.{Refusal}
 use Rattle.locked_execution.specs.declared.command.Command as command
 use Rattle.locked_execution.specs.declared.command.Reply as reply
 use Rattle.machine.specs.AtMachine.{AtMachine, object}

@@ -6,9 +6,9 @@ use Rattle.address.specs.Text.{text_of}
 use Rattle.address.specs.declared.Entry.{Entry}
 use Rattle.system.specs.declared.system.System.{System}
 use Rattle.system.specs.Named.{variable_name_at, channel_name_at}
-use Rattle.calculus.specs.declared.event.Event.{Event}
-use Rattle.calculus.specs.declared.event.Kind.{Kind}
-use Rattle.calculus.specs.declared.event.Kind.TheVariants.{Assign, Test, Turn, Meet, Open, Close, Sync}
+use Rattle.runs.specs.declared.event.Event.{Event}
+use Rattle.runs.specs.declared.event.Kind.{Kind}
+use Rattle.runs.specs.declared.event.Kind.TheVariants.{Assign, Test, Turn, Meet, Open, Close, Sync}
 
 -- a field behind another: a space and its text
 abbrev pub field : List ℕ → List ℕ

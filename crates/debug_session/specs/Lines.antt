@@ -5,7 +5,7 @@ use Rattle.address.specs.Text.{text_of}
 use Rattle.address.specs.Reading.{NumbersFit}
 use Rattle.system.specs.declared.system.System.{System}
 use Rattle.system.specs.Named.{variable_from}
-use Rattle.calculus.specs.declared.event.Choice.{Choice}
+use Rattle.runs.specs.declared.event.Choice.{Choice}
 use Rattle.locked_execution.specs.AtDesk.{sessions}
 use Rattle.locked_execution.specs.declared.command.Command.{Command}
 use Rattle.debug_session.specs.declared.line.Line.{Line}

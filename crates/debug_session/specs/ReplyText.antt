@@ -4,10 +4,10 @@ use Rattle.std.specs.List.{flat_map}
 use Rattle.std.specs.Fmt.{decimal}
 use Rattle.syntax.specs.Texts.{line_end}
 use Rattle.system.specs.declared.system.System.{System}
-use Rattle.calculus.specs.Refusals.{refusal_number}
-use Rattle.calculus.specs.declared.event.Event.{Event}
-use Rattle.calculus.specs.declared.command.Refusal.{Refusal}
-use Rattle.calculus.specs.declared.command.Refusal.TheVariants.{NeededBy}
+use Rattle.runs.specs.Refusals.{refusal_number}
+use Rattle.runs.specs.declared.event.Event.{Event}
+use Rattle.runs.specs.declared.command.Refusal.{Refusal}
+use Rattle.runs.specs.declared.command.Refusal.TheVariants.{NeededBy}
 use Rattle.locked_execution.specs.declared.command.Command.{Command}
 use Rattle.locked_execution.specs.declared.command.Reply.{Reply}
 use Rattle.debug_session.specs.EventText.{field, variable_text, event_text}

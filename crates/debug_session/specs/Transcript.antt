@@ -2,7 +2,7 @@
 use Rattle.std.specs.Prelude.{ℕ, suc, ◌≡◌, ◌≢◌, List, [], ◌∷◌, ◌++◌, length, Option, Result, Err, MatchResult, IfSome, ◌⊎◌}
 use Rattle.std.specs.Io.KnownBytes.{Appends, Consumes, IsAtEnd}
 use Rattle.system.specs.declared.system.System.{System}
-use Rattle.calculus.specs.Live.{events}
+use Rattle.runs.specs.Live.{events}
 use Rattle.source_view.specs.View.{IsView}
 use Rattle.trace_file.specs.TraceText.{IsTrace}
 use Rattle.locked_execution.specs.AtDesk.{breaks_of}

@@ -1,13 +1,13 @@
 // The text of an event, one function a kind.
 ghost use Rattle.std.specs.Prelude.{◌≡◌, ◌++◌, OnOk, codes};
-ghost use Rattle.calculus.specs.declared.event.Kind.TheVariants as kind;
+ghost use Rattle.runs.specs.declared.event.Kind.TheVariants as kind;
 ghost use Rattle.debug_session.specs.EventText.{event_text, text_by_kind, field, arm_text};
 ghost use Rattle.address.specs.Text.{text_of};
 
 use crate::text::{
     add_arm, add_bytes, add_channel, add_place, add_second, add_value, add_variable,
 };
-use calculus::{Event, Kind};
+use runs::{Event, Kind};
 use std::alloc::AllocError;
 use system::System;
 

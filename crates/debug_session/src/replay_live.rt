@@ -1,6 +1,6 @@
 ghost use Rattle.std.specs.Prelude.{◌≡◌, MatchResult};
-ghost use Rattle.calculus.specs.Live.{Live};
-ghost use Rattle.calculus.specs.declared.command.Reply.{Reply};
+ghost use Rattle.runs.specs.Live.{Live};
+ghost use Rattle.runs.specs.declared.command.Reply.{Reply};
 ghost use Rattle.locked_execution.specs.declared.command.Command as asked;
 ghost use Rattle.locked_execution.specs.declared.command.Reply as told;
 ghost use Rattle.debug_session.specs.ReplyText.{answer_text};
@@ -9,7 +9,7 @@ ghost use Rattle.debug_session.specs.declared.fault.Fault.TheVariants.{Memory};
 
 use crate::Fault;
 use crate::reply::add_live;
-use calculus::Reply;
+use runs::Reply;
 use sharing_check::Checked;
 use std::alloc::Global;
 use trace_file::load_text;

@@ -1,5 +1,5 @@
 ghost use Rattle.std.specs.Prelude.{◌≡◌, ◌<◌, IfOk};
-ghost use Rattle.calculus.specs.Live.{events};
+ghost use Rattle.runs.specs.Live.{events};
 ghost use Rattle.source_view.specs.View.{IsView};
 ghost use Rattle.trace_file.specs.TraceText.{IsTrace};
 ghost use Rattle.locked_execution.specs.AtDesk.{breaks_of, new_desk};

@@ -1,12 +1,12 @@
 -- The live event that acts at a place: that of the ticket in the table, where it acts there.
 use Rattle.std.proofs.Common.{◌≡◌, ℕ, Some, None, sym, subst, ◌∙◌}
-use Rattle.calculus.specs.Events.{acting, places}
-use Rattle.calculus.specs.Live.{Live, LiveAt, IsLive}
-use Rattle.calculus.specs.Moves.{Place}
-use Rattle.calculus.specs.declared.event.Event.{Event}
-use Rattle.calculus.proofs.Once.{acting-place}
-use Rattle.calculus.proofs.Options.{none-some}
-use Rattle.calculus.proofs.Tickets.{rising-one}
+use Rattle.runs.specs.Events.{acting, places}
+use Rattle.runs.specs.Live.{Live, LiveAt, IsLive}
+use Rattle.runs.specs.Moves.{Place}
+use Rattle.runs.specs.declared.event.Event.{Event}
+use Rattle.runs.proofs.Once.{acting-place}
+use Rattle.runs.proofs.Options.{none-some}
+use Rattle.runs.proofs.Tickets.{rising-one}
 use Rattle.syntax.specs.Lists.{In}
 use Rattle.last_events.specs.LastEvents.{ticket_at, IsAt}
 use Rattle.dependence.specs.Acting.{ActsAlone, NoneActs}

@@ -2,12 +2,12 @@
 use Rattle.std.proofs.Common.{◌≡◌, ◌≢◌, ◌⊎◌, ◌↔◌, inl, inr, ℕ, ◌<◌, ◌≤◌, List, [], ◌∷◌, ◌++◌, refl, ap, subst, arith}
 use Rattle.std.proofs.lemmas.Bool.{cases_eq}
 use Rattle.syntax.specs.Lists.{In}
-use Rattle.calculus.specs.Dependence.{Directly}
-use Rattle.calculus.specs.Live.{Live, Rising, LiveAt, DependsOn, same, later}
-use Rattle.calculus.specs.declared.event.Event.{Event}
-use Rattle.calculus.proofs.Lists.{in-left, in-right, in-parts}
-use Rattle.calculus.proofs.Tickets.{rising-in}
-use Rattle.calculus.proofs.DependsOnLaw.{depends-up}
+use Rattle.runs.specs.Dependence.{Directly}
+use Rattle.runs.specs.Live.{Live, Rising, LiveAt, DependsOn, same, later}
+use Rattle.runs.specs.declared.event.Event.{Event}
+use Rattle.runs.proofs.Lists.{in-left, in-right, in-parts}
+use Rattle.runs.proofs.Tickets.{rising-in}
+use Rattle.runs.proofs.DependsOnLaw.{depends-up}
 use Rattle.dependence.specs.Followers.{Follower}
 use Rattle.dependence.specs.walking.Tables.{Candidates, Topmost}
 use Rattle.dependence.proofs.Following.{follows-on, follows-in, follows-upto}

@@ -7,15 +7,15 @@ use Rattle.address.proofs.Places.{before-asymmetric, before-not-apart, apart-sym
 use Rattle.syntax.specs.Lists.{In}
 use Rattle.last_events.specs.LastEvents.{IsAt, Uses, LastUse, LastBefore}
 use Rattle.last_events.specs.declared.places.PlaceTable.{PlaceTable}
-use Rattle.calculus.specs.Dependence.{SomeBefore}
-use Rattle.calculus.specs.Events.{places}
-use Rattle.calculus.specs.Live.{Live, Rising, LiveAt, IsLive, DependsOn, same, later, LastWriter}
-use Rattle.calculus.specs.Moves.{Place}
-use Rattle.calculus.specs.declared.event.Event.{Event}
-use Rattle.calculus.proofs.Decisions.{last-writer?}
-use Rattle.calculus.proofs.Lists.{in-left, in-right, in-parts}
-use Rattle.calculus.proofs.Options.{none-some, some-injective}
-use Rattle.calculus.proofs.Tickets.{rising-in, rising-one}
+use Rattle.runs.specs.Dependence.{SomeBefore}
+use Rattle.runs.specs.Events.{places}
+use Rattle.runs.specs.Live.{Live, Rising, LiveAt, IsLive, DependsOn, same, later, LastWriter}
+use Rattle.runs.specs.Moves.{Place}
+use Rattle.runs.specs.declared.event.Event.{Event}
+use Rattle.runs.proofs.Decisions.{last-writer?}
+use Rattle.runs.proofs.Lists.{in-left, in-right, in-parts}
+use Rattle.runs.proofs.Options.{none-some, some-injective}
+use Rattle.runs.proofs.Tickets.{rising-in, rising-one}
 use Rattle.dependence.specs.Behind.{ComesBehind}
 use Rattle.dependence.specs.declared.accesses.Newcomer.{Newcomer}
 use Rattle.dependence.specs.declared.tables.Tables.{Tables}

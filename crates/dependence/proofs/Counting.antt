@@ -4,12 +4,12 @@ use Rattle.std.specs.Prelude.{slice_get}
 use Rattle.std.proofs.lemmas.Bool.{cases_eq, cases_lt}
 use Rattle.std.proofs.lemmas.Option.{slice_get-get_or}
 use Rattle.syntax.specs.Lists.{In}
-use Rattle.calculus.specs.Dependence.{Directly}
-use Rattle.calculus.specs.Live.{Live, Rising, LiveAt, NoDependent, FirstDependent}
-use Rattle.calculus.specs.declared.event.Event.{Event}
-use Rattle.calculus.proofs.DependsOnLaw.{depends-up}
-use Rattle.calculus.proofs.Lists.{in-left, in-right, in-parts}
-use Rattle.calculus.proofs.Tickets.{rising-in, rising-one, rising-parts}
+use Rattle.runs.specs.Dependence.{Directly}
+use Rattle.runs.specs.Live.{Live, Rising, LiveAt, NoDependent, FirstDependent}
+use Rattle.runs.specs.declared.event.Event.{Event}
+use Rattle.runs.proofs.DependsOnLaw.{depends-up}
+use Rattle.runs.proofs.Lists.{in-left, in-right, in-parts}
+use Rattle.runs.proofs.Tickets.{rising-in, rising-one, rising-parts}
 use Rattle.dependence.specs.Followers.{CountsDirect}
 use Rattle.dependence.specs.walking.Tables.{IsRising, CountsAmong}
 use Rattle.dependence.proofs.ListPlaces.{parts-at, in-at, take-next, drop-next, take-all, in-order-more}

@@ -6,12 +6,12 @@ use Rattle.std.proofs.lemmas.Bool.{cases_eq, cases_lt}
 use Rattle.std.proofs.lemmas.List.{append-nil}
 use Rattle.std.proofs.lemmas.Option.{slice_get_within, slice_get-get_or}
 use Rattle.syntax.specs.Lists.{In}
-use Rattle.calculus.specs.Dependence.{ended, stays, leaves}
-use Rattle.calculus.specs.Live.{Live, Rising, LiveAt, NoneAt, NoDependent, WithoutTickets, IsLive}
-use Rattle.calculus.specs.declared.event.Event.{Event}
-use Rattle.calculus.proofs.Lists.{in-parts}
-use Rattle.calculus.proofs.Tickets.{rising-in, rising-lower}
-use Rattle.calculus.proofs.UndoLaws.{without-live}
+use Rattle.runs.specs.Dependence.{ended, stays, leaves}
+use Rattle.runs.specs.Live.{Live, Rising, LiveAt, NoneAt, NoDependent, WithoutTickets, IsLive}
+use Rattle.runs.specs.declared.event.Event.{Event}
+use Rattle.runs.proofs.Lists.{in-parts}
+use Rattle.runs.proofs.Tickets.{rising-in, rising-lower}
+use Rattle.runs.proofs.UndoLaws.{without-live}
 use Rattle.dependence.specs.Followers.{Follower, ListsFollowers}
 use Rattle.dependence.specs.declared.links.Links.{Links}
 use Rattle.dependence.specs.walking.Tables.{IsRising, StandsAt, Linked, Falling, PartLinked, ListsWith, Candidates, Topmost}

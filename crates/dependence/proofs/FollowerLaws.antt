@@ -2,11 +2,11 @@
 use Rattle.std.proofs.Common.{◌≡◌, ◌≢◌, inl, inr, ℕ, zero, suc, ◌+◌, ◌<◌, ◌≤◌, refl, subst, arith}
 use Rattle.std.proofs.lemmas.Bool.{cases_eq}
 use Rattle.syntax.specs.Lists.{In}
-use Rattle.calculus.specs.Live.{Live, Rising, LiveAt, DependsOn, same, later, FirstDependent, NoDependent, WithoutTickets}
-use Rattle.calculus.specs.declared.event.Event.{Event}
-use Rattle.calculus.proofs.Decisions.{Or, search-list, depends?}
-use Rattle.calculus.proofs.DependsOnLaw.{depends-up}
-use Rattle.calculus.proofs.UndoLaws.{without-live}
+use Rattle.runs.specs.Live.{Live, Rising, LiveAt, DependsOn, same, later, FirstDependent, NoDependent, WithoutTickets}
+use Rattle.runs.specs.declared.event.Event.{Event}
+use Rattle.runs.proofs.Decisions.{Or, search-list, depends?}
+use Rattle.runs.proofs.DependsOnLaw.{depends-up}
+use Rattle.runs.proofs.UndoLaws.{without-live}
 use Rattle.dependence.specs.Followers.{DirectDependent, Follower, Reached, here, along}
 use Rattle.dependence.specs.Laws.{LeastIsFollower, ReachedThroughFollowers, NoNewFollower}
 use Rattle.dependence.proofs.Following.{follows-on, live-beyond, follows-in, follows-without}

@@ -1,8 +1,8 @@
 -- What depends on what: chains of dependence joined, cut and moved between lists.
 use Rattle.std.proofs.Common.{◌≡◌, ◌≢◌, ◌⊎◌, inl, inr, ℕ, ◌<◌, refl, subst, arith}
 use Rattle.std.proofs.lemmas.Bool.{cases_eq}
-use Rattle.calculus.specs.Live.{Live, LiveAt, DependsOn, same, later, NoDependent}
-use Rattle.calculus.specs.declared.event.Event.{Event}
+use Rattle.runs.specs.Live.{Live, LiveAt, DependsOn, same, later, NoDependent}
+use Rattle.runs.specs.declared.event.Event.{Event}
 
 pub follows-on : (l : Live) (t u v : ℕ) → DependsOn l t u → DependsOn l u v → DependsOn l t v
 follows-on l t u v first same = first

@@ -5,7 +5,7 @@ use Rattle.std.specs.Prelude.{slice_get, slice_set}
 use Rattle.std.proofs.lemmas.Bool.{cases_lt}
 use Rattle.std.proofs.lemmas.Option.{slice_get-get_or, get_or_from_slice_get}
 use Rattle.std.proofs.lemmas.List.{take-set, take-set-le, take_more_set, drop-set-lt, drop_more}
-use Rattle.calculus.proofs.Options.{none-some, some-injective}
+use Rattle.runs.proofs.Options.{none-some, some-injective}
 use Rattle.dependence.specs.walking.Marking.{UnmarkedTo}
 use Rattle.dependence.specs.walking.Unmarked.{unmarked}
 use Rattle.dependence.proofs.ListPlaces.{at-within, take-all}

@@ -4,9 +4,9 @@ use Rattle.std.specs.Prelude.{slice_get, MatchOption}
 use Rattle.std.proofs.lemmas.Bool.{cases_lt}
 use Rattle.std.proofs.lemmas.Option.{slice_get_within}
 use Rattle.last_events.specs.LastEvents.{Uses, LastUse}
-use Rattle.calculus.specs.Live.{Live, LiveAt, LastWriter, NoWriter}
-use Rattle.calculus.specs.declared.event.Event.{Event}
-use Rattle.calculus.proofs.Tickets.{rising-one}
+use Rattle.runs.specs.Live.{Live, LiveAt, LastWriter, NoWriter}
+use Rattle.runs.specs.declared.event.Event.{Event}
+use Rattle.runs.proofs.Tickets.{rising-one}
 use Rattle.dependence.specs.declared.tables.Tables.{Tables}
 use Rattle.dependence.specs.walking.Tables.{IsRising}
 use Rattle.dependence.specs.walking.Tabled.{TablesOf}

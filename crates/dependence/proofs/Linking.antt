@@ -5,14 +5,14 @@ use Rattle.std.specs.List.{remove}
 use Rattle.std.proofs.lemmas.Bool.{cases_eq}
 use Rattle.std.proofs.lemmas.Option.{slice_get_within, slice_get-get_or}
 use Rattle.syntax.specs.Lists.{In}
-use Rattle.calculus.specs.InOrder.{InOrder}
-use Rattle.calculus.specs.Live.{Live, Rising, LiveAt, NoneAt}
-use Rattle.calculus.specs.declared.event.Event.{Event}
-use Rattle.calculus.proofs.Tickets.{rising-in}
+use Rattle.runs.specs.InOrder.{InOrder}
+use Rattle.runs.specs.Live.{Live, Rising, LiveAt, NoneAt}
+use Rattle.runs.specs.declared.event.Event.{Event}
+use Rattle.runs.proofs.Tickets.{rising-in}
 use Rattle.dependence.specs.Followers.{ListsLeads, Follower, ListsFollowers}
 use Rattle.dependence.specs.declared.links.Links.{Links}
 use Rattle.dependence.specs.walking.Tables.{IsRising, Linked, Falling, PartLinked, ListsWith, FollowersChanged, Removed}
-use Rattle.calculus.proofs.Lists.{in-left, in-right, in-parts, every-in}
+use Rattle.runs.proofs.Lists.{in-left, in-right, in-parts, every-in}
 use Rattle.dependence.proofs.ListPlaces.{in-at, in-removed, in-order-removed, at-one, at-within, set-here, set-other, parts-at, take-next, drop-next, in-order-more, in-order-right, in-order-across}
 
 -- where the tickets rise, a ticket stands at one index

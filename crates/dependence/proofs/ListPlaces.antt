@@ -10,9 +10,9 @@ use Rattle.std.proofs.lemmas.Bool.Decides.{nat_tests}
 use Rattle.std.proofs.lemmas.List.Sorted.{IsNonDecreasingBy-from_default}
 use Rattle.std.proofs.lemmas.Option.{slice_get-get_or, slice_get_within, get_or_from_slice_get}
 use Rattle.syntax.specs.Lists.{In}
-use Rattle.calculus.specs.InOrder.{InOrder}
-use Rattle.calculus.proofs.Lists.{in-left, in-right, in-parts, every-in, every-of}
-use Rattle.calculus.proofs.Options.{none-some, some-injective}
+use Rattle.runs.specs.InOrder.{InOrder}
+use Rattle.runs.proofs.Lists.{in-left, in-right, in-parts, every-in, every-of}
+use Rattle.runs.proofs.Options.{none-some, some-injective}
 
 pub in-at : {X : Type 0} (l : List X) (i : ℕ) (x : X) → slice_get l i ≡ Some x → In x l
 in-at [] i x h = none-some x h

@@ -8,12 +8,12 @@ use Rattle.std.proofs.lemmas.List.Sums.{sum_by-cons}
 use Rattle.std.proofs.lemmas.List.Edits.{get_or-between, length-between}
 use Rattle.std.proofs.lemmas.Option.{slice_get_within, slice_get-get_or, get_or_from_slice_get}
 use Rattle.syntax.specs.Lists.{In}
-use Rattle.calculus.specs.InOrder.{InOrder}
-use Rattle.calculus.specs.Live.{Live, Rising, DependsOn, same, ConsequencesList}
-use Rattle.calculus.specs.declared.event.Event.{Event}
-use Rattle.calculus.proofs.Lists.{every-of, in-left, in-right, in-parts}
-use Rattle.calculus.proofs.Options.{none-some}
-use Rattle.calculus.proofs.Tickets.{rising-in}
+use Rattle.runs.specs.InOrder.{InOrder}
+use Rattle.runs.specs.Live.{Live, Rising, DependsOn, same, ConsequencesList}
+use Rattle.runs.specs.declared.event.Event.{Event}
+use Rattle.runs.proofs.Lists.{every-of, in-left, in-right, in-parts}
+use Rattle.runs.proofs.Options.{none-some}
+use Rattle.runs.proofs.Tickets.{rising-in}
 use Rattle.dependence.specs.Followers.{Follower, ListsFollowers, Reached, here, along}
 use Rattle.dependence.specs.Shown.{tickets_marked, Greatest, IsSound}
 use Rattle.dependence.specs.Taking.{NoneMarkedAt, IsNearMarked}

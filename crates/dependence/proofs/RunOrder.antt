@@ -3,17 +3,17 @@ use Rattle.std.proofs.Common.{◌≡◌, inl, inr, ℕ, List, [], ◌∷◌, ◌
 use Rattle.address.specs.Places.{Apart}
 use Rattle.syntax.specs.Lists.{In}
 use Rattle.system.specs.Expression.{Store}
-use Rattle.calculus.specs.Dependence.{Earlier}
-use Rattle.calculus.specs.Events.{Located, Makes, assigning, testing, turning, meeting, opening as opens_with_data, opening_without_data, shutting, syncing}
-use Rattle.calculus.specs.Live.{events, LiveAt}
-use Rattle.calculus.specs.Moves.{Place}
-use Rattle.calculus.specs.Steps.{Run, opening}
-use Rattle.calculus.specs.declared.event.Event.{Event}
-use Rattle.calculus.proofs.FromOpening.{earlier_places, ordered}
-use Rattle.calculus.proofs.Lists.{in-right}
-use Rattle.calculus.proofs.Options.{none-some, some-injective}
-use Rattle.calculus.proofs.Orders.{run-part}
-use Rattle.calculus.proofs.Tickets.{events-join, event-in}
+use Rattle.runs.specs.Dependence.{Earlier}
+use Rattle.runs.specs.Events.{Located, Makes, assigning, testing, turning, meeting, opening as opens_with_data, opening_without_data, shutting, syncing}
+use Rattle.runs.specs.Live.{events, LiveAt}
+use Rattle.runs.specs.Moves.{Place}
+use Rattle.runs.specs.Steps.{Run, opening}
+use Rattle.runs.specs.declared.event.Event.{Event}
+use Rattle.runs.proofs.FromOpening.{earlier_places, ordered}
+use Rattle.runs.proofs.Lists.{in-right}
+use Rattle.runs.proofs.Options.{none-some, some-injective}
+use Rattle.runs.proofs.Orders.{run-part}
+use Rattle.runs.proofs.Tickets.{events-join, event-in}
 use Rattle.dependence.specs.Laws.{LastComesBehind}
 
 -- the two addresses of an event are apart

@@ -1,8 +1,8 @@
 -- What a `Live` shows after an event more.
 use Rattle.std.proofs.Common.{◌≡◌, ℕ, List, [], ◌∷◌, ◌++◌, Bool, Result, Ok, Err, ◌∙◌, ap}
 use Rattle.std.specs.Result.{OnOk, IfErr}
-use Rattle.calculus.specs.Live.{Live}
-use Rattle.calculus.specs.declared.event.Event.{Event}
+use Rattle.runs.specs.Live.{Live}
+use Rattle.runs.specs.declared.event.Event.{Event}
 use Rattle.dependence.specs.Shown.{Shown, with_newest, tickets_marked}
 
 abbrev pub shown : Live → List ℕ → Shown

@@ -2,11 +2,11 @@
 use Rattle.std.proofs.Common.{◌≡◌, inl, inr, ℕ, zero, suc, ◌<◌, ◌≤◌, [], ◌∷◌, Some, refl, ap, subst, arith}
 use Rattle.std.specs.Prelude.{slice_get}
 use Rattle.std.proofs.lemmas.Bool.{cases_lt}
-use Rattle.calculus.specs.InOrder.{InOrder}
-use Rattle.calculus.specs.Live.{Live, Rising}
-use Rattle.calculus.specs.declared.event.Event.{Event}
-use Rattle.calculus.proofs.Lists.{every-of}
-use Rattle.calculus.proofs.Tickets.{rising-in}
+use Rattle.runs.specs.InOrder.{InOrder}
+use Rattle.runs.specs.Live.{Live, Rising}
+use Rattle.runs.specs.declared.event.Event.{Event}
+use Rattle.runs.proofs.Lists.{every-of}
+use Rattle.runs.proofs.Tickets.{rising-in}
 use Rattle.dependence.proofs.ListPlaces.{in-at, at-one}
 
 -- where the tickets rise they are in order

@@ -7,16 +7,16 @@ use Rattle.std.proofs.lemmas.List.Sorted.{Contains-permutation}
 use Rattle.std.proofs.lemmas.Option.{slice_get_within, slice_get-get_or}
 use Rattle.syntax.specs.Lists.{In}
 use Rattle.system.specs.Expression.{is_in}
-use Rattle.calculus.specs.InOrder.{InOrder}
-use Rattle.calculus.specs.Live.{Live, Rising, DependsOn, same, IsLive}
-use Rattle.calculus.specs.declared.event.Event.{Event}
-use Rattle.calculus.proofs.Lists.{in-left, in-right, in-parts, every-in}
-use Rattle.calculus.proofs.DependsOnLaw.{depends-up}
+use Rattle.runs.specs.InOrder.{InOrder}
+use Rattle.runs.specs.Live.{Live, Rising, DependsOn, same, IsLive}
+use Rattle.runs.specs.declared.event.Event.{Event}
+use Rattle.runs.proofs.Lists.{in-left, in-right, in-parts, every-in}
+use Rattle.runs.proofs.DependsOnLaw.{depends-up}
 use Rattle.dependence.specs.Followers.{Follower, ListsFollowers, Reached, here, along}
 use Rattle.dependence.specs.walking.Tables.{StandsAt, Falling, Topmost, LeadsBack}
 use Rattle.dependence.specs.walking.Sweeping.{StandWithin, FlagAt, Swept}
 use Rattle.dependence.proofs.ListPlaces.{at-one, index-in, parts-at, in-at, in-read, in-order-more, in-order-right, got-here}
-use Rattle.calculus.proofs.ReadTests.{is-in, in-is}
+use Rattle.runs.proofs.ReadTests.{is-in, in-is}
 use Rattle.dependence.proofs.Linking.{one-index}
 use Rattle.dependence.proofs.Standing.{index-rises, lesser-stands}
 use Rattle.dependence.proofs.Following.{follows-on}

@@ -9,14 +9,14 @@ use Rattle.syntax.specs.Lists.{In}
 use Rattle.last_events.specs.LastEvents.{ticket_at, IsAt, Uses, PutAt, RemovedAt, Same, OneTree, Orderly}
 use Rattle.last_events.specs.declared.places.PlaceTable.{PlaceTable}
 use Rattle.last_events.specs.declared.uses.UseTable.{UseTable}
-use Rattle.calculus.specs.Events.{places, places_of}
-use Rattle.calculus.specs.Live.{Live, Rising, LiveAt, WithoutTickets}
-use Rattle.calculus.specs.Moves.{Place}
-use Rattle.calculus.specs.declared.event.Event.{Event}
-use Rattle.calculus.proofs.Lists.{in-left, in-right, in-parts}
-use Rattle.calculus.proofs.Options.{none-some, some-injective}
-use Rattle.calculus.proofs.Tickets.{rising-in, rising-one}
-use Rattle.calculus.proofs.UndoLaws.{without-live}
+use Rattle.runs.specs.Events.{places, places_of}
+use Rattle.runs.specs.Live.{Live, Rising, LiveAt, WithoutTickets}
+use Rattle.runs.specs.Moves.{Place}
+use Rattle.runs.specs.declared.event.Event.{Event}
+use Rattle.runs.proofs.Lists.{in-left, in-right, in-parts}
+use Rattle.runs.proofs.Options.{none-some, some-injective}
+use Rattle.runs.proofs.Tickets.{rising-in, rising-one}
+use Rattle.runs.proofs.UndoLaws.{without-live}
 use Rattle.dependence.specs.Behind.{ComesBehind}
 use Rattle.dependence.specs.declared.tables.Tables.{Tables}
 use Rattle.dependence.specs.walking.Tabled.{TablesOf, Placed, IsTabled, MorePlaces, MoreUses, FewerUses, written_of, MoreTables, HasEvent, FewerTables, SameTables, IsFresh}

@@ -3,9 +3,9 @@ use Rattle.std.proofs.Common.{◌≡◌, ℕ, ◌<◌, List, Bool, true, length,
 use Rattle.std.specs.Prelude.{slice_get}
 use Rattle.std.proofs.lemmas.Option.{slice_get_within}
 use Rattle.syntax.specs.Lists.{In}
-use Rattle.calculus.specs.Live.{Live, Rising, LiveAt, DependsOn, same, later, WithoutTickets}
-use Rattle.calculus.specs.declared.event.Event.{Event}
-use Rattle.calculus.proofs.UndoLaws.{without-live}
+use Rattle.runs.specs.Live.{Live, Rising, LiveAt, DependsOn, same, later, WithoutTickets}
+use Rattle.runs.specs.declared.event.Event.{Event}
+use Rattle.runs.proofs.UndoLaws.{without-live}
 use Rattle.dependence.specs.Followers.{Follower}
 use Rattle.dependence.specs.Shown.{tickets_marked}
 use Rattle.dependence.specs.Taking.{HasDependents}

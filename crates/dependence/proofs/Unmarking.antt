@@ -4,12 +4,12 @@ use Rattle.std.specs.Prelude.{slice_get}
 use Rattle.std.proofs.lemmas.Option.{slice_get_within, slice_get-get_or}
 use Rattle.syntax.specs.Lists.{In}
 use Rattle.system.specs.Expression.{is_in}
-use Rattle.calculus.specs.Dependence.{ended, stays, leaves}
-use Rattle.calculus.specs.Live.{Live, Rising, LiveAt, NoneAt, WithoutTickets}
-use Rattle.calculus.specs.declared.event.Event.{Event}
-use Rattle.calculus.proofs.Options.{none-some, some-injective}
-use Rattle.calculus.proofs.ReadTests.{is-in, in-is}
-use Rattle.calculus.proofs.Tickets.{rising-in, rising-lower}
+use Rattle.runs.specs.Dependence.{ended, stays, leaves}
+use Rattle.runs.specs.Live.{Live, Rising, LiveAt, NoneAt, WithoutTickets}
+use Rattle.runs.specs.declared.event.Event.{Event}
+use Rattle.runs.proofs.Options.{none-some, some-injective}
+use Rattle.runs.proofs.ReadTests.{is-in, in-is}
+use Rattle.runs.proofs.Tickets.{rising-in, rising-lower}
 use Rattle.dependence.specs.Shown.{tickets_marked}
 use Rattle.dependence.specs.Taking.{OneMarkedAt, NoneMarkedAt, StaysBeside, done, keeps, drops}
 use Rattle.dependence.specs.walking.Marking.{UnmarkedTo}

@@ -4,12 +4,12 @@ use Rattle.std.specs.Prelude.{slice_get, MatchOption}
 use Rattle.std.specs.List.{remove}
 use Rattle.std.specs.Result.{is_err, OnOk, OnErr}
 use Rattle.syntax.specs.Lists.{In}
-use Rattle.calculus.specs.Dependence.{Without, ended, stays, leaves}
-use Rattle.calculus.specs.Live.{Live, Rising, LiveAt, FirstDependent, NoDependent}
-use Rattle.calculus.specs.declared.event.Event.{Event}
-use Rattle.calculus.proofs.Lists.{every-in}
-use Rattle.calculus.proofs.Decisions.{first-dependent?}
-use Rattle.calculus.proofs.Tickets.{rising-in, rising-more}
+use Rattle.runs.specs.Dependence.{Without, ended, stays, leaves}
+use Rattle.runs.specs.Live.{Live, Rising, LiveAt, FirstDependent, NoDependent}
+use Rattle.runs.specs.declared.event.Event.{Event}
+use Rattle.runs.proofs.Lists.{every-in}
+use Rattle.runs.proofs.Decisions.{first-dependent?}
+use Rattle.runs.proofs.Tickets.{rising-in, rising-more}
 use Rattle.dependence.specs.Followers.{ListsFollowers}
 use Rattle.dependence.specs.Shown.{tickets_marked}
 use Rattle.dependence.specs.declared.links.Links.{Links}

@@ -1,9 +1,9 @@
 -- The one live event that acts at a place.
 use Rattle.std.specs.Prelude.{◌≡◌, ℕ}
-use Rattle.calculus.specs.Events.{acting}
-use Rattle.calculus.specs.Live.{Live, LiveAt}
-use Rattle.calculus.specs.Moves.{Place}
-use Rattle.calculus.specs.declared.event.Event.{Event}
+use Rattle.runs.specs.Events.{acting}
+use Rattle.runs.specs.Live.{Live, LiveAt}
+use Rattle.runs.specs.Moves.{Place}
+use Rattle.runs.specs.declared.event.Event.{Event}
 
 -- e is the live event that acts at the place, and no other does
 pub record ActsAlone (l : Live) (p : Place) (e : Event) : Type 0 where

@@ -2,11 +2,11 @@
 use Rattle.std.specs.Prelude.{◌≡◌, ◌⊎◌, ℕ, Some}
 use Rattle.address.specs.Places.{Before, Apart}
 use Rattle.syntax.specs.Lists.{In}
-use Rattle.calculus.specs.Dependence.{SomeBefore, OnOneChannel}
-use Rattle.calculus.specs.Events.{places}
-use Rattle.calculus.specs.Live.{Live, LiveAt}
-use Rattle.calculus.specs.Moves.{Place}
-use Rattle.calculus.specs.declared.event.Event.{Event}
+use Rattle.runs.specs.Dependence.{SomeBefore, OnOneChannel}
+use Rattle.runs.specs.Events.{places}
+use Rattle.runs.specs.Live.{Live, LiveAt}
+use Rattle.runs.specs.Moves.{Place}
+use Rattle.runs.specs.declared.event.Event.{Event}
 
 -- each address of a live event is before each address of f or apart from it, the two of f are apart, and a live event on
 -- the channel of f has an address before one of f

@@ -1,10 +1,10 @@
 -- Who needs whom among the live events: the direct dependents of an event, and those of them with no live event between.
 use Rattle.std.specs.Prelude.{◌≡◌, ◌⊎◌, ◌↔◌, ℕ, ◌<◌, List, length}
 use Rattle.syntax.specs.Lists.{In}
-use Rattle.calculus.specs.Dependence.{Directly}
-use Rattle.calculus.specs.InOrder.{InOrder}
-use Rattle.calculus.specs.Live.{Live, LiveAt, DependsOn}
-use Rattle.calculus.specs.declared.event.Event.{Event}
+use Rattle.runs.specs.Dependence.{Directly}
+use Rattle.runs.specs.InOrder.{InOrder}
+use Rattle.runs.specs.Live.{Live, LiveAt, DependsOn}
+use Rattle.runs.specs.declared.event.Event.{Event}
 
 -- the live event of ticket u is later than that of ticket t, and depends directly on it
 pub record DirectDependent (l : Live) (t u : ℕ) : Type 0 where

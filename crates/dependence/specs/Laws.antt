@@ -2,9 +2,9 @@
 use Rattle.std.specs.Prelude.{◌≡◌, ◌≢◌, ◌↔◌, ℕ, [], ◌∷◌, ◌++◌}
 use Rattle.system.specs.declared.system.System.{System}
 use Rattle.sharing_check.specs.Rule.{SharesWell}
-use Rattle.calculus.specs.Live.{Live, events, Rising, DependsOn, FirstDependent, NoDependent, WithoutTickets}
-use Rattle.calculus.specs.Steps.{State, Run, opening}
-use Rattle.calculus.specs.declared.event.Event.{Event}
+use Rattle.runs.specs.Live.{Live, events, Rising, DependsOn, FirstDependent, NoDependent, WithoutTickets}
+use Rattle.runs.specs.Steps.{State, Run, opening}
+use Rattle.runs.specs.declared.event.Event.{Event}
 use Rattle.dependence.specs.Behind.{ComesBehind}
 use Rattle.dependence.specs.Followers.{Follower, Reached}
 

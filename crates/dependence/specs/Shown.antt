@@ -1,9 +1,9 @@
 -- What callers see of a `Live`: the live events with their tickets, and the tickets that are marked.
 use Rattle.std.specs.Prelude.{ℕ, ◌<◌, ◌≤◌, List, [], ◌∷◌, ◌++◌, Bool, true, false}
 use Rattle.syntax.specs.Lists.{In}
-use Rattle.calculus.specs.InOrder.{InOrder}
-use Rattle.calculus.specs.Live.{Live, Rising, IsLive}
-use Rattle.calculus.specs.declared.event.Event.{Event}
+use Rattle.runs.specs.InOrder.{InOrder}
+use Rattle.runs.specs.Live.{Live, Rising, IsLive}
+use Rattle.runs.specs.declared.event.Event.{Event}
 
 -- the live events with their tickets, in order of tickets, and the tickets that are marked, ascending
 pub record Shown : Type 0 where

@@ -1,8 +1,8 @@
 -- The marked events, taken out all at once.
 use Rattle.std.specs.Prelude.{◌≡◌, ◌⊎◌, ℕ, ◌+◌, ◌<◌, ◌≤◌, List, [], ◌∷◌, length, Some, slice_get}
 use Rattle.syntax.specs.Lists.{In}
-use Rattle.calculus.specs.Live.{Live, LiveAt, DependsOn}
-use Rattle.calculus.specs.declared.event.Event.{Event}
+use Rattle.runs.specs.Live.{Live, LiveAt, DependsOn}
+use Rattle.runs.specs.declared.event.Event.{Event}
 use Rattle.dependence.specs.Shown.{Shown}
 
 -- each live event that depends on one whose ticket is among these has its ticket among them

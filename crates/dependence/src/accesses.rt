@@ -3,14 +3,14 @@
 // old write.
 ghost use Rattle.std.specs.Prelude.{◌≡◌, ◌≤◌, ◌⊎◌, ◌↔◌, ℕ, Some, IsTrue, IfOk};
 ghost use Rattle.syntax.specs.Lists.{In};
-ghost use Rattle.calculus.specs.Live.{IsLive, LastWriter};
+ghost use Rattle.runs.specs.Live.{IsLive, LastWriter};
 ghost use Rattle.dependence.specs.walking.Found.{AccessesFound, FirstBehind, IsBefore, IsDirect, IsReadBefore, ReaderSince, WritesOneRead, UsesWritten, IsNewcomer};
 
 use crate::candidates::add_if;
 use crate::indexes::index_of_live;
 use crate::live::LiveEvent;
 use crate::tables::Tables;
-use calculus::{Event, some_before};
+use runs::{Event, some_before};
 use std::alloc::{AllocError, Global};
 
 /// A new event, of a ticket greater than the live ones, and the live events with their tables.

@@ -1,6 +1,6 @@
 // The live event that acts at the first child of a place.
 ghost use Rattle.std.specs.Prelude.{MatchOption};
-ghost use Rattle.calculus.specs.Live.{LiveAt, IsLive};
+ghost use Rattle.runs.specs.Live.{LiveAt, IsLive};
 ghost use Rattle.last_events.specs.LastEvents.{first_child};
 ghost use Rattle.dependence.specs.Acting.{ActsAlone, NoneActs};
 ghost use Rattle.dependence.specs.walking.Tables.{IsRising};
@@ -10,7 +10,7 @@ use crate::indexes::index_of_live;
 use crate::live::LiveEvent;
 use crate::tables::Tables;
 use address::Entry;
-use calculus::Event;
+use runs::Event;
 use last_events::is_first_child;
 
 /// The live event that acts at the first child of the place. The event that stands there may act at the other of its places.

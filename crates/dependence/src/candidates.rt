@@ -2,15 +2,15 @@
 ghost use Rattle.std.specs.Prelude.{◌≡◌, ◌++◌, ◌∷◌, [], ℕ, cond, IfOk};
 ghost use Rattle.syntax.specs.Lists.{In};
 ghost use Rattle.last_events.specs.LastEvents.{Orderly};
-ghost use Rattle.calculus.specs.Events.{places};
-ghost use Rattle.calculus.specs.Moves.{Place};
+ghost use Rattle.runs.specs.Events.{places};
+ghost use Rattle.runs.specs.Moves.{Place};
 ghost use Rattle.dependence.specs.Behind.{ComesBehind};
 ghost use Rattle.dependence.specs.walking.Found.{FoundByPlace, IsNewcomer};
 ghost use Rattle.dependence.specs.walking.Tabled.{IsTabled};
 ghost use Rattle.dependence.specs.walking.Tables.{Candidates};
 
 use crate::accesses::Newcomer;
-use calculus::Event;
+use runs::Event;
 use last_events::PlaceTable;
 use std::alloc::{AllocError, Global};
 

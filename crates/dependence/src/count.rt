@@ -1,13 +1,13 @@
 // How many events depend directly on one.
 ghost use Rattle.dependence.specs.Followers.{CountsDirect};
-ghost use Rattle.calculus.specs.Live.{FirstDependent, IsLive};
+ghost use Rattle.runs.specs.Live.{FirstDependent, IsLive};
 ghost use Rattle.dependence.specs.walking.Tables.{IsRising, Linked, CountsAmong};
 
 use crate::held::HeldLinks;
 use crate::indexes::index_of_live;
 use crate::live::LiveEvent;
 use crate::whole::least_dependent;
-use calculus::{Event, depends_directly};
+use runs::{Event, depends_directly};
 
 /// How many live events depend directly on the one of this ticket. The first that may is its first follower.
 pub(crate) fn count_direct(live: &[LiveEvent], links: &[HeldLinks], ticket: u64) -> usize

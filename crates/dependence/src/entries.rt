@@ -4,7 +4,7 @@ ghost use Rattle.std.specs.List.{remove};
 ghost use Rattle.std.specs.List.Sorted.{IsNonDecreasing};
 ghost use Rattle.std.specs.Vec.{vec_capacity};
 ghost use Rattle.syntax.specs.Lists.{In};
-ghost use Rattle.calculus.specs.Live.{Rising, LiveAt, NoDependent, IsLive};
+ghost use Rattle.runs.specs.Live.{Rising, LiveAt, NoDependent, IsLive};
 ghost use Rattle.dependence.specs.declared.links.Links.{Links};
 ghost use Rattle.dependence.specs.Behind.{ComesBehind};
 ghost use Rattle.dependence.specs.walking.Found.{IsNewcomer};
@@ -18,7 +18,7 @@ use crate::indexes::index_of_live;
 use crate::links::{link_all, unlink_all};
 use crate::live::LiveEvent;
 use crate::topmost::{span, topmost};
-use calculus::Event;
+use runs::Event;
 use std::alloc::{AllocError, Global};
 use syntax::Boxed;
 

@@ -2,7 +2,7 @@
 // not do: followers come and go, and it lends nothing to be changed.
 ghost use Rattle.std.specs.Prelude.{◌≡◌, ◌<◌, ◌++◌, ◌∷◌, [], length, MatchResult, IfOk};
 ghost use Rattle.syntax.specs.Lists.{In};
-ghost use Rattle.calculus.specs.InOrder.{InOrder};
+ghost use Rattle.runs.specs.InOrder.{InOrder};
 ghost use Rattle.dependence.specs.Shown.{tickets_marked};
 ghost use Rattle.dependence.specs.walking.Tables.{IsRising, Removed};
 ghost use Rattle.dependence.specs.walking.Unmarked.{Thinned};

@@ -1,8 +1,8 @@
 // Looking for a ticket: by halves, since tickets rise.
 ghost use Rattle.std.specs.Prelude.{◌≡◌, ◌<◌, Some, slice_get, MatchOption};
 ghost use Rattle.syntax.specs.Lists.{In};
-ghost use Rattle.calculus.specs.InOrder.{InOrder};
-ghost use Rattle.calculus.specs.Live.{NoneAt, IsLive};
+ghost use Rattle.runs.specs.InOrder.{InOrder};
+ghost use Rattle.runs.specs.Live.{NoneAt, IsLive};
 ghost use Rattle.dependence.specs.walking.Tables.{IsRising, StandsAt};
 
 use crate::live::LiveEvent;

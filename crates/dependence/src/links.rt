@@ -1,8 +1,8 @@
 // The followers of each live event, kept at its index.
 ghost use Rattle.std.specs.Prelude.{◌≡◌, ◌<◌, ◌++◌, ◌∷◌, [], ℕ, List, length, Some, slice_get, MatchResult};
 ghost use Rattle.syntax.specs.Lists.{In};
-ghost use Rattle.calculus.specs.InOrder.{InOrder};
-ghost use Rattle.calculus.specs.Live.{Rising, NoneAt, IsLive};
+ghost use Rattle.runs.specs.InOrder.{InOrder};
+ghost use Rattle.runs.specs.Live.{Rising, NoneAt, IsLive};
 ghost use Rattle.dependence.specs.declared.links.Links.{Links};
 ghost use Rattle.dependence.specs.walking.Tables.{IsRising, Falling, PartLinked, FollowersChanged, Removed};
 

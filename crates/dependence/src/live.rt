@@ -1,6 +1,6 @@
 ghost use Rattle.std.specs.Prelude.{◌≡◌, ◌<◌, ◌≤◌, ℕ, [], length, Some, None, slice_get, MatchOption, IfErr, IfOk, OnOk};
-ghost use Rattle.calculus.specs.Dependence.{Without};
-ghost use Rattle.calculus.specs.Live.{LiveAt, NoneAt, NoDependent, FirstDependent, ConsequencesList, WithoutTickets, IsLive, LastWriter, NoWriter};
+ghost use Rattle.runs.specs.Dependence.{Without};
+ghost use Rattle.runs.specs.Live.{LiveAt, NoneAt, NoDependent, FirstDependent, ConsequencesList, WithoutTickets, IsLive, LastWriter, NoWriter};
 ghost use Rattle.last_events.specs.LastEvents.{first_child};
 ghost use Rattle.dependence.specs.Acting.{ActsAlone, NoneActs};
 ghost use Rattle.dependence.specs.Behind.{ComesBehind};
@@ -20,7 +20,7 @@ use crate::tables::Tables;
 use crate::taking::{keep_unmarked, take_marked};
 use crate::whole::{add_event, followers_of, last_writer, leads_at, least_dependent, take_event};
 use address::Entry;
-use calculus::Event;
+use runs::Event;
 use std::alloc::{AllocError, Global};
 use std::marker::Model;
 use syntax::Boxed;

@@ -2,7 +2,7 @@
 ghost use Rattle.std.specs.Prelude.{◌≡◌, ◌<◌, ◌≤◌, ◌⊎◌, ◌↔◌, ℕ, [], length, true, false, Some, slice_get, MatchOption, IfOk};
 ghost use Rattle.syntax.specs.Lists.{In};
 ghost use Rattle.system.specs.Expression.{is_in};
-ghost use Rattle.calculus.specs.Live.{ConsequencesList, IsLive};
+ghost use Rattle.runs.specs.Live.{ConsequencesList, IsLive};
 ghost use Rattle.dependence.specs.Shown.{tickets_marked, Greatest};
 ghost use Rattle.dependence.specs.Taking.{OneMarkedAt, NoneMarkedAt};
 ghost use Rattle.dependence.specs.walking.Tables.{IsRising, Linked};
@@ -11,7 +11,7 @@ ghost use Rattle.dependence.specs.walking.Marking.{MarkedAt, UnmarkedTo, SomeMar
 use crate::held::HeldLinks;
 use crate::indexes::{index_of, index_of_live};
 use crate::live::LiveEvent;
-use calculus::Event;
+use runs::Event;
 use std::alloc::{AllocError, Global};
 
 /// How many marks are looked at together.

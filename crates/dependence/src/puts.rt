@@ -3,11 +3,11 @@ ghost use Rattle.std.specs.Prelude.{◌≡◌, ℕ, Some, OnOk};
 ghost use Rattle.address.specs.Places.{Apart};
 ghost use Rattle.syntax.specs.Lists.{In};
 ghost use Rattle.last_events.specs.LastEvents.{IsAt, Uses};
-ghost use Rattle.calculus.specs.Events.{places};
-ghost use Rattle.calculus.specs.Moves.{Place};
+ghost use Rattle.runs.specs.Events.{places};
+ghost use Rattle.runs.specs.Moves.{Place};
 ghost use Rattle.dependence.specs.walking.Tabled.{MorePlaces, MoreUses, FewerPlaces, FewerUses, written_of};
 
-use calculus::Event;
+use runs::Event;
 use last_events::{PlaceTable, UseTable};
 use std::alloc::AllocError;
 

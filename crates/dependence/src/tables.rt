@@ -1,13 +1,13 @@
 // Which live event stands at which place, and which of them write and read which variable.
 ghost use Rattle.std.specs.Prelude.{ℕ, [], OnOk, OnErr};
 ghost use Rattle.last_events.specs.LastEvents.{IsAt, Uses};
-ghost use Rattle.calculus.specs.Live.{Live};
+ghost use Rattle.runs.specs.Live.{Live};
 ghost use Rattle.dependence.specs.walking.Tabled.{TablesOf, MoreTables, HasEvent, FewerTables, SameTables, IsFresh};
 
 use crate::puts::{
     put_places, put_reads, put_written, remove_places, remove_reads, remove_written,
 };
-use calculus::Event;
+use runs::Event;
 use last_events::{PlaceTable, UseTable};
 use std::alloc::{AllocError, Global};
 

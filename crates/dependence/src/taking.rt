@@ -1,8 +1,8 @@
 // The marked events taken out all at once: each list is gone through once, from about the first marked index on.
 ghost use Rattle.std.specs.Prelude.{◌≡◌, ◌<◌, ◌≤◌, ℕ, [], length, true, Some, slice_get};
 ghost use Rattle.syntax.specs.Lists.{In};
-ghost use Rattle.calculus.specs.InOrder.{InOrder};
-ghost use Rattle.calculus.specs.Live.{IsLive, WithoutTickets};
+ghost use Rattle.runs.specs.InOrder.{InOrder};
+ghost use Rattle.runs.specs.Live.{IsLive, WithoutTickets};
 ghost use Rattle.dependence.specs.declared.links.Links.{Links};
 ghost use Rattle.dependence.specs.Shown.{tickets_marked};
 ghost use Rattle.dependence.specs.Taking.{HasDependents};

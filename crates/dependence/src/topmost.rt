@@ -3,8 +3,8 @@ ghost use Rattle.std.specs.Prelude.{◌≡◌, ◌<◌, ◌≤◌, ◌+◌, ◌�
 ghost use Rattle.syntax.specs.Lists.{In};
 ghost use Rattle.system.specs.Expression.{is_in};
 ghost use Rattle.std.specs.List.Sorted.{IsNonDecreasing};
-ghost use Rattle.calculus.specs.InOrder.{InOrder};
-ghost use Rattle.calculus.specs.Live.{IsLive};
+ghost use Rattle.runs.specs.InOrder.{InOrder};
+ghost use Rattle.runs.specs.Live.{IsLive};
 ghost use Rattle.dependence.specs.walking.Tables.{IsRising, StandsAt, Falling, Linked, Topmost};
 ghost use Rattle.dependence.specs.walking.Sweeping.{StandWithin, FlagAt};
 

@@ -1,7 +1,7 @@
 // The tables as one: what is asked of them, an event more, an event less.
 ghost use Rattle.std.specs.Prelude.{◌≡◌, ◌<◌, ◌++◌, ◌∷◌, [], ℕ, MatchOption, IfErr, OnOk};
-ghost use Rattle.calculus.specs.Dependence.{Without};
-ghost use Rattle.calculus.specs.Live.{LiveAt, NoDependent, FirstDependent, WithoutTickets, IsLive, LastWriter, NoWriter};
+ghost use Rattle.runs.specs.Dependence.{Without};
+ghost use Rattle.runs.specs.Live.{LiveAt, NoDependent, FirstDependent, WithoutTickets, IsLive, LastWriter, NoWriter};
 ghost use Rattle.dependence.specs.Behind.{ComesBehind};
 ghost use Rattle.dependence.specs.Followers.{ListsFollowers, ListsLeads};
 ghost use Rattle.dependence.specs.Shown.{tickets_marked};
@@ -15,7 +15,7 @@ use crate::held::HeldLinks;
 use crate::indexes::index_of_live;
 use crate::live::LiveEvent;
 use crate::tables::Tables;
-use calculus::{Event, writes};
+use runs::{Event, writes};
 use std::alloc::Global;
 use syntax::Boxed;
 

@@ -2,12 +2,12 @@
 use Rattle.std.proofs.Common.{◌≡◌, List, [], ◌∷◌, ◌++◌, Some, refl, sym, subst, ap, ◌∙◌}
 use Rattle.system.specs.Translation.{opening_store}
 use Rattle.system.specs.declared.system.System.{System}
-use Rattle.calculus.specs.Dependence.{Directly}
-use Rattle.calculus.specs.Steps.{State, Run, opening}
-use Rattle.calculus.specs.declared.event.Event.{Event}
-use Rattle.calculus.proofs.FromOpening.{runs_without, respecting_orders}
-use Rattle.calculus.proofs.Lists.{every-of}
-use Rattle.calculus.proofs.Orders.{run-join}
+use Rattle.runs.specs.Dependence.{Directly}
+use Rattle.runs.specs.Steps.{State, Run, opening}
+use Rattle.runs.specs.declared.event.Event.{Event}
+use Rattle.runs.proofs.FromOpening.{runs_without, respecting_orders}
+use Rattle.runs.proofs.Lists.{every-of}
+use Rattle.runs.proofs.Orders.{run-join}
 use Rattle.process_tree.proofs.Asking.{some-elim}
 use Rattle.process_tree.proofs.Translated.{systems-open-alike}
 use Rattle.event_inverse.specs.Grown.{TreeAndStore, Records, state_of_tree, opening_tree, grown, StandFor}

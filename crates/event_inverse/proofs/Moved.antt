@@ -3,12 +3,12 @@ use Rattle.std.proofs.Common.{◌≡◌, Option, Some, None, IsSome, option_map,
 use Rattle.std.specs.Option.{option_and_then}
 use Rattle.value.specs.Word.{Word}
 use Rattle.system.specs.Expression.{Store, get}
-use Rattle.calculus.specs.Moves.{Place}
-use Rattle.calculus.specs.declared.ask.Ask.{Ask}
-use Rattle.calculus.specs.Asking.{asked}
-use Rattle.calculus.specs.Events.{store_after}
-use Rattle.calculus.specs.declared.event.Event.{Event}
-use Rattle.calculus.proofs.Options.{some-injective}
+use Rattle.runs.specs.Moves.{Place}
+use Rattle.runs.specs.declared.ask.Ask.{Ask}
+use Rattle.runs.specs.Asking.{asked}
+use Rattle.runs.specs.Events.{store_after}
+use Rattle.runs.specs.declared.event.Event.{Event}
+use Rattle.runs.proofs.Options.{some-injective}
 use Rattle.process_tree.specs.Proc.{Proc}
 use Rattle.process_tree.specs.Advanced.{Moved, advanced}
 use Rattle.process_tree.specs.walking.Retreated.{retreated}

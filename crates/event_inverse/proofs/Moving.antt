@@ -3,13 +3,13 @@ use Rattle.std.proofs.Common.{◌≡◌, List, [], ◌∷◌, Option, Some, opti
 use Rattle.syntax.specs.Lists.{Every}
 use Rattle.system.specs.Residual.{Residual}
 use Rattle.address.specs.Places.{Before}
-use Rattle.calculus.specs.Moves.{Place}
-use Rattle.calculus.specs.Asking.{ask_of}
-use Rattle.calculus.specs.declared.ask.Ask.{Ask}
-use Rattle.calculus.specs.Events.{Located}
-use Rattle.calculus.specs.walking.Made.{all_ask}
-use Rattle.calculus.specs.Steps.{Moves}
-use Rattle.calculus.proofs.Options.{and_then-at}
+use Rattle.runs.specs.Moves.{Place}
+use Rattle.runs.specs.Asking.{ask_of}
+use Rattle.runs.specs.declared.ask.Ask.{Ask}
+use Rattle.runs.specs.Events.{Located}
+use Rattle.runs.specs.walking.Made.{all_ask}
+use Rattle.runs.specs.Steps.{Moves}
+use Rattle.runs.proofs.Options.{and_then-at}
 use Rattle.process_tree.specs.Proc.{Proc}
 use Rattle.process_tree.specs.Left.{left}
 use Rattle.process_tree.specs.Advanced.{Moved, advanced}

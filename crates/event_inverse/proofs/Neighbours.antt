@@ -5,20 +5,20 @@ use Rattle.syntax.specs.Lists.{In, Every}
 use Rattle.address.specs.Places.{Before}
 use Rattle.value.specs.Word.{Word, resized}
 use Rattle.system.specs.Expression.{Store, get, put, word}
-use Rattle.calculus.specs.Moves.{Place}
-use Rattle.calculus.specs.declared.ask.Ask.{Ask}
-use Rattle.calculus.specs.Dependence.{Directly}
-use Rattle.calculus.specs.Events.{places, places_of, store_after, written_by}
-use Rattle.calculus.specs.Asking.{asked, asked_by}
-use Rattle.calculus.specs.walking.Made.{all_ask}
-use Rattle.calculus.specs.Steps.{State, Step}
-use Rattle.calculus.specs.declared.event.Event.{Event}
-use Rattle.calculus.specs.declared.event.Kind.{Kind}
-use Rattle.calculus.specs.declared.event.Kind.TheVariants.{Assign, Test, Turn, Meet, Open, Close, Sync}
-use Rattle.calculus.proofs.Lists.{every-map}
-use Rattle.calculus.proofs.Made.{asked-is}
-use Rattle.calculus.proofs.Options.{none-some, and_then-at}
-use Rattle.calculus.proofs.Stores.{get-after, after-other}
+use Rattle.runs.specs.Moves.{Place}
+use Rattle.runs.specs.declared.ask.Ask.{Ask}
+use Rattle.runs.specs.Dependence.{Directly}
+use Rattle.runs.specs.Events.{places, places_of, store_after, written_by}
+use Rattle.runs.specs.Asking.{asked, asked_by}
+use Rattle.runs.specs.walking.Made.{all_ask}
+use Rattle.runs.specs.Steps.{State, Step}
+use Rattle.runs.specs.declared.event.Event.{Event}
+use Rattle.runs.specs.declared.event.Kind.{Kind}
+use Rattle.runs.specs.declared.event.Kind.TheVariants.{Assign, Test, Turn, Meet, Open, Close, Sync}
+use Rattle.runs.proofs.Lists.{every-map}
+use Rattle.runs.proofs.Made.{asked-is}
+use Rattle.runs.proofs.Options.{none-some, and_then-at}
+use Rattle.runs.proofs.Stores.{get-after, after-other}
 use Rattle.process_tree.specs.Proc.{Proc}
 use Rattle.process_tree.proofs.Asking.{some-elim, map-elim, then-elim}
 use Rattle.event_inverse.specs.Grown.{TreeAndStore, Taken, state_of_tree, all_advanced, after_moves, applied}

@@ -1,9 +1,9 @@
 -- What stands for a run is tidy.
 use Rattle.std.proofs.Common.{◌≡◌, List, [], ◌∷◌, Some, option_map}
-use Rattle.calculus.specs.Moves.{Place}
-use Rattle.calculus.specs.Asking.{asked}
-use Rattle.calculus.specs.declared.ask.Ask.{Ask}
-use Rattle.calculus.specs.declared.event.Event.{Event}
+use Rattle.runs.specs.Moves.{Place}
+use Rattle.runs.specs.Asking.{asked}
+use Rattle.runs.specs.declared.ask.Ask.{Ask}
+use Rattle.runs.specs.declared.event.Event.{Event}
 use Rattle.process_tree.specs.Advanced.{Moved, advanced}
 use Rattle.process_tree.specs.Proc.{Proc}
 use Rattle.process_tree.specs.Tidy.{Tidy}

@@ -1,14 +1,14 @@
 -- An event in the middle of a list is undone by its record, and respecting orders grow the same.
 use Rattle.std.proofs.Common.{◌≡◌, ◌↔◌, suc, List, [], ◌∷◌, ◌++◌, length, Option, Some, option_map, inl, inr, refl, sym, ap, ap₂, subst, ◌∙◌}
 use Rattle.syntax.specs.Lists.{In, Every}
-use Rattle.calculus.specs.Dependence.{Directly, Respecting}
-use Rattle.calculus.specs.Steps.{Run}
-use Rattle.calculus.specs.Steps.{State}
-use Rattle.calculus.specs.declared.event.Event.{Event}
-use Rattle.calculus.proofs.Lists.{in-left, in-right, in-parts}
-use Rattle.calculus.proofs.Options.{and_then-at}
-use Rattle.calculus.proofs.Orders.{Woven}
-use Rattle.calculus.proofs.Respecting.{woven, run-distinct}
+use Rattle.runs.specs.Dependence.{Directly, Respecting}
+use Rattle.runs.specs.Steps.{Run}
+use Rattle.runs.specs.Steps.{State}
+use Rattle.runs.specs.declared.event.Event.{Event}
+use Rattle.runs.proofs.Lists.{in-left, in-right, in-parts}
+use Rattle.runs.proofs.Options.{and_then-at}
+use Rattle.runs.proofs.Orders.{Woven}
+use Rattle.runs.proofs.Respecting.{woven, run-distinct}
 use Rattle.process_tree.proofs.Asking.{some-elim, map-elim, then-elim}
 use Rattle.process_tree.proofs.Formed.{left-formed}
 use Rattle.event_inverse.specs.Grown.{TreeAndStore, Taken, state_of_tree, applied, Records, grown}

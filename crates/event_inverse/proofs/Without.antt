@@ -1,7 +1,7 @@
 -- An event taken back by its record leaves the run without it, and where it was the last, what stood before it.
 use Rattle.std.proofs.Common.{◌≡◌, List, [], ◌∷◌, ◌++◌, length, Some, sym, ap, subst, ◌∙◌, arith}
-use Rattle.calculus.specs.declared.event.Event.{Event}
-use Rattle.calculus.proofs.Options.{some-injective}
+use Rattle.runs.specs.declared.event.Event.{Event}
+use Rattle.runs.proofs.Options.{some-injective}
 use Rattle.event_inverse.specs.Grown.{TreeAndStore, Taken, StandFor}
 use Rattle.event_inverse.specs.Laws.{UndoneBy, LastUndone}
 use Rattle.event_inverse.specs.walking.Reverted.{reverted}

@@ -5,12 +5,12 @@ use Rattle.value.specs.Word.{Word}
 use Rattle.system.specs.Expression.{Store, get}
 use Rattle.system.specs.Translation.{opening_store}
 use Rattle.system.specs.declared.system.System.{System}
-use Rattle.calculus.specs.Moves.{Place}
-use Rattle.calculus.specs.declared.ask.Ask.{Ask}
-use Rattle.calculus.specs.Events.{store_after}
-use Rattle.calculus.specs.Asking.{asked}
-use Rattle.calculus.specs.Steps.{State, Run, opening}
-use Rattle.calculus.specs.declared.event.Event.{Event}
+use Rattle.runs.specs.Moves.{Place}
+use Rattle.runs.specs.declared.ask.Ask.{Ask}
+use Rattle.runs.specs.Events.{store_after}
+use Rattle.runs.specs.Asking.{asked}
+use Rattle.runs.specs.Steps.{State, Run, opening}
+use Rattle.runs.specs.declared.event.Event.{Event}
 use Rattle.process_tree.specs.Proc.{Proc, started}
 use Rattle.process_tree.specs.Left.{left}
 use Rattle.process_tree.specs.Translation.{system_code}

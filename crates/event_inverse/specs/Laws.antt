@@ -2,9 +2,9 @@
 use Rattle.std.specs.Prelude.{◌≡◌, ◌↔◌, List, [], ◌∷◌, ◌++◌, length, Some}
 use Rattle.syntax.specs.Lists.{In}
 use Rattle.system.specs.declared.system.System.{System}
-use Rattle.calculus.specs.Dependence.{Directly, Respecting}
-use Rattle.calculus.specs.Steps.{State, Step, Allowed, Run, opening}
-use Rattle.calculus.specs.declared.event.Event.{Event}
+use Rattle.runs.specs.Dependence.{Directly, Respecting}
+use Rattle.runs.specs.Steps.{State, Step, Allowed, Run, opening}
+use Rattle.runs.specs.declared.event.Event.{Event}
 use Rattle.process_tree.specs.Tidy.{Tidy}
 use Rattle.event_inverse.specs.Grown.{TreeAndStore, Taken, state_of_tree, opening_tree, applied, Records, StandFor}
 use Rattle.event_inverse.specs.walking.Reverted.{reverted}

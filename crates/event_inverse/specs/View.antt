@@ -1,7 +1,7 @@
 -- What a record in memory stands for, and a tree with its store.
 use Rattle.std.specs.Prelude.{List, [], ◌∷◌, Option}
 use Rattle.system.specs.Expression.{Store}
-use Rattle.calculus.specs.declared.event.Event.{Event}
+use Rattle.runs.specs.declared.event.Event.{Event}
 use Rattle.process_tree.specs.Proc.{Proc}
 use Rattle.process_tree.specs.View.{out_view, tree_view}
 use Rattle.process_tree.specs.declared.tree.Tree as process_tree

@@ -2,14 +2,14 @@
 ghost use Rattle.std.specs.Prelude.{◌≡◌, Some, IsSome, IfOk, OnErr};
 ghost use Rattle.std.specs.Option.{option_map};
 ghost use Rattle.system.specs.Expression.{get};
-ghost use Rattle.calculus.specs.Events.{store_after};
+ghost use Rattle.runs.specs.Events.{store_after};
 ghost use Rattle.event_inverse.specs.Grown.{applied};
 ghost use Rattle.event_inverse.specs.View.{both_view, record_view};
 ghost use Rattle.event_inverse.specs.walking.Reverted.{reverted};
 
 use crate::moves::make;
 use crate::record::{Inverse, Record};
-use calculus::Event;
+use runs::Event;
 use process_tree::Tree;
 use std::alloc::{AllocError, Global};
 use store::Store;

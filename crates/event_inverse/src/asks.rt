@@ -1,10 +1,10 @@
 // What an event asks the tree for.
 ghost use Rattle.std.specs.Prelude.{◌≡◌};
 ghost use Rattle.std.specs.Option.{option_and_then};
-ghost use Rattle.calculus.specs.Asking.{asked};
+ghost use Rattle.runs.specs.Asking.{asked};
 ghost use Rattle.event_inverse.specs.walking.Moved.{placed};
 
-use calculus::{Ask, Event, Kind};
+use runs::{Ask, Event, Kind};
 
 /// What an event asks for at its place, or at its two places.
 #[derive(Clone, Copy)]

@@ -6,7 +6,7 @@ ghost use Rattle.event_inverse.specs.walking.Reverted.{reverted, written_back};
 
 use crate::moves::take_back;
 use crate::record::{Inverse, Outs, Record};
-use calculus::Event;
+use runs::Event;
 use process_tree::Tree;
 use std::mem;
 use store::Store;

@@ -8,7 +8,7 @@ ghost use Rattle.event_inverse.specs.walking.Moved.{moved, moved_back, both_back
 use crate::asks::{Asks, asks_of};
 use crate::record::Outs;
 use address::Entry;
-use calculus::{Ask, Event};
+use runs::{Ask, Event};
 use process_tree::{Proc, Tree};
 use std::alloc::{AllocError, Global};
 

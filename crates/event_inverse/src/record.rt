@@ -1,4 +1,4 @@
-use calculus::Event;
+use runs::Event;
 use process_tree::Proc;
 use value::Value;
 

@@ -1,14 +1,14 @@
 -- The arm that a choice took is that of the event that acts there.
 use Rattle.std.proofs.Common.{◌≡◌, ℕ, List, [], ◌∷◌, Bool, true, false, true≢false, None, refl, sym, ◌∙◌, inl, inr, ap}
 use Rattle.syntax.specs.Lists.{In}
-use Rattle.calculus.specs.Dependence.{Earlier}
-use Rattle.calculus.specs.Events.{acting}
-use Rattle.calculus.specs.Live.{Live, LiveAt, events}
-use Rattle.calculus.specs.walking.EventLaws.{same_place-decides}
-use Rattle.calculus.specs.Laws.{ActingOnce}
-use Rattle.calculus.specs.Moves.{Place}
-use Rattle.calculus.specs.Tests.{same_place}
-use Rattle.calculus.specs.declared.event.Event.{Event}
+use Rattle.runs.specs.Dependence.{Earlier}
+use Rattle.runs.specs.Events.{acting}
+use Rattle.runs.specs.Live.{Live, LiveAt, events}
+use Rattle.runs.specs.walking.EventLaws.{same_place-decides}
+use Rattle.runs.specs.Laws.{ActingOnce}
+use Rattle.runs.specs.Moves.{Place}
+use Rattle.runs.specs.Tests.{same_place}
+use Rattle.runs.specs.declared.event.Event.{Event}
 use Rattle.dependence.specs.Acting.{ActsAlone, NoneActs}
 use Rattle.event_places.specs.EventPlaces.{at_choice, taken_by}
 use Rattle.event_places.specs.Laws.{TakenByTheEvent, NoneTaken}

@@ -6,10 +6,10 @@ use Rattle.std.specs.Prelude.{ℕ, List, [], ◌∷◌, Bool, Option, None, if�
 use Rattle.system.specs.declared.system.System.{System}
 use Rattle.last_events.specs.LastEvents.{first_child}
 use Rattle.system_places.specs.TakenArms.{line_under, is_open_under}
-use Rattle.calculus.specs.Events.{acting}
-use Rattle.calculus.specs.Moves.{Place}
-use Rattle.calculus.specs.Tests.{same_place}
-use Rattle.calculus.specs.declared.event.Event.{Event}
+use Rattle.runs.specs.Events.{acting}
+use Rattle.runs.specs.Moves.{Place}
+use Rattle.runs.specs.Tests.{same_place}
+use Rattle.runs.specs.declared.event.Event.{Event}
 
 -- where the choice at p takes its arm
 abbrev pub at_choice : Place → Place

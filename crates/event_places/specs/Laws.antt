@@ -2,10 +2,10 @@
 use Rattle.std.specs.Prelude.{◌≡◌, List, None}
 use Rattle.syntax.specs.Lists.{In}
 use Rattle.system.specs.declared.system.System.{System}
-use Rattle.calculus.specs.Events.{acting}
-use Rattle.calculus.specs.Moves.{Place}
-use Rattle.calculus.specs.Steps.{opening, Run, State}
-use Rattle.calculus.specs.declared.event.Event.{Event}
+use Rattle.runs.specs.Events.{acting}
+use Rattle.runs.specs.Moves.{Place}
+use Rattle.runs.specs.Steps.{opening, Run, State}
+use Rattle.runs.specs.declared.event.Event.{Event}
 use Rattle.event_places.specs.EventPlaces.{at_choice, taken_by}
 
 -- the arm that a choice took is that of each event of the run that acts there, so there is one such arm

@@ -6,5 +6,5 @@ pub fn arms_are_taken_once()
     ensures event { TakenByTheEvent }
     ensures none { NoneTaken }
 {
-    calculus::acting_once();
+    runs::acting_once();
 }

@@ -3,7 +3,7 @@
 // At each choice on the way to the place the live event that acts there is looked for by its place. No memory is taken.
 ghost use Rattle.std.specs.Prelude.{◌≡◌, List, Option};
 ghost use Rattle.address.specs.declared.Entry.{Entry};
-ghost use Rattle.calculus.specs.Live.{events};
+ghost use Rattle.runs.specs.Live.{events};
 ghost use Rattle.event_places.specs.EventPlaces as model;
 
 use address::{Address, Entry};

@@ -1,7 +1,7 @@
 -- Lists of commands that sessions ask, one more at a time.
 use Rattle.std.proofs.Common.{◌≡◌, inl, inr, ℕ, zero, suc, ◌+◌, ◌<◌, ◌≤◌, List, [], ◌∷◌, ◌++◌, length, take, get_or, refl, sym, ap, subst, arith}
 use Rattle.syntax.specs.Lists.{In, Every}
-use Rattle.calculus.proofs.Lists.{every-in}
+use Rattle.runs.proofs.Lists.{every-in}
 use Rattle.machine.proofs.Gathering.{take-more, take-all}
 use Rattle.locked_execution.specs.AtDesk.{AtDesk}
 use Rattle.locked_execution.specs.Answered.{Answered}

@@ -3,26 +3,26 @@ use Rattle.std.proofs.Common.{◌≡◌, ◌⊎◌, inl, inr, ℕ, suc, List, []
 use Rattle.std.specs.Prelude.{MatchOption}
 use Rattle.std.proofs.lemmas.Bool.{cases_lt}
 use Rattle.syntax.specs.Lists.{In, Every}
-use Rattle.calculus.specs.Steps.{State}
-use Rattle.calculus.specs.Choices.{choice_of}
-use Rattle.calculus.specs.Ready.{Sooner, ReadyList, Chosen}
-use Rattle.calculus.specs.Live.{events}
-use Rattle.calculus.specs.Object.{Reaches, most_live, last_ticket, with_event}
-use Rattle.calculus.specs.Does.{CanStep, RefusesStep}
-use Rattle.calculus.specs.Sound.{Sound}
-use Rattle.calculus.specs.declared.event.Event.{Event}
-use Rattle.calculus.specs.declared.command.Command.{Command}
-use Rattle.calculus.specs.declared.command.Reply.{Reply}
-use Rattle.calculus.specs.declared.command.Refusal.{Refusal}
-use Rattle.calculus.specs.declared.command.Refusal.TheVariants.{HistoryFull, Spent}
-use Rattle.calculus.proofs.Options.{some-injective}
-use Rattle.calculus.proofs.Lists.{every-in, in-right}
-use Rattle.calculus.proofs.Orders.{run-formed}
-use Rattle.calculus.proofs.Effects.{sound-formed}
-use Rattle.calculus.proofs.StateLaws.{reaches-one}
-use Rattle.calculus.proofs.ReadyLists.{ready-list, sooner-asymmetric}
-use Rattle.calculus.proofs.SortedLists.{same-elements}
-use Rattle.calculus.proofs.OneReplies.{one-reply}
+use Rattle.runs.specs.Steps.{State}
+use Rattle.runs.specs.Choices.{choice_of}
+use Rattle.runs.specs.Ready.{Sooner, ReadyList, Chosen}
+use Rattle.runs.specs.Live.{events}
+use Rattle.runs.specs.Object.{Reaches, most_live, last_ticket, with_event}
+use Rattle.runs.specs.Does.{CanStep, RefusesStep}
+use Rattle.runs.specs.Sound.{Sound}
+use Rattle.runs.specs.declared.event.Event.{Event}
+use Rattle.runs.specs.declared.command.Command.{Command}
+use Rattle.runs.specs.declared.command.Reply.{Reply}
+use Rattle.runs.specs.declared.command.Refusal.{Refusal}
+use Rattle.runs.specs.declared.command.Refusal.TheVariants.{HistoryFull, Spent}
+use Rattle.runs.proofs.Options.{some-injective}
+use Rattle.runs.proofs.Lists.{every-in, in-right}
+use Rattle.runs.proofs.Orders.{run-formed}
+use Rattle.runs.proofs.Effects.{sound-formed}
+use Rattle.runs.proofs.StateLaws.{reaches-one}
+use Rattle.runs.proofs.ReadyLists.{ready-list, sooner-asymmetric}
+use Rattle.runs.proofs.SortedLists.{same-elements}
+use Rattle.runs.proofs.OneReplies.{one-reply}
 use Rattle.machine.specs.AtMachine.{AtMachine, object}
 use Rattle.machine.specs.Branching.{in_branch, is_free, FirstFree, AllKeptBack, Branched, StepsBranch}
 use Rattle.machine.specs.walking.Choosing.{line_of_first, moves, FirstAt, Takes}

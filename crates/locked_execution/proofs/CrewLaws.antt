@@ -4,7 +4,7 @@ use Rattle.std.specs.Prelude.{slice_get}
 use Rattle.std.proofs.lemmas.Bool.{cases_lt}
 use Rattle.atomic_table.specs.Seated.{TableId}
 use Rattle.syntax.specs.Lists.{Every}
-use Rattle.calculus.specs.Object.{Object}
+use Rattle.runs.specs.Object.{Object}
 use Rattle.machine.specs.AtMachine.{AtMachine}
 use Rattle.machine.specs.Branching.{StepsBranch}
 use Rattle.machine.specs.declared.branching.BranchReply.{BranchReply}

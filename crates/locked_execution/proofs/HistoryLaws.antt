@@ -1,6 +1,6 @@
 -- Legal histories as lists of commands of sessions.
 use Rattle.std.proofs.Common.{inl, [], ◌∷◌, map, refl}
-use Rattle.calculus.proofs.ObjectLaws.{stays-over-lists}
+use Rattle.runs.proofs.ObjectLaws.{stays-over-lists}
 use Rattle.machine.proofs.HeadlineLaws.{headline}
 use Rattle.locked_execution.specs.AtDesk.{execution}
 use Rattle.locked_execution.specs.Bridge.{commands_of}

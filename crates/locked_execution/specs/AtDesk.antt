@@ -1,8 +1,8 @@
 -- What a desk holds: an execution, and the breakpoints of sixteen sessions.
 use Rattle.std.specs.Prelude.{◌≡◌, ℕ, ◌<◌, ◌≤◌, List, [], length, replicate, slice_index_or, slice_set}
 use Rattle.syntax.specs.Lists.{Every}
-use Rattle.calculus.specs.InOrder.{InOrder}
-use Rattle.calculus.specs.Object.{Object}
+use Rattle.runs.specs.InOrder.{InOrder}
+use Rattle.runs.specs.Object.{Object}
 use Rattle.machine.specs.Breakpoints.{most_breaks}
 use Rattle.machine.specs.AtMachine.{AtMachine, object}
 

@@ -2,7 +2,7 @@
 use Rattle.std.specs.Prelude.{◌≡◌, ◌⊎◌, ◌≤◌, ◌^◌, ℕ, List, length}
 use mathlib.Core.List.{IsPrefix}
 use Rattle.atomic_table.specs.Seated.{TableId}
-use Rattle.calculus.specs.declared.command.Refusal.TheVariants.{Spent}
+use Rattle.runs.specs.declared.command.Refusal.TheVariants.{Spent}
 use Rattle.machine.specs.AtMachine.{AtMachine}
 use Rattle.recorded_calls.specs.History.{Replays}
 use Rattle.locked_object.specs.Passes as passes

@@ -1,7 +1,7 @@
 -- What a command of a session leaves as it is.
 use Rattle.std.specs.Prelude.{◌≡◌, ◌≢◌, ◌⊎◌, ◌↔◌, ℕ, ◌<◌, List, length}
 use Rattle.syntax.specs.Lists.{In, Every}
-use Rattle.calculus.specs.declared.command.Refusal.{Refusal}
+use Rattle.runs.specs.declared.command.Refusal.{Refusal}
 use Rattle.locked_execution.specs.AtDesk.{AtDesk, breaks_of}
 use Rattle.locked_execution.specs.Answered.{Answered}
 use Rattle.locked_execution.specs.Performs.{Answers}

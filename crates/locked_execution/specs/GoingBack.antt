@@ -3,15 +3,15 @@ use Rattle.std.specs.Prelude.{◌≡◌, ◌↔◌, ℕ, ◌+◌, ◌<◌, List,
 use Rattle.syntax.specs.Lists.{In}
 use Rattle.system.specs.Expression.{get}
 use Rattle.sharing_check.specs.Rule.{SharesWell}
-use Rattle.calculus.specs.BackAndForth.{back_and_forth, back_and_forth_replies}
-use Rattle.calculus.specs.Dependence.{Causes}
-use Rattle.calculus.specs.InOrder.{InOrder}
-use Rattle.calculus.specs.Live.{Live, events, LiveAt, NoWriter}
-use Rattle.calculus.specs.Object.{Object, Reaches}
-use Rattle.calculus.specs.Sound.{Sound}
-use Rattle.calculus.specs.Steps.{State, Run}
-use Rattle.calculus.specs.declared.command.Command as calculus_command
-use Rattle.calculus.specs.declared.event.Event.{Event}
+use Rattle.runs.specs.BackAndForth.{back_and_forth, back_and_forth_replies}
+use Rattle.runs.specs.Dependence.{Causes}
+use Rattle.runs.specs.InOrder.{InOrder}
+use Rattle.runs.specs.Live.{Live, events, LiveAt, NoWriter}
+use Rattle.runs.specs.Object.{Object, Reaches}
+use Rattle.runs.specs.Sound.{Sound}
+use Rattle.runs.specs.Steps.{State, Run}
+use Rattle.runs.specs.declared.command.Command as runs_command
+use Rattle.runs.specs.declared.event.Event.{Event}
 use Rattle.locked_execution.specs.AtDesk.{AtDesk, execution}
 use Rattle.locked_execution.specs.Answered.{Answered}
 use Rattle.locked_execution.specs.Performs.{Performs, session_reply}
@@ -49,16 +49,16 @@ ValueFromBefore = (d d' : AtDesk) (session x n : ℕ) → Sound (execution d) �
     × ((S T : State) → Run (execution d).opening (events before) S → Reaches (execution d') T → get T.store x ≡ get S.store x)
 
 -- the command of a session that a command of the execution is
-abbrev pub session_command : calculus_command.Command → Command
-session_command (calculus_command.Command.Step c) = Command.Step c
-session_command (calculus_command.Command.Undo t) = Command.Undo t
-session_command (calculus_command.Command.Roll t) = Command.Roll t
-session_command (calculus_command.Command.RollValue x) = Command.RollValue x
-session_command (calculus_command.Command.Blame x) = Command.Blame x
-session_command calculus_command.Command.Ready = Command.Ready
-session_command (calculus_command.Command.Consequences t) = Command.Consequences t
-session_command calculus_command.Command.Live = Command.Live
-session_command (calculus_command.Command.Value x) = Command.Value x
+abbrev pub session_command : runs_command.Command → Command
+session_command (runs_command.Command.Step c) = Command.Step c
+session_command (runs_command.Command.Undo t) = Command.Undo t
+session_command (runs_command.Command.Roll t) = Command.Roll t
+session_command (runs_command.Command.RollValue x) = Command.RollValue x
+session_command (runs_command.Command.Blame x) = Command.Blame x
+session_command runs_command.Command.Ready = Command.Ready
+session_command (runs_command.Command.Consequences t) = Command.Consequences t
+session_command runs_command.Command.Live = Command.Live
+session_command (runs_command.Command.Value x) = Command.Value x
 
 -- the commands of one session are performed in their order with these replies, one each, and leave d'; none wants memory
 abbrev pub PerformsAll : AtDesk → ℕ → List Command → List Reply → AtDesk → Type 0

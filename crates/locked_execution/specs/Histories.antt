@@ -1,6 +1,6 @@
 -- What a legal history of a shared execution is as a list of commands of sessions.
 use Rattle.std.specs.Prelude.{map}
-use Rattle.calculus.specs.Sound.{Sound}
+use Rattle.runs.specs.Sound.{Sound}
 use Rattle.machine.specs.Headline.{Headline}
 use Rattle.recorded_calls.specs.History.{Replays}
 use Rattle.locked_execution.specs.AtDesk.{AtDesk, execution}

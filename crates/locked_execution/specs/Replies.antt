@@ -1,6 +1,6 @@
 -- The reply to a command of a session: there is one, it is determined, and so is the desk after it.
 use Rattle.std.specs.Prelude.{◌≡◌, ℕ, List, ◌++◌}
-use Rattle.calculus.specs.Sound.{Sound}
+use Rattle.runs.specs.Sound.{Sound}
 use Rattle.locked_execution.specs.AtDesk.{AtDesk, execution}
 use Rattle.locked_execution.specs.Answered.{Answered}
 use Rattle.locked_execution.specs.Performs.{Performs}

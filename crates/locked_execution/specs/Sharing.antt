@@ -1,6 +1,6 @@
 -- Several passes on one execution.
 use Rattle.std.specs.Prelude.{◌≡◌, ◌⊎◌, ℕ, Bool, true, false, List}
-use Rattle.calculus.specs.declared.command.Refusal.TheVariants.{Memory, Spent}
+use Rattle.runs.specs.declared.command.Refusal.TheVariants.{Memory, Spent}
 use Rattle.recorded_calls.specs.History.{IsLegal}
 use Rattle.recorded_calls.specs.declared.entry.Entry.{Entry}
 use Rattle.locked_execution.specs.AtDesk.{AtDesk}

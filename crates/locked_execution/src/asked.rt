@@ -1,7 +1,7 @@
 // The commands of several sessions.
 ghost use Rattle.std.specs.Prelude.{◌≡◌, ◌<◌, IfOk, OnErr};
 ghost use Rattle.syntax.specs.Lists.{Every};
-ghost use Rattle.calculus.specs.ObjectLaws.{Grows};
+ghost use Rattle.runs.specs.ObjectLaws.{Grows};
 ghost use Rattle.machine.specs.Headline.{Headline};
 ghost use Rattle.locked_execution.specs.AtDesk.{execution};
 ghost use Rattle.locked_execution.specs.Answered.{Answered};

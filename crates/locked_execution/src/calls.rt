@@ -15,7 +15,7 @@ ghost use Rattle.system_places.specs.SystemBranches.{branch_count};
 
 use crate::{Command, Desk, Pass, Reply, Shared};
 use branch_workers::{Gate, Ran, run_workers};
-use calculus::Refusal;
+use runs::Refusal;
 use locked_object::{Keeper, NotRecorded, Replies};
 use machine::Machine;
 use recorded_calls::Board;

@@ -1,4 +1,4 @@
-use calculus::{Choice, Event, Refusal};
+use runs::{Choice, Event, Refusal};
 use syntax::Items;
 use value::Value;
 

@@ -7,7 +7,7 @@ ghost use Rattle.locked_execution.specs.Working.{Worked, CountsLive};
 
 use crate::{Command, Desk, Pass, Reply, Shared};
 use branch_workers::Gate;
-use calculus::MOST_LIVE_EVENTS;
+use runs::MOST_LIVE_EVENTS;
 use locked_object::{Keeper, Replies};
 use machine::Machine;
 use recorded_calls::Board;

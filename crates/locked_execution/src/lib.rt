@@ -14,7 +14,7 @@ mod shared;
 
 pub use asked::run_commands;
 pub use branch_workers::{Gate, Ran};
-pub use calculus::{Choice, Event, Kind, Refusal};
+pub use runs::{Choice, Event, Kind, Refusal};
 pub use command::{Command, Reply};
 pub use crew::{Crew, MOST_TURNS, MOST_WORKERS, Tally};
 pub use desk::Desk;

@@ -1,11 +1,11 @@
 // The desk as the object of one thread that several passes call under a lock.
 ghost use Rattle.std.specs.Prelude.{◌≡◌, ◌⊎◌, MatchResult};
-ghost use Rattle.calculus.specs.declared.command.Refusal as refusal;
+ghost use Rattle.runs.specs.declared.command.Refusal as refusal;
 ghost use Rattle.locked_execution.specs.declared.command.Reply as any;
 
 use crate::{Command, Desk, Reply};
 use branch_workers::Branches;
-use calculus::Refusal;
+use runs::Refusal;
 use locked_object::Object;
 
 impl Object<Command, Reply> for Desk {

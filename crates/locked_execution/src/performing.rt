@@ -6,7 +6,7 @@ ghost use Rattle.locked_execution.specs.Performs as performs;
 ghost use Rattle.locked_execution.specs.Performs.{Answers};
 
 use crate::{Command, Desk, Reply};
-use calculus::Refusal;
+use runs::Refusal;
 use machine::{BranchReply, Breaks, Machine};
 
 impl Desk {
@@ -80,19 +80,19 @@ fn step_past(machine: &mut Machine, sessions: &[Breaks; 16], session: u32, branc
 }
 
 /// What a session is told where the execution answers so.
-fn session_reply(reply: calculus::Reply) -> Reply
+fn session_reply(reply: runs::Reply) -> Reply
     ensures { result ≡ performs.session_reply reply }
 {
     match reply {
-        calculus::Reply::Stepped(ticket, event) => Reply::Stepped(ticket, event),
-        calculus::Reply::Undone(ticket, event) => Reply::Undone(ticket, event),
-        calculus::Reply::Rolled(count) => Reply::Rolled(count),
-        calculus::Reply::Blamed(ticket) => Reply::Blamed(ticket),
-        calculus::Reply::Ready(events) => Reply::Ready(events),
-        calculus::Reply::Consequences(tickets) => Reply::Consequences(tickets),
-        calculus::Reply::Live(entries) => Reply::Live(entries),
-        calculus::Reply::Value(value) => Reply::Value(value),
-        calculus::Reply::Refused(why) => Reply::Refused(why),
+        runs::Reply::Stepped(ticket, event) => Reply::Stepped(ticket, event),
+        runs::Reply::Undone(ticket, event) => Reply::Undone(ticket, event),
+        runs::Reply::Rolled(count) => Reply::Rolled(count),
+        runs::Reply::Blamed(ticket) => Reply::Blamed(ticket),
+        runs::Reply::Ready(events) => Reply::Ready(events),
+        runs::Reply::Consequences(tickets) => Reply::Consequences(tickets),
+        runs::Reply::Live(entries) => Reply::Live(entries),
+        runs::Reply::Value(value) => Reply::Value(value),
+        runs::Reply::Refused(why) => Reply::Refused(why),
     }
 }
 

@@ -6,21 +6,21 @@ use Rattle.syntax.specs.Lists.{Every}
 use Rattle.sharing_check.specs.declared.checked.Checked.{Checked}
 use Rattle.system_places.specs.SystemBranches.{branch_at}
 use Rattle.event_places.specs.EventPlaces.{line_after}
-use Rattle.calculus.specs.Moves.{Place}
-use Rattle.calculus.specs.Events.{acting}
-use Rattle.calculus.specs.Choices.{choice_of}
-use Rattle.calculus.specs.Steps.{State}
-use Rattle.calculus.specs.Ready.{ReadyList, Chosen}
-use Rattle.calculus.specs.Live.{events}
-use Rattle.calculus.specs.Object.{Reaches, most_live, last_ticket, with_event}
-use Rattle.calculus.specs.Does.{Steps, RefusesStep}
-use Rattle.calculus.specs.declared.event.Event.{Event}
-use Rattle.calculus.specs.declared.event.Choice.{Choice}
-use Rattle.calculus.specs.declared.command.Reply.{Reply}
-use Rattle.calculus.specs.declared.command.Refusal.{Refusal}
-use Rattle.calculus.specs.declared.command.Refusal.TheVariants.{Memory}
-use Rattle.calculus.proofs.Options.{some-injective}
-use Rattle.calculus.proofs.Lists.{every-in, every-of, in-parts}
+use Rattle.runs.specs.Moves.{Place}
+use Rattle.runs.specs.Events.{acting}
+use Rattle.runs.specs.Choices.{choice_of}
+use Rattle.runs.specs.Steps.{State}
+use Rattle.runs.specs.Ready.{ReadyList, Chosen}
+use Rattle.runs.specs.Live.{events}
+use Rattle.runs.specs.Object.{Reaches, most_live, last_ticket, with_event}
+use Rattle.runs.specs.Does.{Steps, RefusesStep}
+use Rattle.runs.specs.declared.event.Event.{Event}
+use Rattle.runs.specs.declared.event.Choice.{Choice}
+use Rattle.runs.specs.declared.command.Reply.{Reply}
+use Rattle.runs.specs.declared.command.Refusal.{Refusal}
+use Rattle.runs.specs.declared.command.Refusal.TheVariants.{Memory}
+use Rattle.runs.proofs.Options.{some-injective}
+use Rattle.runs.proofs.Lists.{every-in, every-of, in-parts}
 use Rattle.machine.specs.AtMachine.{AtMachine, object, at_machine}
 use Rattle.machine.specs.walking.Histories.{execution}
 use Rattle.machine.specs.walking.Choosing.{NotTaken, FirstAt, Takes, IsChosenAt, moves, line_of_first}

@@ -1,6 +1,6 @@
 -- What a designer may rely on holds of every sound execution.
-use Rattle.calculus.proofs.ObjectLaws.{state-in-every-order, step-then-undo, undoes-exactly, needed-exactly, rolls-exactly, rolls-value-exactly}
-use Rattle.calculus.proofs.SomeReplies.{steps-exactly, rolls-where-live, rolls-value-where-written}
+use Rattle.runs.proofs.ObjectLaws.{state-in-every-order, step-then-undo, undoes-exactly, needed-exactly, rolls-exactly, rolls-value-exactly}
+use Rattle.runs.proofs.SomeReplies.{steps-exactly, rolls-where-live, rolls-value-where-written}
 use Rattle.machine.specs.Headline.{HeadlineOfSound}
 
 pub headline : HeadlineOfSound

@@ -4,15 +4,15 @@ use Rattle.std.specs.Prelude.{slice_set}
 use Rattle.std.proofs.lemmas.List.{take-set, drop-set-lt, take-append-drop, length-take-le, append-nil}
 use Rattle.syntax.specs.Lists.{In}
 use Rattle.sharing_check.specs.declared.checked.Checked.{Checked}
-use Rattle.calculus.specs.Dependence.{ended, stays, leaves}
-use Rattle.calculus.specs.Live.{Live, LiveAt, DependsOn, NoDependent, WithoutTickets, ConsequencesList}
-use Rattle.calculus.specs.Object.{Object, with_live}
-use Rattle.calculus.specs.Does.{TakesOut}
-use Rattle.calculus.specs.declared.event.Event.{Event}
-use Rattle.calculus.proofs.DependsOnLaw.{depends-up}
-use Rattle.calculus.proofs.Lists.{in-right, in-parts}
-use Rattle.calculus.proofs.Tickets.{rising-in, rising-parts}
-use Rattle.calculus.proofs.UndoLaws.{without-live}
+use Rattle.runs.specs.Dependence.{ended, stays, leaves}
+use Rattle.runs.specs.Live.{Live, LiveAt, DependsOn, NoDependent, WithoutTickets, ConsequencesList}
+use Rattle.runs.specs.Object.{Object, with_live}
+use Rattle.runs.specs.Does.{TakesOut}
+use Rattle.runs.specs.declared.event.Event.{Event}
+use Rattle.runs.proofs.DependsOnLaw.{depends-up}
+use Rattle.runs.proofs.Lists.{in-right, in-parts}
+use Rattle.runs.proofs.Tickets.{rising-in, rising-parts}
+use Rattle.runs.proofs.UndoLaws.{without-live}
 use Rattle.dependence.specs.Shown.{Shown}
 use Rattle.dependence.specs.Taking.{MarksAllDependents, NoneMarkedAt, StaysBeside, done, keeps, drops}
 use Rattle.dependence.proofs.Following.{follows-on, follows-in}

@@ -9,17 +9,17 @@ use Rattle.system.specs.Named.{as_number}
 use Rattle.system.specs.declared.command.Command.{Command}
 use Rattle.system.specs.declared.system.System.{System}
 use Rattle.system_places.specs.SystemBranches.{parallel_of, count_of, branches_of, child_number, branch_within, branch_of_port, branch_at}
-use Rattle.calculus.specs.InOrder.{InOrder}
-use Rattle.calculus.specs.Moves.{Place}
-use Rattle.calculus.specs.Events.{acting}
-use Rattle.calculus.specs.Choices.{choice_of}
-use Rattle.calculus.specs.Ready.{Sooner, ReadyList, Chosen}
-use Rattle.calculus.specs.Steps.{State}
-use Rattle.calculus.specs.declared.event.Event.{Event}
-use Rattle.calculus.specs.declared.event.Choice.{Choice}
-use Rattle.calculus.proofs.Lists.{every-in, in-parts, in-right}
-use Rattle.calculus.proofs.ReadyLists.{sooner-asymmetric}
-use Rattle.calculus.proofs.SortedLists.{same-elements}
+use Rattle.runs.specs.InOrder.{InOrder}
+use Rattle.runs.specs.Moves.{Place}
+use Rattle.runs.specs.Events.{acting}
+use Rattle.runs.specs.Choices.{choice_of}
+use Rattle.runs.specs.Ready.{Sooner, ReadyList, Chosen}
+use Rattle.runs.specs.Steps.{State}
+use Rattle.runs.specs.declared.event.Event.{Event}
+use Rattle.runs.specs.declared.event.Choice.{Choice}
+use Rattle.runs.proofs.Lists.{every-in, in-parts, in-right}
+use Rattle.runs.proofs.ReadyLists.{sooner-asymmetric}
+use Rattle.runs.proofs.SortedLists.{same-elements}
 use Rattle.offered_sides.specs.Sides.{Under}
 use Rattle.rendezvous.specs.ReadyBelow.{ReadyBelow}
 use Rattle.machine.specs.Branching.{is_branch}

@@ -4,20 +4,20 @@ use Rattle.std.proofs.lemmas.List.{length_push, length-take-le}
 use Rattle.syntax.specs.Lists.{In}
 use Rattle.sharing_check.specs.declared.checked.Checked.{Checked}
 use Rattle.sharing_check.specs.Rule.{SharesWell}
-use Rattle.calculus.specs.Dependence.{Directly}
-use Rattle.calculus.specs.Steps.{Allowed, opening}
-use Rattle.calculus.specs.Live.{Live, events, Rising, LiveAt, same, later, NoDependent, WithoutTickets}
-use Rattle.calculus.specs.Object.{Object, Reaches, most_live, last_ticket, with_event}
-use Rattle.calculus.specs.declared.event.Event.{Event}
-use Rattle.calculus.specs.declared.command.Command.{Command}
-use Rattle.calculus.specs.declared.command.Reply.{Reply}
-use Rattle.calculus.proofs.Effects.{added, effect-sound, does-sound, reaches-more, sound-formed}
-use Rattle.calculus.proofs.Orders.{run-formed}
-use Rattle.calculus.proofs.ReadyLists.{ready-list}
-use Rattle.calculus.specs.Ready.{ReadyList}
-use Rattle.calculus.proofs.Tickets.{events-join, in-event, rising-in, rising-one, rising-parts}
-use Rattle.calculus.proofs.Lists.{in-right}
-use Rattle.calculus.proofs.ObjectLaws.{begins-sound}
+use Rattle.runs.specs.Dependence.{Directly}
+use Rattle.runs.specs.Steps.{Allowed, opening}
+use Rattle.runs.specs.Live.{Live, events, Rising, LiveAt, same, later, NoDependent, WithoutTickets}
+use Rattle.runs.specs.Object.{Object, Reaches, most_live, last_ticket, with_event}
+use Rattle.runs.specs.declared.event.Event.{Event}
+use Rattle.runs.specs.declared.command.Command.{Command}
+use Rattle.runs.specs.declared.command.Reply.{Reply}
+use Rattle.runs.proofs.Effects.{added, effect-sound, does-sound, reaches-more, sound-formed}
+use Rattle.runs.proofs.Orders.{run-formed}
+use Rattle.runs.proofs.ReadyLists.{ready-list}
+use Rattle.runs.specs.Ready.{ReadyList}
+use Rattle.runs.proofs.Tickets.{events-join, in-event, rising-in, rising-one, rising-parts}
+use Rattle.runs.proofs.Lists.{in-right}
+use Rattle.runs.proofs.ObjectLaws.{begins-sound}
 use Rattle.system.specs.Translation.{opening_store}
 use Rattle.process_tree.specs.Proc.{started}
 use Rattle.process_tree.specs.Tidy.{Tidy}

@@ -2,18 +2,18 @@
 use Rattle.std.proofs.Common.{◌≡◌, inl, inr, ℕ, suc, ◌<◌, ◌≤◌, List, length, take, drop, Option, Some, None, Result, Ok, Err, refl, sym, subst, slice_get}
 use Rattle.std.specs.Prelude.{IfOk, OnErr, MatchOption, MatchResult}
 use Rattle.syntax.specs.Lists.{In}
-use Rattle.calculus.specs.Steps.{State}
-use Rattle.calculus.specs.Choices.{choice_of}
-use Rattle.calculus.specs.Ready.{ReadyList, ChoiceAllowed, Chosen}
-use Rattle.calculus.specs.Object.{Object, Reaches, most_live, last_ticket, with_event}
-use Rattle.calculus.specs.Does.{Does, Answers, MayWantMemory, RefusesStep}
-use Rattle.calculus.specs.declared.event.Event.{Event}
-use Rattle.calculus.specs.declared.event.Choice.{Choice}
-use Rattle.calculus.specs.declared.command.Command.{Command}
-use Rattle.calculus.specs.declared.command.Reply.{Reply}
-use Rattle.calculus.specs.declared.command.Refusal.{Refusal}
-use Rattle.calculus.specs.declared.command.Refusal.TheVariants.{NotReady, HistoryFull, Spent, Memory}
-use Rattle.calculus.proofs.ReadyLists.{first-chosen}
+use Rattle.runs.specs.Steps.{State}
+use Rattle.runs.specs.Choices.{choice_of}
+use Rattle.runs.specs.Ready.{ReadyList, ChoiceAllowed, Chosen}
+use Rattle.runs.specs.Object.{Object, Reaches, most_live, last_ticket, with_event}
+use Rattle.runs.specs.Does.{Does, Answers, MayWantMemory, RefusesStep}
+use Rattle.runs.specs.declared.event.Event.{Event}
+use Rattle.runs.specs.declared.event.Choice.{Choice}
+use Rattle.runs.specs.declared.command.Command.{Command}
+use Rattle.runs.specs.declared.command.Reply.{Reply}
+use Rattle.runs.specs.declared.command.Refusal.{Refusal}
+use Rattle.runs.specs.declared.command.Refusal.TheVariants.{NotReady, HistoryFull, Spent, Memory}
+use Rattle.runs.proofs.ReadyLists.{first-chosen}
 use Rattle.machine.specs.walking.Choosing.{NotTaken}
 use Rattle.machine.proofs.Entries.{parts-at}
 

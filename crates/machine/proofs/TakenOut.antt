@@ -1,13 +1,13 @@
 -- Rollbacks of a live event.
 use Rattle.std.proofs.Common.{ℕ}
-use Rattle.calculus.specs.Live.{LiveAt, LastWriter}
-use Rattle.calculus.specs.Object.{Object}
-use Rattle.calculus.specs.Does.{Does, RefusesTicket}
-use Rattle.calculus.specs.declared.event.Event.{Event}
-use Rattle.calculus.specs.declared.command.Command.{Command}
-use Rattle.calculus.specs.declared.command.Reply.{Reply}
-use Rattle.calculus.specs.declared.command.Refusal.{Refusal}
-use Rattle.calculus.specs.declared.command.Refusal.TheVariants.{NoSuchEvent}
+use Rattle.runs.specs.Live.{LiveAt, LastWriter}
+use Rattle.runs.specs.Object.{Object}
+use Rattle.runs.specs.Does.{Does, RefusesTicket}
+use Rattle.runs.specs.declared.event.Event.{Event}
+use Rattle.runs.specs.declared.command.Command.{Command}
+use Rattle.runs.specs.declared.command.Reply.{Reply}
+use Rattle.runs.specs.declared.command.Refusal.{Refusal}
+use Rattle.runs.specs.declared.command.Refusal.TheVariants.{NoSuchEvent}
 
 -- a live event is not refused
 live-refused : (o : Object) (t : ℕ) (e : Event) (why : Refusal) → LiveAt o.live t e → RefusesTicket o t why → ⊥

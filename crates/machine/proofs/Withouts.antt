@@ -1,10 +1,10 @@
 -- Lists from which some elements are left out.
 use Rattle.std.proofs.Common.{◌≡◌, inl, inr, ℕ, suc, ◌≤◌, List, [], ◌∷◌, ◌++◌, length, refl, sym, ◌∙◌, ap, arith}
-use Rattle.calculus.specs.Dependence.{Without, ended, stays, leaves}
-use Rattle.calculus.specs.Live.{Live, Rising, LiveAt, WithoutTickets}
-use Rattle.calculus.specs.declared.event.Event.{Event}
-use Rattle.calculus.proofs.Lists.{in-right}
-use Rattle.calculus.proofs.Tickets.{rising-in}
+use Rattle.runs.specs.Dependence.{Without, ended, stays, leaves}
+use Rattle.runs.specs.Live.{Live, Rising, LiveAt, WithoutTickets}
+use Rattle.runs.specs.declared.event.Event.{Event}
+use Rattle.runs.proofs.Lists.{in-right}
+use Rattle.runs.proofs.Tickets.{rising-in}
 use Rattle.dependence.specs.Taking.{StaysBeside, done, keeps, drops}
 
 -- it is not longer

@@ -1,9 +1,9 @@
 -- What a machine holds, and the execution that it stands for.
 use Rattle.std.specs.Prelude.{ℕ}
 use Rattle.sharing_check.specs.declared.checked.Checked.{Checked}
-use Rattle.calculus.specs.Steps.{opening}
-use Rattle.calculus.specs.Live.{Live}
-use Rattle.calculus.specs.Object.{Object}
+use Rattle.runs.specs.Steps.{opening}
+use Rattle.runs.specs.Live.{Live}
+use Rattle.runs.specs.Object.{Object}
 use Rattle.machine.specs.declared.history.History.{History}
 
 -- a system, its live events and the ticket of the next step

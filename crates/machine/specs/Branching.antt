@@ -3,17 +3,17 @@ use Rattle.std.specs.Prelude.{◌≡◌, ◌⊎◌, ℕ, ◌==◌, List, [], ◌
 use Rattle.syntax.specs.Lists.{Every}
 use Rattle.system.specs.Expression.{is_in}
 use Rattle.system_places.specs.SystemBranches.{branch_at}
-use Rattle.calculus.specs.Steps.{State}
-use Rattle.calculus.specs.Events.{acting}
-use Rattle.calculus.specs.Choices.{choice_of}
-use Rattle.calculus.specs.Ready.{ReadyList}
-use Rattle.calculus.specs.Live.{events}
-use Rattle.calculus.specs.Object.{Reaches}
-use Rattle.calculus.specs.Does.{Steps, Does, RefusesStep}
-use Rattle.calculus.specs.declared.event.Event.{Event}
-use Rattle.calculus.specs.declared.command.Command.{Command}
-use Rattle.calculus.specs.declared.command.Reply.{Reply}
-use Rattle.calculus.specs.declared.command.Refusal.TheVariants.{Memory}
+use Rattle.runs.specs.Steps.{State}
+use Rattle.runs.specs.Events.{acting}
+use Rattle.runs.specs.Choices.{choice_of}
+use Rattle.runs.specs.Ready.{ReadyList}
+use Rattle.runs.specs.Live.{events}
+use Rattle.runs.specs.Object.{Reaches}
+use Rattle.runs.specs.Does.{Steps, Does, RefusesStep}
+use Rattle.runs.specs.declared.event.Event.{Event}
+use Rattle.runs.specs.declared.command.Command.{Command}
+use Rattle.runs.specs.declared.command.Reply.{Reply}
+use Rattle.runs.specs.declared.command.Refusal.TheVariants.{Memory}
 use Rattle.event_places.specs.EventPlaces.{line_after}
 use Rattle.machine.specs.AtMachine.{AtMachine, object}
 use Rattle.machine.specs.declared.branching.BranchReply.{BranchReply}

@@ -1,8 +1,8 @@
 -- The lines of a session that have a breakpoint: a list of lines, ascending.
 use Rattle.std.specs.Prelude.{◌≡◌, ◌⊎◌, ℕ, ◌==◌, ◌<◌, ◌≤◌, List, [], ◌∷◌, true, false, not, cond, nat_lt, filter, length, Result, Ok, Err}
 use Rattle.system.specs.Expression.{is_in}
-use Rattle.calculus.specs.declared.command.Refusal.{Refusal}
-use Rattle.calculus.specs.declared.command.Refusal.TheVariants.{BreaksFull}
+use Rattle.runs.specs.declared.command.Refusal.{Refusal}
+use Rattle.runs.specs.declared.command.Refusal.TheVariants.{BreaksFull}
 
 -- the most lines that may have a breakpoint
 abbrev pub most_breaks : ℕ

@@ -1,7 +1,7 @@
 -- What a designer may rely on after any commands by any sessions.
-use Rattle.calculus.specs.Object.{Object}
-use Rattle.calculus.specs.Sound.{Sound}
-use Rattle.calculus.specs.ObjectLaws.{OfSound, OneState, InEveryOrder, StepsExactly, StepThenUndo, UndoesExactly, NeededExactly, RollsWhereLive, RollsExactly, RollsValueWhereWritten, RollsValueExactly}
+use Rattle.runs.specs.Object.{Object}
+use Rattle.runs.specs.Sound.{Sound}
+use Rattle.runs.specs.ObjectLaws.{OfSound, OneState, InEveryOrder, StepsExactly, StepThenUndo, UndoesExactly, NeededExactly, RollsWhereLive, RollsExactly, RollsValueWhereWritten, RollsValueExactly}
 
 pub record Headline (o : Object) : Type 0 where
   pub sound : Sound o

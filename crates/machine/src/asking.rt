@@ -1,11 +1,11 @@
 // Questions, which change nothing.
 ghost use Rattle.std.specs.Prelude.{◌≡◌, IfOk};
 ghost use Rattle.sharing_check.specs.declared.checked.Checked.{Checked};
-ghost use Rattle.calculus.specs.Does.{Does};
+ghost use Rattle.runs.specs.Does.{Does};
 ghost use Rattle.machine.specs.walking.Histories.{execution, Holds, KnowsUses};
 
 use crate::history::History;
-use calculus::{Command, Event, Refusal, Reply};
+use runs::{Command, Event, Refusal, Reply};
 use channel_uses::ChannelUses;
 use dependence::LiveEvent;
 use std::alloc::{AllocError, Global};

@@ -3,8 +3,8 @@ ghost use Rattle.std.specs.Prelude.{◌≡◌, true, false, slice_get, Some, IfO
 ghost use Rattle.std.specs.Option.{option_copied};
 ghost use Rattle.syntax.specs.Lists.{Every};
 ghost use Rattle.system_places.specs.SystemBranches.{branch_at, parallel_of};
-ghost use Rattle.calculus.specs.Events.{acting};
-ghost use Rattle.calculus.specs.Moves.{Place};
+ghost use Rattle.runs.specs.Events.{acting};
+ghost use Rattle.runs.specs.Moves.{Place};
 ghost use Rattle.event_inverse.specs.Grown.{state_of_tree};
 ghost use Rattle.rendezvous.specs.ReadyBelow.{ReadyBelow};
 ghost use Rattle.machine.specs.Branching.{is_branch, acts_in, in_branch, is_free, StepsBranch};
@@ -16,7 +16,7 @@ ghost use Rattle.machine.specs.walking.Histories.{tree_of, Holds, KnowsUses, IsS
 use crate::among::is_among;
 use crate::history::History;
 use address::Entry;
-use calculus::{Event, Refusal};
+use runs::{Event, Refusal};
 use channel_uses::ChannelUses;
 use event_places::line_after;
 use rendezvous::ready_below;

@@ -1,12 +1,12 @@
 ghost use Rattle.std.specs.Prelude.{◌≡◌, ◌<◌, ◌≤◌, [], length};
 ghost use Rattle.system.specs.Expression.{is_in};
-ghost use Rattle.calculus.specs.InOrder.{InOrder};
+ghost use Rattle.runs.specs.InOrder.{InOrder};
 ghost use Rattle.machine.specs.Breakpoints.{most_breaks, with_line, without_line, SetsBreak};
 ghost use Rattle.machine.specs.walking.Sorting.{lesser_count};
 
 use crate::among::is_among;
 use arrayvec::ArrayVec;
-use calculus::Refusal;
+use runs::Refusal;
 use std::marker::Model;
 
 /// The most lines that may have a breakpoint.
@@ -27,7 +27,7 @@ impl Model for Breaks {
     ghost coded = { Prim.hlevel codes };
 
     ghost use Rattle.std.specs.Prelude.{◌<◌, ◌≤◌, length};
-    ghost use Rattle.calculus.specs.InOrder.{InOrder};
+    ghost use Rattle.runs.specs.InOrder.{InOrder};
     ghost use Rattle.machine.specs.Breakpoints.{most_breaks};
 
     ghost view = { λ breaks. breaks.lines.items };

@@ -1,5 +1,5 @@
 // The laws of the commands on one execution, each a contract of a function that does nothing.
-ghost use Rattle.calculus.specs.ObjectLaws.{StaysSoundOverLists, TicketsGrow};
+ghost use Rattle.runs.specs.ObjectLaws.{StaysSoundOverLists, TicketsGrow};
 ghost use Rattle.machine.specs.Branching.{SteppedIsStep, OthersLeave};
 ghost use Rattle.machine.specs.Headline.{HeadlineOfSound};
 

@@ -1,7 +1,7 @@
 // What is answered where a call may want memory.
 ghost use Rattle.std.specs.Prelude.{◌≡◌, MatchResult};
 
-use calculus::{Refusal, Reply};
+use runs::{Refusal, Reply};
 use std::alloc::AllocError;
 
 /// The reply, or that there was no memory for it.

@@ -1,14 +1,14 @@
 // Taking an event back with all that depend on it, and the questions about them.
 ghost use Rattle.std.specs.Prelude.{◌≡◌, ℕ, length, IfOk, OnErr};
 ghost use Rattle.sharing_check.specs.declared.checked.Checked.{Checked};
-ghost use Rattle.calculus.specs.Live.{IsLive, DependsOn, WithoutTickets};
-ghost use Rattle.calculus.specs.Does.{Does};
+ghost use Rattle.runs.specs.Live.{IsLive, DependsOn, WithoutTickets};
+ghost use Rattle.runs.specs.Does.{Does};
 ghost use Rattle.machine.specs.walking.Histories.{execution, Holds};
 ghost use Rattle.dependence.specs.Taking.{MarksAllDependents};
 ghost use Rattle.machine.specs.walking.Marking.{MarksDependents, HoldsFrom};
 
 use crate::history::History;
-use calculus::{Command, Refusal, Reply};
+use runs::{Command, Refusal, Reply};
 use event_inverse::invert_by;
 use std::alloc::AllocError;
 use syntax::Items;

@@ -1,11 +1,11 @@
 // Taking one event.
 ghost use Rattle.std.specs.Prelude.{◌≡◌, ◌≤◌, ◌<◌, ◌∷◌, ◌++◌, [], ℕ, suc, length, vec_len, vec_capacity, IfOk, IfErr, OnOk, OnErr};
 ghost use Rattle.sharing_check.specs.declared.checked.Checked.{Checked};
-ghost use Rattle.calculus.specs.Steps.{Allowed};
-ghost use Rattle.calculus.specs.Live.{LiveAt};
-ghost use Rattle.calculus.specs.Object.{Reaches, most_live, last_ticket, with_event};
-ghost use Rattle.calculus.specs.Ready.{ReadyList};
-ghost use Rattle.calculus.specs.Does.{Does};
+ghost use Rattle.runs.specs.Steps.{Allowed};
+ghost use Rattle.runs.specs.Live.{LiveAt};
+ghost use Rattle.runs.specs.Object.{Reaches, most_live, last_ticket, with_event};
+ghost use Rattle.runs.specs.Ready.{ReadyList};
+ghost use Rattle.runs.specs.Does.{Does};
 ghost use Rattle.dependence.specs.Behind.{ComesBehind};
 ghost use Rattle.event_inverse.specs.Grown.{TreeAndStore, state_of_tree, applied};
 ghost use Rattle.event_inverse.specs.View.{inverse_view};
@@ -14,7 +14,7 @@ ghost use Rattle.machine.specs.walking.Histories.{execution, tree_of, Holds, Kno
 ghost use Rattle.machine.specs.walking.Entering.{Entered, NotEntered};
 
 use crate::history::History;
-use calculus::{Choice, Command, Event, LAST_TICKET, MOST_LIVE_EVENTS, Refusal, Reply};
+use runs::{Choice, Command, Event, LAST_TICKET, MOST_LIVE_EVENTS, Refusal, Reply};
 use channel_uses::ChannelUses;
 use event_inverse::{Inverse, Record, apply, invert};
 use rendezvous::{event_with, ready_events};

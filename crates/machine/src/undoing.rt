@@ -1,13 +1,13 @@
 // Taking one event back.
 ghost use Rattle.std.specs.Prelude.{◌≡◌, Some, slice_get};
 ghost use Rattle.sharing_check.specs.declared.checked.Checked.{Checked};
-ghost use Rattle.calculus.specs.Dependence.{Without};
-ghost use Rattle.calculus.specs.Live.{LiveAt, IsLive, NoDependent, WithoutTickets};
-ghost use Rattle.calculus.specs.Does.{Undoes};
+ghost use Rattle.runs.specs.Dependence.{Without};
+ghost use Rattle.runs.specs.Live.{LiveAt, IsLive, NoDependent, WithoutTickets};
+ghost use Rattle.runs.specs.Does.{Undoes};
 ghost use Rattle.machine.specs.walking.Histories.{execution, Holds};
 
 use crate::history::History;
-use calculus::{Event, Refusal, Reply};
+use runs::{Event, Refusal, Reply};
 use event_inverse::{Record, invert};
 
 impl History {

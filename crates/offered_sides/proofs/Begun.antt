@@ -1,6 +1,6 @@
 -- The children of a row that the code holds, by their numbers.
 use Rattle.std.proofs.Common.{◌≡◌, ℕ, zero, suc, ◌+◌, ◌<◌, ◌≤◌, min, List, [], ◌∷◌, map, length, Bool, true, false, ◌||◌, cond, Some, slice_index_or, refl, sym, ap, ap₂, ◌∙◌, arith, ◌==◌, ◌≢◌, eqb-true, eq-eqb, true≢false}
-use Rattle.calculus.proofs.Options.{none-some, some-injective}
+use Rattle.runs.proofs.Options.{none-some, some-injective}
 use Rattle.system.specs.Expression.{Store}
 use Rattle.process_tree.specs.Code.{Codes, no_code, code}
 use Rattle.process_tree.specs.Children.{proc_at}

@@ -4,8 +4,8 @@ use Rattle.std.specs.Global.{Box, Vec}
 use Rattle.address.specs.declared.Entry.TheVariants.{Ordered}
 use Rattle.value.specs.Word.{Word}
 use Rattle.system.specs.Expression.{Store, Expression, Decision}
-use Rattle.calculus.specs.Moves.{Place}
-use Rattle.calculus.proofs.Options.{none-some, some-injective}
+use Rattle.runs.specs.Moves.{Place}
+use Rattle.runs.proofs.Options.{none-some, some-injective}
 use Rattle.process_tree.specs.Children.{proc_at}
 use Rattle.process_tree.specs.Code.{Once, Code as MCode, Codes}
 use Rattle.process_tree.specs.Left.{Received}

@@ -5,9 +5,9 @@ use Rattle.address.specs.declared.Entry.TheVariants.{Ordered, Branch}
 use Rattle.syntax.specs.Lists.{In}
 use Rattle.system.specs.Expression.{Store, Expression, by_guards, decide, value}
 use Rattle.system.specs.Residual.{Residual, done, halted, inside, beside, assign, send, receive, sync, held, loop, while, test, choose, closing, drain, within, along, arm_at, opened}
-use Rattle.calculus.specs.Moves.{Place, Move, Local, assigns, tests, turns, sends, receives, syncs, opens, releases, closes}
-use Rattle.calculus.specs.Steps.{State}
-use Rattle.calculus.proofs.Lists.{in-left, in-right, in-parts}
+use Rattle.runs.specs.Moves.{Place, Move, Local, assigns, tests, turns, sends, receives, syncs, opens, releases, closes}
+use Rattle.runs.specs.Steps.{State}
+use Rattle.runs.proofs.Lists.{in-left, in-right, in-parts}
 use Rattle.offered_sides.specs.Sides.{side_of, Decided, Offered}
 use Rattle.offered_sides.specs.walking.Listed.{side_at, behind, open_sides, sides_of_residual}
 use Rattle.offered_sides.specs.declared.side.OfferedSide.{OfferedSide}

@@ -7,8 +7,8 @@ use Rattle.value.specs.Word.{Word}
 use Rattle.syntax.specs.Lists.{In}
 use Rattle.std.specs.Prelude.{◌↔◌}
 use Rattle.system.specs.Expression.{Store, Expression, Decision}
-use Rattle.calculus.specs.Moves.{Place}
-use Rattle.calculus.specs.Steps.{State}
+use Rattle.runs.specs.Moves.{Place}
+use Rattle.runs.specs.Steps.{State}
 use Rattle.process_tree.specs.Children.{proc_at}
 use Rattle.process_tree.specs.Code.{Code as MCode, Codes}
 use Rattle.process_tree.specs.Left.{Received, with_value, left}
@@ -20,7 +20,7 @@ use Rattle.process_tree.specs.walking.Received.{puts_guard}
 use Rattle.process_tree.specs.declared.proc.Proc as made
 use Rattle.process_tree.specs.declared.proc.Tested as made_tested
 use Rattle.process_tree.specs.declared.proc.Tested.{Tested}
-use Rattle.calculus.proofs.Options.{none-some}
+use Rattle.runs.proofs.Options.{none-some}
 use Rattle.offered_sides.specs.Sides.{Offered, Under}
 use Rattle.offered_sides.specs.walking.At.{at, under, SameBelow}
 use Rattle.offered_sides.specs.walking.Listed.{side_at, behind, again_at, Listing, at_work, one_after, listed, listed_sequence, listed_parallel}

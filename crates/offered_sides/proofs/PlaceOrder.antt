@@ -11,11 +11,11 @@ use Rattle.address.proofs.Total.{order-itself}
 use Rattle.syntax.specs.Lists.{In, Every}
 use Rattle.system.specs.Expression.{Store}
 use Rattle.system.specs.Residual.{Residual, done, halted, inside, beside, assign, send, receive, sync, held, loop, while, test, choose, closing, drain}
-use Rattle.calculus.specs.InOrder.{InOrder}
-use Rattle.calculus.specs.Moves.{Place}
-use Rattle.calculus.specs.WellFormed.{WellFormed}
-use Rattle.calculus.proofs.Kept.{branches-place}
-use Rattle.calculus.proofs.Lists.{every-of}
+use Rattle.runs.specs.InOrder.{InOrder}
+use Rattle.runs.specs.Moves.{Place}
+use Rattle.runs.specs.WellFormed.{WellFormed}
+use Rattle.runs.proofs.Kept.{branches-place}
+use Rattle.runs.proofs.Lists.{every-of}
 use Rattle.offered_sides.specs.Sides.{NotBehind}
 use Rattle.offered_sides.specs.walking.Listed.{side_at, behind, open_sides, sides_of_residual}
 use Rattle.offered_sides.specs.declared.side.OfferedSide.{OfferedSide}

@@ -7,13 +7,13 @@ use Rattle.address.specs.declared.Entry.{Entry}
 use Rattle.address.specs.declared.Entry.TheVariants.{Ordered, Branch}
 use Rattle.syntax.specs.Lists.{In}
 use Rattle.system.specs.Expression.{Store, Expression}
-use Rattle.calculus.specs.Moves.{Place}
-use Rattle.calculus.proofs.Options.{none-some, some-injective}
+use Rattle.runs.specs.Moves.{Place}
+use Rattle.runs.proofs.Options.{none-some, some-injective}
 use Rattle.process_tree.specs.Children.{proc_at}
 use Rattle.process_tree.specs.Left.{Received}
 use Rattle.process_tree.specs.Proc.{Proc, Procs, no_procs, proc}
 use Rattle.offered_sides.specs.Sides.{Under}
-use Rattle.calculus.specs.Tests.{same_entry, same_place}
+use Rattle.runs.specs.Tests.{same_entry, same_place}
 use Rattle.offered_sides.specs.walking.At.{at, is_under, under, SameBelow}
 use Rattle.offered_sides.specs.walking.Listed.{side_at, behind, again_at, Listing, nothing, at_work, one_after, listed, listed_sequence, listed_parallel}
 use Rattle.offered_sides.specs.walking.Walk.{Walk, below, added, down}

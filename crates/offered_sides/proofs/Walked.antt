@@ -4,8 +4,8 @@ use Rattle.address.specs.declared.Entry.TheVariants.{Ordered, Branch}
 use Rattle.syntax.specs.Lists.{In}
 use Rattle.system.specs.Expression.{Store, Expression}
 use Rattle.system.specs.Residual.{Residual, done, closing, within, along}
-use Rattle.calculus.specs.InOrder.{InOrder}
-use Rattle.calculus.specs.walking.Passed.{is_done}
+use Rattle.runs.specs.InOrder.{InOrder}
+use Rattle.runs.specs.walking.After.{is_done}
 use Rattle.process_tree.specs.Code.{Code}
 use Rattle.process_tree.specs.Left.{Received, with_value, puts, again, residual, residual_arms, left, left_sequence, left_parallel}
 use Rattle.process_tree.specs.Proc.{waiting, holding, past, Proc, idle, stopped, once, sender, fresh, turn, ended_at_once, ended, untested, skipped, took, unopened, entered, closed, sequence, parallel, drained, Procs, no_procs, proc, finished, all_finished}

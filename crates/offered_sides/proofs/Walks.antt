@@ -3,7 +3,7 @@ use Rattle.std.proofs.Common.{◌≡◌, List, [], ◌∷◌, ◌++◌, false, O
 use Rattle.std.proofs.lemmas.List.{append-nil, append_assoc}
 use Rattle.address.specs.declared.Entry.{Entry}
 use Rattle.system.specs.Expression.{Expression, Decision, by_guards, put_decision}
-use Rattle.calculus.specs.Moves.{Place}
+use Rattle.runs.specs.Moves.{Place}
 use Rattle.process_tree.specs.Left.{Received}
 use Rattle.process_tree.specs.walking.Received.{puts_value, puts_decision}
 use Rattle.offered_sides.specs.walking.Listed.{side_at, behind}

@@ -5,10 +5,10 @@ use Rattle.address.specs.Order.{order_of}
 use Rattle.system.specs.Expression.{Store, variables, decision_variables, decide, ascending}
 use Rattle.syntax.specs.Lists.{In}
 use Rattle.system.specs.Residual.{Residual}
-use Rattle.calculus.specs.Moves.{Place, Move, Local, assigns, tests, turns, sends, receives, syncs, opens, releases, closes}
-use Rattle.calculus.specs.Events.{sent}
-use Rattle.calculus.specs.Steps.{State}
-use Rattle.calculus.specs.WellFormed.{WellFormed}
+use Rattle.runs.specs.Moves.{Place, Move, Local, assigns, tests, turns, sends, receives, syncs, opens, releases, closes}
+use Rattle.runs.specs.Events.{sent}
+use Rattle.runs.specs.Steps.{State}
+use Rattle.runs.specs.WellFormed.{WellFormed}
 use Rattle.offered_sides.specs.declared.side.OfferedSide.{OfferedSide}
 use Rattle.offered_sides.specs.declared.side.Side.{Side}
 use Rattle.offered_sides.specs.declared.side.Side.TheVariants.{Assigns, Tests, Turns, Sends, Receives, Syncs, Opens, Releases, Closes}

@@ -1,7 +1,7 @@
 -- The state that a tree in memory stands for, with the values of the variables.
 use Rattle.std.specs.Prelude.{[]}
 use Rattle.system.specs.Expression.{Store}
-use Rattle.calculus.specs.Steps.{State}
+use Rattle.runs.specs.Steps.{State}
 use Rattle.process_tree.specs.Left.{left}
 use Rattle.process_tree.specs.View.{tree_view}
 use Rattle.process_tree.specs.declared.tree.Tree.{Tree}

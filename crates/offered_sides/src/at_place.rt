@@ -12,7 +12,7 @@ ghost use Rattle.process_tree.specs.walking.Parts.{turns_view, tested_view, gate
 ghost use Rattle.offered_sides.specs.Sides.{Offered, Under};
 ghost use Rattle.offered_sides.specs.View.{state_of};
 ghost use Rattle.offered_sides.specs.declared.side.OfferedSide as any;
-ghost use Rattle.calculus.specs.Tests.{same_place};
+ghost use Rattle.runs.specs.Tests.{same_place};
 ghost use Rattle.offered_sides.specs.walking.At.{SameBelow, at, under, is_under};
 ghost use Rattle.offered_sides.specs.walking.Listed.{behind, listed, listed_parallel, listed_sequence};
 ghost use Rattle.offered_sides.specs.walking.Walk.{added, lists, lists_at};

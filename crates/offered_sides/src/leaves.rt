@@ -2,7 +2,7 @@
 ghost use Rattle.std.specs.Prelude.{◌≡◌, ◌*◌, [], ◌∷◌, Some, None, false, option_map, IfOk, OnOk};
 ghost use Rattle.system.specs.Expression as model;
 ghost use Rattle.system.specs.Translation.{expression_of, decision_of};
-ghost use Rattle.calculus.specs.Events.{sent};
+ghost use Rattle.runs.specs.Events.{sent};
 ghost use Rattle.process_tree.specs.Left.{residual_once, residual_sender, channel_of};
 ghost use Rattle.process_tree.specs.View.{once_view, sender_view};
 ghost use Rattle.process_tree.specs.walking.Received.{puts_value, puts_once, puts_sender, puts_guard, puts_decision};

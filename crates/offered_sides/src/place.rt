@@ -1,8 +1,8 @@
 // The first step of a place, and what is below one.
 ghost use Rattle.std.specs.Prelude.{◌≡◌, ℕ, ◌∷◌, MatchOption};
 ghost use Rattle.address.specs.declared.Entry.TheVariants.{Ordered as IsOrdered, Branch as IsBranch};
-ghost use Rattle.calculus.specs.Moves.{Place};
-ghost use Rattle.calculus.specs.Tests.{same_entry};
+ghost use Rattle.runs.specs.Moves.{Place};
+ghost use Rattle.runs.specs.Tests.{same_entry};
 ghost use Rattle.offered_sides.specs.walking.At.{is_under};
 
 use address::Entry;

@@ -1,6 +1,6 @@
 // All sides that a tree offers.
 ghost use Rattle.std.specs.Prelude.{IfOk};
-ghost use Rattle.calculus.specs.InOrder.{InOrder};
+ghost use Rattle.runs.specs.InOrder.{InOrder};
 ghost use Rattle.process_tree.specs.Tidy.{Tidy};
 ghost use Rattle.process_tree.specs.View.{tree_view};
 ghost use Rattle.offered_sides.specs.Sides.{NotBehind, OffersExactly};

@@ -2,10 +2,10 @@
 use Rattle.std.proofs.Common.{◌≡◌, ◌≢◌, ℕ, ◌==◌, [], ◌∷◌, Bool, true, false, cond, Option, Some, None, option_map, refl, sym, ap, subst, eq-eqb, ne_eqb, eqb-true}
 use Rattle.std.specs.Option.{option_and_then}
 use Rattle.address.specs.declared.Entry.TheVariants.{Ordered, Branch}
-use Rattle.calculus.specs.Moves.{Place}
-use Rattle.calculus.proofs.Options.{none-some, some-injective, cond-some}
+use Rattle.runs.specs.Moves.{Place}
+use Rattle.runs.proofs.Options.{none-some, some-injective, cond-some}
 use Rattle.process_tree.specs.Proc.{Proc}
-use Rattle.calculus.specs.ByPlace.{if_here, if_act, if_child, if_branch}
+use Rattle.runs.specs.ByPlace.{if_here, if_act, if_child, if_branch}
 use Rattle.process_tree.specs.Places.{if_child_or, wrap}
 
 -- a number equals itself

@@ -1,8 +1,8 @@
 -- A move of a row taken back, by the child that the code holds; and a child that has made no move stays as it is.
 use Rattle.std.proofs.Common.{◌≡◌, ℕ, zero, suc, ◌+◌, ◌≤◌, ◌==◌, List, [], ◌∷◌, map, length, false, Option, Some, None, IsSome, option_map, refl, sym, ap, ◌∙◌, subst, arith}
 use Rattle.address.specs.declared.Entry.TheVariants.{Ordered, Branch}
-use Rattle.calculus.specs.Moves.{Place}
-use Rattle.calculus.proofs.Options.{none-some, some-injective}
+use Rattle.runs.specs.Moves.{Place}
+use Rattle.runs.proofs.Options.{none-some, some-injective}
 use Rattle.process_tree.specs.Code.{Code, continues, halts, moves_once, may_be_held, repeats, decides, awaits, in_turn, side_by_side, drains, Codes, no_code, code}
 use Rattle.process_tree.specs.Proc.{Proc, once, Procs, no_procs, proc, sequence, parallel, started, all_started}
 use Rattle.process_tree.specs.View.{proc_view, begun_of}

@@ -1,11 +1,11 @@
 -- A move of children in a row is one of the child at its number, and the others stay.
 use Rattle.std.proofs.Common.{◌≡◌, ℕ, zero, suc, ◌+◌, ◌<◌, ◌==◌, [], ◌∷◌, true, false, Option, Some, option_map, refl, sym, ◌∙◌, true≢false, eqb-true, eq-eqb, inl, inr, arith}
 use Rattle.address.specs.declared.Entry.TheVariants.{Ordered, Branch}
-use Rattle.calculus.specs.Moves.{Place}
-use Rattle.calculus.specs.declared.ask.Ask.{Ask}
-use Rattle.calculus.proofs.Options.{none-some, cond-some}
+use Rattle.runs.specs.Moves.{Place}
+use Rattle.runs.specs.declared.ask.Ask.{Ask}
+use Rattle.runs.proofs.Options.{none-some, cond-some}
 use Rattle.process_tree.specs.Proc.{Proc, Procs, no_procs, proc, finished}
-use Rattle.calculus.specs.ByPlace.{if_child}
+use Rattle.runs.specs.ByPlace.{if_child}
 use Rattle.process_tree.specs.Places.{wrap}
 use Rattle.process_tree.specs.Advanced.{MovedIn, advanced, advanced_sequence, advanced_parallel}
 use Rattle.process_tree.specs.walking.Retreated.{retreated, retreated_sequence, retreated_parallel}

@@ -2,9 +2,9 @@
 use Rattle.std.proofs.Common.{◌≡◌, ◌↔◌, ℕ, ◌+◌, ◌*◌, ◌≤◌, Bool, true, false, ◌&&◌, [], ◌∷◌, Option, Some, None, refl, sym, ap, ap₂, ◌∙◌, arith}
 use Rattle.system.specs.Expression.{Expression}
 use Rattle.system.specs.Residual.{Residual, done, within, along, put_residual}
-use Rattle.calculus.specs.walking.Passed.{is_done}
-use Rattle.calculus.specs.WellFormed.{StartsFrom, BranchesFrom, WellFormed, WellFormedArms}
-use Rattle.calculus.proofs.WellFormed.{starts-within, formed-within, branches-along, formed-along, starts-put, formed-put}
+use Rattle.runs.specs.walking.After.{is_done}
+use Rattle.runs.specs.WellFormed.{StartsFrom, BranchesFrom, WellFormed, WellFormedArms}
+use Rattle.runs.proofs.WellFormed.{starts-within, formed-within, branches-along, formed-along, starts-put, formed-put}
 use Rattle.process_tree.specs.Code.{Once, assigning, receiving, Sender, sending, syncing, Code, continues, halts, moves_once, may_be_held, repeats, decides, awaits, in_turn, side_by_side, drains, Codes, no_code, code}
 use Rattle.process_tree.specs.Proc.{waiting, holding, past, Proc, idle, stopped, once, sender, fresh, turn, ended_at_once, ended, untested, skipped, took, unopened, entered, closed, sequence, parallel, drained, Procs, no_procs, proc, finished, all_finished}
 use Rattle.process_tree.specs.Left.{Received, with_value, puts, residual_once, residual_sender, again, residual, residual_arms, residual_sequence, residual_parallel, left, left_sequence, left_parallel}

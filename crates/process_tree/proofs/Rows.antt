@@ -4,9 +4,9 @@ use Rattle.std.specs.Option.{option_and_then}
 use Rattle.address.specs.declared.Entry.TheVariants.{Ordered, Branch}
 use Rattle.system.specs.Expression.{constant, variable, received, word, by_guards}
 use Rattle.system.specs.Residual.{Residual, done, inside, beside, receive, send, held, loop, closing, drain}
-use Rattle.calculus.specs.Moves.{Place}
-use Rattle.calculus.specs.declared.ask.Ask.{Ask}
-use Rattle.calculus.specs.declared.ask.Ask.TheVariants as ask
+use Rattle.runs.specs.Moves.{Place}
+use Rattle.runs.specs.declared.ask.Ask.{Ask}
+use Rattle.runs.specs.declared.ask.Ask.TheVariants as ask
 use Rattle.process_tree.specs.Code.{assigning, receiving, sending, Code, continues, moves_once, may_be_held, repeats, decides, awaits, in_turn, side_by_side, drains, no_code, code}
 use Rattle.process_tree.specs.Proc.{Proc, once, turn, started, finished}
 use Rattle.process_tree.specs.Advanced.{Moved, advanced}

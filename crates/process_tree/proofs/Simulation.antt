@@ -4,19 +4,19 @@ use Rattle.address.specs.declared.Entry.TheVariants.{Ordered, Branch}
 use Rattle.value.specs.Word.{Word}
 use Rattle.system.specs.Expression.{Expression, Decision}
 use Rattle.system.specs.Residual.{Residual, done, closing, drain, within, along, arm_at, put_residual, opened}
-use Rattle.calculus.specs.walking.Passed.{is_done}
-use Rattle.calculus.specs.Moves.{Place, Move, Local}
-use Rattle.calculus.specs.Asking.{ask_of}
-use Rattle.calculus.specs.walking.After.{Answer, around, after_loop, after_while, after_test, after_open, after_assign, after_choose, after_closing, after_drain, after_held, after_receive, after_send, after_sync, after}
-use Rattle.calculus.specs.declared.ask.Ask.{Ask}
-use Rattle.calculus.specs.declared.ask.Ask.TheVariants as ask
-use Rattle.calculus.specs.WellFormed.{BranchesFrom, WellFormed}
-use Rattle.calculus.proofs.After.{found, only}
-use Rattle.calculus.proofs.Kept.{branches-place}
-use Rattle.calculus.proofs.Options.{none-some, some-injective}
+use Rattle.runs.specs.walking.After.{is_done}
+use Rattle.runs.specs.Moves.{Place, Move, Local}
+use Rattle.runs.specs.Asking.{ask_of}
+use Rattle.runs.specs.walking.After.{Answer, around, after_loop, after_while, after_test, after_open, after_assign, after_choose, after_closing, after_drain, after_held, after_receive, after_send, after_sync, after}
+use Rattle.runs.specs.declared.ask.Ask.{Ask}
+use Rattle.runs.specs.declared.ask.Ask.TheVariants as ask
+use Rattle.runs.specs.WellFormed.{BranchesFrom, WellFormed}
+use Rattle.runs.proofs.After.{found, only}
+use Rattle.runs.proofs.Kept.{branches-place}
+use Rattle.runs.proofs.Options.{none-some, some-injective}
 use Rattle.process_tree.specs.Code.{Once, assigning, receiving, Sender, sending, syncing, Code, Codes, code_at}
 use Rattle.process_tree.specs.Proc.{waiting, holding, past, Proc, idle, stopped, once, sender, fresh, turn, ended_at_once, ended, untested, skipped, took, unopened, entered, closed, sequence, parallel, drained, Procs, no_procs, proc, started, finished}
-use Rattle.calculus.specs.ByPlace.{if_here, if_act, if_child, if_branch}
+use Rattle.runs.specs.ByPlace.{if_here, if_act, if_child, if_branch}
 use Rattle.process_tree.specs.Places.{wrap}
 use Rattle.process_tree.specs.Advanced.{Moved, once_after, sender_after, holding_after, again_after, test_after, open_on, open_after, close_after, drain_after, advanced, advanced_sequence, advanced_parallel}
 use Rattle.process_tree.specs.Left.{Received, with_value, puts, residual_once, residual_sender, channel_of, again, residual, residual_arms, left, left_sequence, left_parallel}

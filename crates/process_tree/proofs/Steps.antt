@@ -3,14 +3,14 @@ use Rattle.std.proofs.Common.{◌≡◌, ℕ, zero, suc, ◌+◌, ◌*◌, ◌/�
 use Rattle.value.specs.Word.{Word}
 use Rattle.address.specs.declared.Entry.TheVariants.{Ordered, Branch}
 use Rattle.system.specs.Expression.{Expression, Decision}
-use Rattle.calculus.specs.Moves.{Place}
-use Rattle.calculus.specs.declared.ask.Ask.{Ask}
-use Rattle.calculus.specs.declared.ask.Ask.TheVariants as ask
-use Rattle.calculus.proofs.Options.{none-some, some-injective, cond-some}
+use Rattle.runs.specs.Moves.{Place}
+use Rattle.runs.specs.declared.ask.Ask.{Ask}
+use Rattle.runs.specs.declared.ask.Ask.TheVariants as ask
+use Rattle.runs.proofs.Options.{none-some, some-injective, cond-some}
 use Rattle.process_tree.specs.Advanced.{Moved, MovedIn, again_after, close_after, advanced, advanced_sequence, advanced_parallel}
 use Rattle.process_tree.specs.Code.{Code as MCode, Codes, no_code, code, code_at, continues}
 use Rattle.process_tree.specs.Proc.{Proc, turn, ended, entered, closed, took, Procs, no_procs, proc, sequence, parallel, started, all_started, finished}
-use Rattle.calculus.specs.ByPlace.{if_act, if_child}
+use Rattle.runs.specs.ByPlace.{if_act, if_child}
 use Rattle.process_tree.specs.Places.{wrap}
 use Rattle.process_tree.specs.Translation.{row_of}
 use Rattle.process_tree.specs.View.{code_view, row_view, proc_view, procs_of, begun_of, turn_of, opened_of}

@@ -3,10 +3,10 @@ use Rattle.std.proofs.Common.{◌≡◌, ℕ, ◌+◌, ◌*◌, ◌==◌, List, 
 use Rattle.address.specs.declared.Entry.TheVariants.{Ordered, Branch}
 use Rattle.value.specs.Word.{Word}
 use Rattle.system.specs.Expression.{Expression, Decision}
-use Rattle.calculus.specs.Moves.{Place}
-use Rattle.calculus.specs.ByPlace.{if_here, if_act, if_child, if_branch}
-use Rattle.calculus.specs.declared.ask.Ask.{Ask}
-use Rattle.calculus.specs.declared.ask.Ask.TheVariants as ask
+use Rattle.runs.specs.Moves.{Place}
+use Rattle.runs.specs.ByPlace.{if_here, if_act, if_child, if_branch}
+use Rattle.runs.specs.declared.ask.Ask.{Ask}
+use Rattle.runs.specs.declared.ask.Ask.TheVariants as ask
 use Rattle.process_tree.specs.Code.{Once, assigning, receiving, Sender, sending, syncing, Code, continues, halts, moves_once, may_be_held, repeats, decides, awaits, in_turn, side_by_side, drains, Codes, no_code, code, code_at}
 use Rattle.process_tree.specs.Proc.{waiting, holding, past, Proc, idle, stopped, once, sender, fresh, turn, ended_at_once, ended, untested, skipped, took, unopened, entered, closed, sequence, parallel, drained, Procs, no_procs, proc, started, all_started, finished}
 use Rattle.process_tree.specs.Places.{wrap}

@@ -2,8 +2,8 @@
 -- The law `one_child_moves` says so; it lets the code go straight to a child.
 use Rattle.std.specs.Prelude.{◌≡◌, ℕ, zero, suc, ◌<◌, ◌∷◌, true, Option, Some, None}
 use Rattle.address.specs.declared.Entry.TheVariants.{Ordered, Branch}
-use Rattle.calculus.specs.Moves.{Place}
-use Rattle.calculus.specs.declared.ask.Ask.{Ask}
+use Rattle.runs.specs.Moves.{Place}
+use Rattle.runs.specs.declared.ask.Ask.{Ask}
 use Rattle.process_tree.specs.Proc.{Proc, Procs, no_procs, proc, finished}
 use Rattle.process_tree.specs.Advanced.{Moved, MovedIn, advanced, advanced_sequence, advanced_parallel}
 use Rattle.process_tree.specs.walking.Retreated.{retreated, retreated_sequence, retreated_parallel}

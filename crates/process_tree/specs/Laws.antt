@@ -5,10 +5,10 @@ use Rattle.system.specs.Residual.{Residual, done}
 use Rattle.system.specs.Translation.{residual_of, opening_residual}
 use Rattle.system.specs.declared.command.Command.{Command}
 use Rattle.system.specs.declared.system.System.{System}
-use Rattle.calculus.specs.Moves.{Place, Move, Local}
-use Rattle.calculus.specs.Asking.{ask_of}
-use Rattle.calculus.specs.declared.ask.Ask.{Ask}
-use Rattle.calculus.specs.WellFormed.{WellFormed}
+use Rattle.runs.specs.Moves.{Place, Move, Local}
+use Rattle.runs.specs.Asking.{ask_of}
+use Rattle.runs.specs.declared.ask.Ask.{Ask}
+use Rattle.runs.specs.WellFormed.{WellFormed}
 use Rattle.process_tree.specs.Code.{Code}
 use Rattle.process_tree.specs.Proc.{Proc, started, finished}
 use Rattle.process_tree.specs.Advanced.{Moved, advanced}

@@ -1,7 +1,7 @@
 -- Answers of children, put together.
 use Rattle.std.specs.Prelude.{ℕ, ◌==◌, [], ◌∷◌, cond, Option, Some, None}
 use Rattle.address.specs.declared.Entry.TheVariants.{Ordered, Branch}
-use Rattle.calculus.specs.Moves.{Place}
+use Rattle.runs.specs.Moves.{Place}
 use Rattle.process_tree.specs.Proc.{Proc}
 
 -- the child's answer at places in child n of a sequence, and elsewhere that of the rest

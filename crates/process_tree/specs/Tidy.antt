@@ -2,8 +2,8 @@
 -- After an undo children stay that have begun and made no move again. So the last child that has made one tells where the work is: it is
 -- there, or behind it where it is finished, and all before it are finished.
 use Rattle.std.specs.Prelude.{◌≡◌, ℕ, zero, suc, Bool, true, false, ◌||◌, cond, nat_lt, Some}
-use Rattle.calculus.specs.Moves.{Place}
-use Rattle.calculus.specs.declared.ask.Ask.{Ask}
+use Rattle.runs.specs.Moves.{Place}
+use Rattle.runs.specs.declared.ask.Ask.{Ask}
 use Rattle.process_tree.specs.Code.{Code}
 use Rattle.process_tree.specs.Proc.{Phase, waiting, holding, past, Proc, idle, stopped, once, sender, fresh, turn, ended_at_once, ended, untested, skipped, took, unopened, entered, closed, sequence, parallel, drained, Procs, no_procs, proc, started, finished}
 use Rattle.process_tree.specs.Advanced.{Moved, advanced}

@@ -8,13 +8,13 @@ ghost use Rattle.process_tree.specs.View.{code_view, repeat_view, decide_view, a
 ghost use Rattle.process_tree.specs.walking.Parts.{turns_view, tested_view, gate_view};
 ghost use Rattle.process_tree.specs.Children.{proc_at};
 ghost use Rattle.process_tree.specs.walking.Steps.{takes_none};
-ghost use Rattle.calculus.specs.Moves.{Place};
+ghost use Rattle.runs.specs.Moves.{Place};
 
 use crate::code::{Await, Code, Decide, Repeat, Row};
 use crate::place::{branch_step, ordered_step};
 use crate::proc::{Gate, Phase, Proc, Tested, Turns, start};
 use address::Entry;
-use calculus::Ask;
+use runs::Ask;
 use std::alloc::{AllocError, Global};
 use std::mem;
 use syntax::Items;

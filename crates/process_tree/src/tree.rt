@@ -10,7 +10,7 @@ use crate::environment::system_code;
 use crate::proc::{Proc, start};
 use crate::retreat::retreat;
 use address::Entry;
-use calculus::Ask;
+use runs::Ask;
 use std::alloc::{AllocError, Global};
 use system::System;
 

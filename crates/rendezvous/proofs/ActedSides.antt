@@ -5,16 +5,16 @@ use Rattle.std.specs.Prelude.{◌↔◌}
 use Rattle.std.specs.Ordering.{is_lt}
 use Rattle.address.specs.Order.{order_of}
 use Rattle.syntax.specs.Lists.{In}
-use Rattle.calculus.specs.Moves.{Place}
-use Rattle.calculus.specs.Events.{acting}
-use Rattle.calculus.specs.Ready.{ReadyList}
-use Rattle.calculus.specs.Steps.{State, Allowed}
-use Rattle.calculus.specs.WellFormed.{WellFormed}
-use Rattle.calculus.specs.walking.AllowedEvents.{those}
-use Rattle.calculus.specs.declared.event.Choice.{Choice}
-use Rattle.calculus.specs.declared.event.Event.{Event}
-use Rattle.calculus.proofs.Lists.{in-left, in-right, in-parts}
-use Rattle.calculus.proofs.Options.{none-some, cond-some}
+use Rattle.runs.specs.Moves.{Place}
+use Rattle.runs.specs.Events.{acting}
+use Rattle.runs.specs.Ready.{ReadyList}
+use Rattle.runs.specs.Steps.{State, Allowed}
+use Rattle.runs.specs.WellFormed.{WellFormed}
+use Rattle.runs.specs.walking.AllowedEvents.{those}
+use Rattle.runs.specs.declared.event.Choice.{Choice}
+use Rattle.runs.specs.declared.event.Event.{Event}
+use Rattle.runs.proofs.Lists.{in-left, in-right, in-parts}
+use Rattle.runs.proofs.Options.{none-some, cond-some}
 use Rattle.offered_sides.specs.Sides.{Offered, Under}
 use Rattle.offered_sides.specs.declared.side.OfferedSide.{OfferedSide}
 use Rattle.offered_sides.specs.declared.side.Side.{Side}

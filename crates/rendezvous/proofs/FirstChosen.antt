@@ -9,16 +9,16 @@ use Rattle.syntax.specs.Lists.{In}
 use Rattle.address.specs.Order.{order_of}
 use Rattle.address.specs.walking.OrderLaws.{less-not-equal}
 use Rattle.address.proofs.Total.{order-itself}
-use Rattle.calculus.specs.Moves.{Place}
-use Rattle.calculus.specs.Events.{acting}
-use Rattle.calculus.specs.Steps.{State}
-use Rattle.calculus.specs.Choices.{choice_of}
-use Rattle.calculus.specs.InOrder.{InOrder}
-use Rattle.calculus.specs.Ready.{other, Sooner, ChoiceAllowed, Chosen}
-use Rattle.calculus.specs.declared.event.Event.{Event}
-use Rattle.calculus.specs.declared.event.Choice.{Choice}
-use Rattle.calculus.proofs.Lists.{in-right, in-parts, every-in}
-use Rattle.calculus.proofs.ReadyLists.{sooner-asymmetric}
+use Rattle.runs.specs.Moves.{Place}
+use Rattle.runs.specs.Events.{acting}
+use Rattle.runs.specs.Steps.{State}
+use Rattle.runs.specs.Choices.{choice_of}
+use Rattle.runs.specs.InOrder.{InOrder}
+use Rattle.runs.specs.Ready.{other, Sooner, ChoiceAllowed, Chosen}
+use Rattle.runs.specs.declared.event.Event.{Event}
+use Rattle.runs.specs.declared.event.Choice.{Choice}
+use Rattle.runs.proofs.Lists.{in-right, in-parts, every-in}
+use Rattle.runs.proofs.ReadyLists.{sooner-asymmetric}
 use Rattle.rendezvous.specs.walking.Acting.{ReadyWith}
 use Rattle.rendezvous.specs.walking.Choosing.{HasNone, FirstWith}
 use Rattle.rendezvous.specs.walking.Sorting.{sooner_by, is_sooner}

@@ -11,15 +11,15 @@ use Rattle.address.specs.walking.OrderLaws.{less-not-equal}
 use Rattle.address.proofs.Total.{order-itself}
 use Rattle.system.specs.Expression.{Expression, Store}
 use Rattle.system.specs.Residual.{Residual, done, halted, inside, beside, assign, send, receive, sync, held, loop, while, test, choose, closing, drain, within, along, arm_at, opened}
-use Rattle.calculus.specs.Moves.{Place, Move, Local, assigns, tests, turns, sends, receives, syncs, opens, releases, closes}
-use Rattle.calculus.specs.Events.{Located, at, sent, Makes, assigning, testing, turning, meeting, opening, opening_without_data, shutting, syncing, store_after, acting}
-use Rattle.calculus.specs.Steps.{State, Allowed}
-use Rattle.calculus.specs.WellFormed.{WellFormed}
-use Rattle.calculus.specs.declared.event.Event.{Event}
-use Rattle.calculus.proofs.AtOnce.{OffersAll, Offers, offered, apart_now}
-use Rattle.calculus.proofs.Together.{together}
-use Rattle.calculus.proofs.SameCommand.{SameCommand, same_command}
-use Rattle.calculus.proofs.Options.{none-some, some-injective, cond-some, cond-at}
+use Rattle.runs.specs.Moves.{Place, Move, Local, assigns, tests, turns, sends, receives, syncs, opens, releases, closes}
+use Rattle.runs.specs.Events.{Located, at, sent, Makes, assigning, testing, turning, meeting, opening, opening_without_data, shutting, syncing, store_after, acting}
+use Rattle.runs.specs.Steps.{State, Allowed}
+use Rattle.runs.specs.WellFormed.{WellFormed}
+use Rattle.runs.specs.declared.event.Event.{Event}
+use Rattle.runs.proofs.AtOnce.{OffersAll, Offers, offered, apart_now}
+use Rattle.runs.proofs.Together.{together}
+use Rattle.runs.proofs.SameCommand.{SameCommand, same_command}
+use Rattle.runs.proofs.Options.{none-some, some-injective, cond-some, cond-at}
 use Rattle.offered_sides.specs.Sides.{side_of, Decided, Offered}
 use Rattle.rendezvous.specs.walking.Meeting.{solo, met}
 use Rattle.offered_sides.specs.declared.side.OfferedSide.{OfferedSide}

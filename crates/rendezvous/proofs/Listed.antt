@@ -1,8 +1,8 @@
 -- The events of a side with those of a list.
 use Rattle.std.proofs.Common.{◌≡◌, ◌⊎◌, inl, inr, List, [], ◌∷◌, Option, Some, None, refl, sym, ap, subst}
 use Rattle.syntax.specs.Lists.{In}
-use Rattle.calculus.specs.walking.AllowedEvents.{those}
-use Rattle.calculus.specs.declared.event.Event.{Event}
+use Rattle.runs.specs.walking.AllowedEvents.{those}
+use Rattle.runs.specs.declared.event.Event.{Event}
 use Rattle.offered_sides.specs.declared.side.OfferedSide.{OfferedSide}
 use Rattle.rendezvous.specs.walking.Meeting.{met, met_with}
 

@@ -1,7 +1,7 @@
 -- A partner that makes no event.
 use Rattle.std.proofs.Common.{◌≡◌, ℕ, List, Option, None, refl}
 use Rattle.value.specs.Word.{Word}
-use Rattle.calculus.specs.Moves.{Place}
+use Rattle.runs.specs.Moves.{Place}
 use Rattle.rendezvous.specs.walking.Meeting.{received, opened, closed, synced}
 use Rattle.offered_sides.specs.declared.side.Side.{Side}
 use Rattle.offered_sides.specs.declared.side.Side.TheVariants.{Sends, Syncs, Releases}

@@ -1,12 +1,12 @@
 -- Putting an event behind those that come before it is the insertion at their number.
 use Rattle.std.proofs.Common.{◌≡◌, inl, ℕ, zero, suc, ◌<◌, ◌≤◌, List, [], ◌∷◌, ◌++◌, length, take, drop, Bool, true, false, cond, Some, get_or, refl, sym, ◌∙◌, ap, subst, arith, slice_get, IsTrue}
-use Rattle.calculus.specs.Tests.{same_event}
-use Rattle.calculus.specs.declared.event.Event.{Event}
+use Rattle.runs.specs.Tests.{same_event}
+use Rattle.runs.specs.declared.event.Event.{Event}
 use Rattle.syntax.specs.Lists.{Every}
-use Rattle.calculus.specs.InOrder.{InOrder}
-use Rattle.calculus.specs.Ready.{Sooner}
-use Rattle.calculus.proofs.Lists.{every-in, every-map, in-right}
-use Rattle.calculus.proofs.ReadyLists.{sooner-transitive}
+use Rattle.runs.specs.InOrder.{InOrder}
+use Rattle.runs.specs.Ready.{Sooner}
+use Rattle.runs.proofs.Lists.{every-in, every-map, in-right}
+use Rattle.runs.proofs.ReadyLists.{sooner-transitive}
 use Rattle.rendezvous.proofs.Entries.{parts-at, item-at, drop-next}
 use Rattle.rendezvous.proofs.Sooner.{sooner-true, sooner-tested}
 use Rattle.rendezvous.specs.walking.Sorting.{is_sooner, sooner_count, inserted}

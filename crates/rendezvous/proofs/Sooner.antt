@@ -9,18 +9,18 @@ use Rattle.std.specs.declared.cmp.Ordering.TheVariants.{Less, Equal, Greater}
 use Rattle.syntax.specs.Lists.{In}
 use Rattle.address.specs.Order.{order_of}
 use Rattle.address.proofs.Total.{order-ties, order-itself}
-use Rattle.calculus.specs.Events.{acting}
-use Rattle.calculus.specs.Steps.{State, Allowed}
-use Rattle.calculus.specs.Choices.{choice_of}
-use Rattle.calculus.specs.InOrder.{InOrder}
-use Rattle.calculus.specs.Ready.{other, Sooner}
-use Rattle.calculus.specs.Moves.{Place}
-use Rattle.calculus.specs.Tests.{same_event}
-use Rattle.calculus.specs.walking.EventLaws.{same_event-decides}
-use Rattle.calculus.specs.WellFormed.{WellFormed}
-use Rattle.calculus.specs.declared.event.Event.{Event}
-use Rattle.calculus.proofs.Lists.{every-in, every-of, in-left, in-right, in-parts}
-use Rattle.calculus.proofs.ReadyLists.{sooner?, sooner-transitive}
+use Rattle.runs.specs.Events.{acting}
+use Rattle.runs.specs.Steps.{State, Allowed}
+use Rattle.runs.specs.Choices.{choice_of}
+use Rattle.runs.specs.InOrder.{InOrder}
+use Rattle.runs.specs.Ready.{other, Sooner}
+use Rattle.runs.specs.Moves.{Place}
+use Rattle.runs.specs.Tests.{same_event}
+use Rattle.runs.specs.walking.EventLaws.{same_event-decides}
+use Rattle.runs.specs.WellFormed.{WellFormed}
+use Rattle.runs.specs.declared.event.Event.{Event}
+use Rattle.runs.proofs.Lists.{every-in, every-of, in-left, in-right, in-parts}
+use Rattle.runs.proofs.ReadyLists.{sooner?, sooner-transitive}
 use Rattle.std.specs.List.{Contains}
 use Rattle.std.specs.List.Sorted.{IsPermutation}
 use Rattle.std.proofs.lemmas.List.Sorted.{IsPermutation-sym, Contains-permutation}

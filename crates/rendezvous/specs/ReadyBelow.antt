@@ -1,12 +1,12 @@
 -- The events that are allowed in a state and act below a place.
 use Rattle.std.specs.Prelude.{◌↔◌, List}
 use Rattle.syntax.specs.Lists.{In}
-use Rattle.calculus.specs.Moves.{Place}
-use Rattle.calculus.specs.Events.{acting}
-use Rattle.calculus.specs.Steps.{State, Allowed}
-use Rattle.calculus.specs.InOrder.{InOrder}
-use Rattle.calculus.specs.Ready.{Sooner}
-use Rattle.calculus.specs.declared.event.Event.{Event}
+use Rattle.runs.specs.Moves.{Place}
+use Rattle.runs.specs.Events.{acting}
+use Rattle.runs.specs.Steps.{State, Allowed}
+use Rattle.runs.specs.InOrder.{InOrder}
+use Rattle.runs.specs.Ready.{Sooner}
+use Rattle.runs.specs.declared.event.Event.{Event}
 use Rattle.offered_sides.specs.Sides.{Under}
 
 -- exactly the events that are allowed in S and act below the place, in order

@@ -1,9 +1,9 @@
 // The events in which sides act.
 ghost use Rattle.std.specs.Prelude.{◌≡◌, ◌++◌, ◌⊎◌, ◌↔◌, [], true, Some, None, IfOk, OnOk, MatchOption};
 ghost use Rattle.syntax.specs.Lists.{In};
-ghost use Rattle.calculus.specs.Moves.{Place};
-ghost use Rattle.calculus.specs.declared.event.Event as any;
-ghost use Rattle.calculus.specs.walking.AllowedEvents.{those};
+ghost use Rattle.runs.specs.Moves.{Place};
+ghost use Rattle.runs.specs.declared.event.Event as any;
+ghost use Rattle.runs.specs.walking.AllowedEvents.{those};
 ghost use Rattle.process_tree.specs.Code.{Code};
 ghost use Rattle.process_tree.specs.Tidy.{Tidy};
 ghost use Rattle.process_tree.specs.View.{tree_view};
@@ -16,7 +16,7 @@ ghost use Rattle.rendezvous.specs.walking.Acting.{ActedBy, ActedByOne};
 ghost use Rattle.rendezvous.specs.walking.Meeting as model;
 
 use crate::meeting::{met, solo};
-use calculus::Event;
+use runs::Event;
 use channel_uses::ChannelUses;
 use offered_sides::{OfferedSide, Side};
 use process_tree::Tree;

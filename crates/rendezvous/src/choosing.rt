@@ -1,7 +1,7 @@
 // The event that a choice means, found along its place and on the channels of the sides there.
 ghost use Rattle.std.specs.Prelude.{IfOk, MatchOption};
-ghost use Rattle.calculus.specs.Ready.{ChoiceAllowed, Chosen};
-ghost use Rattle.calculus.specs.Steps.{State};
+ghost use Rattle.runs.specs.Ready.{ChoiceAllowed, Chosen};
+ghost use Rattle.runs.specs.Steps.{State};
 ghost use Rattle.process_tree.specs.Code.{Code};
 ghost use Rattle.process_tree.specs.Tidy.{Tidy};
 ghost use Rattle.process_tree.specs.View.{tree_view};
@@ -14,7 +14,7 @@ ghost use Rattle.rendezvous.specs.walking.Choosing.{HasNone, FirstWith};
 use crate::acting::acted_by;
 use crate::order::has_choice;
 use crate::ready::in_order;
-use calculus::{Choice, Event};
+use runs::{Choice, Event};
 use channel_uses::ChannelUses;
 use offered_sides::sides_at;
 use process_tree::Tree;

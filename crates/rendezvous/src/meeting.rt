@@ -4,7 +4,7 @@ ghost use Rattle.rendezvous.specs.walking.Meeting as model;
 ghost use Rattle.offered_sides.specs.declared.side.Side.TheVariants as side;
 
 use address::{Address, compare};
-use calculus::Event;
+use runs::Event;
 use offered_sides::Side;
 use std::alloc::{AllocError, Global};
 use system::Variables;

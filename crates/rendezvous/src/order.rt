@@ -1,13 +1,13 @@
 // The order in which events are listed.
 ghost use Rattle.std.specs.Prelude.{◌≡◌, ◌≤◌, ◌↔◌, cond, length, IsTrue};
 ghost use Rattle.address.specs.Order.{order_of};
-ghost use Rattle.calculus.specs.InOrder.{InOrder};
-ghost use Rattle.calculus.specs.Ready.{other, Sooner};
-ghost use Rattle.calculus.specs.Choices.{choice_of};
+ghost use Rattle.runs.specs.InOrder.{InOrder};
+ghost use Rattle.runs.specs.Ready.{other, Sooner};
+ghost use Rattle.runs.specs.Choices.{choice_of};
 ghost use Rattle.rendezvous.specs.walking.Sorting.{is_sooner, sooner_count};
 
 use address::{Entry, compare};
-use calculus::{Choice, Event, Kind};
+use runs::{Choice, Event, Kind};
 use std::cmp::Ordering;
 
 /// Whether the first event comes before the second: by acting address, then by arm, then by the other side's address.

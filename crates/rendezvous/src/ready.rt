@@ -1,11 +1,11 @@
 // The events that are allowed in the state of a tree, in order.
 ghost use Rattle.std.specs.Prelude.{◌≡◌, IfOk, IsTrue, Some, true, false, slice_get};
-ghost use Rattle.calculus.specs.InOrder.{InOrder};
-ghost use Rattle.calculus.specs.Ready.{ReadyList, Sooner};
-ghost use Rattle.calculus.specs.Steps.{State, Allowed};
-ghost use Rattle.calculus.specs.Tests.{same_event};
-ghost use Rattle.calculus.specs.WellFormed.{WellFormed};
-ghost use Rattle.calculus.specs.declared.event.Event as any;
+ghost use Rattle.runs.specs.InOrder.{InOrder};
+ghost use Rattle.runs.specs.Ready.{ReadyList, Sooner};
+ghost use Rattle.runs.specs.Steps.{State, Allowed};
+ghost use Rattle.runs.specs.Tests.{same_event};
+ghost use Rattle.runs.specs.WellFormed.{WellFormed};
+ghost use Rattle.runs.specs.declared.event.Event as any;
 ghost use Rattle.syntax.specs.Lists.{In};
 ghost use Rattle.process_tree.specs.Code.{Code};
 ghost use Rattle.process_tree.specs.Tidy.{Tidy};
@@ -20,7 +20,7 @@ ghost use Rattle.rendezvous.specs.walking.Sorting.{inserted};
 use crate::acting::acted_by;
 use crate::order::{latest_first, sooner_count};
 use address::Entry;
-use calculus::Event;
+use runs::Event;
 use channel_uses::ChannelUses;
 use offered_sides::sides_below;
 use process_tree::Tree;

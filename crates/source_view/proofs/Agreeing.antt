@@ -2,13 +2,13 @@
 use Rattle.std.proofs.Common.{◌≡◌, ℕ, zero, suc, ◌+◌, ◌-◌, ◌<◌, ◌≤◌, Bool, true, false, ◌&&◌, ◌||◌, Option, Result, Ok, Err, IfOk, List, [], ◌∷◌, ◌++◌, length, take, drop, get_or, refl, sym, ap, ◌∙◌, arith}
 use Rattle.std.proofs.Math.Seq.{take-length}
 use Rattle.system.specs.Expression.{is_in}
-use Rattle.calculus.specs.Events.{acting}
-use Rattle.calculus.specs.Live.{events}
-use Rattle.calculus.specs.InOrder.{InOrder}
-use Rattle.calculus.specs.Object.{Reaches}
-use Rattle.calculus.specs.Ready.{ReadyList, Sooner}
-use Rattle.calculus.specs.Steps.{State}
-use Rattle.calculus.specs.declared.event.Event.{Event}
+use Rattle.runs.specs.Events.{acting}
+use Rattle.runs.specs.Live.{events}
+use Rattle.runs.specs.InOrder.{InOrder}
+use Rattle.runs.specs.Object.{Reaches}
+use Rattle.runs.specs.Ready.{ReadyList, Sooner}
+use Rattle.runs.specs.Steps.{State}
+use Rattle.runs.specs.declared.event.Event.{Event}
 use Rattle.event_places.specs.EventPlaces.{line_after}
 use Rattle.machine.specs.AtMachine.{AtMachine, object}
 use Rattle.syntax.specs.Texts.{lines}

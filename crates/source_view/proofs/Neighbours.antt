@@ -8,16 +8,16 @@ use Rattle.address.specs.Order.{order_of}
 use Rattle.address.specs.walking.OrderLaws.{greater-not-less}
 use Rattle.address.proofs.Total.{order-antisymmetric}
 use Rattle.syntax.specs.Lists.{In}
-use Rattle.calculus.specs.Choices.{choice_of}
-use Rattle.calculus.specs.Events.{acting}
-use Rattle.calculus.specs.walking.EventLaws.{same_place-decides}
-use Rattle.calculus.specs.InOrder.{InOrder}
-use Rattle.calculus.specs.Live.{events}
-use Rattle.calculus.specs.Moves.{Place}
-use Rattle.calculus.specs.Ready.{Sooner}
-use Rattle.calculus.specs.Tests.{same_place}
-use Rattle.calculus.specs.declared.event.Event.{Event}
-use Rattle.calculus.proofs.Lists.{every-in}
+use Rattle.runs.specs.Choices.{choice_of}
+use Rattle.runs.specs.Events.{acting}
+use Rattle.runs.specs.walking.EventLaws.{same_place-decides}
+use Rattle.runs.specs.InOrder.{InOrder}
+use Rattle.runs.specs.Live.{events}
+use Rattle.runs.specs.Moves.{Place}
+use Rattle.runs.specs.Ready.{Sooner}
+use Rattle.runs.specs.Tests.{same_place}
+use Rattle.runs.specs.declared.event.Event.{Event}
+use Rattle.runs.proofs.Lists.{every-in}
 use Rattle.event_places.specs.EventPlaces.{line_after, is_open_after}
 use Rattle.machine.specs.AtMachine.{AtMachine}
 use Rattle.source_view.specs.View.{is_line, acts_on, are_in_conflict, is_conflict_on}

@@ -4,14 +4,14 @@ use Rattle.std.specs.List.{list_any}
 use Rattle.std.specs.Fmt.{decimal}
 use Rattle.syntax.specs.Texts.{lines}
 use Rattle.system.specs.Expression.{is_in}
-use Rattle.calculus.specs.Choices.{choice_of}
-use Rattle.calculus.specs.Events.{acting}
-use Rattle.calculus.specs.Live.{events}
-use Rattle.calculus.specs.Object.{Reaches}
-use Rattle.calculus.specs.Ready.{ReadyList}
-use Rattle.calculus.specs.Steps.{State}
-use Rattle.calculus.specs.Tests.{same_place}
-use Rattle.calculus.specs.declared.event.Event.{Event}
+use Rattle.runs.specs.Choices.{choice_of}
+use Rattle.runs.specs.Events.{acting}
+use Rattle.runs.specs.Live.{events}
+use Rattle.runs.specs.Object.{Reaches}
+use Rattle.runs.specs.Ready.{ReadyList}
+use Rattle.runs.specs.Steps.{State}
+use Rattle.runs.specs.Tests.{same_place}
+use Rattle.runs.specs.declared.event.Event.{Event}
 use Rattle.event_places.specs.EventPlaces.{is_open_after}
 use Rattle.machine.specs.AtMachine.{AtMachine, object}
 use Rattle.machine.specs.Branching.{line_of}

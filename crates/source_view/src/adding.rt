@@ -4,7 +4,7 @@ ghost use Rattle.source_view.specs.walking.Marking.{ChangedBy, with_events, with
 
 use crate::conflict::conflicts_with_next;
 use crate::marks::Marks;
-use calculus::Event;
+use runs::Event;
 use machine::Machine;
 
 /// Adds what the ready events mark. Of those that act at one place each stands behind another.

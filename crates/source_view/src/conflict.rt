@@ -1,11 +1,11 @@
 // Which ready events are in conflict.
 ghost use Rattle.std.specs.Prelude.{◌≡◌};
-ghost use Rattle.calculus.specs.Tests.{same_place};
+ghost use Rattle.runs.specs.Tests.{same_place};
 ghost use Rattle.source_view.specs.View.{are_in_conflict};
 ghost use Rattle.source_view.specs.walking.Marking.{conflicts_with_next};
 
 use address::Address;
-use calculus::Event;
+use runs::Event;
 use machine::Machine;
 
 /// Whether the event is in conflict with the one behind it.

@@ -1,12 +1,12 @@
 // The marks of lines.
 ghost use Rattle.std.specs.Prelude.{IfOk};
-ghost use Rattle.calculus.specs.InOrder.{InOrder};
-ghost use Rattle.calculus.specs.Ready.{Sooner};
+ghost use Rattle.runs.specs.InOrder.{InOrder};
+ghost use Rattle.runs.specs.Ready.{Sooner};
 ghost use Rattle.source_view.specs.View.{marks_on};
 ghost use Rattle.source_view.specs.walking.Marking.{AreMarks, break_mark};
 
 use crate::adding::add_ready;
-use calculus::Event;
+use runs::Event;
 use machine::{Breaks, Machine};
 use std::alloc::{AllocError, Global};
 

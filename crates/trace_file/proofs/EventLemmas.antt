@@ -3,8 +3,8 @@ use Rattle.std.proofs.Common.{◌≡◌, ℕ, suc, ◌+◌, List, [], ◌∷◌,
 use Rattle.std.specs.List.{flat_map}
 use Rattle.std.proofs.lemmas.List.Concat.{flat_map-append}
 use Rattle.syntax.specs.Lists.{Every}
-use Rattle.calculus.specs.Live.{Live, events}
-use Rattle.calculus.specs.declared.event.Event.{Event}
+use Rattle.runs.specs.Live.{Live, events}
+use Rattle.runs.specs.declared.event.Event.{Event}
 use Rattle.trace_file.specs.TraceText.{event_line}
 use Rattle.trace_file.specs.Loading.{ticketed}
 

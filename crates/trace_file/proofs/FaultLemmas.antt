@@ -3,11 +3,11 @@ use Rattle.std.proofs.Common.{◌≡◌, inl, inr, ℕ, suc, ◌+◌, ◌≤◌,
 use Rattle.std.specs.List.{All}
 use Rattle.system.specs.declared.system.System.{System}
 use Rattle.sharing_check.specs.Rule.{SharesWell}
-use Rattle.calculus.specs.Choices.{choice_of}
-use Rattle.calculus.specs.Object.{most_live}
-use Rattle.calculus.specs.Steps.{State, Run, opening}
-use Rattle.calculus.specs.declared.event.Choice.{Choice}
-use Rattle.calculus.specs.declared.event.Event.{Event}
+use Rattle.runs.specs.Choices.{choice_of}
+use Rattle.runs.specs.Object.{most_live}
+use Rattle.runs.specs.Steps.{State, Run, opening}
+use Rattle.runs.specs.declared.event.Choice.{Choice}
+use Rattle.runs.specs.declared.event.Event.{Event}
 use Rattle.trace_file.specs.declared.fault.Fault.{Fault}
 use Rattle.trace_file.specs.TraceText.{header_of, event_line, HasSteps, Begins}
 use Rattle.trace_file.specs.Loading.{IsFirstLine, IsNoEnd, IsStep, IsNoStep, CannotStep, DiffersAt, IsRefused}

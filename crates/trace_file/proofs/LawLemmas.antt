@@ -4,18 +4,18 @@ use Rattle.std.specs.List.{All, flat_map}
 use Rattle.syntax.specs.Lists.{Every}
 use Rattle.system.specs.declared.system.System.{System}
 use Rattle.sharing_check.specs.Rule.{SharesWell}
-use Rattle.calculus.specs.Choices.{choice_of}
-use Rattle.calculus.specs.Dependence.{Respecting}
-use Rattle.calculus.specs.Live.{events}
-use Rattle.calculus.specs.Object.{most_live}
-use Rattle.calculus.specs.Steps.{State, Step, Run, opening}
-use Rattle.calculus.specs.declared.event.Choice.{Choice}
-use Rattle.calculus.specs.declared.event.Event.{Event}
-use Rattle.calculus.proofs.FromOpening.{one_choice}
-use Rattle.calculus.proofs.Opening.{opening-formed}
-use Rattle.calculus.proofs.Orders.{run-join, run-part, run-formed}
-use Rattle.calculus.proofs.StepOf.{step-determined, run-determined}
-use Rattle.calculus.specs.Sound.{Sound}
+use Rattle.runs.specs.Choices.{choice_of}
+use Rattle.runs.specs.Dependence.{Respecting}
+use Rattle.runs.specs.Live.{events}
+use Rattle.runs.specs.Object.{most_live}
+use Rattle.runs.specs.Steps.{State, Step, Run, opening}
+use Rattle.runs.specs.declared.event.Choice.{Choice}
+use Rattle.runs.specs.declared.event.Event.{Event}
+use Rattle.runs.proofs.FromOpening.{one_choice}
+use Rattle.runs.proofs.Opening.{opening-formed}
+use Rattle.runs.proofs.Orders.{run-join, run-part, run-formed}
+use Rattle.runs.proofs.StepOf.{step-determined, run-determined}
+use Rattle.runs.specs.Sound.{Sound}
 use Rattle.machine.specs.AtMachine.{AtMachine, object}
 use Rattle.trace_file.specs.TraceText.{header_of, choice_line, event_line, trace_text, IsTrace, IsWritable, HasSteps, Begins}
 use Rattle.trace_file.specs.Loading.{IsFirstLine, IsNoEnd, IsStep, CannotStep}
@@ -23,9 +23,9 @@ use Rattle.trace_file.specs.declared.version.Version.{Version}
 use Rattle.trace_file.specs.declared.version.Version.TheVariants.{First, Second}
 use Rattle.canonical_order.proofs.Canonicals.{canonical-rearranged, canonical-runs, is-its-own-order, orders-agree}
 use Rattle.canonical_order.specs.Canonical.{IsCanonicalOrder}
-use Rattle.calculus.proofs.Elements.{in-rearranged}
-use Rattle.calculus.proofs.FromOpening.{one_state}
-use Rattle.calculus.proofs.Lists.{every-in, every-of}
+use Rattle.runs.proofs.Elements.{in-rearranged}
+use Rattle.runs.proofs.FromOpening.{one_state}
+use Rattle.runs.proofs.Lists.{every-in, every-of}
 use Rattle.trace_file.specs.Laws.{OneList, EqualBytes, TraceStands, LoadsTheSame}
 use Rattle.trace_file.proofs.LineLemmas.{cut-same, has-one, step-same, clear-by-test}
 use Rattle.trace_file.proofs.EventLemmas.{events-length, ticketed-events}

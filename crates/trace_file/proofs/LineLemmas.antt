@@ -16,7 +16,7 @@ use Rattle.address.proofs.Numbers.{heads, tails}
 use Rattle.address.proofs.Finds.{text_of-injective}
 use Rattle.decimal.specs.Reading.{Reads, IsNoNumber}
 use Rattle.decimal.proofs.DigitLemmas.{decimal-digits}
-use Rattle.calculus.specs.declared.event.Choice.{Choice}
+use Rattle.runs.specs.declared.event.Choice.{Choice}
 use Rattle.trace_file.specs.Loading.{IsStep, IsNoStep}
 use Rattle.trace_file.specs.walking.Fields.{HasNone, IsCut, AreFields, HasNoFields, HasNoWord, IsArm, IsNoArm}
 

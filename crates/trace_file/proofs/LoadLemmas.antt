@@ -2,20 +2,20 @@
 use Rattle.std.proofs.Common.{◌≡◌, inl, inr, ℕ, suc, ◌+◌, ◌≤◌, ◌<◌, List, [], ◌∷◌, ◌++◌, length, refl, sym, ap, ◌∙◌, subst, arith, append_assoc, Result, Err, MatchResult}
 use Rattle.std.specs.List.{flat_map}
 use Rattle.system.specs.declared.system.System.{System}
-use Rattle.calculus.specs.Choices.{choice_of}
-use Rattle.calculus.specs.Does.{Answers}
-use Rattle.calculus.specs.Live.{Live, events}
-use Rattle.calculus.specs.Object.{Object, most_live, last_ticket}
-use Rattle.calculus.specs.Ready.{Chosen}
-use Rattle.calculus.specs.Steps.{State, Run, opening}
-use Rattle.calculus.specs.declared.command.Command.{Command}
-use Rattle.calculus.specs.declared.command.Reply.{Reply}
-use Rattle.calculus.specs.declared.command.Refusal.{Refusal}
-use Rattle.calculus.specs.declared.command.Refusal.TheVariants.{NotReady, HistoryFull, Spent}
-use Rattle.calculus.specs.declared.event.Choice.{Choice}
-use Rattle.calculus.specs.declared.event.Event.{Event}
-use Rattle.calculus.proofs.Orders.{run-join}
-use Rattle.calculus.proofs.Tickets.{events-join}
+use Rattle.runs.specs.Choices.{choice_of}
+use Rattle.runs.specs.Does.{Answers}
+use Rattle.runs.specs.Live.{Live, events}
+use Rattle.runs.specs.Object.{Object, most_live, last_ticket}
+use Rattle.runs.specs.Ready.{Chosen}
+use Rattle.runs.specs.Steps.{State, Run, opening}
+use Rattle.runs.specs.declared.command.Command.{Command}
+use Rattle.runs.specs.declared.command.Reply.{Reply}
+use Rattle.runs.specs.declared.command.Refusal.{Refusal}
+use Rattle.runs.specs.declared.command.Refusal.TheVariants.{NotReady, HistoryFull, Spent}
+use Rattle.runs.specs.declared.event.Choice.{Choice}
+use Rattle.runs.specs.declared.event.Event.{Event}
+use Rattle.runs.proofs.Orders.{run-join}
+use Rattle.runs.proofs.Tickets.{events-join}
 use Rattle.machine.specs.AtMachine.{AtMachine, object}
 use Rattle.trace_file.specs.declared.fault.Fault.{Fault}
 use Rattle.trace_file.specs.declared.version.Version.{Version}

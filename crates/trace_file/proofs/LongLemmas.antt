@@ -12,14 +12,14 @@ use Rattle.address.specs.Text.{text_of}
 use Rattle.address.specs.Reading.{NumbersFit, IsTextOf, HasNoText}
 use Rattle.address.specs.walking.Entries.{ReadsEntry, BeginsNoEntry}
 use Rattle.address.proofs.Finds.{Pending, pending-more, pending-stuck, pending-end}
-use Rattle.calculus.proofs.Lists.{every-in}
-use Rattle.calculus.specs.Events.{acting}
-use Rattle.calculus.specs.Object.{Reaches}
-use Rattle.calculus.specs.Ready.{ReadyList, ChoiceAllowed}
-use Rattle.calculus.specs.Steps.{State}
-use Rattle.calculus.specs.declared.command.Refusal.{Refusal}
-use Rattle.calculus.specs.declared.event.Choice.{Choice}
-use Rattle.calculus.specs.declared.event.Event.{Event}
+use Rattle.runs.proofs.Lists.{every-in}
+use Rattle.runs.specs.Events.{acting}
+use Rattle.runs.specs.Object.{Reaches}
+use Rattle.runs.specs.Ready.{ReadyList, ChoiceAllowed}
+use Rattle.runs.specs.Steps.{State}
+use Rattle.runs.specs.declared.command.Refusal.{Refusal}
+use Rattle.runs.specs.declared.event.Choice.{Choice}
+use Rattle.runs.specs.declared.event.Event.{Event}
 use Rattle.machine.specs.AtMachine.{AtMachine, object}
 use Rattle.trace_file.specs.declared.fault.Fault.{Fault}
 use Rattle.trace_file.specs.walking.OneStep.{LineStops}

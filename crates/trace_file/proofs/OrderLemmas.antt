@@ -4,17 +4,17 @@ use Rattle.std.specs.Prelude.{slice_get}
 use Rattle.std.proofs.lemmas.List.{take_all}
 use Rattle.syntax.specs.Lists.{In, Every}
 use Rattle.system.specs.declared.system.System.{System}
-use Rattle.calculus.specs.Choices.{choice_of}
-use Rattle.calculus.specs.Dependence.{Earlier}
-use Rattle.calculus.specs.Events.{acting}
-use Rattle.calculus.specs.Live.{Live, events}
-use Rattle.calculus.specs.Sound.{Sound}
-use Rattle.calculus.specs.Steps.{State, Run, opening}
-use Rattle.calculus.specs.declared.event.Choice.{Choice}
-use Rattle.calculus.specs.declared.event.Event.{Event}
-use Rattle.calculus.proofs.FromOpening.{acting_once}
-use Rattle.calculus.proofs.Lists.{every-in}
-use Rattle.calculus.proofs.Options.{none-some, some-injective}
+use Rattle.runs.specs.Choices.{choice_of}
+use Rattle.runs.specs.Dependence.{Earlier}
+use Rattle.runs.specs.Events.{acting}
+use Rattle.runs.specs.Live.{Live, events}
+use Rattle.runs.specs.Sound.{Sound}
+use Rattle.runs.specs.Steps.{State, Run, opening}
+use Rattle.runs.specs.declared.event.Choice.{Choice}
+use Rattle.runs.specs.declared.event.Event.{Event}
+use Rattle.runs.proofs.FromOpening.{acting_once}
+use Rattle.runs.proofs.Lists.{every-in}
+use Rattle.runs.proofs.Options.{none-some, some-injective}
 use Rattle.machine.specs.AtMachine.{AtMachine, object}
 use Rattle.canonical_order.proofs.Stands.{stand-length}
 use Rattle.canonical_order.specs.Canonical.{IsCanonicalOrder, StandAt}

@@ -5,13 +5,13 @@ use Rattle.address.specs.declared.Entry.TheVariants.{Branch}
 use Rattle.system.specs.Residual.{Residual, done, beside, along}
 use Rattle.system.specs.Translation.{in_parallel, opening_residual, residual_of, branch_of}
 use Rattle.system.specs.declared.system.System.{System}
-use Rattle.calculus.specs.Moves.{Place, Move, Local}
-use Rattle.calculus.specs.Events.{Located, places_of, acting, acting_at}
-use Rattle.calculus.specs.Steps.{State, Moves, Step, Run, opening}
-use Rattle.calculus.specs.declared.event.Event.{Event}
-use Rattle.calculus.specs.declared.event.Kind.{Kind}
-use Rattle.calculus.specs.declared.event.Kind.TheVariants.{Assign, Test, Turn, Meet, Open, Close, Sync}
-use Rattle.calculus.proofs.Stepping.{place-moves}
+use Rattle.runs.specs.Moves.{Place, Move, Local}
+use Rattle.runs.specs.Events.{Located, places_of, acting, acting_at}
+use Rattle.runs.specs.Steps.{State, Moves, Step, Run, opening}
+use Rattle.runs.specs.declared.event.Event.{Event}
+use Rattle.runs.specs.declared.event.Kind.{Kind}
+use Rattle.runs.specs.declared.event.Kind.TheVariants.{Assign, Test, Turn, Meet, Open, Close, Sync}
+use Rattle.runs.proofs.Stepping.{place-moves}
 
 -- branches, and nothing else
 abbrev AreBranches : Residual → Type 0

@@ -3,13 +3,13 @@ use Rattle.std.specs.Prelude.{ℕ, ◌≡◌, ◌↔◌, List}
 use Rattle.syntax.specs.Lists.{Every}
 use Rattle.system.specs.declared.system.System.{System}
 use Rattle.sharing_check.specs.Rule.{SharesWell}
-use Rattle.calculus.specs.Choices.{choice_of}
-use Rattle.calculus.specs.Dependence.{Respecting}
-use Rattle.calculus.specs.Live.{events}
-use Rattle.calculus.specs.Object.{Reaches}
-use Rattle.calculus.specs.Sound.{Sound}
-use Rattle.calculus.specs.Steps.{State, Run, opening}
-use Rattle.calculus.specs.declared.event.Event.{Event}
+use Rattle.runs.specs.Choices.{choice_of}
+use Rattle.runs.specs.Dependence.{Respecting}
+use Rattle.runs.specs.Live.{events}
+use Rattle.runs.specs.Object.{Reaches}
+use Rattle.runs.specs.Sound.{Sound}
+use Rattle.runs.specs.Steps.{State, Run, opening}
+use Rattle.runs.specs.declared.event.Event.{Event}
 use Rattle.machine.specs.AtMachine.{AtMachine, object}
 use Rattle.canonical_order.specs.Canonical.{IsCanonicalOrder}
 use Rattle.trace_file.specs.TraceText.{IsTrace, IsWritable, StandsFor}

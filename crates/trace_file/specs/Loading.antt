@@ -3,12 +3,12 @@ use Rattle.std.specs.Prelude.{ℕ, suc, ◌+◌, ◌≡◌, ◌≢◌, ◌⊎◌
 use Rattle.std.specs.List.{All}
 use Rattle.std.specs.Io.KnownBytes.{Appends, Consumes, IsAtEnd}
 use Rattle.system.specs.declared.system.System.{System}
-use Rattle.calculus.specs.Live.{Live}
-use Rattle.calculus.specs.Object.{most_live}
-use Rattle.calculus.specs.Ready.{ChoiceAllowed}
-use Rattle.calculus.specs.Steps.{State, Run, opening}
-use Rattle.calculus.specs.declared.event.Choice.{Choice}
-use Rattle.calculus.specs.declared.event.Event.{Event}
+use Rattle.runs.specs.Live.{Live}
+use Rattle.runs.specs.Object.{most_live}
+use Rattle.runs.specs.Ready.{ChoiceAllowed}
+use Rattle.runs.specs.Steps.{State, Run, opening}
+use Rattle.runs.specs.declared.event.Choice.{Choice}
+use Rattle.runs.specs.declared.event.Event.{Event}
 use Rattle.machine.specs.AtMachine.{AtMachine}
 use Rattle.devices.specs.Counting.{one_more, IsBeginning}
 use Rattle.trace_file.specs.declared.fault.Fault.{Fault}

@@ -6,11 +6,11 @@ use Rattle.syntax.specs.Lists.{Every}
 use Rattle.address.specs.Text.{text_of}
 use Rattle.address.specs.Reading.{NumbersFit}
 use Rattle.system.specs.declared.system.System.{System}
-use Rattle.calculus.specs.Choices.{choice_of}
-use Rattle.calculus.specs.Object.{most_live}
-use Rattle.calculus.specs.Steps.{State, Run, opening}
-use Rattle.calculus.specs.declared.event.Choice.{Choice}
-use Rattle.calculus.specs.declared.event.Event.{Event}
+use Rattle.runs.specs.Choices.{choice_of}
+use Rattle.runs.specs.Object.{most_live}
+use Rattle.runs.specs.Steps.{State, Run, opening}
+use Rattle.runs.specs.declared.event.Choice.{Choice}
+use Rattle.runs.specs.declared.event.Event.{Event}
 use Rattle.canonical_order.specs.Canonical.{IsCanonicalOrder}
 use Rattle.trace_file.specs.declared.version.Version.{Version}
 use Rattle.trace_file.specs.declared.version.Version.TheVariants.{First, Second}

@@ -4,7 +4,7 @@ ghost use Rattle.std.specs.Option.{SomeIff};
 ghost use Rattle.trace_file.specs.Loading.{IsStep, IsNoStep};
 ghost use Rattle.trace_file.specs.walking.Fields.{HasNone, IsCut, AreFields, HasNoFields, HasNoWord, IsArm, IsNoArm};
 
-use calculus::Choice;
+use runs::Choice;
 use decimal::read_number;
 use std::alloc::{AllocError, Global};
 

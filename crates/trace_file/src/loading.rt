@@ -10,7 +10,7 @@ use crate::line::{cut_at, read_step};
 use crate::long::refuse_long;
 use crate::order::refuse_disorder;
 use crate::version::{Version, version_of};
-use calculus::{Choice, Refusal, Reply};
+use runs::{Choice, Refusal, Reply};
 use devices::{Counted, ReadFault, read_all};
 use machine::Machine;
 use sharing_check::Checked;

@@ -3,13 +3,13 @@ ghost use Rattle.std.specs.Prelude.{◌≡◌, ◌↔◌, ◌<◌, List, length,
 ghost use Rattle.syntax.specs.Lists.{Every};
 ghost use Rattle.address.specs.Reading.{IsTextOf};
 ghost use Rattle.address.specs.declared.Entry.{Entry};
-ghost use Rattle.calculus.specs.Events.{acting};
+ghost use Rattle.runs.specs.Events.{acting};
 ghost use Rattle.trace_file.specs.walking.OneStep.{LineStops};
 
 use crate::Fault;
 use crate::line::{fields, read_arm};
 use address::read_entry;
-use calculus::Event;
+use runs::Event;
 use machine::Machine;
 
 /// The most bytes of a place that is read without a look at how deep the ready events act.

@@ -2,9 +2,9 @@
 ghost use Rattle.std.specs.Prelude.{MatchOption, MatchResult};
 ghost use Rattle.syntax.specs.Lists.{Every};
 ghost use Rattle.system.specs.declared.system.System.{System};
-ghost use Rattle.calculus.specs.Choices.{choice_of};
-ghost use Rattle.calculus.specs.Live.{events};
-ghost use Rattle.calculus.specs.Steps.{State, Run, opening};
+ghost use Rattle.runs.specs.Choices.{choice_of};
+ghost use Rattle.runs.specs.Live.{events};
+ghost use Rattle.runs.specs.Steps.{State, Run, opening};
 ghost use Rattle.trace_file.specs.TraceText.{IsWritable, KeepsOrder};
 ghost use Rattle.trace_file.specs.walking.OneStep.{OrderStops, AllAtHome, FirstMoved};
 ghost use Rattle.trace_file.specs.declared.version.Version.TheVariants.{Second};

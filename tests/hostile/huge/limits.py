@@ -10,7 +10,7 @@ PROMISED = 8
 # What the program takes for itself, whatever the text is.
 OWN = 16 * MB
 
-# What takes more than is promised, by kind and name: what it took at 1 MB (2026-11-26), and a tenth. docs/STATUS.md says what
+# What takes more than is promised, by kind and name: what it took at 1 MB (2026-11-26), and a tenth. docs/development/STATUS.md says what
 # would help.
 LARGER: dict[tuple[str, str], float] = {
     # One procedure is read at once: all its tokens, and trees of 32 to 200 bytes for a few bytes of text.

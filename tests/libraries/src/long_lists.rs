@@ -2,9 +2,8 @@
 
 use crate::examples::TWO_LOOPS;
 use address::{Address, Entry};
-use calculus::{Event, Kind, replay};
+use calculus::{Event, Kind, replay, same_run};
 use dependence::Live;
-use equal_runs::same_run;
 use std::alloc::{AllocError, Global};
 use std::test::Fail;
 use syntax::Boxed;

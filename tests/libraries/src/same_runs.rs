@@ -3,8 +3,7 @@
 use crate::examples::*;
 use crate::sharing::racing;
 use crate::told::*;
-use calculus::{Event, replay};
-use equal_runs::same_run;
+use calculus::{Event, replay, same_run};
 use sharing_check::Checked;
 use std::alloc::Global;
 use std::test::Fail;

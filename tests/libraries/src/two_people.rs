@@ -1,4 +1,4 @@
-//! The example of docs/sharing.md: two people and two workers on one execution.
+//! The example of docs/guide/several-people.md: two people and two workers on one execution.
 
 use debug_session::{Fault, Session, accept};
 use locked_execution::{Gate, Machine, Shared};

@@ -1,4 +1,4 @@
-"""Refusals and their numbers, as in docs/formats.md."""
+"""Refusals and their numbers, as in docs/reference/formats.md."""
 
 from __future__ import annotations
 

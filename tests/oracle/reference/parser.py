@@ -1,4 +1,4 @@
-"""Tokens to the tree of a description. The grammar is in docs/language.md."""
+"""Tokens to the tree of a description. The grammar is in docs/reference/language.md."""
 
 from __future__ import annotations
 

@@ -1,4 +1,4 @@
-"""Addresses: where something happens. See docs/semantics.md."""
+"""Addresses: where something happens. See docs/theory/runs.md."""
 
 from __future__ import annotations
 

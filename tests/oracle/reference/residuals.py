@@ -1,4 +1,4 @@
-"""Residuals, which are what is still to do, and the local moves that they offer. See docs/semantics.md.
+"""Residuals, which are what is still to do, and the local moves that they offer. See docs/theory/runs.md.
 
 A command that has not begun is its own residual. What is done is erased at once.
 """

@@ -1,4 +1,4 @@
-"""The lines of a script and their answers. The form of both is in docs/formats.md."""
+"""The lines of a script and their answers. The form of both is in docs/reference/script.md."""
 
 from __future__ import annotations
 

@@ -1,4 +1,4 @@
-"""Traces: the choices of the live events as a text, and a machine that takes them again. See docs/formats.md."""
+"""Traces: the choices of the live events as a text, and a machine that takes them again. See docs/reference/formats.md."""
 
 from __future__ import annotations
 

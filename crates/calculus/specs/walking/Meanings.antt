@@ -2,8 +2,8 @@
 -- No reader has to believe it: no public contract cites it, and the second clauses of `replay`, `Plain::after` and `Plain::allowed` say by `Steps.antt` what comes of these moves.
 use Rattle.std.specs.Prelude.{Option, None, Some}
 use Rattle.system.specs.Translation.{expression_of, decision_of}
-use Rattle.calculus.specs.Moves as model
-use Rattle.calculus.specs.walking.After as after
+use Rattle.runs.specs.Moves as model
+use Rattle.runs.specs.walking.After as after
 use Rattle.calculus.specs.Left.{residual_of_left}
 use Rattle.calculus.specs.declared.moves.Move.{Move}
 use Rattle.calculus.specs.declared.moves.Move.TheVariants.{Assigns, Tests, Turns, Sends, Receives, Syncs, Opens, Releases, Closes}

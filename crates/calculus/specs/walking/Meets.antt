@@ -2,10 +2,10 @@
 -- No reader has to believe it: the proofs of `making` tie it to `made_together`, and those to `Makes` of `Events.antt`.
 use Rattle.std.specs.Prelude.{ℕ, ◌==◌, ◌&&◌, Bool, true, false, List, cond, Option, Some, None}
 use Rattle.value.specs.Word.{Word}
-use Rattle.calculus.specs.Moves.{Place, Move, sends, receives, syncs, opens, releases}
-use Rattle.calculus.specs.Tests.{same_option, same_word}
-use Rattle.calculus.specs.declared.event.Event.{Event}
-use Rattle.calculus.specs.declared.event.Kind.TheVariants.{Meet, Open}
+use Rattle.runs.specs.Moves.{Place, Move, sends, receives, syncs, opens, releases}
+use Rattle.runs.specs.Tests.{same_option, same_word}
+use Rattle.runs.specs.declared.event.Event.{Event}
+use Rattle.runs.specs.declared.event.Kind.TheVariants.{Meet, Open}
 
 -- of a send
 abbrev pub met : Place → Place → ℕ → Word → List ℕ → Move → Option Event

@@ -1,9 +1,9 @@
 -- What was passed on the way along a sequence or along branches.
 -- No reader has to believe it: the proofs of `left` and `offers` tie it to `put_residual` and `after`.
 use Rattle.std.specs.Prelude.{ℕ, Bool, true, false, List, [], ◌∷◌, is_none}
-use Rattle.system.specs.Residual.{Residual, inside, beside, along, done}
-use Rattle.calculus.specs.Moves.{Place}
-use Rattle.calculus.specs.walking.Below.{below_branch}
+use Rattle.system.specs.Residual.{Residual, inside, beside, along}
+use Rattle.runs.specs.Moves.{Place}
+use Rattle.runs.specs.walking.Below.{below_branch}
 use Rattle.calculus.specs.Left.{residual_of_left}
 use Rattle.calculus.specs.declared.left.Left.{Left}
 use Rattle.calculus.specs.declared.left.Passed.{Passed}
@@ -34,8 +34,3 @@ along_all (p ∷ ps) rest = along p.0 (residual_of_left p.1) (along_all ps rest)
 abbrev pub is_passed : Place → Residual → Bool
 is_passed a (beside k child rest) = is_none (below_branch k a)
 is_passed a _ = false
-
--- whether nothing is left
-abbrev pub is_done : Residual → Bool
-is_done done = true
-is_done _ = false

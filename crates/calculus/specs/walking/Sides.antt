@@ -2,14 +2,14 @@
 -- No reader has to believe it: the proofs of `step` tie it to `step_of`, and those to `Step` of `Steps.antt`.
 use Rattle.std.specs.Prelude.{cond, Option, None}
 use Rattle.std.specs.Option.{option_and_then}
-use Rattle.calculus.specs.Moves.{Place}
-use Rattle.calculus.specs.Steps.{State}
-use Rattle.calculus.specs.walking.After.{after}
-use Rattle.calculus.specs.declared.ask.Ask.{Ask}
-use Rattle.calculus.specs.walking.Made.{made_alone, made_together}
-use Rattle.calculus.specs.walking.StepOf.{agreed}
-use Rattle.calculus.specs.walking.Below.{apart}
-use Rattle.calculus.specs.declared.event.Event.{Event}
+use Rattle.runs.specs.Moves.{Place}
+use Rattle.runs.specs.Steps.{State}
+use Rattle.runs.specs.walking.After.{after}
+use Rattle.runs.specs.declared.ask.Ask.{Ask}
+use Rattle.runs.specs.walking.Made.{made_alone, made_together}
+use Rattle.runs.specs.walking.StepOf.{agreed}
+use Rattle.runs.specs.walking.Below.{apart}
+use Rattle.runs.specs.declared.event.Event.{Event}
 
 -- the state after an event with one side
 abbrev pub alone : State → Event → Ask → Option State

@@ -1,8 +1,8 @@
 -- The moves that a tree in memory offers, as they are gathered.
 -- No reader has to believe it: `proofs/Walking.antt` ties it to `allowed_events`, and the law `AllowedAreListed` that to `Allowed`.
 use Rattle.std.specs.Prelude.{List, [], ◌∷◌, ◌++◌}
-use Rattle.calculus.specs.Moves.{Place}
-use Rattle.calculus.specs.Events.{Located, at}
+use Rattle.runs.specs.Moves.{Place}
+use Rattle.runs.specs.Events.{Located, at}
 use Rattle.calculus.specs.walking.Meanings.{move_of}
 use Rattle.calculus.specs.declared.walk.Offer.{Offer}
 

@@ -2,7 +2,7 @@
 -- No reader has to believe it: `proofs/AskLemmas.antt` ties it to `AsksNothing` of `Lines.antt`.
 use Rattle.std.specs.Prelude.{ℕ, List}
 use Rattle.system.specs.declared.system.System.{System}
-use Rattle.calculus.specs.declared.event.Choice.{Choice}
+use Rattle.runs.specs.declared.event.Choice.{Choice}
 use Rattle.debug_session.specs.declared.line.Line.{Line}
 use Rattle.debug_session.specs.declared.keyword.Keyword.{Keyword}
 use Rattle.debug_session.specs.Lines.{IsNumber, IsBranch, IsSession, IsVariable, IsArm, IsChoice, AsksBy}

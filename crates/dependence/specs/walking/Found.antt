@@ -5,10 +5,10 @@ use Rattle.address.specs.Places.{Before}
 use Rattle.syntax.specs.Lists.{In}
 use Rattle.last_events.specs.LastEvents.{IsAt}
 use Rattle.last_events.specs.declared.places.PlaceTable.{PlaceTable}
-use Rattle.calculus.specs.Dependence.{SomeBefore, Directly}
-use Rattle.calculus.specs.Live.{Live, Rising, LiveAt, DependsOn, LastWriter}
-use Rattle.calculus.specs.Moves.{Place}
-use Rattle.calculus.specs.declared.event.Event.{Event}
+use Rattle.runs.specs.Dependence.{SomeBefore, Directly}
+use Rattle.runs.specs.Live.{Live, Rising, LiveAt, DependsOn, LastWriter}
+use Rattle.runs.specs.Moves.{Place}
+use Rattle.runs.specs.declared.event.Event.{Event}
 use Rattle.dependence.specs.declared.accesses.Newcomer.{Newcomer}
 use Rattle.dependence.specs.walking.Tabled.{TablesOf}
 

@@ -1,8 +1,8 @@
 -- Marks beside the live events, at the same indexes.
--- No reader has to believe it: the proof of `mark_dependents` ties it to `ConsequencesList` of `calculus`, and that of
+-- No reader has to believe it: the proof of `mark_dependents` ties it to `ConsequencesList` of `runs`, and that of
 -- `Live::unmarked_below` to what `specs/Taking.antt` has.
 use Rattle.std.specs.Prelude.{◌≡◌, ◌⊎◌, ℕ, ◌+◌, ◌<◌, ◌≤◌, List, Bool, true, length, Some, slice_get}
-use Rattle.calculus.specs.Live.{Live, DependsOn}
+use Rattle.runs.specs.Live.{Live, DependsOn}
 use Rattle.dependence.specs.Followers.{Follower}
 use Rattle.dependence.specs.Taking.{stride}
 use Rattle.dependence.specs.walking.Tables.{StandsAt}

@@ -2,7 +2,7 @@
 -- No reader has to believe it: `proofs/AddedEvent.antt` ties what is topmost to `Follower`.
 use Rattle.std.specs.Prelude.{◌≡◌, ◌↔◌, ℕ, ◌+◌, ◌<◌, ◌≤◌, List, length, Bool, true, Some, slice_get}
 use Rattle.syntax.specs.Lists.{In}
-use Rattle.calculus.specs.Live.{Live}
+use Rattle.runs.specs.Live.{Live}
 use Rattle.dependence.specs.walking.Tables.{StandsAt, Falling, Topmost, LeadsBack}
 
 -- each of cs stands from the index `low` on and below `high`

@@ -6,10 +6,10 @@ use Rattle.syntax.specs.Lists.{In}
 use Rattle.last_events.specs.LastEvents.{IsAt, Uses}
 use Rattle.last_events.specs.declared.places.PlaceTable.{PlaceTable}
 use Rattle.last_events.specs.declared.uses.UseTable.{UseTable}
-use Rattle.calculus.specs.Events.{places}
-use Rattle.calculus.specs.Live.{Live, LiveAt}
-use Rattle.calculus.specs.Moves.{Place}
-use Rattle.calculus.specs.declared.event.Event.{Event}
+use Rattle.runs.specs.Events.{places}
+use Rattle.runs.specs.Live.{Live, LiveAt}
+use Rattle.runs.specs.Moves.{Place}
+use Rattle.runs.specs.declared.event.Event.{Event}
 use Rattle.dependence.specs.declared.tables.Tables.{Tables}
 
 -- at each place the event that stands there, and of each variable the events that write it and those that read it

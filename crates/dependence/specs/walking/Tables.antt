@@ -2,10 +2,10 @@
 -- No reader has to believe it: contracts see a `Live` as `Shown`, which has no tables.
 use Rattle.std.specs.Prelude.{◌≡◌, ◌⊎◌, ◌↔◌, ℕ, ◌<◌, List, [], ◌∷◌, ◌++◌, length, Some, slice_get, slice_set}
 use Rattle.syntax.specs.Lists.{In}
-use Rattle.calculus.specs.InOrder.{InOrder}
-use Rattle.calculus.specs.Dependence.{Directly}
-use Rattle.calculus.specs.Live.{Live, Rising, LiveAt, DependsOn}
-use Rattle.calculus.specs.declared.event.Event.{Event}
+use Rattle.runs.specs.InOrder.{InOrder}
+use Rattle.runs.specs.Dependence.{Directly}
+use Rattle.runs.specs.Live.{Live, Rising, LiveAt, DependsOn}
+use Rattle.runs.specs.declared.event.Event.{Event}
 use Rattle.dependence.specs.Followers.{Follower, ListsFollowers}
 use Rattle.dependence.specs.declared.links.Links.{Links}
 

@@ -1,9 +1,9 @@
 -- What has no mark, of lists that stand beside the marks; and followers without the marked ones.
--- No reader has to believe it: the proofs of `take_marked` and `keep_unmarked` tie it to `WithoutTickets` of `calculus` and to `StaysBeside`.
+-- No reader has to believe it: the proofs of `take_marked` and `keep_unmarked` tie it to `WithoutTickets` of `runs` and to `StaysBeside`.
 use Rattle.std.specs.Prelude.{◌≡◌, ℕ, ◌<◌, List, [], ◌∷◌, Bool, true, false, length, Some, slice_get}
 use Rattle.syntax.specs.Lists.{In}
-use Rattle.calculus.specs.InOrder.{InOrder}
-use Rattle.calculus.specs.Live.{Live}
+use Rattle.runs.specs.InOrder.{InOrder}
+use Rattle.runs.specs.Live.{Live}
 use Rattle.dependence.specs.declared.links.Links.{Links}
 use Rattle.dependence.specs.walking.Tables.{StandsAt}
 

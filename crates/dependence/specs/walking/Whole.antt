@@ -1,7 +1,7 @@
 -- What holds of the tables of a `Live` at every moment.
 -- No reader has to believe it: it is the invariant of `Live`, of whose methods the clauses speak by `Shown`.
 use Rattle.std.specs.Prelude.{◌≡◌, List, Bool, length}
-use Rattle.calculus.specs.Live.{Live}
+use Rattle.runs.specs.Live.{Live}
 use Rattle.dependence.specs.declared.links.Links.{Links}
 use Rattle.dependence.specs.walking.Tables.{IsRising, Linked}
 

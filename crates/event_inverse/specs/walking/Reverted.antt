@@ -4,10 +4,10 @@ use Rattle.std.specs.Prelude.{ℕ, List, [], ◌∷◌, Option, Some, None, opti
 use Rattle.std.specs.Option.{option_and_then}
 use Rattle.value.specs.Word.{Word}
 use Rattle.system.specs.Expression.{Store}
-use Rattle.calculus.specs.Moves.{Place}
-use Rattle.calculus.specs.declared.ask.Ask.{Ask}
-use Rattle.calculus.specs.Asking.{asked}
-use Rattle.calculus.specs.declared.event.Event.{Event}
+use Rattle.runs.specs.Moves.{Place}
+use Rattle.runs.specs.declared.ask.Ask.{Ask}
+use Rattle.runs.specs.Asking.{asked}
+use Rattle.runs.specs.declared.event.Event.{Event}
 use Rattle.process_tree.specs.Proc.{Proc}
 use Rattle.process_tree.specs.walking.Retreated.{retreated}
 use Rattle.event_inverse.specs.Grown.{TreeAndStore, Taken}

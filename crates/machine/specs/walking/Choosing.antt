@@ -1,16 +1,16 @@
 -- The event of a list that is taken, and why none is.
--- No reader has to believe it: the proofs of `step` and `branch_step` tie it to `Steps` of `calculus` and to `StepsBranch` of `Branching.antt`.
+-- No reader has to believe it: the proofs of `step` and `branch_step` tie it to `Steps` of `runs` and to `StepsBranch` of `Branching.antt`.
 use Rattle.std.specs.Prelude.{◌≡◌, ◌<◌, ◌≤◌, ℕ, List, Option, Some, None, IsSome, take, slice_get, Bool, true, false, [], ◌∷◌, cond}
 use Rattle.syntax.specs.Lists.{Every}
-use Rattle.calculus.specs.Choices.{choice_of}
-use Rattle.calculus.specs.Ready.{Chosen}
-use Rattle.calculus.specs.Steps.{State}
-use Rattle.calculus.specs.Object.{most_live, last_ticket}
-use Rattle.calculus.specs.declared.event.Event.{Event}
-use Rattle.calculus.specs.declared.command.Refusal.{Refusal}
-use Rattle.calculus.specs.declared.command.Refusal.TheVariants.{NotReady, HistoryFull, Spent}
-use Rattle.calculus.specs.Does.{Steps, RefusesStep}
-use Rattle.calculus.specs.declared.command.Reply.{Reply}
+use Rattle.runs.specs.Choices.{choice_of}
+use Rattle.runs.specs.Ready.{Chosen}
+use Rattle.runs.specs.Steps.{State}
+use Rattle.runs.specs.Object.{most_live, last_ticket}
+use Rattle.runs.specs.declared.event.Event.{Event}
+use Rattle.runs.specs.declared.command.Refusal.{Refusal}
+use Rattle.runs.specs.declared.command.Refusal.TheVariants.{NotReady, HistoryFull, Spent}
+use Rattle.runs.specs.Does.{Steps, RefusesStep}
+use Rattle.runs.specs.declared.command.Reply.{Reply}
 use Rattle.machine.specs.AtMachine.{AtMachine, object}
 use Rattle.machine.specs.declared.branching.BranchReply.{BranchReply}
 use Rattle.machine.specs.declared.branching.BranchReply.TheVariants.{Stepped, Refused}

@@ -2,11 +2,11 @@
 -- No reader has to believe it: the methods of `Machine` are said of `AtMachine`, which has none of these, and of `object`.
 use Rattle.std.specs.Prelude.{◌≡◌, ℕ, List, [], ◌∷◌, length}
 use Rattle.sharing_check.specs.declared.checked.Checked.{Checked}
-use Rattle.calculus.specs.Steps.{opening}
-use Rattle.calculus.specs.Live.{Live, events}
-use Rattle.calculus.specs.Object.{Object}
-use Rattle.calculus.specs.Sound.{Sound}
-use Rattle.calculus.specs.declared.event.Event.{Event}
+use Rattle.runs.specs.Steps.{opening}
+use Rattle.runs.specs.Live.{Live, events}
+use Rattle.runs.specs.Object.{Object}
+use Rattle.runs.specs.Sound.{Sound}
+use Rattle.runs.specs.declared.event.Event.{Event}
 use Rattle.process_tree.specs.Code.{Code}
 use Rattle.process_tree.specs.Tidy.{Tidy}
 use Rattle.process_tree.specs.Translation.{system_code}

@@ -1,10 +1,10 @@
 -- The live events that are marked, as a rollback takes them back: all on the tree and in the store, and then all out of the lists.
--- No reader has to believe it: the proof of `roll` ties it to `TakesOut` of `calculus`.
+-- No reader has to believe it: the proof of `roll` ties it to `TakesOut` of `runs`.
 use Rattle.std.specs.Prelude.{◌↔◌, ℕ, ◌++◌, List, take, drop}
 use Rattle.syntax.specs.Lists.{In}
 use Rattle.sharing_check.specs.declared.checked.Checked.{Checked}
-use Rattle.calculus.specs.Live.{Live, LiveAt, DependsOn, WithoutTickets}
-use Rattle.calculus.specs.declared.event.Event.{Event}
+use Rattle.runs.specs.Live.{Live, LiveAt, DependsOn, WithoutTickets}
+use Rattle.runs.specs.declared.event.Event.{Event}
 use Rattle.dependence.specs.Shown.{Shown}
 use Rattle.dependence.specs.Taking.{StaysBeside}
 use Rattle.event_inverse.specs.Grown.{TreeAndStore}

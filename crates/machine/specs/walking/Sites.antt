@@ -3,11 +3,11 @@
 use Rattle.std.specs.Prelude.{◌≡◌, ℕ, ◌+◌, ◌-◌, List, [], ◌∷◌, Bool, true, cond, nat_lt}
 use Rattle.syntax.specs.Lists.{In}
 use Rattle.address.specs.declared.Entry.TheVariants.{Branch}
-use Rattle.calculus.specs.InOrder.{InOrder}
-use Rattle.calculus.specs.Moves.{Place}
-use Rattle.calculus.specs.Ready.{Sooner}
-use Rattle.calculus.specs.Steps.{State, Allowed}
-use Rattle.calculus.specs.declared.event.Event.{Event}
+use Rattle.runs.specs.InOrder.{InOrder}
+use Rattle.runs.specs.Moves.{Place}
+use Rattle.runs.specs.Ready.{Sooner}
+use Rattle.runs.specs.Steps.{State, Allowed}
+use Rattle.runs.specs.declared.event.Event.{Event}
 use Rattle.offered_sides.specs.Sides.{Under}
 use Rattle.machine.specs.declared.branching.Site.{Site}
 use Rattle.machine.specs.declared.branching.Site.TheVariants.{Child, Body, Port, Unknown}

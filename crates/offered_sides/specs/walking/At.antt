@@ -3,8 +3,8 @@
 use Rattle.std.specs.Prelude.{◌≡◌, ◌==◌, ◌&&◌, Bool, true, false, cond, List, [], ◌∷◌, ◌++◌}
 use Rattle.address.specs.declared.Entry.{Entry}
 use Rattle.address.specs.declared.Entry.TheVariants.{Ordered, Branch}
-use Rattle.calculus.specs.Moves.{Place}
-use Rattle.calculus.specs.Tests.{same_entry, same_place}
+use Rattle.runs.specs.Moves.{Place}
+use Rattle.runs.specs.Tests.{same_entry, same_place}
 use Rattle.offered_sides.specs.walking.Walk.{Walk}
 use Rattle.offered_sides.specs.declared.side.OfferedSide.{OfferedSide}
 

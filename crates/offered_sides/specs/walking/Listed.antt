@@ -6,7 +6,7 @@ use Rattle.address.specs.declared.Entry.{Entry}
 use Rattle.address.specs.declared.Entry.TheVariants.{Ordered, Branch}
 use Rattle.system.specs.Expression.{Store, Expression, Decision, by_guards, decide}
 use Rattle.system.specs.Residual.{Residual, done, halted, inside, beside, assign, send, receive, sync, held, loop, while, test, choose, closing, drain}
-use Rattle.calculus.specs.Moves.{Place, assigns, tests, turns, sends, receives, syncs, releases, closes}
+use Rattle.runs.specs.Moves.{Place, assigns, tests, turns, sends, receives, syncs, releases, closes}
 use Rattle.process_tree.specs.Left.{Received, with_value, residual_once, residual_sender, channel_of}
 use Rattle.process_tree.specs.Proc.{waiting, holding, past, Proc, idle, stopped, once, sender, fresh, turn, ended_at_once, ended, untested, skipped, took, unopened, entered, closed, sequence, parallel, drained, Procs, no_procs, proc}
 use Rattle.process_tree.specs.Tidy.{last_moved}

@@ -2,7 +2,7 @@
 -- No reader has to believe it: `finished` of `is_over` says the same of a whole process.
 use Rattle.std.specs.Prelude.{◌≡◌, ℕ, Bool, true, false, [], ◌∷◌, Some}
 use Rattle.address.specs.declared.Entry.TheVariants.{Ordered}
-use Rattle.calculus.specs.Moves.{Place}
+use Rattle.runs.specs.Moves.{Place}
 use Rattle.system.specs.Expression.{Store}
 use Rattle.process_tree.specs.Children.{proc_at}
 use Rattle.process_tree.specs.Left.{Received}

@@ -3,7 +3,7 @@
 use Rattle.std.specs.Prelude.{List, [], ◌∷◌, ◌++◌}
 use Rattle.address.specs.declared.Entry.{Entry}
 use Rattle.system.specs.Expression.{Store, Expression, Decision, put_value, put_decision}
-use Rattle.calculus.specs.Moves.{Place}
+use Rattle.runs.specs.Moves.{Place}
 use Rattle.process_tree.specs.Left.{Received}
 use Rattle.process_tree.specs.Proc.{Proc}
 use Rattle.offered_sides.specs.walking.Listed.{side_at, behind, listed}

@@ -2,10 +2,10 @@
 -- No reader has to believe it: the law `moves_go_back` says that it gives what `Advanced.antt` began with.
 use Rattle.std.specs.Prelude.{ℕ, zero, suc, ◌+◌, ◌*◌, false, Option, Some, None, option_map}
 use Rattle.system.specs.Expression.{Expression}
-use Rattle.calculus.specs.Moves.{Place}
+use Rattle.runs.specs.Moves.{Place}
 use Rattle.process_tree.specs.Code.{Code}
 use Rattle.process_tree.specs.Proc.{waiting, holding, past, Proc, idle, stopped, once, sender, fresh, turn, ended_at_once, ended, untested, skipped, took, unopened, entered, closed, sequence, parallel, drained, Procs, no_procs, proc}
-use Rattle.calculus.specs.ByPlace.{if_here, if_act, if_child, if_branch}
+use Rattle.runs.specs.ByPlace.{if_here, if_act, if_child, if_branch}
 use Rattle.process_tree.specs.Places.{if_child_or}
 
 -- a loop before turn n, with the body that the turn took out

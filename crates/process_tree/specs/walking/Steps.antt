@@ -2,9 +2,9 @@
 -- No reader has to believe it: `proofs/Steps.antt` ties it to the answers by places of `ByPlace.antt`.
 use Rattle.std.specs.Prelude.{ℕ, [], ◌∷◌, Bool, true, false, Option, Some, None}
 use Rattle.address.specs.declared.Entry.TheVariants.{Ordered, Branch}
-use Rattle.calculus.specs.Moves.{Place}
-use Rattle.calculus.specs.declared.ask.Ask.{Ask}
-use Rattle.calculus.specs.declared.ask.Ask.TheVariants as ask
+use Rattle.runs.specs.Moves.{Place}
+use Rattle.runs.specs.declared.ask.Ask.{Ask}
+use Rattle.runs.specs.declared.ask.Ask.TheVariants as ask
 
 -- a number in a sequence, and the place below it
 abbrev pub ordered_step : Place → Option (ℕ × Place)

@@ -2,12 +2,12 @@
 -- No reader has to believe it: the clauses of `ready_below` and `event_with` say what is listed and what is chosen among them.
 use Rattle.std.specs.Prelude.{◌≡◌, ◌⊎◌, ◌↔◌, List, Some}
 use Rattle.syntax.specs.Lists.{In}
-use Rattle.calculus.specs.Choices.{choice_of}
-use Rattle.calculus.specs.InOrder.{InOrder}
-use Rattle.calculus.specs.Ready.{Sooner}
-use Rattle.calculus.specs.Steps.{State, Allowed}
-use Rattle.calculus.specs.declared.event.Choice.{Choice}
-use Rattle.calculus.specs.declared.event.Event.{Event}
+use Rattle.runs.specs.Choices.{choice_of}
+use Rattle.runs.specs.InOrder.{InOrder}
+use Rattle.runs.specs.Ready.{Sooner}
+use Rattle.runs.specs.Steps.{State, Allowed}
+use Rattle.runs.specs.declared.event.Choice.{Choice}
+use Rattle.runs.specs.declared.event.Event.{Event}
 use Rattle.offered_sides.specs.Sides.{Offered}
 use Rattle.offered_sides.specs.declared.side.OfferedSide.{OfferedSide}
 use Rattle.rendezvous.specs.walking.Meeting.{solo, met}

@@ -1,10 +1,10 @@
 -- The first event of a list that has a choice.
--- No reader has to believe it: the proofs of `event_with` tie it to `Chosen` of `calculus`.
+-- No reader has to believe it: the proofs of `event_with` tie it to `Chosen` of `runs`.
 use Rattle.std.specs.Prelude.{◌≡◌, ℕ, List, Some, take, slice_get}
 use Rattle.syntax.specs.Lists.{In}
-use Rattle.calculus.specs.Choices.{choice_of}
-use Rattle.calculus.specs.declared.event.Event.{Event}
-use Rattle.calculus.specs.declared.event.Choice.{Choice}
+use Rattle.runs.specs.Choices.{choice_of}
+use Rattle.runs.specs.declared.event.Event.{Event}
+use Rattle.runs.specs.declared.event.Choice.{Choice}
 
 -- no event of the list has the choice
 abbrev pub HasNone : Choice → List Event → Type 0

@@ -1,12 +1,12 @@
 -- The events that sides make, by the one that acts.
--- No reader has to believe it: `proofs/FromSides.antt` ties it to `Allowed` of `calculus`.
+-- No reader has to believe it: `proofs/FromSides.antt` ties it to `Allowed` of `runs`.
 use Rattle.std.specs.Prelude.{ℕ, ◌==◌, ◌&&◌, List, [], ◌∷◌, cond, Option, Some, None}
 use Rattle.std.specs.Ordering.{is_lt}
 use Rattle.address.specs.Order.{order_of}
-use Rattle.calculus.specs.Moves.{Place}
-use Rattle.calculus.specs.walking.AllowedEvents.{those}
-use Rattle.calculus.specs.declared.event.Event.{Event}
-use Rattle.calculus.specs.declared.event.Kind.TheVariants.{Assign, Test, Turn, Meet, Open, Close, Sync}
+use Rattle.runs.specs.Moves.{Place}
+use Rattle.runs.specs.walking.AllowedEvents.{those}
+use Rattle.runs.specs.declared.event.Event.{Event}
+use Rattle.runs.specs.declared.event.Kind.TheVariants.{Assign, Test, Turn, Meet, Open, Close, Sync}
 use Rattle.offered_sides.specs.declared.side.OfferedSide.{OfferedSide}
 use Rattle.offered_sides.specs.declared.side.Side.{Side}
 use Rattle.offered_sides.specs.declared.side.Side.TheVariants.{Assigns, Tests, Turns, Sends, Receives, Syncs, Opens, Releases, Closes}

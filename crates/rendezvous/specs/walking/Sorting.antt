@@ -1,15 +1,15 @@
 -- Events put in order, as functions.
--- No reader has to believe it: `proofs/Sooner.antt` ties it to `Sooner` of `calculus`.
+-- No reader has to believe it: `proofs/Sooner.antt` ties it to `Sooner` of `runs`.
 use Rattle.std.specs.Prelude.{ℕ, suc, ◌==◌, List, [], ◌∷◌, Bool, true, false, cond, nat_lt}
 use Rattle.std.specs.Ordering.{is_lt}
 use Rattle.std.specs.declared.cmp.Ordering.{Ordering}
 use Rattle.std.specs.declared.cmp.Ordering.TheVariants.{Less, Equal, Greater}
 use Rattle.address.specs.Order.{order_of}
-use Rattle.calculus.specs.Events.{acting}
-use Rattle.calculus.specs.Choices.{choice_of}
-use Rattle.calculus.specs.Ready.{other}
-use Rattle.calculus.specs.declared.event.Event.{Event}
-use Rattle.calculus.specs.Tests.{same_event}
+use Rattle.runs.specs.Events.{acting}
+use Rattle.runs.specs.Choices.{choice_of}
+use Rattle.runs.specs.Ready.{other}
+use Rattle.runs.specs.declared.event.Event.{Event}
+use Rattle.runs.specs.Tests.{same_event}
 
 -- by the acting addresses, then the arms, then the other addresses
 abbrev pub sooner_by : Ordering → ℕ → ℕ → Ordering → Bool

@@ -2,7 +2,7 @@
 -- No reader has to believe it: `proofs/Agreeing.antt` ties it to `marks_on` of `View.antt`.
 use Rattle.std.specs.Prelude.{◌≡◌, ◌<◌, ℕ, zero, suc, ◌&&◌, ◌||◌, Bool, false, List, [], ◌∷◌, length, slice_index_or}
 use Rattle.system.specs.Expression.{is_in}
-use Rattle.calculus.specs.declared.event.Event.{Event}
+use Rattle.runs.specs.declared.event.Event.{Event}
 use Rattle.machine.specs.AtMachine.{AtMachine}
 use Rattle.source_view.specs.declared.marks.Marks.{Marks}
 use Rattle.source_view.specs.View.{acts_on, are_in_conflict, is_ready_on}

@@ -2,12 +2,12 @@
 -- No reader has to believe it: `proofs/LoadLemmas.antt` ties it to `IsLoaded` and `IsRefused` of `Loading.antt`.
 use Rattle.std.specs.Prelude.{ℕ, suc, ◌≡◌, ◌≢◌, ◌<◌, List, length, get_or, Result, Ok, Err}
 use Rattle.system.specs.declared.system.System.{System}
-use Rattle.calculus.specs.Does.{Steps}
-use Rattle.calculus.specs.Live.{events}
-use Rattle.calculus.specs.declared.command.Reply.{Reply}
-use Rattle.calculus.specs.declared.command.Refusal.{Refusal}
-use Rattle.calculus.specs.declared.event.Choice.{Choice}
-use Rattle.calculus.specs.declared.event.Event.{Event}
+use Rattle.runs.specs.Does.{Steps}
+use Rattle.runs.specs.Live.{events}
+use Rattle.runs.specs.declared.command.Reply.{Reply}
+use Rattle.runs.specs.declared.command.Refusal.{Refusal}
+use Rattle.runs.specs.declared.event.Choice.{Choice}
+use Rattle.runs.specs.declared.event.Event.{Event}
 use Rattle.machine.specs.AtMachine.{AtMachine, object}
 use Rattle.trace_file.specs.declared.fault.Fault.{Fault}
 use Rattle.trace_file.specs.declared.version.Version.{Version}

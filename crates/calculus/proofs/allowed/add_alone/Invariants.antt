@@ -1,5 +1,5 @@
 use Rattle.std.proofs.Common.{◌≡◌, ◌++◌, drop, map}
-use Rattle.calculus.specs.walking.AllowedEvents.{events_alone}
+use Rattle.runs.specs.walking.AllowedEvents.{events_alone}
 use Rattle.calculus.specs.walking.Walk.{located_of}
 use Rattle.calculus.proofs.allowed.add_alone.Given as goal
 

@@ -1,5 +1,5 @@
 use Rattle.std.proofs.Common.{◌≡◌, ◌++◌, drop, map}
-use Rattle.calculus.specs.walking.AllowedEvents.{events_together, events_among}
+use Rattle.runs.specs.walking.AllowedEvents.{events_together, events_among}
 use Rattle.calculus.specs.walking.Walk.{located_of}
 use Rattle.calculus.proofs.allowed.events_among.Given as goal
 

@@ -1,5 +1,5 @@
 use Rattle.std.proofs.Common.{◌≡◌, ◌≤◌}
-use Rattle.calculus.specs.walking.After.{around, after}
+use Rattle.runs.specs.walking.After.{around, after}
 use Rattle.calculus.specs.Left.{residual_of_left}
 use Rattle.calculus.specs.walking.Passed.{along_all}
 use Rattle.calculus.proofs.left.Left.TheLaws.{the_size}

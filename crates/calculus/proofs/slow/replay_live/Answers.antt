@@ -1,4 +1,4 @@
-use Rattle.calculus.specs.Live.{events}
+use Rattle.runs.specs.Live.{events}
 use Rattle.calculus.proofs.Replayed.{replayed}
 use Rattle.calculus.proofs.slow.replay_live.Goals as goal
 

@@ -1,8 +1,8 @@
 use Rattle.std.proofs.Common.{◌≡◌, drop}
-use Rattle.calculus.specs.walking.StepOf.{run_of}
-use Rattle.calculus.specs.Live.{events}
+use Rattle.runs.specs.walking.StepOf.{run_of}
+use Rattle.runs.specs.Live.{events}
 use Rattle.calculus.specs.Left.{state_of}
-use Rattle.calculus.specs.Steps.{opening}
+use Rattle.runs.specs.Steps.{opening}
 use Rattle.calculus.proofs.slow.state_after_live.Given as goal
 
 abbrev pub invariant-loop-event : goal.invariant-loop-event

@@ -1,5 +1,5 @@
 use Rattle.std.proofs.Common.{◌≡◌, ◌≤◌, ◌++◌, map}
-use Rattle.calculus.specs.walking.AllowedEvents.{offers}
+use Rattle.runs.specs.walking.AllowedEvents.{offers}
 use Rattle.calculus.specs.Left.{residual_of_left}
 use Rattle.calculus.specs.walking.Walk.{located_of, below}
 use Rattle.calculus.proofs.left.Left.TheLaws.{the_size}

@@ -1,5 +1,5 @@
 use Rattle.std.proofs.Common.{◌≡◌, ◌++◌, drop, map}
-use Rattle.calculus.specs.walking.AllowedEvents.{opens_from}
+use Rattle.runs.specs.walking.AllowedEvents.{opens_from}
 use Rattle.calculus.specs.walking.Walk.{located_of, below}
 use Rattle.calculus.proofs.walk.add_opens.Given as goal
 

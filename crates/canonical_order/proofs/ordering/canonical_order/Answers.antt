@@ -1,5 +1,5 @@
 use Rattle.std.proofs.Common.{◌≡◌, ℕ, List, length, sym, subst, arith, heap_items}
-use Rattle.calculus.specs.Live.{events}
+use Rattle.runs.specs.Live.{events}
 use Rattle.canonical_order.specs.walking.Waiting.{IsQueue, SomeTelling, TellsAll}
 use Rattle.canonical_order.proofs.Taking.{Progress, Taken, progress-none, popped, some-telling, progress-told, progress-all, empty-list, runs-once, written-back}
 use Rattle.canonical_order.proofs.ordering.canonical_order.Goals as goal

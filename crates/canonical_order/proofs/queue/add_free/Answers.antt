@@ -1,6 +1,6 @@
 use Rattle.std.proofs.Common.{◌<◌, length, refl, sym, ap, subst, ◌∙◌, heap_items}
-use Rattle.calculus.specs.Events.{acting}
-use Rattle.calculus.specs.Live.{Live}
+use Rattle.runs.specs.Events.{acting}
+use Rattle.runs.specs.Live.{Live}
 use Rattle.canonical_order.proofs.Queues.{joins}
 use Rattle.canonical_order.proofs.queue.add_free.Goals as goal
 

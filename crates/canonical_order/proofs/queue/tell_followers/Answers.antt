@@ -1,5 +1,5 @@
 use Rattle.std.proofs.Common.{ℕ, List, take, get_or, sym, subst, heap_items}
-use Rattle.calculus.specs.Live.{LiveAt}
+use Rattle.runs.specs.Live.{LiveAt}
 use Rattle.dependence.specs.Followers.{ListsFollowers}
 use Rattle.dependence.proofs.ListPlaces.{in-at, in-read, take-all}
 use Rattle.canonical_order.specs.walking.Waiting.{Telling}

@@ -1,7 +1,7 @@
 use Rattle.std.proofs.Common.{◌∙◌, ℕ, sym, ap, subst}
 use Rattle.std.proofs.lemmas.Option.{get_or_from_slice_get}
-use Rattle.calculus.specs.Live.{LiveAt}
-use Rattle.calculus.specs.declared.event.Event.{Event}
+use Rattle.runs.specs.Live.{LiveAt}
+use Rattle.runs.specs.declared.event.Event.{Event}
 use Rattle.dependence.proofs.ListPlaces.{in-at}
 use Rattle.dependence.proofs.acting.event_of.Goals as goal
 

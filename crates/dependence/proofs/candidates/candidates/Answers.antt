@@ -1,5 +1,5 @@
 use Rattle.std.proofs.Common.{ℕ, List, subst}
-use Rattle.calculus.specs.Events.{places}
+use Rattle.runs.specs.Events.{places}
 use Rattle.dependence.specs.walking.Found.{FoundByPlace}
 use Rattle.dependence.proofs.Candidacy.{candidates-found}
 use Rattle.dependence.proofs.Tabling.{orderly-behind}

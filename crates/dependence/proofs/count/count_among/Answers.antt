@@ -1,7 +1,7 @@
 use Rattle.std.proofs.Common.{◌+◌, ℕ, take, sym, subst, arith}
-use Rattle.calculus.specs.Dependence.{Directly}
-use Rattle.calculus.specs.Live.{Live}
-use Rattle.calculus.specs.declared.event.Event.{Event}
+use Rattle.runs.specs.Dependence.{Directly}
+use Rattle.runs.specs.Live.{Live}
+use Rattle.runs.specs.declared.event.Event.{Event}
 use Rattle.dependence.specs.walking.Tables.{CountsAmong}
 use Rattle.dependence.proofs.ListPlaces.{take-all}
 use Rattle.dependence.proofs.Counting.{among-none, among-more, among-same}

@@ -1,6 +1,6 @@
 use Rattle.std.proofs.Common.{◌∙◌, ℕ, ◌-◌, length, take, drop, sym, ap, subst}
-use Rattle.calculus.specs.Live.{Live}
-use Rattle.calculus.specs.declared.event.Event.{Event}
+use Rattle.runs.specs.Live.{Live}
+use Rattle.runs.specs.declared.event.Event.{Event}
 use Rattle.dependence.specs.walking.Tables.{IsRising, CountsAmong}
 use Rattle.dependence.proofs.ListPlaces.{in-at, got-here}
 use Rattle.dependence.proofs.Counting.{rest-is, from-rises, counts-from}

@@ -1,6 +1,6 @@
 use Rattle.std.proofs.Common.{◌≡◌, ◌∙◌, ℕ, List, length, sym, ap, subst}
-use Rattle.calculus.specs.Live.{Live, LiveAt}
-use Rattle.calculus.specs.declared.event.Event.{Event}
+use Rattle.runs.specs.Live.{Live, LiveAt}
+use Rattle.runs.specs.declared.event.Event.{Event}
 use Rattle.dependence.specs.declared.links.Links.{Links}
 use Rattle.dependence.specs.walking.Tables.{Linked}
 use Rattle.dependence.proofs.ListPlaces.{in-at, got-here}

@@ -1,6 +1,6 @@
 use Rattle.std.proofs.Common.{ℕ, Some, Ok, Err, refl, ◌∙◌, ap, rules}
 use Rattle.std.proofs.lemmas.List.Sorted.{answers_always}
-use Rattle.calculus.specs.declared.event.Event.{Event}
+use Rattle.runs.specs.declared.event.Event.{Event}
 use Rattle.dependence.proofs.ListPlaces.{searched-by}
 use Rattle.dependence.proofs.Standing.{rising-order}
 use Rattle.dependence.proofs.indexes.index_of.Goals as goal

@@ -1,7 +1,7 @@
 use Rattle.std.proofs.Common.{◌≡◌, ◌∙◌, ◌-◌, ℕ, List, Bool, length, take, drop, ap, subst}
 use Rattle.std.specs.Prelude.{IfOk}
 use Rattle.std.proofs.lemmas.List.{take_rest}
-use Rattle.calculus.specs.Live.{Live}
+use Rattle.runs.specs.Live.{Live}
 use Rattle.dependence.specs.Shown.{tickets_marked}
 use Rattle.dependence.proofs.Markings.{tickets-passed}
 use Rattle.dependence.proofs.marks.copy_marked.Goals as goal

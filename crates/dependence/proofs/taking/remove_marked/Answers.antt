@@ -1,8 +1,8 @@
 use Rattle.std.proofs.Common.{◌≡◌, ◌∙◌, ◌+◌, ◌<◌, ◌≤◌, ℕ, suc, List, Bool, length, take, true, false, Some, ap, sym, subst, arith}
 use Rattle.std.specs.Prelude.{slice_get}
 use Rattle.std.proofs.lemmas.Option.{slice_get-get_or}
-use Rattle.calculus.specs.Live.{Live}
-use Rattle.calculus.specs.declared.event.Event.{Event}
+use Rattle.runs.specs.Live.{Live}
+use Rattle.runs.specs.declared.event.Event.{Event}
 use Rattle.dependence.specs.declared.tables.Tables.{Tables}
 use Rattle.dependence.specs.walking.Tabled.{FewerTables, IsTabled}
 use Rattle.dependence.specs.walking.Unmarked.{unmarked}

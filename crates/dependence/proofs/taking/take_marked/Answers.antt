@@ -1,6 +1,6 @@
 use Rattle.std.proofs.Common.{◌≡◌, ◌∙◌, ◌++◌, ℕ, List, Bool, length, take, drop, sym, ap, subst, arith}
 use Rattle.syntax.specs.Lists.{In}
-use Rattle.calculus.specs.Live.{Live, WithoutTickets}
+use Rattle.runs.specs.Live.{Live, WithoutTickets}
 use Rattle.dependence.specs.Shown.{tickets_marked}
 use Rattle.dependence.specs.declared.links.Links.{Links}
 use Rattle.dependence.specs.walking.Unmarked.{unmarked}

@@ -2,7 +2,7 @@ use Rattle.std.proofs.Common.{◌≡◌, ◌∙◌, ℕ, ◌+◌, ◌<◌, ◌�
 use Rattle.std.specs.Prelude.{slice_get, vec_len}
 use Rattle.std.proofs.lemmas.Option.{slice_get_within, slice_get-get_or}
 use Rattle.syntax.specs.Lists.{In}
-use Rattle.calculus.specs.declared.event.Event.{Event}
+use Rattle.runs.specs.declared.event.Event.{Event}
 use Rattle.dependence.specs.declared.links.Links.{Links}
 use Rattle.dependence.specs.walking.Unmarked.{NotBehind}
 use Rattle.dependence.proofs.ListPlaces.{in-at, at-one}

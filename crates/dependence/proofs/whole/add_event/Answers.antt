@@ -1,7 +1,7 @@
 use Rattle.std.proofs.Common.{◌≡◌, ◌∙◌, ◌↔◌, ◌++◌, ◌∷◌, [], ℕ, List, Bool, false, sym, ap, subst, arith}
 use Rattle.syntax.specs.Lists.{In}
-use Rattle.calculus.specs.Live.{Live, Rising, IsLive}
-use Rattle.calculus.specs.declared.event.Event.{Event}
+use Rattle.runs.specs.Live.{Live, Rising, IsLive}
+use Rattle.runs.specs.declared.event.Event.{Event}
 use Rattle.dependence.specs.Behind.{ComesBehind}
 use Rattle.dependence.specs.Shown.{tickets_marked}
 use Rattle.dependence.specs.declared.links.Links.{Links}

@@ -1,5 +1,5 @@
 use Rattle.std.proofs.Common.{◌≡◌, Some, refl, sym, subst}
-use Rattle.calculus.specs.declared.event.Event.{Event}
+use Rattle.runs.specs.declared.event.Event.{Event}
 use Rattle.dependence.proofs.LastWriters.{last-writes, last-below}
 use Rattle.dependence.proofs.whole.last_writer.Goals as goal
 

@@ -1,8 +1,8 @@
 use Rattle.std.proofs.Common.{◌≡◌, ◌<◌, ℕ, List, Bool, length, sym, subst, arith}
 use Rattle.std.specs.List.{remove}
 use Rattle.std.proofs.lemmas.Option.{slice_get_within}
-use Rattle.calculus.specs.Dependence.{Without}
-use Rattle.calculus.specs.Live.{Live, WithoutTickets}
+use Rattle.runs.specs.Dependence.{Without}
+use Rattle.runs.specs.Live.{Live, WithoutTickets}
 use Rattle.dependence.specs.Shown.{tickets_marked}
 use Rattle.dependence.proofs.Edges.{without-index}
 use Rattle.dependence.proofs.Tabling.{tabled-taken}

@@ -1,6 +1,6 @@
 use Rattle.std.proofs.Common.{[], refl, ◌∙◌, arith, take}
 use Rattle.machine.proofs.HeadlineLaws.{headline}
-use Rattle.calculus.proofs.ObjectLaws.{stays-over-lists, tickets-grow}
+use Rattle.runs.proofs.ObjectLaws.{stays-over-lists, tickets-grow}
 use Rattle.locked_execution.specs.AtDesk.{execution}
 use Rattle.locked_execution.specs.Bridge.{commands_of}
 use Rattle.locked_execution.proofs.AskedLists.{answered-more}

@@ -1,4 +1,4 @@
-use Rattle.calculus.proofs.ObjectLaws.{stays-over-lists, tickets-grow}
+use Rattle.runs.proofs.ObjectLaws.{stays-over-lists, tickets-grow}
 use Rattle.machine.proofs.HeadlineLaws.{headline}
 use Rattle.machine.proofs.laws.answered_laws.Goals as goal
 

@@ -1,6 +1,6 @@
 use Rattle.std.proofs.Common.{rules, ap, ◌∙◌}
 use Rattle.std.proofs.lemmas.Fn.{filter_same}
-use Rattle.calculus.specs.Tests.{same_place}
+use Rattle.runs.specs.Tests.{same_place}
 use Rattle.offered_sides.specs.walking.At.{at}
 use Rattle.offered_sides.specs.declared.side.OfferedSide.{OfferedSide}
 use Rattle.offered_sides.proofs.PlacedSides.{at-filter}

@@ -1,6 +1,6 @@
 -- The events, one after another put in order.
 use Rattle.syntax.specs.Lists.{In}
-use Rattle.calculus.specs.declared.event.Event.{Event}
+use Rattle.runs.specs.declared.event.Event.{Event}
 use Rattle.rendezvous.proofs.Sooner.{sorting-start, sorting-step, sorting-stop, left-none}
 use Rattle.rendezvous.proofs.ready.in_order.Goals as goal
 

@@ -1,9 +1,9 @@
 -- What is sorted so far, and what is left, are the events.
 use Rattle.std.proofs.Common.{length}
 use Rattle.syntax.specs.Lists.{In}
-use Rattle.calculus.specs.Steps.{State, Allowed}
-use Rattle.calculus.specs.WellFormed.{WellFormed}
-use Rattle.calculus.specs.declared.event.Event.{Event}
+use Rattle.runs.specs.Steps.{State, Allowed}
+use Rattle.runs.specs.WellFormed.{WellFormed}
+use Rattle.runs.specs.declared.event.Event.{Event}
 use Rattle.rendezvous.proofs.Sooner.{Sorting}
 use Rattle.rendezvous.proofs.ready.in_order.Given as goal
 

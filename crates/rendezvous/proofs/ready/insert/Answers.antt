@@ -1,7 +1,7 @@
 use Rattle.std.proofs.Common.{List, sym, subst, arith}
-use Rattle.calculus.specs.InOrder.{InOrder}
-use Rattle.calculus.specs.Ready.{Sooner}
-use Rattle.calculus.specs.declared.event.Event.{Event}
+use Rattle.runs.specs.InOrder.{InOrder}
+use Rattle.runs.specs.Ready.{Sooner}
+use Rattle.runs.specs.declared.event.Event.{Event}
 use Rattle.rendezvous.proofs.Placed.{there-already, put-new}
 use Rattle.rendezvous.proofs.ready.insert.Goals as goal
 

@@ -1,6 +1,6 @@
 use Rattle.std.proofs.Common.{suc, ◌-◌, length, take, drop, get_or, arith, ap, ◌∙◌}
-use Rattle.calculus.specs.Live.{events}
-use Rattle.calculus.specs.Moves.{Place}
+use Rattle.runs.specs.Live.{events}
+use Rattle.runs.specs.Moves.{Place}
 use Rattle.event_places.specs.EventPlaces.{line_after}
 use Rattle.source_view.specs.walking.Marking.{no_marks, with_events}
 use Rattle.source_view.proofs.Agreeing.{first-and-rest, after-one}

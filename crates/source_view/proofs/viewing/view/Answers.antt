@@ -1,7 +1,7 @@
 use Rattle.std.proofs.Common.{◌≡◌, List, IfOk, sym, subst}
-use Rattle.calculus.specs.InOrder.{InOrder}
-use Rattle.calculus.specs.Ready.{Sooner}
-use Rattle.calculus.specs.declared.event.Event.{Event}
+use Rattle.runs.specs.InOrder.{InOrder}
+use Rattle.runs.specs.Ready.{Sooner}
+use Rattle.runs.specs.declared.event.Event.{Event}
 use Rattle.source_view.specs.walking.Marking.{AreMarks, marks_at}
 use Rattle.syntax.specs.Texts.{lines}
 use Rattle.source_view.specs.View.{lines_text, marks_on}

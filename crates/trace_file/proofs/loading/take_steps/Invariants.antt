@@ -1,5 +1,5 @@
 use Rattle.std.proofs.Common.{◌≡◌, ◌+◌, length}
-use Rattle.calculus.specs.Live.{events}
+use Rattle.runs.specs.Live.{events}
 use Rattle.trace_file.specs.walking.OneStep.{Loading}
 use Rattle.trace_file.proofs.loading.take_steps.Given as goal
 

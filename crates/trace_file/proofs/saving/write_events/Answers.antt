@@ -1,6 +1,6 @@
 use Rattle.std.proofs.Common.{◌≡◌, ◌<◌, ℕ, List, length, get_or, Some, sym, subst}
 use Rattle.std.specs.Prelude.{slice_get}
-use Rattle.calculus.specs.Live.{Live}
+use Rattle.runs.specs.Live.{Live}
 use Rattle.canonical_order.proofs.Stands.{stand-within}
 use Rattle.canonical_order.specs.Canonical.{StandAt}
 use Rattle.trace_file.proofs.SaveLemmas.{written-more, written-whole, lines-whole}

@@ -1,6 +1,6 @@
 use Rattle.std.proofs.Common.{subst}
 use Rattle.std.proofs.lemmas.Result.{IfOk-weaker}
-use Rattle.calculus.specs.Live.{Live, events}
+use Rattle.runs.specs.Live.{Live, events}
 use Rattle.trace_file.specs.TraceText.{IsTrace}
 use Rattle.trace_file.proofs.LawLemmas.{only-trace}
 use Rattle.trace_file.proofs.OrderLemmas.{runs-listed}

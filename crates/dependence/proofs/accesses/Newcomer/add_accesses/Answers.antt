@@ -1,6 +1,6 @@
 use Rattle.std.proofs.Common.{◌≡◌, ◌⊎◌, inl, inr, ℕ, List, [], ◌∷◌, take, get_or, subst}
 use Rattle.syntax.specs.Lists.{In}
-use Rattle.calculus.proofs.Lists.{in-parts}
+use Rattle.runs.proofs.Lists.{in-parts}
 use Rattle.dependence.specs.walking.Found.{AccessesFound}
 use Rattle.dependence.proofs.Candidacy.{found-none, found-then, found-some}
 use Rattle.dependence.proofs.ListPlaces.{in-read, take-all}

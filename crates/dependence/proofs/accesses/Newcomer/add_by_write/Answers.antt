@@ -1,6 +1,6 @@
 use Rattle.std.proofs.Common.{sym, ◌∙◌}
 use Rattle.std.proofs.lemmas.Result.{IfOk-weaker}
-use Rattle.calculus.proofs.Options.{none-some}
+use Rattle.runs.proofs.Options.{none-some}
 use Rattle.dependence.specs.walking.Found.{UsesWritten}
 use Rattle.dependence.proofs.Candidacy.{found-none, write-found}
 use Rattle.dependence.proofs.accesses.Newcomer.add_by_write.Goals as goal

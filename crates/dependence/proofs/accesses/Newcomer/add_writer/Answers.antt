@@ -1,6 +1,6 @@
 use Rattle.std.proofs.Common.{◌≡◌, Bool, IsTrue, subst}
 use Rattle.std.proofs.lemmas.Result.{IfOk-weaker}
-use Rattle.calculus.specs.Live.{LastWriter}
+use Rattle.runs.specs.Live.{LastWriter}
 use Rattle.dependence.specs.walking.Found.{LeadsBefore}
 use Rattle.dependence.proofs.Candidacy.{found-none, found-one, found-some, leads-itself, leads-reader, last-write, writer-is, writer-direct, no-writer}
 use Rattle.dependence.proofs.accesses.Newcomer.add_writer.Goals as goal

@@ -1,6 +1,6 @@
 use Rattle.std.proofs.Common.{◌∙◌, ◌↔◌, ℕ, IsTrue, ap, subst}
-use Rattle.calculus.specs.Dependence.{SomeBefore}
-use Rattle.calculus.specs.declared.event.Event.{Event}
+use Rattle.runs.specs.Dependence.{SomeBefore}
+use Rattle.runs.specs.declared.event.Event.{Event}
 use Rattle.dependence.proofs.Candidacy.{one-before}
 use Rattle.dependence.proofs.ListPlaces.{got-here}
 use Rattle.dependence.proofs.accesses.Newcomer.is_before.Goals as goal

@@ -1,6 +1,6 @@
 use Rattle.std.proofs.Common.{sym, subst}
 use Rattle.std.specs.Prelude.{MatchOption}
-use Rattle.calculus.specs.Live.{Live}
+use Rattle.runs.specs.Live.{Live}
 use Rattle.last_events.specs.LastEvents.{first_child}
 use Rattle.dependence.specs.Acting.{ActsAlone, NoneActs}
 use Rattle.dependence.specs.Shown.{Shown}

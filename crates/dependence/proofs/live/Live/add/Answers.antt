@@ -1,6 +1,6 @@
 use Rattle.std.proofs.Common.{ℕ, ◌<◌, sym, subst}
-use Rattle.calculus.specs.Live.{LiveAt}
-use Rattle.calculus.specs.declared.event.Event.{Event}
+use Rattle.runs.specs.Live.{LiveAt}
+use Rattle.runs.specs.declared.event.Event.{Event}
 use Rattle.dependence.specs.Behind.{ComesBehind}
 use Rattle.dependence.specs.Shown.{Shown}
 use Rattle.dependence.proofs.ShownStates.{shown-added, shown-same, ok-so, err-so}

@@ -1,6 +1,6 @@
 use Rattle.std.proofs.Common.{List, sym, subst}
 use Rattle.std.specs.Prelude.{MatchOption}
-use Rattle.calculus.specs.Live.{Live, NoDependent, FirstDependent, IsLive}
+use Rattle.runs.specs.Live.{Live, NoDependent, FirstDependent, IsLive}
 use Rattle.dependence.specs.Shown.{Shown}
 use Rattle.dependence.specs.declared.links.Links.{Links}
 use Rattle.dependence.specs.walking.Tables.{IsRising, Linked}

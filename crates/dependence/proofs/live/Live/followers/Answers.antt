@@ -1,5 +1,5 @@
 use Rattle.std.proofs.Common.{List, sym, subst}
-use Rattle.calculus.specs.Live.{Live, IsLive}
+use Rattle.runs.specs.Live.{Live, IsLive}
 use Rattle.dependence.specs.Followers.{ListsFollowers}
 use Rattle.dependence.specs.Shown.{Shown}
 use Rattle.dependence.specs.declared.links.Links.{Links}

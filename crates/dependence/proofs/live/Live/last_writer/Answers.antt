@@ -1,6 +1,6 @@
 use Rattle.std.proofs.Common.{sym, subst}
 use Rattle.std.specs.Prelude.{MatchOption}
-use Rattle.calculus.specs.Live.{Live, LastWriter, NoWriter}
+use Rattle.runs.specs.Live.{Live, LastWriter, NoWriter}
 use Rattle.dependence.specs.Shown.{Shown}
 use Rattle.dependence.specs.walking.Tables.{IsRising}
 use Rattle.dependence.specs.walking.Tabled.{TablesOf}

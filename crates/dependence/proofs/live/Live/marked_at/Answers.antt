@@ -1,6 +1,6 @@
 use Rattle.std.proofs.Common.{◌∙◌, List, Bool, length, sym, ap, subst}
 use Rattle.std.specs.Prelude.{MatchOption}
-use Rattle.calculus.specs.Live.{Live}
+use Rattle.runs.specs.Live.{Live}
 use Rattle.dependence.specs.Shown.{Shown, tickets_marked}
 use Rattle.dependence.specs.Taking.{NoneMarkedAt, OneMarkedAt}
 use Rattle.dependence.specs.walking.Tables.{IsRising}

@@ -1,6 +1,6 @@
 use Rattle.std.proofs.Common.{◌≡◌, ℕ, sym, subst}
-use Rattle.calculus.specs.Dependence.{Without}
-use Rattle.calculus.specs.Live.{LiveAt, NoDependent, WithoutTickets, IsLive}
+use Rattle.runs.specs.Dependence.{Without}
+use Rattle.runs.specs.Live.{LiveAt, NoDependent, WithoutTickets, IsLive}
 use Rattle.dependence.specs.Shown.{Shown, tickets_marked}
 use Rattle.dependence.proofs.live.Live.take.Goals as goal
 

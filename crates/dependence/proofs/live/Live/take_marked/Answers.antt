@@ -1,6 +1,6 @@
 use Rattle.std.proofs.Common.{sym, subst}
 use Rattle.syntax.specs.Lists.{In}
-use Rattle.calculus.specs.Live.{WithoutTickets}
+use Rattle.runs.specs.Live.{WithoutTickets}
 use Rattle.dependence.specs.Shown.{Shown}
 use Rattle.dependence.specs.Taking.{HasDependents}
 use Rattle.dependence.proofs.live.Live.take_marked.Goals as goal

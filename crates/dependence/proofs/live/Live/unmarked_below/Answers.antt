@@ -1,6 +1,6 @@
 use Rattle.std.proofs.Common.{◌≡◌, ℕ, ◌<◌, ◌≤◌, List, Bool, length, true, Some, sym, ap, subst, arith}
 use Rattle.std.specs.Prelude.{slice_get}
-use Rattle.calculus.specs.Live.{Live}
+use Rattle.runs.specs.Live.{Live}
 use Rattle.dependence.specs.Shown.{Shown}
 use Rattle.dependence.specs.Taking.{NoneMarkedAt, IsNearMarked}
 use Rattle.dependence.specs.walking.Marking.{MarkedNear}

@@ -1,6 +1,6 @@
 use Rattle.std.proofs.Common.{◌≡◌, ◌==◌, ◌∙◌, ◌<◌, ℕ, List, not, ap, rules, sym, subst, arith}
 use Rattle.std.specs.Prelude.{filter}
-use Rattle.calculus.specs.InOrder.{InOrder}
+use Rattle.runs.specs.InOrder.{InOrder}
 use Rattle.arrayvec.proofs.ArrayVecLemmas.{filter-from_retain}
 use Rattle.machine.specs.Breakpoints.{without_line}
 use Rattle.machine.proofs.SetLines.{ordered-filter}

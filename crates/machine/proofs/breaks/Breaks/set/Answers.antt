@@ -1,6 +1,6 @@
 use Rattle.std.proofs.Common.{◌≡◌, ◌+◌, ◌<◌, ◌∙◌, lit<, ℕ, List, true, false, length, inl, inr, ap, sym, subst, arith}
 use Rattle.system.specs.Expression.{is_in}
-use Rattle.calculus.specs.InOrder.{InOrder}
+use Rattle.runs.specs.InOrder.{InOrder}
 use Rattle.machine.specs.Breakpoints.{with_line}
 use Rattle.machine.proofs.SetLines.{with-there, place-within, put-line, put-ordered, room-left}
 use Rattle.machine.proofs.breaks.Breaks.set.Goals as goal

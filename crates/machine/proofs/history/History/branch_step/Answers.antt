@@ -2,7 +2,7 @@ use Rattle.std.proofs.Common.{◌≡◌, List, false, subst}
 use Rattle.std.specs.Prelude.{MatchOption}
 use Rattle.std.proofs.lemmas.Result.{IfOk-weaker}
 use Rattle.syntax.specs.Lists.{Every}
-use Rattle.calculus.specs.declared.event.Event.{Event}
+use Rattle.runs.specs.declared.event.Event.{Event}
 use Rattle.event_inverse.specs.Grown.{state_of_tree}
 use Rattle.machine.specs.walking.Choosing.{FirstAt, Takes, moves, line_of_first}
 use Rattle.machine.specs.walking.Histories.{tree_of}

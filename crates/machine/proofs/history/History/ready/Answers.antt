@@ -1,6 +1,6 @@
 use Rattle.std.proofs.lemmas.Result.{IfOk-weaker}
-use Rattle.calculus.specs.Object.{Reaches}
-use Rattle.calculus.specs.Ready.{ReadyList}
+use Rattle.runs.specs.Object.{Reaches}
+use Rattle.runs.specs.Ready.{ReadyList}
 use Rattle.event_inverse.specs.Grown.{state_of_tree}
 use Rattle.machine.specs.walking.Histories.{execution, tree_of}
 use Rattle.machine.proofs.Standing.{stands-searched}

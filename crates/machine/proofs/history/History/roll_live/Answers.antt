@@ -1,6 +1,6 @@
 use Rattle.std.proofs.Common.{◌≡◌, ◌∙◌, ℕ, length, refl, sym, ap, arith}
-use Rattle.calculus.specs.Live.{Live, DependsOn}
-use Rattle.calculus.specs.declared.event.Event.{Event}
+use Rattle.runs.specs.Live.{Live, DependsOn}
+use Rattle.runs.specs.declared.event.Event.{Event}
 use Rattle.machine.specs.walking.Histories.{execution, tree_of}
 use Rattle.machine.proofs.Marked.{marks-listed, takes-out}
 use Rattle.machine.proofs.Standing.{stands-same}

@@ -1,6 +1,6 @@
 use Rattle.std.proofs.Common.{◌∙◌, length, sym, ap, subst}
 use Rattle.syntax.specs.Lists.{In}
-use Rattle.calculus.specs.Live.{WithoutTickets}
+use Rattle.runs.specs.Live.{WithoutTickets}
 use Rattle.dependence.specs.Shown.{Shown}
 use Rattle.dependence.specs.Taking.{MarksAllDependents}
 use Rattle.machine.specs.walking.Histories.{tree_of}

@@ -1,9 +1,9 @@
 use Rattle.std.proofs.Common.{◌≡◌, ◌∙◌, ap, sym, subst, List}
 use Rattle.std.specs.Prelude.{slice_get}
-use Rattle.calculus.specs.Choices.{choice_of}
-use Rattle.calculus.specs.Ready.{Chosen}
-use Rattle.calculus.specs.declared.event.Event.{Event}
-use Rattle.calculus.proofs.Options.{some-injective}
+use Rattle.runs.specs.Choices.{choice_of}
+use Rattle.runs.specs.Ready.{Chosen}
+use Rattle.runs.specs.declared.event.Event.{Event}
+use Rattle.runs.proofs.Options.{some-injective}
 use Rattle.event_inverse.specs.Grown.{state_of_tree}
 use Rattle.machine.specs.AtMachine.{at_machine}
 use Rattle.machine.specs.walking.Histories.{tree_of}

@@ -1,5 +1,5 @@
 use Rattle.std.proofs.Common.{subst}
-use Rattle.calculus.specs.Sound.{Sound}
+use Rattle.runs.specs.Sound.{Sound}
 use Rattle.machine.specs.AtMachine.{AtMachine, object}
 use Rattle.machine.proofs.HeadlineLaws.{headline}
 use Rattle.machine.proofs.machine.Machine.is_sound.Goals as goal

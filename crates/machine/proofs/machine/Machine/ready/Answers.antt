@@ -1,9 +1,9 @@
 use Rattle.std.proofs.Common.{subst}
 use Rattle.std.specs.Prelude.{IfOk}
 use Rattle.std.proofs.lemmas.Result.{IfOk-weaker}
-use Rattle.calculus.specs.Steps.{State}
-use Rattle.calculus.specs.Object.{Reaches}
-use Rattle.calculus.specs.Ready.{ReadyList}
+use Rattle.runs.specs.Steps.{State}
+use Rattle.runs.specs.Object.{Reaches}
+use Rattle.runs.specs.Ready.{ReadyList}
 use Rattle.event_inverse.specs.Grown.{state_of_tree}
 use Rattle.machine.specs.AtMachine.{AtMachine, object}
 use Rattle.machine.specs.walking.Histories.{execution, tree_of}

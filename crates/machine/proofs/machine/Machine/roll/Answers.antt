@@ -1,6 +1,6 @@
 use Rattle.std.proofs.Common.{inl, subst}
-use Rattle.calculus.specs.Does.{Answers}
-use Rattle.calculus.specs.declared.command.Command.{Command}
+use Rattle.runs.specs.Does.{Answers}
+use Rattle.runs.specs.declared.command.Command.{Command}
 use Rattle.machine.specs.AtMachine.{AtMachine, object}
 use Rattle.machine.specs.walking.Histories.{execution}
 use Rattle.machine.proofs.machine.Machine.roll.Goals as goal

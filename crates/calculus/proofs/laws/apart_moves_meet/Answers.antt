@@ -1,7 +1,0 @@
--- Moves at places apart can be made one after the other, and were both offered.
-use Rattle.calculus.proofs.Together.{together}
-use Rattle.calculus.proofs.AtOnce.{was_offered}
-use Rattle.calculus.proofs.laws.apart_moves_meet.Goals as goal
-
-pub returns : goal.returns
-returns c = record { made = together; offered = was_offered }

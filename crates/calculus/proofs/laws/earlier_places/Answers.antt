@@ -1,6 +1,0 @@
--- Addresses of a run are before or apart.
-use Rattle.calculus.proofs.FromOpening.{earlier_places}
-use Rattle.calculus.proofs.laws.earlier_places.Goals as goal
-
-pub returns : goal.returns
-returns c = earlier_places

@@ -1,6 +1,0 @@
--- A list leads to one state.
-use Rattle.calculus.proofs.FromOpening.{one_state}
-use Rattle.calculus.proofs.laws.one_state.Goals as goal
-
-pub returns : goal.returns
-returns c = one_state

@@ -1,7 +1,0 @@
--- What every system opens with is well formed, and so are the states of runs.
-use Rattle.calculus.proofs.Opening.{opening-formed}
-use Rattle.calculus.proofs.FromOpening.{states_are_well_formed}
-use Rattle.calculus.proofs.laws.opening_is_well_formed.Goals as goal
-
-pub returns : goal.returns
-returns c = record { opening = opening-formed; states = states_are_well_formed }

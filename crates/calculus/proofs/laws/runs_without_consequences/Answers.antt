@@ -1,6 +1,0 @@
--- A list runs without an event and its consequences.
-use Rattle.calculus.proofs.FromOpening.{runs_without_consequences}
-use Rattle.calculus.proofs.laws.runs_without_consequences.Goals as goal
-
-pub returns : goal.returns
-returns c = runs_without_consequences

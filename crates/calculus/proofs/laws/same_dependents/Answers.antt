@@ -1,6 +1,0 @@
--- Lists with the same events have the same dependents.
-use Rattle.calculus.proofs.FromOpening.{orders_depend_alike, runs_depend_alike}
-use Rattle.calculus.proofs.laws.same_dependents.Goals as goal
-
-pub returns : goal.returns
-returns c = record { orders = orders_depend_alike; runs = runs_depend_alike }

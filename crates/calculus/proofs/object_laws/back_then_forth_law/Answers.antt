@@ -1,6 +1,0 @@
--- Back, then forth.
-use Rattle.calculus.proofs.ObjectLaws.{back-then-forth-law}
-use Rattle.calculus.proofs.object_laws.back_then_forth_law.Goals as goal
-
-pub returns : goal.returns
-returns c = back-then-forth-law

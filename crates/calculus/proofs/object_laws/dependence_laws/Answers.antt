@@ -1,6 +1,0 @@
--- Dependence by tickets, and consequences.
-use Rattle.calculus.proofs.ObjectLaws.{depends-on-is-causes, consequences-exactly}
-use Rattle.calculus.proofs.object_laws.dependence_laws.Goals as goal
-
-pub returns : goal.returns
-returns c = record { same = depends-on-is-causes; listed = consequences-exactly }

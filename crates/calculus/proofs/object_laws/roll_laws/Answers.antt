@@ -1,7 +1,0 @@
--- Rollback.
-use Rattle.calculus.proofs.ObjectLaws.{rolls-exactly, rolls-value-exactly}
-use Rattle.calculus.proofs.SomeReplies.{rolls-where-live, rolls-value-where-written}
-use Rattle.calculus.proofs.object_laws.roll_laws.Goals as goal
-
-pub returns : goal.returns
-returns c = record { live = rolls-where-live; exactly = rolls-exactly; written = rolls-value-where-written; value = rolls-value-exactly }

@@ -1,6 +1,0 @@
--- The state in every order.
-use Rattle.calculus.proofs.ObjectLaws.{state-in-every-order, state-after-any-commands}
-use Rattle.calculus.proofs.object_laws.state_laws.Goals as goal
-
-pub returns : goal.returns
-returns c = record { sound = state-in-every-order; after = state-after-any-commands }

@@ -1,5 +1,0 @@
-use Rattle.calculus.specs.walking.EventLaws.{decided, same_place-decides}
-use Rattle.calculus.proofs.same.same_place.Goals as goal
-
-pub returns : goal.returns
-returns c = decided _ _ _ c.equals.ensures (same_place-decides c.args.a.now c.args.b.now)

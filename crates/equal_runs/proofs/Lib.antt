@@ -1,4 +1,0 @@
-pub mod Alikeness
-pub mod IndexLaws
-pub mod ListPlaces
-pub mod OneRunLaws

@@ -1,6 +1,0 @@
-use Rattle.std.proofs.Common.{take}
-use Rattle.equal_runs.specs.walking.Comparing.{Indexes}
-use Rattle.equal_runs.proofs.index.Index.of.Given as goal
-
-abbrev pub invariant-loop-place : goal.invariant-loop-place
-invariant-loop-place l = Indexes l.index (take l.place l.events)

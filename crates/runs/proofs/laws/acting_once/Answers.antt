@@ -1,0 +1,6 @@
+-- No two events of a run have one acting address.
+use Rattle.runs.proofs.FromOpening.{acting_once}
+use Rattle.runs.proofs.laws.acting_once.Goals as goal
+
+pub returns : goal.returns
+returns c = acting_once

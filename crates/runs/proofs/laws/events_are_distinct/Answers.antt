@@ -1,0 +1,6 @@
+-- Events of a run are distinct.
+use Rattle.runs.proofs.FromOpening.{events_are_distinct}
+use Rattle.runs.proofs.laws.events_are_distinct.Goals as goal
+
+pub returns : goal.returns
+returns c = events_are_distinct

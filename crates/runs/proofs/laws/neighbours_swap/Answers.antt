@@ -1,0 +1,6 @@
+-- Neighbours of a run swap.
+use Rattle.runs.proofs.FromOpening.{neighbours_swap}
+use Rattle.runs.proofs.laws.neighbours_swap.Goals as goal
+
+pub returns : goal.returns
+returns c = neighbours_swap

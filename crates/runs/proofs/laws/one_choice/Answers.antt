@@ -1,0 +1,6 @@
+-- One choice takes one event.
+use Rattle.runs.proofs.FromOpening.{one_choice}
+use Rattle.runs.proofs.laws.one_choice.Goals as goal
+
+pub returns : goal.returns
+returns c = one_choice

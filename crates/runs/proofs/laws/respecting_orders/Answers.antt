@@ -1,0 +1,6 @@
+-- Respecting orders run.
+use Rattle.runs.proofs.FromOpening.{respecting_orders}
+use Rattle.runs.proofs.laws.respecting_orders.Goals as goal
+
+pub returns : goal.returns
+returns c = respecting_orders

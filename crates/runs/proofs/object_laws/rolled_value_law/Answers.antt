@@ -1,0 +1,6 @@
+-- The value after a rollback.
+use Rattle.runs.proofs.ObjectLaws.{rolled-value}
+use Rattle.runs.proofs.object_laws.rolled_value_law.Goals as goal
+
+pub returns : goal.returns
+returns c = rolled-value

@@ -1,0 +1,7 @@
+-- Steps.
+use Rattle.runs.proofs.ObjectLaws.{step-makes, not-ready-exactly, limits-exactly}
+use Rattle.runs.proofs.SomeReplies.{steps-exactly}
+use Rattle.runs.proofs.object_laws.step_laws.Goals as goal
+
+pub returns : goal.returns
+returns c = record { taken = steps-exactly; makes = step-makes; not_ready = not-ready-exactly; limits = limits-exactly }
