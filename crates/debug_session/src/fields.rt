@@ -7,8 +7,8 @@ ghost use Rattle.debug_session.specs.walking.FieldParts.{IsFieldEnd, IsNoField};
 ghost use Rattle.debug_session.specs.Lines.{IsNumber, IsBranch, IsSession, IsVariable, IsArm, IsChoice, MayBeChoice};
 ghost use Rattle.debug_session.specs.walking.NotAsked.{IsNoTicket, IsNoBranch, IsNoSession, IsNoVariable, IsNoArm, IsNoChoice};
 
-use runs::Choice;
 use decimal::read_number;
+use runs::Choice;
 use std::alloc::{AllocError, Global};
 use system::System;
 

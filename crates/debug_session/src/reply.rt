@@ -6,8 +6,8 @@ ghost use Rattle.debug_session.specs.ReplyText.{ready_line, live_line, refusal_t
 
 use crate::event::add_event;
 use crate::text::{add_bytes, add_decimal, add_field, add_number, add_variable};
-use runs::{Event, Refusal};
 use locked_execution::{Command, Reply};
+use runs::{Event, Refusal};
 use sharing_check::Checked;
 use std::alloc::{AllocError, Global};
 use system::System;

@@ -10,8 +10,8 @@ use crate::indexes::index_of_live;
 use crate::live::LiveEvent;
 use crate::tables::Tables;
 use address::Entry;
-use runs::Event;
 use last_events::is_first_child;
+use runs::Event;
 
 /// The live event that acts at the first child of the place. The event that stands there may act at the other of its places.
 pub(crate) fn acting_at_first_child<'a>(

@@ -10,8 +10,8 @@ ghost use Rattle.dependence.specs.walking.Tabled.{IsTabled};
 ghost use Rattle.dependence.specs.walking.Tables.{Candidates};
 
 use crate::accesses::Newcomer;
-use runs::Event;
 use last_events::PlaceTable;
+use runs::Event;
 use std::alloc::{AllocError, Global};
 
 /// Tickets of live events on which the new event depends directly; of each such event that is not among them, a dependent is.

@@ -7,8 +7,8 @@ ghost use Rattle.runs.specs.Events.{places};
 ghost use Rattle.runs.specs.Moves.{Place};
 ghost use Rattle.dependence.specs.walking.Tabled.{MorePlaces, MoreUses, FewerPlaces, FewerUses, written_of};
 
-use runs::Event;
 use last_events::{PlaceTable, UseTable};
+use runs::Event;
 use std::alloc::AllocError;
 
 /// Puts the event at its places, where none stands, or at those that there is memory for.

@@ -7,8 +7,8 @@ ghost use Rattle.dependence.specs.walking.Tabled.{TablesOf, MoreTables, HasEvent
 use crate::puts::{
     put_places, put_reads, put_written, remove_places, remove_reads, remove_written,
 };
-use runs::Event;
 use last_events::{PlaceTable, UseTable};
+use runs::Event;
 use std::alloc::{AllocError, Global};
 
 /// The places of live events, and the variables that they write and read, with their tickets.

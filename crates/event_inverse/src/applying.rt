@@ -9,8 +9,8 @@ ghost use Rattle.event_inverse.specs.walking.Reverted.{reverted};
 
 use crate::moves::make;
 use crate::record::{Inverse, Record};
-use runs::Event;
 use process_tree::Tree;
+use runs::Event;
 use std::alloc::{AllocError, Global};
 use store::Store;
 use value::Value;

@@ -6,8 +6,8 @@ ghost use Rattle.event_inverse.specs.walking.Reverted.{reverted, written_back};
 
 use crate::moves::take_back;
 use crate::record::{Inverse, Outs, Record};
-use runs::Event;
 use process_tree::Tree;
+use runs::Event;
 use std::mem;
 use store::Store;
 use value::Value;

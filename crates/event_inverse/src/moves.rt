@@ -8,8 +8,8 @@ ghost use Rattle.event_inverse.specs.walking.Moved.{moved, moved_back, both_back
 use crate::asks::{Asks, asks_of};
 use crate::record::Outs;
 use address::Entry;
-use runs::{Ask, Event};
 use process_tree::{Proc, Tree};
+use runs::{Ask, Event};
 use std::alloc::{AllocError, Global};
 
 /// Makes the moves that the event asks for. Without memory none is made.

@@ -1,5 +1,5 @@
-use runs::Event;
 use process_tree::Proc;
+use runs::Event;
 use value::Value;
 
 /// What the moves of an event took out of the tree, in their order.

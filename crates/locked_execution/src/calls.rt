@@ -15,10 +15,10 @@ ghost use Rattle.system_places.specs.SystemBranches.{branch_count};
 
 use crate::{Command, Desk, Pass, Reply, Shared};
 use branch_workers::{Gate, Ran, run_workers};
-use runs::Refusal;
 use locked_object::{Keeper, NotRecorded, Replies};
 use machine::Machine;
 use recorded_calls::Board;
+use runs::Refusal;
 use std::alloc::{AllocError, Global};
 use std::sync::Wait;
 use std::thread::Threads;

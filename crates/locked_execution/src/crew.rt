@@ -7,10 +7,10 @@ ghost use Rattle.locked_execution.specs.Working.{Worked, CountsLive};
 
 use crate::{Command, Desk, Pass, Reply, Shared};
 use branch_workers::Gate;
-use runs::MOST_LIVE_EVENTS;
 use locked_object::{Keeper, Replies};
 use machine::Machine;
 use recorded_calls::Board;
+use runs::MOST_LIVE_EVENTS;
 use sharing_check::Checked;
 use std::alloc::{AllocError, Global};
 use std::sync::Wait;

@@ -14,7 +14,6 @@ mod shared;
 
 pub use asked::run_commands;
 pub use branch_workers::{Gate, Ran};
-pub use runs::{Choice, Event, Kind, Refusal};
 pub use command::{Command, Reply};
 pub use crew::{Crew, MOST_TURNS, MOST_WORKERS, Tally};
 pub use desk::Desk;
@@ -22,4 +21,5 @@ pub use laws::{
     breakpoint_laws, crew_laws, execution_laws, history_laws, reply_laws, rollback_laws,
 };
 pub use machine::{Breaks, Machine};
+pub use runs::{Choice, Event, Kind, Refusal};
 pub use shared::{Pass, Shared};

@@ -5,8 +5,8 @@ ghost use Rattle.locked_execution.specs.declared.command.Reply as any;
 
 use crate::{Command, Desk, Reply};
 use branch_workers::Branches;
-use runs::Refusal;
 use locked_object::Object;
+use runs::Refusal;
 
 impl Object<Command, Reply> for Desk {
     ghost use Rattle.locked_execution.specs.Sharing.{Keeps, NotKept};

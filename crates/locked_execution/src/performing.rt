@@ -6,8 +6,8 @@ ghost use Rattle.locked_execution.specs.Performs as performs;
 ghost use Rattle.locked_execution.specs.Performs.{Answers};
 
 use crate::{Command, Desk, Reply};
-use runs::Refusal;
 use machine::{BranchReply, Breaks, Machine};
+use runs::Refusal;
 
 impl Desk {
     /// Answers the command of a session, 0 to 15. Where there is no memory for it, it is refused and nothing changes.

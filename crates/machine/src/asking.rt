@@ -5,9 +5,9 @@ ghost use Rattle.runs.specs.Does.{Does};
 ghost use Rattle.machine.specs.walking.Histories.{execution, Holds, KnowsUses};
 
 use crate::history::History;
-use runs::{Command, Event, Refusal, Reply};
 use channel_uses::ChannelUses;
 use dependence::LiveEvent;
+use runs::{Command, Event, Refusal, Reply};
 use std::alloc::{AllocError, Global};
 use syntax::Items;
 

@@ -16,10 +16,10 @@ ghost use Rattle.machine.specs.walking.Histories.{tree_of, Holds, KnowsUses, IsS
 use crate::among::is_among;
 use crate::history::History;
 use address::Entry;
-use runs::{Event, Refusal};
 use channel_uses::ChannelUses;
 use event_places::line_after;
 use rendezvous::ready_below;
+use runs::{Event, Refusal};
 use sharing_check::Checked;
 use std::alloc::{AllocError, Global};
 use syntax::Items;

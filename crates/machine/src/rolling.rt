@@ -8,8 +8,8 @@ ghost use Rattle.dependence.specs.Taking.{MarksAllDependents};
 ghost use Rattle.machine.specs.walking.Marking.{MarksDependents, HoldsFrom};
 
 use crate::history::History;
-use runs::{Command, Refusal, Reply};
 use event_inverse::invert_by;
+use runs::{Command, Refusal, Reply};
 use std::alloc::AllocError;
 use syntax::Items;
 

@@ -14,10 +14,10 @@ ghost use Rattle.machine.specs.walking.Histories.{execution, tree_of, Holds, Kno
 ghost use Rattle.machine.specs.walking.Entering.{Entered, NotEntered};
 
 use crate::history::History;
-use runs::{Choice, Command, Event, LAST_TICKET, MOST_LIVE_EVENTS, Refusal, Reply};
 use channel_uses::ChannelUses;
 use event_inverse::{Inverse, Record, apply, invert};
 use rendezvous::{event_with, ready_events};
+use runs::{Choice, Command, Event, LAST_TICKET, MOST_LIVE_EVENTS, Refusal, Reply};
 use sharing_check::Checked;
 use std::alloc::{AllocError, Global};
 use syntax::{Boxed, Items};

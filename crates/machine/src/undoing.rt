@@ -7,8 +7,8 @@ ghost use Rattle.runs.specs.Does.{Undoes};
 ghost use Rattle.machine.specs.walking.Histories.{execution, Holds};
 
 use crate::history::History;
-use runs::{Event, Refusal, Reply};
 use event_inverse::{Record, invert};
+use runs::{Event, Refusal, Reply};
 
 impl History {
     /// Takes the event of this ticket back where no other live event depends on it.

@@ -16,10 +16,10 @@ ghost use Rattle.rendezvous.specs.walking.Acting.{ActedBy, ActedByOne};
 ghost use Rattle.rendezvous.specs.walking.Meeting as model;
 
 use crate::meeting::{met, solo};
-use runs::Event;
 use channel_uses::ChannelUses;
 use offered_sides::{OfferedSide, Side};
 use process_tree::Tree;
+use runs::Event;
 use std::alloc::{AllocError, Global};
 use store::Store;
 use syntax::Items;

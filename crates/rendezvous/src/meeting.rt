@@ -4,8 +4,8 @@ ghost use Rattle.rendezvous.specs.walking.Meeting as model;
 ghost use Rattle.offered_sides.specs.declared.side.Side.TheVariants as side;
 
 use address::{Address, compare};
-use runs::Event;
 use offered_sides::Side;
+use runs::Event;
 use std::alloc::{AllocError, Global};
 use system::Variables;
 use value::Value;

@@ -4,8 +4,8 @@ ghost use Rattle.source_view.specs.walking.Marking.{ChangedBy, with_events, with
 
 use crate::conflict::conflicts_with_next;
 use crate::marks::Marks;
-use runs::Event;
 use machine::Machine;
+use runs::Event;
 
 /// Adds what the ready events mark. Of those that act at one place each stands behind another.
 pub(crate) fn add_ready(machine: &Machine, ready: &[Event], marks: &mut [Marks])

@@ -5,8 +5,8 @@ ghost use Rattle.source_view.specs.View.{are_in_conflict};
 ghost use Rattle.source_view.specs.walking.Marking.{conflicts_with_next};
 
 use address::Address;
-use runs::Event;
 use machine::Machine;
+use runs::Event;
 
 /// Whether the event is in conflict with the one behind it.
 pub(crate) fn conflicts_with_next(machine: &Machine, event: &Event, after: &[Event]) -> bool

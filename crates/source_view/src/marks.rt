@@ -6,8 +6,8 @@ ghost use Rattle.source_view.specs.View.{marks_on};
 ghost use Rattle.source_view.specs.walking.Marking.{AreMarks, break_mark};
 
 use crate::adding::add_ready;
-use runs::Event;
 use machine::{Breaks, Machine};
+use runs::Event;
 use std::alloc::{AllocError, Global};
 
 /// What stands before a line.

@@ -4,8 +4,8 @@ ghost use Rattle.std.specs.Option.{SomeIff};
 ghost use Rattle.trace_file.specs.Loading.{IsStep, IsNoStep};
 ghost use Rattle.trace_file.specs.walking.Fields.{HasNone, IsCut, AreFields, HasNoFields, HasNoWord, IsArm, IsNoArm};
 
-use runs::Choice;
 use decimal::read_number;
+use runs::Choice;
 use std::alloc::{AllocError, Global};
 
 /// The choice of the first line of the text, and what is behind that line.

@@ -9,8 +9,8 @@ ghost use Rattle.trace_file.specs.walking.OneStep.{LineStops};
 use crate::Fault;
 use crate::line::{fields, read_arm};
 use address::read_entry;
-use runs::Event;
 use machine::Machine;
+use runs::Event;
 
 /// The most bytes of a place that is read without a look at how deep the ready events act.
 const LONG_PLACE: usize = 65_536;

@@ -17,11 +17,11 @@ ghost use Rattle.trace_file.specs.Loading.{Saves, after_writing};
 use crate::Fault;
 use crate::version::SECOND;
 use address::{Address, Entry};
-use runs::Event;
 use canonical_order::canonical_order;
 use dependence::{Live, LiveEvent};
 use devices::{Counted, write_out};
 use machine::Machine;
+use runs::Event;
 use std::alloc::{AllocError, Global};
 use std::io::Write;
 
