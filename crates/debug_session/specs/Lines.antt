@@ -1,5 +1,5 @@
 -- What the lines of a script ask for.
-use Rattle.std.specs.Prelude.{ℕ, ◌≡◌, ◌≢◌, ◌<◌, ◌⊎◌, List, [], ◌++◌}
+use Rattle.std.specs.Prelude.{ℕ, ◌≡◌, ◌<◌, ◌⊎◌, List, [], ◌++◌}
 use Rattle.std.specs.Fmt.{decimal}
 use Rattle.system.specs.declared.system.System.{System}
 use Rattle.runs.specs.declared.event.Choice.{Choice}

@@ -8,7 +8,6 @@ use Rattle.address.specs.Reading.{IsTextOf, HasNoText}
 use Rattle.runs.specs.declared.event.Choice.{Choice}
 use Rattle.line_text.specs.EventText.{field}
 use Rattle.line_text.specs.Fields.{BeginsField, CutAtSpace}
-use Rattle.line_text.specs.walking.FieldParts.{IsNoField}
 use Rattle.line_text.specs.Operands.{IsArm, IsChoice, MayBeChoice}
 use Rattle.line_text.specs.walking.NoOperand.{IsNoArm, IsNoChoice}
 use Rattle.line_text.proofs.CutLemmas.{cut-same, tails, address-no-space}

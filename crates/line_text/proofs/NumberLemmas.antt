@@ -1,12 +1,11 @@
 -- Numbers and names behind the keyword of a line.
-use Rattle.std.proofs.Common.{◌≡◌, ℕ, ◌<◌, ◌≤◌, ◌^◌, List, [], Option, Some, None, MatchOption, sym, ap, ◌∙◌, subst, inl, inr, arith}
+use Rattle.std.proofs.Common.{◌≡◌, ℕ, ◌<◌, ◌^◌, List, [], Option, Some, None, MatchOption, sym, ap, ◌∙◌, subst, inl, inr, arith}
 use Rattle.std.specs.Option.{SomeIff}
 use Rattle.std.specs.Fmt.{decimal}
 use Rattle.std.proofs.lemmas.Fmt.{decimal_injective}
 use Rattle.system.specs.Named.{variable_from}
 use Rattle.system.specs.declared.system.System.{System}
 use Rattle.line_text.specs.EventText.{field}
-use Rattle.line_text.specs.walking.FieldParts.{IsNoField}
 use Rattle.decimal.specs.Reading.{Reads, IsNoNumber}
 use Rattle.line_text.specs.Operands.{IsNumber, IsBranch, IsVariable, IsArm}
 use Rattle.line_text.specs.walking.NoOperand.{IsNoTicket, IsNoBranch, IsNoVariable, IsNoArm}
