@@ -1,18 +1,21 @@
 -- What a line asks for.
-use Rattle.std.proofs.Common.{◌≡◌, ℕ, List, [], ◌++◌, Option, Some, None, MatchOption, Result, Ok, Err, IfOk, IfErr, OnErr, ◌≢◌, ◌⊎◌, inl, inr, refl, sym, ap, ◌∙◌, subst}
+use Rattle.std.proofs.Common.{◌≡◌, ℕ, ◌≤◌, ◌<◌, arith, List, [], ◌++◌, Option, Some, None, MatchOption, Result, Ok, Err, IfOk, IfErr, OnErr, ◌≢◌, ◌⊎◌, inl, inr, refl, sym, ap, ◌∙◌, subst}
 use Rattle.system.specs.declared.system.System.{System}
-use Rattle.debug_session.specs.declared.keyword.Keyword.{Keyword}
-use Rattle.debug_session.specs.declared.keyword.Keyword.TheVariants as keywords
-use Rattle.debug_session.specs.EventText.{field}
-use Rattle.debug_session.specs.Fields.{BeginsField, CutAtSpace}
-use Rattle.debug_session.specs.Keywords.{spelling}
-use Rattle.debug_session.specs.walking.Spelled.{SpellsNothing}
+use Rattle.line_text.specs.declared.keyword.Keyword.{Keyword}
+use Rattle.line_text.specs.declared.keyword.Keyword.TheVariants as keywords
+use Rattle.line_text.specs.EventText.{field}
+use Rattle.line_text.specs.Fields.{BeginsField, CutAtSpace}
+use Rattle.line_text.specs.Keywords.{spelling}
+use Rattle.line_text.specs.walking.Spelled.{SpellsNothing}
 use Rattle.debug_session.specs.declared.line.Line.{Line}
 use Rattle.debug_session.specs.declared.fault.Fault.{Fault}
-use Rattle.debug_session.specs.Lines.{MayBeChoice, MayBeStep, AsksBy, Asks, AsksNothing, Says, SaysSession}
-use Rattle.debug_session.specs.walking.NotAsked.{IsNoVariable, IsNoChoice, AsksNothingBy}
-use Rattle.debug_session.proofs.CutLemmas.{cut-same}
-use Rattle.debug_session.proofs.KeywordLemmas.{spelling-no-space, one-keyword}
+use Rattle.line_text.specs.Operands.{IsNumber, MayBeChoice}
+use Rattle.line_text.specs.walking.NoOperand.{IsNoTicket, IsNoVariable, IsNoChoice}
+use Rattle.line_text.proofs.NumberLemmas.{read-number}
+use Rattle.debug_session.specs.Lines.{MayBeStep, AsksBy, Asks, AsksNothing, Says, SaysSession}
+use Rattle.debug_session.specs.walking.NotAsked.{IsNoSession, AsksNothingBy}
+use Rattle.line_text.proofs.CutLemmas.{cut-same}
+use Rattle.line_text.proofs.KeywordLemmas.{spelling-no-space, one-keyword}
 
 -- a field begins with a space
 field-begins : (rest text : List ℕ) → rest ≡ field text → BeginsField rest
@@ -64,6 +67,17 @@ asks-behind system line text rest w c cut h asked = record {
   spelled = sym cut.joined ∙ ap (λ t. t ++ rest) (sym h);
   asked = asked;
 }
+
+-- no session stands where no number does
+pub no-session-number : (rest : List ℕ) → IsNoTicket rest → IsNoSession rest
+no-session-number rest none k h = none k (omega (arith, h.0), h.1)
+
+-- a number of 16 and more is of no session
+pub no-session-above : (rest : List ℕ) (n : ℕ) → IsNumber n rest → 16 ≤ n → IsNoSession rest
+no-session-above rest n read above k h =
+    let same : k ≡ n = read-number n k rest read (omega (arith, h.0)) h.1 in
+    let below : k < 16 = h.0 in
+    omega arith
 
 -- where no variable is named
 pub roll-value-nothing : (system : System) (w : Keyword) (rest : List ℕ) → w ≡ keywords.RollValue → IsNoVariable system rest → AsksNothingBy system w rest

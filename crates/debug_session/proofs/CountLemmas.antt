@@ -14,11 +14,7 @@ unread-writes fault n h =
 -- a line that is not answered is no fault of reading
 pub stops-reads : (s : System) (line : List ℕ) (number : ℕ) (fault : Fault) (n : ℕ) → LineStops s line number fault → fault_reads fault n ≡ n
 stops-reads s line number Fault.Memory n h = refl
-stops-reads s line number (Fault.Lexer f) n h = absurd h
-stops-reads s line number (Fault.Parser f) n h = absurd h
-stops-reads s line number (Fault.Types f) n h = absurd h
-stops-reads s line number (Fault.Elaborate f) n h = absurd h
-stops-reads s line number (Fault.Sharing f) n h = absurd h
+stops-reads s line number (Fault.NoSystem f) n h = absurd h
 stops-reads s line number (Fault.Trace f) n h = absurd h
 stops-reads s line number Fault.ReadFailed n h = absurd h
 stops-reads s line number Fault.WriteFailed n h = absurd h
@@ -27,11 +23,7 @@ stops-reads s line number (Fault.BadCommand k) n h = refl
 -- nor of writing
 pub stops-writes : (s : System) (line : List ℕ) (number : ℕ) (fault : Fault) (n : ℕ) → LineStops s line number fault → fault_writes fault n ≡ n
 stops-writes s line number Fault.Memory n h = refl
-stops-writes s line number (Fault.Lexer f) n h = absurd h
-stops-writes s line number (Fault.Parser f) n h = absurd h
-stops-writes s line number (Fault.Types f) n h = absurd h
-stops-writes s line number (Fault.Elaborate f) n h = absurd h
-stops-writes s line number (Fault.Sharing f) n h = absurd h
+stops-writes s line number (Fault.NoSystem f) n h = absurd h
 stops-writes s line number (Fault.Trace f) n h = absurd h
 stops-writes s line number Fault.ReadFailed n h = absurd h
 stops-writes s line number Fault.WriteFailed n h = absurd h
@@ -40,11 +32,7 @@ stops-writes s line number (Fault.BadCommand k) n h = refl
 -- a refusal of source and stimulus is no fault of reading
 pub refused-reads : (source stimulus : List ℕ) (fault : Fault) (n : ℕ) → IsRefused source stimulus fault → fault_reads fault n ≡ n
 refused-reads source stimulus Fault.Memory n h = refl
-refused-reads source stimulus (Fault.Lexer f) n h = refl
-refused-reads source stimulus (Fault.Parser f) n h = refl
-refused-reads source stimulus (Fault.Types f) n h = refl
-refused-reads source stimulus (Fault.Elaborate f) n h = refl
-refused-reads source stimulus (Fault.Sharing f) n h = refl
+refused-reads source stimulus (Fault.NoSystem f) n h = refl
 refused-reads source stimulus (Fault.Trace f) n h = refl
 refused-reads source stimulus Fault.ReadFailed n h = absurd h
 refused-reads source stimulus Fault.WriteFailed n h = refl
@@ -53,11 +41,7 @@ refused-reads source stimulus (Fault.BadCommand k) n h = refl
 -- nor one of writing
 pub refused-writes : (source stimulus : List ℕ) (fault : Fault) (n : ℕ) → IsRefused source stimulus fault → fault_writes fault n ≡ n
 refused-writes source stimulus Fault.Memory n h = refl
-refused-writes source stimulus (Fault.Lexer f) n h = refl
-refused-writes source stimulus (Fault.Parser f) n h = refl
-refused-writes source stimulus (Fault.Types f) n h = refl
-refused-writes source stimulus (Fault.Elaborate f) n h = refl
-refused-writes source stimulus (Fault.Sharing f) n h = refl
+refused-writes source stimulus (Fault.NoSystem f) n h = refl
 refused-writes source stimulus (Fault.Trace f) n h = refl
 refused-writes source stimulus Fault.ReadFailed n h = refl
 refused-writes source stimulus Fault.WriteFailed n h = absurd h

@@ -51,11 +51,7 @@ stopped-unwritten s o at_end taken given held more (Fault.BadCommand n) not some
     (lines, inr (last, ended, inl (inl nothing, begins s o lines given held more b answered)))
 stopped-unwritten s o at_end taken given held more Fault.ReadFailed not some b stops = absurd (not.0 refl)
 stopped-unwritten s o at_end taken given held more Fault.WriteFailed not some b stops = absurd (not.1 refl)
-stopped-unwritten s o at_end taken given held more (Fault.Lexer fault) not some b stops = absurd stops
-stopped-unwritten s o at_end taken given held more (Fault.Parser fault) not some b stops = absurd stops
-stopped-unwritten s o at_end taken given held more (Fault.Types fault) not some b stops = absurd stops
-stopped-unwritten s o at_end taken given held more (Fault.Elaborate fault) not some b stops = absurd stops
-stopped-unwritten s o at_end taken given held more (Fault.Sharing fault) not some b stops = absurd stops
+stopped-unwritten s o at_end taken given held more (Fault.NoSystem fault) not some b stops = absurd stops
 stopped-unwritten s o at_end taken given held more (Fault.Trace fault) not some b stops = absurd stops
 
 -- what was held is out
@@ -71,11 +67,7 @@ stopped-written s o at_end taken given held more (Fault.BadCommand n) not e stop
     subst (λ t. StoppedByFault s o at_end taken (given ++ t) (Fault.BadCommand n)) (sym e) stops
 stopped-written s o at_end taken given held more Fault.ReadFailed not e stops = absurd (not.0 refl)
 stopped-written s o at_end taken given held more Fault.WriteFailed not e stops = absurd (not.1 refl)
-stopped-written s o at_end taken given held more (Fault.Lexer fault) not e stops = absurd stops
-stopped-written s o at_end taken given held more (Fault.Parser fault) not e stops = absurd stops
-stopped-written s o at_end taken given held more (Fault.Types fault) not e stops = absurd stops
-stopped-written s o at_end taken given held more (Fault.Elaborate fault) not e stops = absurd stops
-stopped-written s o at_end taken given held more (Fault.Sharing fault) not e stops = absurd stops
+stopped-written s o at_end taken given held more (Fault.NoSystem fault) not e stops = absurd stops
 stopped-written s o at_end taken given held more (Fault.Trace fault) not e stops = absurd stops
 
 -- the end, where what was held is out
@@ -124,11 +116,7 @@ ended-by-device s o read left wrote contents held (Ok x) device h = absurd devic
 ended-by-device s o read left wrote contents held (Err Fault.ReadFailed) device (taken, given, takes, gives, (none, stops)) = (taken, given, takes, gives, stops)
 ended-by-device s o read left wrote contents held (Err Fault.WriteFailed) device (taken, given, takes, gives, stops) = (taken, given, takes, gives, stops)
 ended-by-device s o read left wrote contents held (Err Fault.Memory) device h = absurd device
-ended-by-device s o read left wrote contents held (Err (Fault.Lexer f)) device h = absurd device
-ended-by-device s o read left wrote contents held (Err (Fault.Parser f)) device h = absurd device
-ended-by-device s o read left wrote contents held (Err (Fault.Types f)) device h = absurd device
-ended-by-device s o read left wrote contents held (Err (Fault.Elaborate f)) device h = absurd device
-ended-by-device s o read left wrote contents held (Err (Fault.Sharing f)) device h = absurd device
+ended-by-device s o read left wrote contents held (Err (Fault.NoSystem f)) device h = absurd device
 ended-by-device s o read left wrote contents held (Err (Fault.Trace f)) device h = absurd device
 ended-by-device s o read left wrote contents held (Err (Fault.BadCommand k)) device h = absurd device
 
@@ -151,11 +139,7 @@ ended-put s o read left wrote contents after held held' r h not (more, writes, (
 pub quiet-reads : (r : Result (Unit {0}) Fault) (n : ℕ) → EndsByNoDevice r → after_reading r n ≡ n
 quiet-reads (Ok x) n h = refl
 quiet-reads (Err Fault.Memory) n h = refl
-quiet-reads (Err (Fault.Lexer f)) n h = refl
-quiet-reads (Err (Fault.Parser f)) n h = refl
-quiet-reads (Err (Fault.Types f)) n h = refl
-quiet-reads (Err (Fault.Elaborate f)) n h = refl
-quiet-reads (Err (Fault.Sharing f)) n h = refl
+quiet-reads (Err (Fault.NoSystem f)) n h = refl
 quiet-reads (Err (Fault.Trace f)) n h = refl
 quiet-reads (Err Fault.ReadFailed) n h = absurd (h.0 refl)
 quiet-reads (Err Fault.WriteFailed) n h = refl
@@ -164,11 +148,7 @@ quiet-reads (Err (Fault.BadCommand k)) n h = refl
 pub quiet-writes : (r : Result (Unit {0}) Fault) (n : ℕ) → EndsByNoDevice r → after_writing r n ≡ n
 quiet-writes (Ok x) n h = refl
 quiet-writes (Err Fault.Memory) n h = refl
-quiet-writes (Err (Fault.Lexer f)) n h = refl
-quiet-writes (Err (Fault.Parser f)) n h = refl
-quiet-writes (Err (Fault.Types f)) n h = refl
-quiet-writes (Err (Fault.Elaborate f)) n h = refl
-quiet-writes (Err (Fault.Sharing f)) n h = refl
+quiet-writes (Err (Fault.NoSystem f)) n h = refl
 quiet-writes (Err (Fault.Trace f)) n h = refl
 quiet-writes (Err Fault.ReadFailed) n h = refl
 quiet-writes (Err Fault.WriteFailed) n h = absurd (h.1 refl)

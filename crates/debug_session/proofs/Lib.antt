@@ -1,14 +1,9 @@
 pub mod AcceptLemmas
 pub mod AskLemmas
-pub mod ChoiceLemmas
 pub mod CountLemmas
-pub mod CutLemmas
 pub mod EndLemmas
 pub mod HeldLemmas
-pub mod KeywordLemmas
 pub mod LineLemmas
-pub mod MakingLemmas
-pub mod NumberLemmas
 pub mod OneThingLemmas
 pub mod PieceLemmas
 pub mod ReplayLemmas

@@ -30,21 +30,27 @@ live-told m l (inr (_, is, _)) = absurd (live-refused l is)
 told-live : (m : AtMachine) (r : Reply) (l : Live) → r ≡ Reply.Live l → Answers (object m) Command.Live r (object m) → l ≡ m.live
 told-live m r l is h = live-told m l (subst (λ (x : Reply). Answers (object m) Command.Live x (object m)) is h)
 
--- what is told on a loaded machine
-pub replays : {A : Type 0} (bytes : A → List ℕ) (system : System) (text : List ℕ) (m : AtMachine) (r : Reply) (s : System) (result : Result A Fault)
-    → trace.IsLoaded system text m → Answers (object m) Command.Live r (object m) → s ≡ m.checked
-    → MatchResult result (λ answer. (l : Live) × (r ≡ Reply.Live l) × (bytes answer ≡ answer_text s command.Command.Live (reply.Reply.Live l))) (λ fault. fault ≡ Fault.Memory)
+-- the text of the list of live events
+abbrev pub listing : System → Live → List ℕ
+listing system live = answer_text system command.Command.Live (reply.Reply.Live live)
+
+-- what is told of a machine
+pub lists : {A : Type 0} (bytes : A → List ℕ) (m : AtMachine) (r : Reply) (s : System) (result : Result A Fault)
+    → Answers (object m) Command.Live r (object m) → s ≡ m.checked
+    → MatchResult result (λ answer. (l : Live) × (r ≡ Reply.Live l) × (bytes answer ≡ listing s l)) (λ fault. fault ≡ Fault.Memory)
+    → MatchResult result (λ answer. bytes answer ≡ listing m.checked m.live) (λ fault. fault ≡ Fault.Memory)
+lists bytes m r s (Ok answer) told same (l, live, text_is) =
+    text_is ∙ (ap (λ (k : Live). listing s k) (told-live m r l live told) ∙ ap (λ (t : System). listing t m.live) same)
+lists bytes m r s (Err fault) told same memory = memory
+
+-- what is told of a loaded machine
+pub replays : {A : Type 0} (bytes : A → List ℕ) (system : System) (text : List ℕ) (m : AtMachine) (result : Result A Fault)
+    → trace.IsLoaded system text m
+    → MatchResult result (λ answer. bytes answer ≡ listing m.checked m.live) (λ fault. fault ≡ Fault.Memory)
     → MatchResult result (λ answer. Replays system text (bytes answer)) (λ fault. RefusesTrace system text fault)
-replays bytes system text m r s (Ok answer) (h, stands, is) told same (l, live, text_is) =
-    let there : l ≡ trace.ticketed 1 h = told-live m r l live told ∙ ap (λ (n : AtMachine). n.live) is in
-    let here : s ≡ system = same ∙ ap (λ (n : AtMachine). n.checked) is in (
-      h,
-      stands,
-      text_is
-          ∙ (ap (λ (k : Live). answer_text s command.Command.Live (reply.Reply.Live k)) there
-          ∙ ap (λ (t : System). answer_text t command.Command.Live (reply.Reply.Live (trace.ticketed 1 h))) here),
-    )
-replays bytes system text m r s (Err fault) loaded told same memory = subst (RefusesTrace system text) (sym memory) tt
+replays bytes system text m (Ok answer) (h, stands, is) text_is =
+    (h, stands, text_is ∙ ap (λ (n : AtMachine). listing n.checked n.live) is)
+replays bytes system text m (Err fault) loaded memory = subst (RefusesTrace system text) (sym memory) tt
 
 -- why a trace is refused
 pub refuses : (system : System) (text : List ℕ) (fault : loading.Fault) → trace.IsRefused system text fault → RefusesTrace system text (of_trace fault)

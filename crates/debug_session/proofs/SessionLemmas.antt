@@ -197,11 +197,7 @@ unasked s o m read left left' wrote contents contents' held held' given number F
     ),
   ),
 )
-unasked s o m read left left' wrote contents contents' held held' given number (Fault.Lexer fault) p gives stops = absurd stops
-unasked s o m read left left' wrote contents contents' held held' given number (Fault.Parser fault) p gives stops = absurd stops
-unasked s o m read left left' wrote contents contents' held held' given number (Fault.Types fault) p gives stops = absurd stops
-unasked s o m read left left' wrote contents contents' held held' given number (Fault.Elaborate fault) p gives stops = absurd stops
-unasked s o m read left left' wrote contents contents' held held' given number (Fault.Sharing fault) p gives stops = absurd stops
+unasked s o m read left left' wrote contents contents' held held' given number (Fault.NoSystem fault) p gives stops = absurd stops
 unasked s o m read left left' wrote contents contents' held held' given number (Fault.Trace fault) p gives stops = absurd stops
 unasked s o m read left left' wrote contents contents' held held' given number (Fault.BadCommand n) p gives stops = absurd stops
 
@@ -229,11 +225,7 @@ stops-at s o m at_end lines out held line tail number (Fault.BadCommand n) h one
     (lines, line, lines-and-line at_end lines line tail h one e, (m, t), stops.0 ∙ c, stops.1, stops.2)
 stops-at s o m at_end lines out held line tail number Fault.WriteFailed h one e t c stops = absurd stops
 stops-at s o m at_end lines out held line tail number Fault.ReadFailed h one e t c stops = absurd stops
-stops-at s o m at_end lines out held line tail number (Fault.Lexer fault) h one e t c stops = absurd stops
-stops-at s o m at_end lines out held line tail number (Fault.Parser fault) h one e t c stops = absurd stops
-stops-at s o m at_end lines out held line tail number (Fault.Types fault) h one e t c stops = absurd stops
-stops-at s o m at_end lines out held line tail number (Fault.Elaborate fault) h one e t c stops = absurd stops
-stops-at s o m at_end lines out held line tail number (Fault.Sharing fault) h one e t c stops = absurd stops
+stops-at s o m at_end lines out held line tail number (Fault.NoSystem fault) h one e t c stops = absurd stops
 stops-at s o m at_end lines out held line tail number (Fault.Trace fault) h one e t c stops = absurd stops
 
 -- the line that was taken is not answered

@@ -1,10 +1,7 @@
 pub mod Accepting
 pub mod AtLine
 pub mod Counting
-pub mod EventText
 pub mod FaultNumbers
-pub mod Fields
-pub mod Keywords
 pub mod Lines
 pub mod OneThing
 pub mod Replaying

@@ -6,4 +6,5 @@ use Rattle.debug_session.specs.Lines.{Says}
 
 -- what a line says is one thing
 abbrev pub SaysOneThing : Type 0
-SaysOneThing = (system : System) (line : List ℕ) (one other : Line) → Says system line one → Says system line other → one ≡ other
+SaysOneThing =
+    (system : System) (line : List ℕ) (one other : Line) → Says system line one → Says system line other → one ≡ other

@@ -23,7 +23,8 @@ pub record AreLines (bytes : List ℕ) (lines : List (List ℕ)) (last : List �
 abbrev pub IsEnding : Type 0 → List ℕ → Type 0
 IsEnding at_end tail = (tail ≡ line_end ∷ []) ⊎ ((tail ≡ []) × at_end)
 
--- the bytes are these lines, each with its end, and then the whole line `last`, which lacks its end only at the end of all
+-- the bytes are these lines, each with its end, and then the whole line `last`, which lacks its end only at the end of
+-- all
 pub record EndWith (at_end : Type 0) (bytes : List ℕ) (lines : List (List ℕ)) (last : List ℕ) : Type 0 where
   pub tail : List ℕ
   pub joined : bytes ≡ flat_map with_end lines ++ (last ++ tail)

@@ -23,7 +23,8 @@ abbrev pub AsksNoCommand : System → List ℕ → Type 0
 AsksNoCommand system line =
     ((line ≢ []) × AsksNothing system line) ⊎ ((said : Line) × Asks system line said × IsOfScripts said)
 
--- for a command one call was made, with it, and the bytes are the text of its reply; an empty line has no bytes, and no call was made
+-- for a command one call was made, with it, and the bytes are the text of its reply; an empty line has no bytes, and no
+-- call was made
 abbrev pub SaidToPass : System → AtDesk → Pass AtDesk Command Reply → Line → List ℕ → Pass AtDesk Command Reply → Type 0
 SaidToPass system opening p (Line.Asked c) bytes p' =
     (reply : Reply) × Answered opening p c reply p' × (bytes ≡ answer_text system c reply)
@@ -31,12 +32,15 @@ SaidToPass system opening p Line.Empty bytes p' = (bytes ≡ []) × (p' ≡ p)
 SaidToPass system opening p _ bytes p' = ⊥
 
 -- the line is answered so
-abbrev pub PassAnswered : System → AtDesk → Pass AtDesk Command Reply → List ℕ → List ℕ → Pass AtDesk Command Reply → Type 0
-PassAnswered system opening p line bytes p' = (said : Line) × Says system line said × SaidToPass system opening p said bytes p'
+abbrev pub PassAnswered : System → AtDesk → Pass AtDesk Command Reply → List ℕ → List ℕ
+    → Pass AtDesk Command Reply → Type 0
+PassAnswered system opening p line bytes p' =
+    (said : Line) × Says system line said × SaidToPass system opening p said bytes p'
 
--- why the line of this number has no answer: there was no memory to read it, and no call was made; there was none for the bytes,
--- behind the one call with its command; or it asks for no command, and no call was made
-abbrev pub PassNotAnswered : System → AtDesk → Pass AtDesk Command Reply → List ℕ → ℕ → Fault → Pass AtDesk Command Reply → Type 0
+-- why the line of this number has no answer: there was no memory to read it, and no call was made; there was none for
+-- the bytes, behind the one call with its command; or it asks for no command, and no call was made
+abbrev pub PassNotAnswered : System → AtDesk → Pass AtDesk Command Reply → List ℕ → ℕ → Fault
+    → Pass AtDesk Command Reply → Type 0
 PassNotAnswered system opening p line number Fault.Memory p' =
     (MayBeStep line × (p' ≡ p))
     ⊎ ((c : Command) × (reply : Reply) × Asks system line (Line.Asked c) × Answered opening p c reply p')

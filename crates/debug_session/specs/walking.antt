@@ -1,4 +1,2 @@
-pub mod FieldParts
 pub mod NotAsked
 pub mod OneLine
-pub mod Spelled

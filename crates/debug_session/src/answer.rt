@@ -15,16 +15,17 @@ use locked_execution::Command;
 use std::alloc::{AllocError, Global};
 use std::io::{BufReader, Read, Write};
 
-/// Answers each line of the reader. It ends where the reader is at its end, or at the first fault: then the answers of the
-/// lines before are out, and where writing failed a beginning of the answers. Before the reader asks its device for more, all
-/// answers are out: they are held back only while its buffer has another line.
+/// Answers each line of the reader. It ends where the reader is at its end, or at the first fault: then the answers of
+/// the lines before are out, and where writing failed a beginning of the answers. Before the reader asks its device for
+/// more, all answers are out: they are held back only while its buffer has another line.
 pub(crate) fn answer_lines<R: Read, W: Write>(
     alloc: Global,
     sitting: &mut Sitting<'_>,
     reader: &mut Counted<BufReader<R>>,
     writer: &mut Counted<W>,
 ) -> Result<(), Fault>
-    ensures ends { Ends sitting.old.desk.machine.checked sitting.old (reader_remaining R.remaining (device reader.old)) (reader_remaining R.remaining (device reader.new))
+    ensures ends { Ends sitting.old.desk.machine.checked sitting.old
+        (reader_remaining R.remaining (device reader.old)) (reader_remaining R.remaining (device reader.new))
         (W.contents (device writer.old)) (W.contents (device writer.new)) result }
     ensures read_failures { failures reader.new ≡ after_reading result (failures reader.old) }
     ensures write_failures { failures writer.new ≡ after_writing result (failures writer.old) }
@@ -54,7 +55,8 @@ fn hold_answers<R: Read, W: Write>(
     held: &mut Vec<u8>,
 ) -> Result<(), Fault>
     requires { held.old.items ≡ [] }
-    ensures ends { EndsHolding sitting.old.desk.machine.checked sitting.old (reader_remaining R.remaining (device reader.old)) (reader_remaining R.remaining (device reader.new))
+    ensures ends { EndsHolding sitting.old.desk.machine.checked sitting.old
+        (reader_remaining R.remaining (device reader.old)) (reader_remaining R.remaining (device reader.new))
         (W.contents (device writer.old)) (W.contents (device writer.new)) held.new.items result }
     ensures read_failures { failures reader.new ≡ after_reading result (failures reader.old) }
     ensures write_failures { failures writer.new ≡ after_writing result (failures writer.old) }
@@ -92,7 +94,8 @@ fn answer_line(
 fn answer_to(alloc: Global, sitting: &mut Sitting<'_>, said: &Line) -> Result<Vec<u8>, AllocError>
     requires { SaysSession said.now }
     ensures checked { sitting.new.desk.machine.checked ≡ sitting.old.desk.machine.checked }
-    ensures answered { IfOk result (λ answer. SaidAnswered sitting.old.desk.machine.checked sitting.old said.now answer.items sitting.new) }
+    ensures answered { IfOk result (λ answer.
+        SaidAnswered sitting.old.desk.machine.checked sitting.old said.now answer.items sitting.new) }
     ensures memory { OnErr result (said.now ≢ Line.Empty) }
 {
     match said {
@@ -114,7 +117,8 @@ fn answer_command(
     command: &Command,
 ) -> Result<Vec<u8>, AllocError>
     ensures checked { sitting.new.desk.machine.checked ≡ sitting.old.desk.machine.checked }
-    ensures answered { IfOk result (λ answer. SaidAnswered sitting.old.desk.machine.checked sitting.old (Line.Asked command.now) answer.items sitting.new) }
+    ensures answered { IfOk result (λ answer.
+        SaidAnswered sitting.old.desk.machine.checked sitting.old (Line.Asked command.now) answer.items sitting.new) }
 {
     let reply = sitting.ask(command);
     write_reply(alloc, sitting.checked(), command, &reply)

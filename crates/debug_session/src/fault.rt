@@ -1,6 +1,6 @@
 ghost use Rattle.std.specs.Prelude.{◌≡◌};
 ghost use Rattle.debug_session.specs.FaultNumbers.{fault_number, fault_field};
-ghost use Rattle.debug_session.specs.Wrapping.{of_source, of_elaborate, of_sharing, of_trace};
+ghost use Rattle.debug_session.specs.Wrapping.{of_front_end, of_trace};
 ghost use Rattle.debug_session.specs.declared.fault.Fault.TheVariants.{Memory};
 
 use std::alloc::{AllocError, AllocFailed};
@@ -11,21 +11,9 @@ use thiserror::Error;
 pub enum Fault {
     #[error("out of memory")]
     Memory,
-    /// The source cannot be cut into tokens.
+    /// Source and stimulus make no system that may be debugged.
     #[error("{0}")]
-    Lexer(refusals::lexer::Fault),
-    /// The tokens are no description.
-    #[error("{0}")]
-    Parser(refusals::parser::Fault),
-    /// The description is not typed.
-    #[error("{0}")]
-    Types(refusals::types::Fault),
-    /// Description and stimulus make no system.
-    #[error("{0}")]
-    Elaborate(elaborate::Fault),
-    /// The system breaks the rule on sharing.
-    #[error("{0}")]
-    Sharing(sharing_check::Fault),
+    NoSystem(front_end::Fault),
     /// The trace was not loaded.
     #[error("{0}")]
     Trace(trace_file::Fault),
@@ -47,11 +35,7 @@ impl Fault {
     {
         match self {
             Fault::Memory => 1,
-            Fault::Lexer(fault) => fault.number(),
-            Fault::Parser(fault) => fault.number(),
-            Fault::Types(fault) => fault.number(),
-            Fault::Elaborate(fault) => fault.number(),
-            Fault::Sharing(fault) => fault.number(),
+            Fault::NoSystem(fault) => fault.number(),
             Fault::Trace(fault) => fault.number(),
             Fault::ReadFailed => 41,
             Fault::WriteFailed => 42,
@@ -64,11 +48,7 @@ impl Fault {
         ensures { result ≡ fault_field self.now }
     {
         match self {
-            Fault::Lexer(fault) => fault.offset(),
-            Fault::Parser(fault) => fault.offset(),
-            Fault::Types(fault) => fault.offset(),
-            Fault::Elaborate(fault) => fault.line(),
-            Fault::Sharing(fault) => fault.offset(),
+            Fault::NoSystem(fault) => fault.field(),
             Fault::Trace(fault) => fault.field(),
             Fault::BadCommand(line) => Some(*line),
             Fault::Memory | Fault::ReadFailed | Fault::WriteFailed => None,
@@ -76,37 +56,13 @@ impl Fault {
     }
 }
 
-impl From<typed_source::Fault> for Fault {
-    ghost from_gives = { λ fault wrapped. wrapped ≡ of_source fault };
+impl From<front_end::Fault> for Fault {
+    ghost from_gives = { λ fault wrapped. wrapped ≡ of_front_end fault };
 
-    fn from(fault: typed_source::Fault) -> Fault {
+    fn from(fault: front_end::Fault) -> Fault {
         match fault {
-            typed_source::Fault::Memory => Fault::Memory,
-            typed_source::Fault::Lexer(refused) => Fault::Lexer(refused),
-            typed_source::Fault::Parser(refused) => Fault::Parser(refused),
-            typed_source::Fault::Types(refused) => Fault::Types(refused),
-        }
-    }
-}
-
-impl From<elaborate::Fault> for Fault {
-    ghost from_gives = { λ fault wrapped. wrapped ≡ of_elaborate fault };
-
-    fn from(fault: elaborate::Fault) -> Fault {
-        match fault {
-            elaborate::Fault::Memory => Fault::Memory,
-            refused => Fault::Elaborate(refused),
-        }
-    }
-}
-
-impl From<sharing_check::Fault> for Fault {
-    ghost from_gives = { λ fault wrapped. wrapped ≡ of_sharing fault };
-
-    fn from(fault: sharing_check::Fault) -> Fault {
-        match fault {
-            sharing_check::Fault::Memory => Fault::Memory,
-            refused => Fault::Sharing(refused),
+            front_end::Fault::Memory => Fault::Memory,
+            refused => Fault::NoSystem(refused),
         }
     }
 }

@@ -14,7 +14,9 @@ const ROOM: usize = 8_192;
 /// Writes out what is held, and flushes.
 pub(crate) fn put_out<W: Write>(writer: &mut Counted<W>, held: &mut Vec<u8>) -> Result<(), Fault>
     ensures bytes { (given : List ℕ) × Appends (W.contents (device writer.old)) (W.contents (device writer.new)) given
-        × MatchResult result (λ _. (given ≡ held.old.items) × (held.new.items ≡ [])) (λ fault. WritingStops held.old.items given fault) }
+        × MatchResult result
+        (λ _. (given ≡ held.old.items) × (held.new.items ≡ []))
+        (λ fault. WritingStops held.old.items given fault) }
     ensures some { IfErr result (λ _. held.old.items ≢ []) }
     ensures failures { failures writer.new ≡ after_writing result (failures writer.old) }
 {
@@ -33,8 +35,11 @@ pub(crate) fn hold<W: Write>(
     answer: &[u8],
 ) -> Result<(), Fault>
     ensures bytes { (given : List ℕ) × Appends (W.contents (device writer.old)) (W.contents (device writer.new)) given
-        × MatchResult result (λ _. given ++ held.new.items ≡ held.old.items ++ answer.now) (λ fault. WritingStops (held.old.items ++ answer.now) given fault) }
-    ensures bound { IfOk result (λ _. (held.new.items ≡ []) ⊎ ((length held.old.items ≤ 8192) × (length answer.now ≤ 8192))) }
+        × MatchResult result
+        (λ _. given ++ held.new.items ≡ held.old.items ++ answer.now)
+        (λ fault. WritingStops (held.old.items ++ answer.now) given fault) }
+    ensures bound { IfOk result (λ _.
+        (held.new.items ≡ []) ⊎ ((length held.old.items ≤ 8192) × (length answer.now ≤ 8192))) }
     ensures failures { failures writer.new ≡ after_writing result (failures writer.old) }
 {
     if is_held(held, answer) {

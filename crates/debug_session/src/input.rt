@@ -14,8 +14,8 @@ use crate::held::put_out;
 use devices::{Counted, ends_line};
 use std::io::{BufRead, BufReader, Error, ErrorKind, Read, Write};
 
-/// Takes the next line into `line`, in place of what was there, without byte 10 at its end, and tells whether it was there.
-/// Unless the reader has all of it at hand, what is held is written out before its device is asked.
+/// Takes the next line into `line`, in place of what was there, without byte 10 at its end, and tells whether it was
+/// there. Unless the reader has all of it at hand, what is held is written out before its device is asked.
 pub(crate) fn next_line<R: Read, W: Write>(
     reader: &mut Counted<BufReader<R>>,
     writer: &mut Counted<W>,
@@ -25,8 +25,10 @@ pub(crate) fn next_line<R: Read, W: Write>(
     ensures line { (given : List ℕ) × Appends (W.contents (device writer.old)) (W.contents (device writer.new)) given
         × MatchResult result
         (λ complete. (given ++ held.new.items ≡ held.old.items)
-        × TakesLine (reader_remaining R.remaining (device reader.old)) (reader_remaining R.remaining (device reader.new)) line.new.items complete)
-        (λ fault. AskingStops (reader_remaining R.remaining (device reader.old)) (reader_remaining R.remaining (device reader.new)) held.old.items held.new.items given fault) }
+        × TakesLine (reader_remaining R.remaining (device reader.old))
+        (reader_remaining R.remaining (device reader.new)) line.new.items complete)
+        (λ fault. AskingStops (reader_remaining R.remaining (device reader.old))
+        (reader_remaining R.remaining (device reader.new)) held.old.items held.new.items given fault) }
     ensures asked { MatchResult result
         (λ _. (reader_inner (device reader.new) ≡ reader_inner (device reader.old)) ⊎ (held.new.items ≡ []))
         (λ fault. fault ≡ WriteFailed → reader.new ≡ reader.old) }
@@ -44,8 +46,10 @@ pub(crate) fn next_line<R: Read, W: Write>(
 /// there. A line that is there whole counts even where the reader then failed.
 fn read_line<R: BufRead>(reader: &mut Counted<R>, line: &mut Vec<u8>) -> Result<bool, Fault>
     ensures line { MatchResult result
-        (λ complete. TakesLine (R.remaining (device reader.old)) (R.remaining (device reader.new)) line.new.items complete)
-        (λ fault. ReadingStops (R.remaining (device reader.old)) (R.remaining (device reader.new)) line.new.items fault) }
+        (λ complete.
+        TakesLine (R.remaining (device reader.old)) (R.remaining (device reader.new)) line.new.items complete)
+        (λ fault.
+        ReadingStops (R.remaining (device reader.old)) (R.remaining (device reader.new)) line.new.items fault) }
     ensures failures { failures reader.new ≡ after_reading result (failures reader.old) }
 {
     line.clear();
@@ -61,7 +65,8 @@ fn read_line<R: BufRead>(reader: &mut Counted<R>, line: &mut Vec<u8>) -> Result<
 
 /// Takes byte 10 off the end, and tells whether it was there.
 fn strip_end(line: &mut Vec<u8>) -> bool
-    ensures { MatchBool result ((line.old.items ≡ line.new.items ++ line_end ∷ []) × (ends_with_byte line_end line.old.items ≡ true))
+    ensures { MatchBool result
+        ((line.old.items ≡ line.new.items ++ line_end ∷ []) × (ends_with_byte line_end line.old.items ≡ true))
         ((line.new.items ≡ line.old.items) × (ends_with_byte line_end line.old.items ≡ false)) }
 {
     if !ends_line(line.as_slice()) {

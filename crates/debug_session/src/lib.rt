@@ -2,22 +2,17 @@
 #![tactic(auto)]
 
 mod answer;
-mod event;
 mod fault;
-mod fields;
 mod held;
 mod input;
-mod keyword;
 mod laws;
 mod line;
-mod making;
 mod output;
 mod read;
 mod replay_live;
 mod reply;
 mod session;
 mod sitting;
-mod text;
 mod whole;
 
 pub use devices::Counted;

@@ -1,14 +1,12 @@
 ghost use Rattle.std.specs.Prelude.{◌≡◌, ◌≢◌, ◌⊎◌, [], Ok, Err, Some, MatchOption, IfOk, IfErr, OnErr};
-ghost use Rattle.debug_session.specs.Lines.{Asks, AsksBy, AsksNothing, MayBeChoice, MayBeStep, Says, SaysSession};
-ghost use Rattle.debug_session.specs.walking.NotAsked.{AsksNothingBy};
-ghost use Rattle.debug_session.specs.declared.keyword.Keyword.TheVariants as keywords;
+ghost use Rattle.line_text.specs.Operands.{MayBeChoice};
+ghost use Rattle.debug_session.specs.Lines.{IsSession, Asks, AsksBy, AsksNothing, MayBeStep, Says, SaysSession};
+ghost use Rattle.debug_session.specs.walking.NotAsked.{IsNoSession, AsksNothingBy};
+ghost use Rattle.line_text.specs.declared.keyword.Keyword.TheVariants as keywords;
 ghost use Rattle.debug_session.specs.declared.fault.Fault.TheVariants.{Memory, BadCommand};
 
-use crate::fields::{
-    cut_at_space, read_branch, read_choice, read_session, read_ticket, read_variable,
-};
-use crate::keyword::Keyword;
 use crate::{Fault, Line};
+use line_text::{Keyword, cut_at_space, read_branch, read_choice, read_ticket, read_variable};
 use locked_execution::Command;
 use sharing_check::Checked;
 use std::alloc::{AllocError, Global};
@@ -47,7 +45,8 @@ fn or_fault(found: Option<Line>, number: u64) -> Result<Line, Fault>
 
 /// What the line asks for.
 fn read_asked(alloc: Global, system: &System, line: &[u8]) -> Result<Option<Line>, AllocError>
-    ensures found { IfOk result (λ found. MatchOption found (AsksNothing system.now line.now) (λ said. Asks system.now line.now said)) }
+    ensures found { IfOk result (λ found.
+        MatchOption found (AsksNothing system.now line.now) (λ said. Asks system.now line.now said)) }
     ensures memory { OnErr result (MayBeStep line.now) }
 {
     let (text, rest) = cut_at_space(line);
@@ -64,7 +63,9 @@ fn read_behind(
     keyword: Keyword,
     rest: &[u8],
 ) -> Result<Option<Line>, AllocError>
-    ensures found { IfOk result (λ found. MatchOption found (AsksNothingBy system.now keyword rest.now) (λ said. AsksBy system.now keyword rest.now said)) }
+    ensures found { IfOk result (λ found.
+        MatchOption found
+        (AsksNothingBy system.now keyword rest.now) (λ said. AsksBy system.now keyword rest.now said)) }
     ensures memory { OnErr result ((keyword ≡ keywords.Step) × MayBeChoice rest.now) }
 {
     match keyword {
@@ -79,7 +80,8 @@ fn read_behind(
 /// What a keyword other than `step` asks for with `rest` behind it.
 fn read_simple(system: &System, keyword: Keyword, rest: &[u8]) -> Option<Line>
     requires { keyword ≢ keywords.Step }
-    ensures { MatchOption result (AsksNothingBy system.now keyword rest.now) (λ said. AsksBy system.now keyword rest.now said) }
+    ensures { MatchOption result
+        (AsksNothingBy system.now keyword rest.now) (λ said. AsksBy system.now keyword rest.now said) }
 {
     match keyword {
         Keyword::Step => None,
@@ -97,6 +99,18 @@ fn read_simple(system: &System, keyword: Keyword, rest: &[u8]) -> Option<Line>
         Keyword::Session => Some(Line::Session(read_session(rest)?)),
         Keyword::View => bare(rest, Line::View),
         Keyword::Trace => bare(rest, Line::Trace),
+    }
+}
+
+/// The number of a session.
+fn read_session(rest: &[u8]) -> Option<u32>
+    ensures { MatchOption result (IsNoSession rest.now) (λ session. IsSession session rest.now) }
+{
+    let number = read_ticket(rest)?;
+    if number < 16 {
+        Some(number as u32)
+    } else {
+        None
     }
 }
 

@@ -8,18 +8,31 @@ ghost use Rattle.debug_session.specs.Replaying.{Replays, RefusesTrace};
 ghost use Rattle.debug_session.specs.declared.fault.Fault.TheVariants.{Memory};
 
 use crate::Fault;
-use crate::reply::add_live;
+use line_text::add_live;
+use locked_execution::Machine;
 use runs::Reply;
 use sharing_check::Checked;
 use std::alloc::Global;
 use trace_file::load_text;
 
-/// The answer of the line `live` on a machine that has taken the steps of the trace with this text. It is an error if the text is
-/// no trace of the system, or if there is no memory; the fault says which.
+/// The answer of the line `live` on a machine that has taken the steps of the trace with this text. It is an error if
+/// the text is no trace of the system, or if there is no memory; the fault says which.
 pub fn replay(alloc: Global, checked: Checked, trace: &[u8]) -> Result<Vec<u8>, Fault>
-    ensures { MatchResult result (λ answer. Replays checked trace.now answer.items) (λ fault. RefusesTrace checked trace.now fault) }
+    ensures { MatchResult result
+        (λ answer. Replays checked trace.now answer.items)
+        (λ fault. RefusesTrace checked trace.now fault) }
 {
     let machine = load_text(alloc, checked, trace)?;
+    live_on(alloc, &machine)
+}
+
+/// The answer of the line `live` on this machine.
+fn live_on(alloc: Global, machine: &Machine) -> Result<Vec<u8>, Fault>
+    ensures { MatchResult result
+        (λ answer.
+        answer.items ≡ answer_text machine.now.checked asked.Command.Live (told.Reply.Live machine.now.live))
+        (λ fault. fault ≡ Memory) }
+{
     let reply = machine.live();
     live_answer(alloc, machine.checked(), &reply)
 }
@@ -27,7 +40,8 @@ pub fn replay(alloc: Global, checked: Checked, trace: &[u8]) -> Result<Vec<u8>, 
 /// The answer of the line `live` where this is the reply to it.
 fn live_answer(alloc: Global, checked: &Checked, reply: &Reply) -> Result<Vec<u8>, Fault>
     ensures { MatchResult result
-        (λ answer. (l : Live) × (reply.now ≡ Reply.Live l) × (answer.items ≡ answer_text checked.now asked.Command.Live (told.Reply.Live l)))
+        (λ answer. (l : Live) × (reply.now ≡ Reply.Live l)
+        × (answer.items ≡ answer_text checked.now asked.Command.Live (told.Reply.Live l)))
         (λ fault. fault ≡ Memory) }
 {
     match reply {

@@ -19,11 +19,13 @@ pub struct Session {
 }
 
 impl Session {
-    /// The bytes with which the line, without byte 10, is answered, once the execution was called with its command, for which
-    /// it may wait. An empty line has none, and nothing is called. `number` counts lines from 1 and is what a fault names.
+    /// The bytes with which the line, without byte 10, is answered, once the execution was called with its command,
+    /// for which it may wait. An empty line has none, and nothing is called. `number` counts lines from 1 and is what
+    /// a fault names.
     ///
-    /// A line that `read_command` refuses, and a line `session`, `view` or `trace`, is `BadCommand`, and nothing is called. It
-    /// is `Memory` if there is no memory to read a step, or none for the bytes: then the call was made, and may be recorded.
+    /// A line that `read_command` refuses, and a line `session`, `view` or `trace`, is `BadCommand`, and nothing is
+    /// called. It is `Memory` if there is no memory to read a step, or none for the bytes: then the call was made,
+    /// and may be recorded.
     pub fn answer<W: Wait>(
         &mut self,
         rt: &W,
@@ -37,7 +39,8 @@ impl Session {
         ensures pass { IsPassOf shared.now self.new.pass × (number_of self.new.pass ≡ number_of self.old.pass) }
         ensures answered { MatchResult result
             (λ bytes. PassAnswered checked.now (opening shared.now) self.old.pass line.now bytes.items self.new.pass)
-            (λ fault. PassNotAnswered checked.now (opening shared.now) self.old.pass line.now number fault self.new.pass) }
+            (λ fault.
+            PassNotAnswered checked.now (opening shared.now) self.old.pass line.now number fault self.new.pass) }
     {
         match read_command(alloc, checked, line, number)? {
             Line::Asked(command) => Ok(self.ask(rt, alloc, shared, checked, &command)?),

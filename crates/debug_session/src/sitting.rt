@@ -74,7 +74,8 @@ impl<'a> Sitting<'a> {
 
     /// The view that the session has of the source.
     pub(crate) fn view(&self, alloc: Global) -> Result<Vec<u8>, AllocError>
-        ensures { IfOk result (λ bytes. IsView self.now.desk.machine (breaks_of self.now.desk self.now.session) self.now.source bytes.items) }
+        ensures { IfOk result (λ bytes.
+            IsView self.now.desk.machine (breaks_of self.now.desk self.now.session) self.now.source bytes.items) }
     {
         let breaks = self.desk.breaks(self.session);
         view(alloc, self.desk.machine(), breaks, self.source)

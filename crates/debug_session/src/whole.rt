@@ -1,29 +1,19 @@
-ghost use Rattle.std.specs.Prelude.{◌≡◌, ℕ, List, IfOk, IfErr};
+ghost use Rattle.std.specs.Prelude.{◌≡◌, IfOk, IfErr};
 ghost use Rattle.std.specs.Io.Buffered.{reader_remaining};
-ghost use Rattle.debug_session.specs.Accepting.{Makes, AcceptedAs, IsRefused};
+ghost use Rattle.debug_session.specs.Accepting.{AcceptedAs, IsRefused};
 ghost use Rattle.devices.specs.Counting.{device, failures};
 ghost use Rattle.debug_session.specs.Counting.{after_reading, after_writing};
 ghost use Rattle.debug_session.specs.Transcript.{Debugged};
+ghost use Rattle.debug_session.specs.AtLine.{first_line};
+ghost use Rattle.system.specs.declared.system.System.{System};
 
 use crate::answer::answer_lines;
-use crate::making::make_system;
 use crate::sitting::Sitting;
 use crate::{Counted, Fault};
 use locked_execution::Machine;
-use sharing_check::{Checked, check_sharing};
+use sharing_check::Checked;
 use std::alloc::Global;
 use std::io::{BufReader, Read, Write};
-use system::System;
-use typed_source::typed_source;
-
-/// The system that source and stimulus make, whether or not it keeps the rule on sharing.
-fn made(alloc: Global, source: &[u8], stimulus: &[u8]) -> Result<System, Fault>
-    ensures system { IfOk result (λ system. Makes source.now stimulus.now system) }
-    ensures fault { IfErr result (λ fault. IsRefused source.now stimulus.now fault) }
-{
-    let typed = typed_source(alloc, source)?;
-    Ok(make_system(alloc, &typed, stimulus)?)
-}
 
 /// The system that the source and the stimulus describe, or the first fault of the first pass that refuses them: the
 /// source is cut, parsed and typed, then the stimulus is read, then the system is made, and then the rule on sharing is
@@ -32,19 +22,16 @@ pub fn accept(alloc: Global, source: &[u8], stimulus: &[u8]) -> Result<Checked, 
     ensures system { IfOk result (λ checked. AcceptedAs source.now stimulus.now checked) }
     ensures fault { IfErr result (λ fault. IsRefused source.now stimulus.now fault) }
 {
-    match made(alloc, source, stimulus) {
-        Ok(system) => Ok(check_sharing(alloc, system)?),
-        Err(fault) => Err(fault),
-    }
+    Ok(front_end::accept(alloc, source, stimulus)?)
 }
 
 /// Answers the lines of `reader` on `writer`, over the system of source and stimulus.
 ///
-/// Source and stimulus are accepted before anything is read. Before the reader asks its device for more, the answers to all
-/// lines before are out and flushed; while its buffer has another line, answers may be held back, up to 16 KB. The buffer has
-/// to have room for a byte at least, or the script looks empty. At a
-/// fault the answers of the lines before are out, and where writing failed a beginning of the answers. `ReadFailed` and
-/// `WriteFailed` come exactly where reader and writer count a failure.
+/// Source and stimulus are accepted before anything is read. Before the reader asks its device for more, the answers to
+/// all lines before are out and flushed; while its buffer has another line, answers may be held back, up to 16 KB. The
+/// buffer has to have room for a byte at least, or the script looks empty. At a fault the answers of the lines before
+/// are out, and where writing failed a beginning of the answers. `ReadFailed` and `WriteFailed` come exactly where
+/// reader and writer count a failure.
 pub fn debug<R: Read, W: Write>(
     alloc: Global,
     reader: &mut Counted<BufReader<R>>,
@@ -52,12 +39,24 @@ pub fn debug<R: Read, W: Write>(
     source: &[u8],
     stimulus: &[u8],
 ) -> Result<(), Fault>
-    ensures debugged { Debugged source.now stimulus.now ((reader.new ≡ reader.old) × (writer.new ≡ writer.old)) (reader_remaining R.remaining (device reader.old)) (reader_remaining R.remaining (device reader.new))
+    ensures debugged { Debugged source.now stimulus.now ((reader.new ≡ reader.old) × (writer.new ≡ writer.old))
+        (reader_remaining R.remaining (device reader.old)) (reader_remaining R.remaining (device reader.new))
         (W.contents (device writer.old)) (W.contents (device writer.new)) result }
     ensures read_failures { failures reader.new ≡ after_reading result (failures reader.old) }
     ensures write_failures { failures writer.new ≡ after_writing result (failures writer.old) }
 {
-    let checked = accept(alloc, source, stimulus)?;
-    let mut sitting = Sitting::new(Machine::new(alloc, checked)?, source);
+    let mut sitting = begin(alloc, source, stimulus)?;
     answer_lines(alloc, &mut sitting, reader, writer)
+}
+
+/// Session 0 before its first line, on the system of source and stimulus.
+fn begin<'a>(alloc: Global, source: &'a [u8], stimulus: &[u8]) -> Result<Sitting<'a>, Fault>
+    ensures sitting { IfOk result (λ sitting.
+        (system : System) × AcceptedAs source.now stimulus.now system × (sitting ≡ first_line system source.now)) }
+    ensures fault { IfErr result (λ fault. IsRefused source.now stimulus.now fault) }
+{
+    let checked = accept(alloc, source, stimulus)?;
+    let machine = Machine::new(alloc, checked)?;
+    let sitting = Sitting::new(machine, source);
+    Ok(sitting)
 }

@@ -4,21 +4,32 @@ use debug_session::Fault;
 use std::test::Fail;
 
 const TEXTS: [(Fault, &str); 9] = [
-    (Fault::Lexer(lexer::Fault::Memory), "out of memory"),
     (
-        Fault::Parser(parser::Fault::Unexpected(7)),
+        Fault::NoSystem(front_end::Fault::Source(typed_source::Fault::Lexer(
+            lexer::Fault::Memory,
+        ))),
+        "out of memory",
+    ),
+    (
+        Fault::NoSystem(front_end::Fault::Source(typed_source::Fault::Parser(
+            parser::Fault::Unexpected(7),
+        ))),
         "no description goes on with what stands at offset 7",
     ),
     (
-        Fault::Types(types::Fault::UnknownName(7)),
+        Fault::NoSystem(front_end::Fault::Source(typed_source::Fault::Types(
+            types::Fault::UnknownName(7),
+        ))),
         "the name at offset 7 is not declared",
     ),
     (
-        Fault::Elaborate(elaborate::Fault::BadStimulus(7)),
+        Fault::NoSystem(front_end::Fault::Elaborate(elaborate::Fault::BadStimulus(
+            7,
+        ))),
         "line 7 of the stimulus fits no port",
     ),
     (
-        Fault::Sharing(sharing_check::Fault::Width(7)),
+        Fault::NoSystem(front_end::Fault::Sharing(sharing_check::Fault::Width(7))),
         "too many branches use the channel that is declared at offset 7",
     ),
     (Fault::Memory, "out of memory"),

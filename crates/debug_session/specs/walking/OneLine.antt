@@ -13,11 +13,13 @@ use Rattle.debug_session.specs.Transcript.{Answered, Completed, StoppedByFault}
 -- the reader gave the line and its end, or a last line without one, behind which it is at its end
 abbrev pub TakesLine : Option (List ℕ) → Option (List ℕ) → List ℕ → Bool → Type 0
 TakesLine old new line complete =
-    IsLine line × MatchBool complete (Consumes old new (with_end line)) (Consumes old new line × IfSome old (λ _. IsAtEnd new))
+    IsLine line
+    × MatchBool complete (Consumes old new (with_end line)) (Consumes old new line × IfSome old (λ _. IsAtEnd new))
 
 -- the reader gave a part of a line and stopped
 abbrev pub ReadingStops : Option (List ℕ) → Option (List ℕ) → List ℕ → Fault → Type 0
-ReadingStops old new line fault = IsLine line × Consumes old new line × ((fault ≡ Fault.Memory) ⊎ (fault ≡ Fault.ReadFailed))
+ReadingStops old new line fault =
+    IsLine line × Consumes old new line × ((fault ≡ Fault.Memory) ⊎ (fault ≡ Fault.ReadFailed))
 
 -- why the line of this number was not answered
 abbrev pub LineStops : System → List ℕ → ℕ → Fault → Type 0
@@ -29,8 +31,9 @@ LineStops system line number fault = ⊥
 abbrev pub TakesPart : Option (List ℕ) → Option (List ℕ) → Type 0
 TakesPart old new = (part : List ℕ) × IsLine part × Consumes old new part
 
--- why no line was had, and what was given of the bytes that were held: there was no memory for a line that is at hand, which was not
--- taken; or reading stopped, and then nothing is held; or writing failed, and then the reader was not asked
+-- why no line was had, and what was given of the bytes that were held: there was no memory for a line that is at hand,
+-- which was not taken; or reading stopped, and then nothing is held; or writing failed, and then the reader was not
+-- asked
 abbrev pub AskingStops : Option (List ℕ) → Option (List ℕ) → List ℕ → List ℕ → List ℕ → Fault → Type 0
 AskingStops old new held held' given Fault.Memory =
     (Consumes old new [] × (given ++ held' ≡ held)) ⊎ (TakesPart old new × (given ≡ held) × (held' ≡ []))
@@ -56,19 +59,22 @@ EndsByDevice r = MatchResult r (λ _. ⊥) IsDevice
 abbrev pub EndsByNoDevice : Result (Unit {0}) Fault → Type 0
 EndsByNoDevice r = MatchResult r (λ _. Unit {0}) IsNoDevice
 
--- how a session ended that may still hold answers: where reading stopped nothing is held, and where writing failed what is held is void
+-- how a session ended that may still hold answers: where reading stopped nothing is held, and where writing failed what
+-- is held is void
 abbrev pub StopsHolding : System → AtLine → Type 0 → List ℕ → List ℕ → List ℕ → Fault → Type 0
-StopsHolding system a at_end taken given held Fault.ReadFailed = (held ≡ []) × StoppedByFault system a at_end taken given Fault.ReadFailed
+StopsHolding system a at_end taken given held Fault.ReadFailed =
+    (held ≡ []) × StoppedByFault system a at_end taken given Fault.ReadFailed
 StopsHolding system a at_end taken given held Fault.Memory =
     ((held ≡ []) × StoppedByFault system a at_end taken given Fault.Memory)
     ⊎ ((lines : List (List ℕ)) × Answered system a lines (given ++ held)
     × (AreLines taken lines [] ⊎ ((last : List ℕ) × EndWith at_end taken lines last × LineMayWantMemory system last)))
-StopsHolding system a at_end taken given held Fault.WriteFailed = StoppedByFault system a at_end taken given Fault.WriteFailed
+StopsHolding system a at_end taken given held Fault.WriteFailed =
+    StoppedByFault system a at_end taken given Fault.WriteFailed
 StopsHolding system a at_end taken given held fault = StoppedByFault system a at_end taken (given ++ held) fault
 
 -- what such a session took from its reader, gave to its writer and holds
-abbrev pub EndsHolding : System → AtLine → Option (List ℕ) → Option (List ℕ) → Option (List ℕ) → Option (List ℕ) → List ℕ
-    → Result (Unit {0}) Fault → Type 0
+abbrev pub EndsHolding : System → AtLine → Option (List ℕ) → Option (List ℕ) → Option (List ℕ) → Option (List ℕ)
+    → List ℕ → Result (Unit {0}) Fault → Type 0
 EndsHolding system a read left wrote contents held result =
     (taken : List ℕ) × (given : List ℕ) × Consumes read left taken × Appends wrote contents given
     × MatchResult result

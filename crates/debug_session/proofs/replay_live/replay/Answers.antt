@@ -3,5 +3,5 @@ use Rattle.debug_session.proofs.replay_live.replay.Goals as goal
 
 pub returns : goal.returns
 returns c =
-    replays (λ v. v.items) c.args.checked c.args.trace.now c.in_ok-machine.machine c.live-reply.result c.checked.result.now c.live_answer.result
-    c.in_ok-machine.ensures c.live-reply.ensures c.checked.ensures c.live_answer.ensures
+    replays (λ v. v.items) c.args.checked c.args.trace.now c.in_ok-machine.machine c.live_on.result c.in_ok-machine.ensures
+    c.live_on.ensures

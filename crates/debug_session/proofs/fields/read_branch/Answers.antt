@@ -1,5 +1,0 @@
-use Rattle.debug_session.proofs.NumberLemmas.{branch-read}
-use Rattle.debug_session.proofs.fields.read_branch.Goals as goal
-
-pub returns : goal.returns
-returns c = branch-read c.args.rest.now _ c.narrow.result c.in_ok-read_ticket.ensures c.narrow.ensures

@@ -1,5 +1,0 @@
-use Rattle.debug_session.proofs.NumberLemmas.{ticket-read}
-use Rattle.debug_session.proofs.fields.read_ticket.Goals as goal
-
-pub returns : goal.returns
-returns c = ticket-read c.read_number.result c.args.rest.now c.in_ok-behind_space.field-0.now c.in_ok-behind_space.ensures c.read_number.ensures

@@ -1,6 +1,0 @@
-use Rattle.debug_session.proofs.NumberLemmas.{variable-read}
-use Rattle.debug_session.proofs.fields.read_variable.Goals as goal
-
-pub returns : goal.returns
-returns c =
-    variable-read c.args.system.now c.args.rest.now c.in_ok-behind_space.field-0.now c.variable.result c.in_ok-behind_space.ensures c.variable.ensures

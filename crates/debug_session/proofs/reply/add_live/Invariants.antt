@@ -1,9 +1,0 @@
-use Rattle.std.proofs.Common.{◌≡◌, ◌++◌, take}
-use Rattle.std.specs.List.{flat_map}
-use Rattle.debug_session.specs.ReplyText.{live_line}
-use Rattle.debug_session.proofs.reply.add_live.Given as goal
-
--- the lines of the events passed are written
-abbrev pub invariant-loop-pair : goal.invariant-loop-pair
-invariant-loop-pair l =
-    l.out.items ≡ l.initial.out.items ++ flat_map (live_line l.system) (take l.pair-index l.pairs)

@@ -1,0 +1,5 @@
+pub mod ChoiceLemmas
+pub mod CutLemmas
+pub mod KeywordLemmas
+pub mod NumberLemmas
+pub mod OneOperand

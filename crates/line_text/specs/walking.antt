@@ -1,0 +1,3 @@
+pub mod FieldParts
+pub mod NoOperand
+pub mod Spelled

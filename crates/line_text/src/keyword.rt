@@ -1,0 +1,86 @@
+ghost use Rattle.std.specs.Prelude.{◌≡◌, MatchOption};
+ghost use Rattle.line_text.specs.Keywords.{spelling};
+ghost use Rattle.line_text.specs.walking.Spelled as spec;
+
+/// The word with which a line begins.
+#[derive(Clone, Copy)]
+pub enum Keyword {
+    Step,
+    Undo,
+    Roll,
+    RollValue,
+    Blame,
+    Ready,
+    Consequences,
+    Live,
+    Value,
+    Branch,
+    Break,
+    Clear,
+    Session,
+    View,
+    Trace,
+}
+
+const ALL: [Keyword; 15] = [
+    Keyword::Step,
+    Keyword::Undo,
+    Keyword::Roll,
+    Keyword::RollValue,
+    Keyword::Blame,
+    Keyword::Ready,
+    Keyword::Consequences,
+    Keyword::Live,
+    Keyword::Value,
+    Keyword::Branch,
+    Keyword::Break,
+    Keyword::Clear,
+    Keyword::Session,
+    Keyword::View,
+    Keyword::Trace,
+];
+
+impl Keyword {
+    /// The keyword with this spelling, if there is one.
+    pub fn read(text: &[u8]) -> Option<Keyword>
+        ensures { MatchOption result (spec.SpellsNothing text.now) (λ keyword. spelling keyword ≡ text.now) }
+    {
+        first_spelled(&ALL, text)
+    }
+
+    fn spelling(self) -> &'static [u8]
+        ensures { result.now ≡ spelling self }
+    {
+        match self {
+            Keyword::Step => b"step",
+            Keyword::Undo => b"undo",
+            Keyword::Roll => b"roll",
+            Keyword::RollValue => b"rollvalue",
+            Keyword::Blame => b"blame",
+            Keyword::Ready => b"ready",
+            Keyword::Consequences => b"consequences",
+            Keyword::Live => b"live",
+            Keyword::Value => b"value",
+            Keyword::Branch => b"branch",
+            Keyword::Break => b"break",
+            Keyword::Clear => b"clear",
+            Keyword::Session => b"session",
+            Keyword::View => b"view",
+            Keyword::Trace => b"trace",
+        }
+    }
+}
+
+/// The first of the keywords that is spelled so.
+fn first_spelled(keywords: &[Keyword], text: &[u8]) -> Option<Keyword>
+    ensures { result ≡ spec.first_spelled keywords.now text.now }
+{
+    let mut rest = keywords;
+    while let [keyword, others @ ..] = rest {
+        if keyword.spelling() == text {
+            return Some(*keyword);
+        }
+        rest = others;
+    }
+    None
+}
