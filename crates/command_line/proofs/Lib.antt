@@ -1,7 +1,6 @@
-pub mod ReplayLemmas
+pub mod AnsweringLemmas
+pub mod Handing
 pub mod RunningLemmas
-pub mod ServingLemmas
 pub mod TellingLemmas
 pub mod WordExamples
 pub mod WordLemmas
-pub mod WorkLemmas

@@ -1,10 +1,11 @@
 -- What a parse reads of a command as it is made, and what the matches hold of a word.
 use Rattle.std.proofs.Common.{◌≡◌, ℕ, ◌<◌, ◌^◌, List, Option, Some, None, Result, Ok, Err, ◌||◌, true, ◌∙◌, sym, ap, ap₂, refl, subst, arith, codes, length, Bool, false, ◌⊎◌, inl, inr, ◌≢◌, []}
 use Rattle.std.proofs.lemmas.Bool.{false≢true}
+use Rattle.std.proofs.lemmas.Result.{IfOk-weaker}
 use Rattle.std.proofs.lemmas.Slice.Eq.{bytes_eq-Decides}
 use Rattle.std.specs.Str.{bytes_eq}
 use Rattle.std.specs.Bool.{Decides}
-use Rattle.std.specs.Prelude.{IfErr, IsErrAnd, MatchOption, option_map, unwrap_or}
+use Rattle.std.specs.Prelude.{IfOk, IsErrAnd, MatchOption, MatchResult, option_map, unwrap_or}
 use Rattle.std.specs.Borrow.{Bor}
 use Rattle.std.specs.Str.Parse.{IsNumeral, digits_value, without_leading_plus}
 use Rattle.clap.specs.Words.{AddsArg, AddsSubcommand, App, ReadsOne, Rule, Text, app_of, first_of, first_value, one_of, one_text, rows_of, with_rule, with_subcommand, HasMatchesOf, Row, found_of, is_simple, kind_of, subcommand_name_of, subcommand_of, subcommand_rows, subcommand_rows_of, takes, HasKind, IsAmong, fault_of, is_simple_and_free}
@@ -24,6 +25,7 @@ use Rattle.command_line.specs.declared.request.Request.{Request}
 use Rattle.command_line.specs.Words.{AskFor, AskForSome, AskForNone, IsFaultOf, IsNumber, IsRequest, Named, program}
 use Rattle.locked_execution.specs.declared.crew.Crew.{Crew}
 use Rattle.command_line.specs.walking.Building.{Chooses, ChoosesNone, IsArgument, IsCommand, IsNoRequest}
+use Rattle.command_line.specs.walking.Building.{Finds, NamesNoFiles, Refuses, TellsCrew, TellsNoCrew}
 
 -- one more argument
 pub with_argument : (old new : Command) (a : Arg) (app : App) (rule : Rule) → IsCommand app old → IsArgument rule a → AddsArg old a new → IsCommand (with_rule app rule) new
@@ -38,6 +40,24 @@ with_command old sub new app under was is added = record {
   app = added.shape is.local ∙ ap₂ with_subcommand was.app (ap (λ (a : App). a.top) is.app);
   local = added.globals ∙ ap₂ ◌||◌ was.local is.local;
 }
+
+-- one more argument, where there was memory for the command and for it
+pub with_one : {E : Type 0} (command r : Result Command E) (old : Command) (a : Arg) (app : App) (rule : Rule)
+    → command ≡ Ok old → IfOk r (AddsArg old a) → IfOk command (IsCommand app) → IsArgument rule a
+    → IfOk r (IsCommand (with_rule app rule))
+with_one {E} command r old a app rule same adds was is =
+    IfOk-weaker r _ _
+    (λ made. with_argument old made a app rule (subst (λ (x : Result Command E). IfOk x (IsCommand app)) same was) is)
+    adds
+
+-- one more subcommand, where there was memory for it
+pub with_another : {E : Type 0} (command r : Result Command E) (old sub : Command) (app under : App)
+    → command ≡ Ok sub → IfOk r (AddsSubcommand old sub) → IsCommand app old → IfOk command (IsCommand under)
+    → IfOk r (IsCommand (with_subcommand app under.top))
+with_another {E} command r old sub app under same adds was is =
+    IfOk-weaker r _ _
+    (λ made. with_command old sub made app under was (subst (λ (x : Result Command E). IfOk x (IsCommand under)) same is))
+    adds
 
 -- the text that was got is that of the row
 pub text_of_row : (f : Found) (id : Text) (o : Option (Bor Text)) (s : Bor Text) → option_map (λ (x : Bor Text). x.now) o ≡ first_value f id → o ≡ Some s → first_of id (rows_of f) ≡ Some s.now
@@ -90,6 +110,20 @@ no_crew workers turns crew o told none w t =
     let short = crew.short in
     omega (arith, few, short, w, t, many)
 
+-- the crew that numbers tell, or none
+pub crew_told : (rows : List Row) (workers turns : ℕ) (o : Option Crew)
+    → MatchOption o ((16 < workers) ⊎ (1000000 < turns)) (λ made. (made.workers ≡ workers) × (made.turns ≡ turns))
+    → IsNumber (one_of (codes "workers") rows) workers → IsNumber (one_of (codes "turns") rows) turns
+    → MatchOption o (TellsNoCrew rows) (TellsCrew rows)
+crew_told rows workers turns None told w t = λ crew tells.
+    no_crew workers turns crew None told refl
+    (one_number (one_of (codes "workers") rows) crew.workers workers tells.0 w)
+    (one_number (one_of (codes "turns") rows) crew.turns turns tells.1 t)
+crew_told rows workers turns (Some made) told w t = (
+  subst (λ (n : ℕ). IsNumber (one_of (codes "workers") rows) n) (sym told.0) w,
+  subst (λ (n : ℕ). IsNumber (one_of (codes "turns") rows) n) (sym told.1) t,
+)
+
 -- a test for a name that failed, and one that held
 pub differs : (name text : Text) (r : Bool) → r ≡ bytes_eq name text → r ≡ false → name ≡ text → ⊥
 differs name text r is fails e = false≢true ((subst (λ (b : Bool). Decides b (name ≡ text)) (sym is ∙ fails) (bytes_eq-Decides name text)).1 e)
@@ -98,26 +132,26 @@ pub is_same : (name text : Text) (r : Bool) → r ≡ bytes_eq name text → r �
 is_same name text r is holds = (subst (λ (b : Bool). Decides b (name ≡ text)) (sym is ∙ holds) (bytes_eq-Decides name text)).0 refl
 
 -- every request has a file
-pub no_file : (name : Text) (rows : List Row) → ((s : Text) → first_of (codes "FILE") rows ≡ Some s → ⊥) → IsNoRequest name rows
-no_file name rows none (Request.Check file) h = none file.now h.1
-no_file name rows none (Request.Debug file stimulus) h = none file.now h.1
-no_file name rows none (Request.Replay file stimulus trace) h = none file.now h.1
-no_file name rows none (Request.Work file stimulus crew) h = none file.now h.1
-
--- all but one have a stimulus
-pub no_stimulus : (name : Text) (rows : List Row) → (name ≡ codes "check" → ⊥) → ((s : Text) → first_of (codes "STIMULUS") rows ≡ Some s → ⊥)
+pub no_file : (name : Text) (rows : List Row) → ((s : Text) → first_of (codes "FILE") rows ≡ Some s → ⊥)
     → IsNoRequest name rows
-no_stimulus name rows check none (Request.Check file) h = check h.0
-no_stimulus name rows check none (Request.Debug file stimulus) h = none stimulus.now h.2
-no_stimulus name rows check none (Request.Replay file stimulus trace) h = none stimulus.now h.2
-no_stimulus name rows check none (Request.Work file stimulus crew) h = none stimulus.now h.2
+no_file name rows none (Request.Check file) h = none file.now h.1
+no_file name rows none (Request.Debug file stimulus) h = none file.now h.1.0
+no_file name rows none (Request.Replay file stimulus trace) h = none file.now h.1.0
+no_file name rows none (Request.Work file stimulus crew) h = none file.now h.1.0
+
+-- all but one have a stimulus too
+pub no_files : (name : Text) (rows : List Row) → (name ≡ codes "check" → ⊥) → NamesNoFiles rows → IsNoRequest name rows
+no_files name rows check none (Request.Check file) h = check h.0
+no_files name rows check none (Request.Debug file stimulus) h = none file.now stimulus.now h.1
+no_files name rows check none (Request.Replay file stimulus trace) h = none file.now stimulus.now h.1
+no_files name rows check none (Request.Work file stimulus crew) h = none file.now stimulus.now h.1
 
 -- a replay has a trace
 pub no_trace : (name : Text) (rows : List Row) → (name ≡ codes "check" → ⊥) → (name ≡ codes "debug" → ⊥) → name ≡ codes "replay"
     → ((s : Text) → first_of (codes "TRACE") rows ≡ Some s → ⊥) → IsNoRequest name rows
 no_trace name rows check debug is none (Request.Check file) h = check h.0
 no_trace name rows check debug is none (Request.Debug file stimulus) h = debug h.0
-no_trace name rows check debug is none (Request.Replay file stimulus trace) h = none trace.now h.3
+no_trace name rows check debug is none (Request.Replay file stimulus trace) h = none trace.now h.2
 no_trace name rows check debug is none (Request.Work file stimulus crew) h =
     let lengths : length (codes "replay") ≡ length (codes "work") = ap (λ (t : Text). length t) (sym is ∙ h.0) in omega (arith, lengths)
 
@@ -128,7 +162,7 @@ pub no_work : (name : Text) (rows : List Row) → (name ≡ codes "check" → �
 no_work name rows check debug replay none (Request.Check file) h = check h.0
 no_work name rows check debug replay none (Request.Debug file stimulus) h = debug h.0
 no_work name rows check debug replay none (Request.Replay file stimulus trace) h = replay h.0
-no_work name rows check debug replay none (Request.Work file stimulus crew) h = none crew h.0 h.3 h.4
+no_work name rows check debug replay none (Request.Work file stimulus crew) h = none crew h.0 h.2 h.3
 
 -- the subcommand that was met, with its rows
 pub named_in : (m : ArgMatches) (o : Option (Bor Text × Bor ArgMatches)) (p : Bor Text × Bor ArgMatches)
@@ -203,15 +237,31 @@ faulty words command error is kinds some = elim (kinds (ap is_simple_and_free is
   | inr among ↦ inl (subst (λ (a : App). IsAmong (kind_of error) (fault_of a words)) is.app among)
 ]
 
--- words in which `clap` finds none, and which ask for no request
-pub unasked : (words : List Text) (command : Command) (m : ArgMatches) (error : Error) → IsCommand program command
-    → HasMatchesOf (app_of command) words m → (is_simple_and_free (app_of command) ≡ true → fault_of (app_of command) words ≡ [])
-    → ChoosesNone m → kind_of error ≡ MissingSubcommand → IsFaultOf words (kind_of error)
-unasked words command m error is has kinds none missing =
-    inr (subst (λ (a : App). fault_of a words ≡ []) is.app (kinds (ap is_simple_and_free is.app ∙ program_is_free)), missing, none_asked words command m is has none)
+-- what the program finds in words in which `clap` finds no fault
+pub found_in : (words : List Text) (command : Command) (m : ArgMatches) (o : Option Request) → IsCommand program command
+    → HasMatchesOf (app_of command) words m
+    → (is_simple_and_free (app_of command) ≡ true → fault_of (app_of command) words ≡ [])
+    → MatchOption o (ChoosesNone m) (Chooses m) → Finds words o
+found_in words command m (Some request) is has kinds chosen = asks words command m request is has kinds chosen
+found_in words command m None is has kinds none = (
+  subst (λ (a : App). fault_of a words ≡ []) is.app (kinds (ap is_simple_and_free is.app ∙ program_is_free)),
+  none_asked words command m is has none,
+)
 
--- an error that is want of memory has no other fault
-pub memory_alone : {T : Type 0} (r : Result T Error) (words : List Text) → IsErrAnd r (λ e. kind_of e ≡ OutOfMemory)
-    → IfErr r (λ e. kind_of e ≢ OutOfMemory → IsFaultOf words (kind_of e))
-memory_alone (Ok x) words h = tt
-memory_alone (Err e) words h = λ some. absurd (some h)
+-- words in which `clap` finds none, and which ask for no request
+pub none_found : (words : List Text) (error : Error) → Finds words None → kind_of error ≡ MissingSubcommand
+    → Refuses words error
+none_found words error none missing = (
+  (λ asked. absurd (none.1 asked.1.0 asked.1.1)),
+  (λ some. inr (none.0, missing, none.1)),
+)
+
+-- want of memory is no fault of the words
+pub no_memory : (words : List Text) (error : Error) → kind_of error ≡ OutOfMemory → Refuses words error
+no_memory words error memory = ((λ asked. memory), (λ some. absurd (some memory)))
+
+-- and is handed on
+pub memory_refused : {A : Type 0} (r : Result A Error) (words : List Text) (gives : A → Type 0)
+    → IsErrAnd r (λ e. kind_of e ≡ OutOfMemory) → MatchResult r gives (Refuses words)
+memory_refused (Ok x) words gives h = absurd h
+memory_refused (Err e) words gives h = no_memory words e h

@@ -1,6 +1,8 @@
+pub mod Answering
 pub mod FaultLine
 pub mod Running
 pub mod Serving
+pub mod Used
 pub mod Words
 pub mod Working
 pub mod walking

@@ -4,7 +4,8 @@ use Rattle.std.specs.Str.Parse.{IsNumeral, digits_value, without_leading_plus}
 use Rattle.clap.specs.Kinds.{IsAmong}
 use Rattle.clap.specs.declared.error.kind.ErrorKind.{ErrorKind}
 use Rattle.clap.specs.declared.error.kind.ErrorKind.TheVariants.{DisplayHelp, DisplayVersion, MissingSubcommand}
-use Rattle.clap.specs.Words.{App, Row, Rule, Text, first_of, one_of, new_app, new_rule, subcommand_of, fault_of, takes, with_rule, with_subcommand}
+use Rattle.clap.specs.Words.{App, Row, Rule, Text, first_of, one_of, new_app, new_rule, subcommand_of, fault_of}
+use Rattle.clap.specs.Words.{takes, with_rule, with_subcommand}
 use Rattle.clap.specs.Simple.{on_top}
 use Rattle.clap.specs.declared.builder.action.ArgAction.TheVariants.{Set}
 use Rattle.clap.specs.declared.builder.value_parser.ValueParser.{ValueParser}
@@ -23,23 +24,29 @@ number name parser = record (word name) { long = Some name; value_names = 1; par
 abbrev pub check : App
 check = with_rule (new_app (codes "check")) (word (codes "FILE"))
 
+-- the same with a description and its stimulus behind its name
+abbrev pub over_ports : App → App
+over_ports command = with_rule (with_rule command (word (codes "FILE"))) (word (codes "STIMULUS"))
+
 abbrev pub debug : App
-debug = with_rule (with_rule (new_app (codes "debug")) (word (codes "FILE"))) (word (codes "STIMULUS"))
+debug = over_ports (new_app (codes "debug"))
 
 abbrev pub replay : App
-replay = with_rule (with_rule (with_rule (new_app (codes "replay")) (word (codes "FILE"))) (word (codes "STIMULUS"))) (word (codes "TRACE"))
+replay = with_rule (over_ports (new_app (codes "replay"))) (word (codes "TRACE"))
 
 abbrev pub work : App
-work = with_rule (with_rule (with_rule (with_rule (new_app (codes "work")) (word (codes "FILE"))) (word (codes "STIMULUS")))
+work = with_rule (with_rule (over_ports (new_app (codes "work")))
     (number (codes "workers") (Signed (pos 1) (pos 16)))) (number (codes "turns") (Unsigned 0 1000000))
 
 -- the program without its subcommands: it has a version, and wants a subcommand
 abbrev pub bare : App
-bare = on_top (λ s. record s { has_version = true; subcommand_required = true; arg_required_else_help = true }) (new_app (codes "balsadbg"))
+bare = on_top (λ s. record s { has_version = true; subcommand_required = true; arg_required_else_help = true })
+    (new_app (codes "balsadbg"))
 
 -- the program
 abbrev pub program : App
-program = with_subcommand (with_subcommand (with_subcommand (with_subcommand bare check.top) debug.top) replay.top) work.top
+program =
+    with_subcommand (with_subcommand (with_subcommand (with_subcommand bare check.top) debug.top) replay.top) work.top
 
 -- the name of a subcommand and its values
 abbrev pub Named : Type 0
@@ -50,16 +57,21 @@ abbrev pub IsNumber : Option Text → ℕ → Type 0
 IsNumber None n = ⊥
 IsNumber (Some text) n = IsNumeral 10 (without_leading_plus text) × (n ≡ digits_value 10 (without_leading_plus text))
 
+-- the values have these names of a description and of its stimulus
+abbrev pub AreFiles : List Row → Text → Text → Type 0
+AreFiles rows file stimulus =
+    (first_of (codes "FILE") rows ≡ Some file) × (first_of (codes "STIMULUS") rows ≡ Some stimulus)
+
 -- the subcommand of this name with these values is this request
 abbrev pub IsRequest : Text → List Row → Request → Type 0
 IsRequest name rows (Request.Check file) = (name ≡ codes "check") × (first_of (codes "FILE") rows ≡ Some file.now)
 IsRequest name rows (Request.Debug file stimulus) =
-    (name ≡ codes "debug") × (first_of (codes "FILE") rows ≡ Some file.now) × (first_of (codes "STIMULUS") rows ≡ Some stimulus.now)
+    (name ≡ codes "debug") × AreFiles rows file.now stimulus.now
 IsRequest name rows (Request.Replay file stimulus trace) =
-    (name ≡ codes "replay") × (first_of (codes "FILE") rows ≡ Some file.now) × (first_of (codes "STIMULUS") rows ≡ Some stimulus.now)
+    (name ≡ codes "replay") × AreFiles rows file.now stimulus.now
     × (first_of (codes "TRACE") rows ≡ Some trace.now)
 IsRequest name rows (Request.Work file stimulus crew) =
-    (name ≡ codes "work") × (first_of (codes "FILE") rows ≡ Some file.now) × (first_of (codes "STIMULUS") rows ≡ Some stimulus.now)
+    (name ≡ codes "work") × AreFiles rows file.now stimulus.now
     × IsNumber (one_of (codes "workers") rows) crew.workers × IsNumber (one_of (codes "turns") rows) crew.turns
 
 -- `clap` finds no fault in the words, and they ask for this request
@@ -75,7 +87,8 @@ AskForSome words = (takes program words ≡ true) × ((request : Request) × Ask
 abbrev pub AskForNone : List Text → Type 0
 AskForNone words = (request : Request) → AskFor words request → ⊥
 
--- a fault that `clap` finds in the words (of some words it says two, and either may be told); where it finds none, that no subcommand is asked for
+-- a fault that `clap` finds in the words (of some words it says two, and either may be told); where it finds none, that no
+-- subcommand is asked for
 abbrev pub IsFaultOf : List Text → ErrorKind → Type 0
 IsFaultOf words kind =
     IsAmong kind (fault_of program words)

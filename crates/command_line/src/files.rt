@@ -1,7 +1,7 @@
 //! Files that are read by their names.
 
 ghost use Rattle.std.specs.Prelude.{ℕ, List, Option, Some, MatchResult, ⊤};
-ghost use Rattle.command_line.specs.Serving.{NotHad};
+ghost use Rattle.command_line.specs.Answering.{NotHad};
 
 use debug_session::Fault;
 use std::alloc::Global;

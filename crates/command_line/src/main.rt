@@ -1,13 +1,13 @@
 //! `balsadbg`, the program: a causal-consistent reversible debugger for Balsa.
 #![tactic(auto)]
 
+mod answering;
 mod files;
 mod help;
-mod replaying;
 mod request;
 mod running;
+mod streams;
 mod telling;
-mod working;
 
 use debug_session::{Counted, Fault};
 use files::Disk;
@@ -15,6 +15,7 @@ use running::run;
 use std::io::{BufReader, ErrorKind, Stdin, Write};
 use std::process::ExitCode;
 use std::{env, io};
+use streams::Devices;
 use telling::write_fault;
 
 /// What the system gives to a run: its words and its standard input.
@@ -33,19 +34,12 @@ impl Given {
 }
 
 fn main(rt: HostRuntime) -> ExitCode {
-    let mut out = Counted::new(rt.stdout());
+    let out = Counted::new(rt.stdout());
     let mut err = Counted::new(rt.stderr());
     match Given::by(&rt) {
-        Ok(Given { words, mut reader }) => {
-            let files = Disk::new(&rt);
-            let status = run(
-                &rt,
-                words.as_slice(),
-                &files,
-                &mut reader,
-                &mut out,
-                &mut err,
-            );
+        Ok(Given { words, reader }) => {
+            let mut devices = Devices { reader, out, err };
+            let status = run(&rt, words.as_slice(), &Disk::new(&rt), &mut devices);
             ExitCode::from(status)
         }
         Err(error) if error.kind() == ErrorKind::InvalidData => {

@@ -1,20 +1,15 @@
-use Rattle.std.proofs.Common.{◌∙◌, ap, codes, pos}
-use Rattle.std.proofs.lemmas.Result.{IfOk-weaker}
+use Rattle.std.proofs.Common.{codes, pos}
 use Rattle.clap.specs.Words.{new_app, with_rule}
-use Rattle.clap.specs.Simple.{app_of_fields}
 use Rattle.clap.specs.declared.builder.value_parser.ValueParser.TheVariants.{Signed, Unsigned}
 use Rattle.command_line.specs.Words as spec
-use Rattle.command_line.specs.walking.Building.{IsCommand}
-use Rattle.command_line.proofs.WordLemmas.{with_argument}
 use Rattle.command_line.proofs.request.work.Goals as goal
 
 pub returns : goal.returns
 returns c =
-    let begun : IsCommand (new_app (codes "work")) c.after_long_help.result = record {
-      app = ap app_of_fields c.after_long_help.ensures ∙ (ap app_of_fields c.long_about.ensures ∙ (ap app_of_fields c.about.ensures ∙ c.new.ensures.app));
-      local = ap (λ f. f.has_globals) c.after_long_help.ensures ∙ (ap (λ f. f.has_globals) c.long_about.ensures ∙ (ap (λ f. f.has_globals) c.about.ensures ∙ c.new.ensures.local));
-    } in
-    let with-file = with_argument c.after_long_help.result c.in_ok-arg.field-0 c.file.result (new_app (codes "work")) (spec.word (codes "FILE")) begun c.file.ensures c.in_ok-arg.ensures in
-    let with-stimulus = with_argument c.in_ok-arg.field-0 c.in_ok-arg-2.field-0 c.stimulus.result (with_rule (new_app (codes "work")) (spec.word (codes "FILE"))) (spec.word (codes "STIMULUS")) with-file c.stimulus.ensures c.in_ok-arg-2.ensures in
-    let with-workers = with_argument c.in_ok-arg-2.field-0 c.in_ok-arg-3.field-0 c.workers.result (with_rule (with_rule (new_app (codes "work")) (spec.word (codes "FILE"))) (spec.word (codes "STIMULUS"))) (spec.number (codes "workers") (Signed (pos 1) (pos 16))) with-stimulus c.workers.ensures c.in_ok-arg-3.ensures in
-    IfOk-weaker c.arg-4.result _ _ (λ made. with_argument c.in_ok-arg-3.field-0 made c.turns.result (with_rule (with_rule (with_rule (new_app (codes "work")) (spec.word (codes "FILE"))) (spec.word (codes "STIMULUS"))) (spec.number (codes "workers") (Signed (pos 1) (pos 16)))) (spec.number (codes "turns") (Unsigned 0 1000000)) with-workers c.turns.ensures) c.arg-4.ensures
+    c.with_argument.ensures
+    (with_rule (spec.over_ports (new_app (codes "work"))) (spec.number (codes "workers") (Signed (pos 1) (pos 16))))
+    (spec.number (codes "turns") (Unsigned 0 1000000))
+    (c.with_argument-hired.ensures (spec.over_ports (new_app (codes "work")))
+    (spec.number (codes "workers") (Signed (pos 1) (pos 16)))
+    (c.over_ports.ensures (new_app (codes "work")) c.begun-command.ensures) c.workers.ensures)
+    c.turns.ensures

@@ -1,14 +1,37 @@
 use Rattle.std.proofs.Common.{refl}
+use Rattle.command_line.specs.Used.{used}
+use Rattle.command_line.specs.Answering.{CheckGives, CheckRefuses, ReplayGives, ReplayRefuses, WorkGives, WorkRefuses}
+use Rattle.command_line.proofs.AnsweringLemmas.{answered}
 use Rattle.command_line.proofs.running.perform.Goals as goal
 
 pub returns-in-Check : goal.returns-in-Check
-returns-in-Check g c = rw c.in-Check.is (refl, c.check.ensures)
-
-pub returns-in-Replay : goal.returns-in-Replay
-returns-in-Replay g c = rw c.in-Replay.is (refl, c.replay_files.ensures)
+returns-in-Check g c = rw c.in-Check.is (
+  refl,
+  answered (CheckGives (g.F.Files.holds c.args.files.now) c.in-Check.file.now)
+      (CheckRefuses (g.F.Files.holds c.args.files.now) c.in-Check.file.now) c.check.result
+      (used g.O.Write.contents c.args.out.now c.tell.new.out) c.tell.result c.check.ensures c.tell.ensures,
+)
 
 pub returns-in-Debug : goal.returns-in-Debug
-returns-in-Debug g c = rw c.in-Debug.is c.answer_script.ensures
+returns-in-Debug g c = rw c.in-Debug.is c.debug_files.ensures
+
+pub returns-in-Replay : goal.returns-in-Replay
+returns-in-Replay g c = rw c.in-Replay.is (
+  refl,
+  answered (ReplayGives (g.F.Files.holds c.args.files.now) c.in-Replay.file.now c.in-Replay.stimulus.now
+      c.in-Replay.trace.now)
+      (ReplayRefuses (g.F.Files.holds c.args.files.now) c.in-Replay.file.now c.in-Replay.stimulus.now
+      c.in-Replay.trace.now) c.replay_files.result
+      (used g.O.Write.contents c.args.out.now c.tell-in-Replay.new.out) c.tell-in-Replay.result
+      c.replay_files.ensures c.tell-in-Replay.ensures,
+)
 
 pub returns-in-Work : goal.returns-in-Work
-returns-in-Work g c = rw c.in-Work.is (refl, c.work_files.ensures)
+returns-in-Work g c = rw c.in-Work.is (
+  refl,
+  answered (WorkGives (g.F.Files.holds c.args.files.now) c.in-Work.file.now c.in-Work.stimulus.now
+      c.in-Work.crew.workers c.in-Work.crew.turns)
+      (WorkRefuses (g.F.Files.holds c.args.files.now) c.in-Work.file.now c.in-Work.stimulus.now) c.work_files.result
+      (used g.O.Write.contents c.args.out.now c.tell-in-Work.new.out) c.tell-in-Work.result
+      c.work_files.ensures c.tell-in-Work.ensures,
+)

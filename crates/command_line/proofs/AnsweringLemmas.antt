@@ -1,0 +1,61 @@
+-- How what the libraries give becomes the answer to a request, or the reason why there is none.
+use Rattle.std.proofs.Common.{◌≡◌, inl, inr, ℕ, List, Result, Ok, Err, subst}
+use Rattle.std.specs.Prelude.{IfOk, IfErr, MatchResult}
+use Rattle.system.specs.declared.system.System.{System}
+use Rattle.debug_session.specs.Accepting.{AcceptedAs, IsRefused}
+use Rattle.debug_session.specs.Transcript.{Debugged}
+use Rattle.debug_session.specs.declared.fault.Fault.{Fault}
+use Rattle.command_line.specs.Answering.{Holding, TextsHad, FilesGive, FilesRefuse}
+use Rattle.command_line.specs.Serving.{Answers, DebugsFiles}
+use Rattle.command_line.specs.Used.{Outcome, Used, IsUntouched, ReaderBlamed, WriterBlamed, Tells}
+use Rattle.command_line.specs.Used.{bytes_before, bytes_behind}
+use Rattle.command_line.specs.declared.answering.Answer.{Answer}
+use Rattle.command_line.specs.walking.Answers.{answer_text}
+
+-- both texts were had, and make a system or are refused
+pub texts-accepted : (holds : Holding) (file stimulus source values slice text : List ℕ) (r : Result System Fault)
+    → TextsHad holds file stimulus source values → slice ≡ source → text ≡ values
+    → IfOk r (λ system. AcceptedAs slice text system) → IfErr r (λ fault. IsRefused slice text fault)
+    → MatchResult r (FilesGive holds file stimulus) (FilesRefuse holds file stimulus)
+texts-accepted holds file stimulus source values slice text (Ok system) had same alike accepted fault = (
+  source,
+  values,
+  had,
+  subst (λ (t : List ℕ). AcceptedAs source t system) alike
+      (subst (λ (t : List ℕ). AcceptedAs t text system) same accepted),
+)
+texts-accepted holds file stimulus source values slice text (Err given) had same alike accepted fault =
+    inr (
+      source,
+      values,
+      had,
+      subst (λ (t : List ℕ). IsRefused source t given) alike
+          (subst (λ (t : List ℕ). IsRefused t text given) same fault),
+    )
+
+-- a session on the texts
+pub debug-session : {I O : Type 0} (holds : Holding) (file stimulus source values slice text : List ℕ) (reader : Used I)
+    (out : Used O) (done : Outcome) → TextsHad holds file stimulus source values → slice ≡ source → text ≡ values
+    → Debugged slice text (IsUntouched reader × IsUntouched out) (bytes_before reader) (bytes_behind reader)
+    (bytes_before out) (bytes_behind out) done
+    → ReaderBlamed reader done → WriterBlamed out done → DebugsFiles holds file stimulus reader out done
+debug-session holds file stimulus source values slice text reader out done had same alike h read wrote =
+    inr (
+      source,
+      values,
+      had,
+      subst (λ (t : List ℕ). Debugged source t (IsUntouched reader × IsUntouched out) (bytes_before reader) (bytes_behind reader)
+          (bytes_before out) (bytes_behind out) done) alike
+          (subst (λ (t : List ℕ). Debugged t text (IsUntouched reader × IsUntouched out) (bytes_before reader)
+          (bytes_behind reader) (bytes_before out) (bytes_behind out) done) same h),
+      read,
+      wrote,
+    )
+
+-- an answer that was told, or the reason why there is none
+pub answered : {O : Type 0} (gives : List ℕ → Type 0) (refuses : Fault → Type 0) (made : Result Answer Fault)
+    (out : Used O) (done : Outcome) → MatchResult made (λ answer. gives (answer_text answer)) refuses
+    → MatchResult made (λ answer. Tells (answer_text answer) out done) (λ fault. (done ≡ Err fault) × IsUntouched out)
+    → Answers gives refuses out done
+answered gives refuses (Ok answer) out done given told = inr (answer_text answer, given, told)
+answered gives refuses (Err fault) out done given told = inl (fault, given, told.0, told.1)

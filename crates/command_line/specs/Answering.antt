@@ -1,0 +1,78 @@
+-- What the files of a request give: an answer, or a reason why there is none.
+use Rattle.std.specs.Prelude.{◌≡◌, ◌⊎◌, ◌++◌, [], ℕ, List, Option, Some, None, codes}
+use Rattle.system.specs.declared.system.System.{System}
+use Rattle.locked_execution.specs.Working.{Worked}
+use Rattle.debug_session.specs.Accepting.{AcceptedAs, IsRefused}
+use Rattle.debug_session.specs.Replaying.{Replays, RefusesTrace}
+use Rattle.debug_session.specs.ReplyText.{ending}
+use Rattle.debug_session.specs.declared.fault.Fault.{Fault}
+use Rattle.debug_session.specs.declared.fault.Fault.TheVariants.{Memory, ReadFailed}
+use Rattle.command_line.specs.Working.{work_text}
+
+-- what files hold: whether a name may hold these bytes, or nothing that can be read
+abbrev pub Holding : Type 1
+Holding = List ℕ → Option (List ℕ) → Type 0
+
+-- a file was not had: there was no memory for it, or its name holds nothing that can be read
+abbrev pub NotHad : (Option (List ℕ) → Type 0) → Fault → Type 0
+NotHad holds fault = (fault ≡ Memory) ⊎ ((fault ≡ ReadFailed) × holds None)
+
+-- the texts of a description and of its stimulus were had
+abbrev pub TextsHad : Holding → List ℕ → List ℕ → List ℕ → List ℕ → Type 0
+TextsHad holds file stimulus source values = holds file (Some source) × holds stimulus (Some values)
+
+-- one of them was not
+abbrev pub TextsNotHad : Holding → List ℕ → List ℕ → Fault → Type 0
+TextsNotHad holds file stimulus fault = NotHad (holds file) fault ⊎ NotHad (holds stimulus) fault
+
+-- they describe this system
+abbrev pub FilesGive : Holding → List ℕ → List ℕ → System → Type 0
+FilesGive holds file stimulus system =
+    (source : List ℕ) × (values : List ℕ) × TextsHad holds file stimulus source values × AcceptedAs source values system
+
+-- they describe none: they were not had, or they are refused
+abbrev pub FilesRefuse : Holding → List ℕ → List ℕ → Fault → Type 0
+FilesRefuse holds file stimulus fault =
+    TextsNotHad holds file stimulus fault
+    ⊎ ((source : List ℕ) × (values : List ℕ) × TextsHad holds file stimulus source values
+    × IsRefused source values fault)
+
+-- the answer to an accepted description
+abbrev pub accepted_line : List ℕ
+accepted_line = codes "accepted" ++ ending
+
+-- `check` on the file of this name gives this answer: the description is accepted
+abbrev pub CheckGives : Holding → List ℕ → List ℕ → Type 0
+CheckGives holds file answer =
+    (source : List ℕ) × (system : System) × holds file (Some source) × AcceptedAs source [] system
+    × (answer ≡ accepted_line)
+
+-- it gives none: the file was not had, or the description is refused
+abbrev pub CheckRefuses : Holding → List ℕ → Fault → Type 0
+CheckRefuses holds file fault =
+    NotHad (holds file) fault ⊎ ((source : List ℕ) × holds file (Some source) × IsRefused source [] fault)
+
+-- `replay` on the files of these names gives this answer: the events for which the trace stands
+abbrev pub ReplayGives : Holding → List ℕ → List ℕ → List ℕ → List ℕ → Type 0
+ReplayGives holds file stimulus trace answer =
+    (system : System) × (text : List ℕ) × FilesGive holds file stimulus system × holds trace (Some text)
+    × Replays system text answer
+
+-- it gives none: the files describe no system, or else the trace was not had, or else it is refused
+abbrev pub ReplayRefuses : Holding → List ℕ → List ℕ → List ℕ → Fault → Type 0
+ReplayRefuses holds file stimulus trace fault =
+    FilesRefuse holds file stimulus fault
+    ⊎ ((system : System) × FilesGive holds file stimulus system × (NotHad (holds trace) fault
+    ⊎ ((text : List ℕ) × holds trace (Some text) × RefusesTrace system text fault)))
+
+-- `work` on the files of these names gives this answer: so many workers took so many turns each
+abbrev pub WorkGives : Holding → List ℕ → List ℕ → ℕ → ℕ → List ℕ → Type 0
+WorkGives holds file stimulus workers turns answer =
+    (system : System) × (stepped : ℕ) × (live : ℕ) × FilesGive holds file stimulus system
+    × Worked system workers turns stepped live × (answer ≡ work_text stepped live)
+
+-- it gives none: the files describe no system, or else there is no memory for the workers
+abbrev pub WorkRefuses : Holding → List ℕ → List ℕ → Fault → Type 0
+WorkRefuses holds file stimulus fault =
+    FilesRefuse holds file stimulus fault
+    ⊎ ((system : System) × FilesGive holds file stimulus system × (fault ≡ Memory))
