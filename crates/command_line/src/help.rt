@@ -161,7 +161,7 @@ macro_rules! refusal_lines {
             $($stimulus,)*
             $($script,)*
             "\n",
-            "docs/refusals.md has an example and the usual cause of each. A command line that\n",
+            "docs/reference/refusals.md has an example and the usual cause of each. A command line that\n",
             "cannot be read ends with status 2. All else ends with status 0."
         )
     };
