@@ -62,6 +62,13 @@ is_kept() {
     [ -x "$1" ] && is_of "$1.texts" "$2"
 }
 
+# Readies this shell to start the trial program: its frames are some ten times those of the proved one, and it would heed the
+# options of a checker that is part of it.
+for_trial() {
+    ulimit -S -s 262144 2>/dev/null || ulimit -S -s "$(ulimit -H -s)" 2>/dev/null || true
+    unset ASAN_OPTIONS LSAN_OPTIONS
+}
+
 # Whether anything can be kept here.
 can_keep() {
     mkdir -p out 2>/dev/null && [ -w out ]
