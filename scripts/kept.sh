@@ -62,9 +62,13 @@ is_kept() {
     [ -x "$1" ] && is_of "$1.texts" "$2"
 }
 
-# Readies this shell to start the trial program: its frames are some ten times those of the proved one, and it would heed the
-# options of a checker that is part of it.
+# Readies this shell to start the trial program. A checker of memory is part of it, which wants terabytes of addresses, makes
+# frames some ten times those of the proved program, and would heed options.
 for_trial() {
+    if [ "$(ulimit -v)" != unlimited ]; then
+        echo "balsadbg: a build without proof does not start under a limit of memory (ulimit -v); ./build makes one that does" >&2
+        exit 3
+    fi
     ulimit -S -s 262144 2>/dev/null || ulimit -S -s "$(ulimit -H -s)" 2>/dev/null || true
     unset ASAN_OPTIONS LSAN_OPTIONS
 }
