@@ -1,13 +1,24 @@
-# The built program that is kept in out/, for ./balsadbg, ./build and ./test. To be sourced at the top of the repository.
+# The programs that are kept in out/, for ./balsadbg, ./build and ./test. To be sourced at the top of the repository.
+#
+# out/balsadbg is the proved program, out/balsadbg-trial the trial program, which the toolchain compiled without proof. Beside
+# each stands NAME.texts: a line for the texts that it was made of, and a line for the toolchain that made it.
 
 kept=out/balsadbg
+kept_trial=out/balsadbg-trial
 # What docs/STATUS.md measured.
-build_takes="one to two hours on 4 processors"
+build_takes="about an hour on 4 processors"
 
 needs_toolchain() {
     command -v rt >/dev/null && return
     echo "balsadbg: the Rattle toolchain (rt) is not on the PATH; README.md says which one is needed" >&2
     exit 1
+}
+
+# The line by which the toolchain on the PATH is known. Nothing where none is there.
+toolchain() {
+    local rt
+    rt=$(command -v rt) || return 0
+    cat "$(dirname "$(readlink -f "$rt")")/../KIT-ID" 2>/dev/null || true
 }
 
 # The crates that the program is made of, in the order of crates.txt, which has the lowest first.
@@ -26,25 +37,60 @@ crates_of_program() {
         }' crates.txt
 }
 
-# One line that differs where the toolchain or any text that the program is made of differs. It asks for the toolchain.
+# One line that differs where any text that the program is made of differs.
 texts() {
-    local kit
-    kit=$(dirname "$(readlink -f "$(command -v rt)")")/../KIT-ID
-    crates_of_program | while IFS= read -r crate; do
-        find "crates/$crate" -name out -prune -o -type f \( -name '*.rt' -o -name '*.antt' \) -print0
-    done | LC_ALL=C sort -z | xargs -0 sha256sum crates.txt HANDLES "$kit" | sha256sum
+    local crates
+    mapfile -t crates < <(crates_of_program)
+    {
+        printf '%s\0' crates.txt HANDLES
+        find "${crates[@]/#/crates/}" -name out -prune -o -type f \( -name '*.rt' -o -name '*.antt' \) -print0
+    } | LC_ALL=C sort -z | xargs -0 sha256sum | sha256sum
 }
 
-# Whether the program that is kept was built from the texts that stand here.
+# Whether the lines of the file $1 are those of the texts $2, and of the toolchain on the PATH if there is one. So what is
+# kept needs no toolchain to be started.
+is_of() {
+    local of_texts="" of_toolchain="" here
+    [ ! -f "$1" ] || { read -r of_texts && read -r of_toolchain; } < "$1" || return 1
+    [ "$of_texts" = "$2" ] || return 1
+    here=$(toolchain)
+    [ -z "$here" ] || [ "$of_toolchain" = "$here" ]
+}
+
+# Whether the program $1 is kept and was made of the texts $2.
 is_kept() {
-    command -v rt >/dev/null && [ -x "$kept" ] && [ "$(cat "$kept.texts" 2>/dev/null)" = "$(texts)" ]
+    [ -x "$1" ] && is_of "$1.texts" "$2"
 }
 
-# Keeps the program $1, which was built from the texts $2.
+# Readies this shell to start the trial program. A checker of memory is part of it, which wants terabytes of addresses, makes
+# frames some ten times those of the proved program, and would heed options.
+for_trial() {
+    if [ "$(ulimit -v)" != unlimited ]; then
+        echo "balsadbg: a build without proof does not start under a limit of memory (ulimit -v); ./build makes one that does" >&2
+        exit 3
+    fi
+    ulimit -S -s 262144 2>/dev/null || ulimit -S -s "$(ulimit -H -s)" 2>/dev/null || true
+    unset ASAN_OPTIONS LSAN_OPTIONS
+}
+
+# Whether anything can be kept here.
+can_keep() {
+    mkdir -p out 2>/dev/null && [ -w out ]
+}
+
+# Keeps the proved program $1, which was built from the texts $2.
 keep() {
     mkdir -p out
-    rm -f "$kept.texts"
     cp "$1" "$kept.new"
+    printf '%s\n' "$2" "$(toolchain)" > "$kept.texts.new"
+    rm -f "$kept.texts"
     mv -f "$kept.new" "$kept"
-    echo "$2" > "$kept.texts"
+    mv -f "$kept.texts.new" "$kept.texts"
+}
+
+# How many tasks of the prover go side by side: one a processor, as far as each finds 5 GB of memory.
+tasks() {
+    local memory
+    memory=$(awk '/^MemAvailable/ { print int($2 / 5000000) }' /proc/meminfo)
+    echo $((memory < 1 ? 1 : memory < $(nproc) ? memory : $(nproc)))
 }
