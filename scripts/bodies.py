@@ -165,19 +165,19 @@ def module_of(path: str) -> tuple[str, ...]:
     return parts[:-1] if parts[-1] in ("lib", "main", "mod") else parts
 
 
-def owner_words(owner: tuple[str, ...]) -> list[str]:
-    """The names in the head of an `impl` or `trait`, without its type parameters."""
+def owner_words(owner: tuple[str, ...]) -> tuple[list[str], list[str]]:
+    """The names in the head of an `impl` or `trait` without its type parameters, and those that only lead to one of them."""
     depth, at, parameters = 0, 0, set()
     if owner[:1] == ("<",):
         for at, word in enumerate(owner):
-            depth += {"<": 1, ">": -1}.get(word, 0)
-            is_name = owner[at - 1] in ("<", ",", "const") and depth == 1
-            parameters |= {word} if is_name else set()
+            is_arrow = word == ">" and owner[at - 1] == "-"
+            depth += 0 if is_arrow else {"<": 1, ">": -1}.get(word, 0)
+            parameters |= {word} if depth == 1 and owner[at - 1] in ("<", ",", "const") else set()
             if depth == 0:
                 break
-    words = [it for it in owner[at:] if re.fullmatch(r"\w+", it)]
-    paths = {a for a, b in zip(owner, owner[1:]) if b == ":"}
-    return [it for it in words if it not in parameters | NO_NAMES | paths]
+    head = [it for it in owner[at:] if it not in parameters | NO_NAMES]
+    leads = [a for a, b in zip(head, head[1:]) if b == ":" and re.fullmatch(r"\w+", a)]
+    return [plain(it) for it in head if re.fullmatch(r"\w+", it) and it not in leads], [plain(it) for it in leads]
 
 
 def plain(word: str) -> str:
@@ -189,18 +189,14 @@ def name_of(crate: str, path: str, it: Function, names: list[str]) -> str | None
     start = "::".join([crate, *module_of(path), *it.modules])
     if not it.owner:
         return f"{start}::{it.name}" if f"{start}::{it.name}" in names else None
+    words, leads = owner_words(it.owner)
+    words = [word for word in words if word != "drop"]
+    owners = [name.rpartition("::")[0] for name in names if name.endswith(f"::{it.name}")]
+    last = {owner: plain(owner.rpartition("::")[2]) for owner in owners}
+    fitting = [owner for owner in owners if words and all(word in last[owner] for word in words)]
     # A method of a type is named by the module of its type, which may be another.
-    alike = [name.rpartition("::")[0] for name in names if name.endswith(f"::{it.name}")]
-    words = [plain(word) for word in owner_words(it.owner) if word != "Drop"]
-    fitting = [owner for owner in alike if fits(owner, words)]
-    here = [owner for owner in fitting if owner.rpartition("::")[0] == start]
-    chosen = here or fitting
+    chosen = [owner for owner in fitting if owner.rpartition("::")[0] == start] or fitting
+    chosen = [owner for owner in chosen if all(word in last[owner] for word in leads)] or chosen
     # What has these words and no others goes before what has more.
-    exact = [owner for owner in chosen if len(plain(owner.rpartition("::")[2])) == sum(map(len, words))]
-    chosen = exact or chosen
+    chosen = [owner for owner in chosen if len(last[owner]) == sum(map(len, words))] or chosen
     return f"{chosen[0]}::{it.name}" if len(chosen) == 1 else None
-
-
-def fits(owner: str, words: list[str]) -> bool:
-    last = plain(owner.rpartition("::")[2])
-    return bool(words) and all(word in last for word in words)
