@@ -15,7 +15,7 @@ from reference.debugger import Outcome, outcome
 from reference.elaboration import System
 from reference.faults import Refused
 
-SECONDS_OF_A_CASE = 30
+SECONDS_OF_A_CASE = int(os.environ.get("CASE_SECONDS", "30"))
 NAMES = ["source", "stimulus", "script", "trace", "output", "error"]
 WORDS = {"check": ["source"], "debug": ["source", "stimulus"], "replay": ["source", "stimulus", "trace"]}
 

@@ -19,7 +19,8 @@ from reference.debugger import Outcome
 
 from .cases import KINDS, Case, case_of, kinds_at
 
-SECONDS_OF_A_CASE = 30
+# How long a case may take; a slow program or a busy machine wants more.
+SECONDS_OF_A_CASE = int(os.environ.get("CASE_SECONDS", "30"))
 SECONDS_TO_SHRINK = 60
 MOST_SHOWN = 5
 SHOWN = 2000
