@@ -5,9 +5,7 @@ use std::test::Fail;
 
 const TEXTS: [(Fault, &str); 9] = [
     (
-        Fault::NoSystem(front_end::Fault::Source(typed_source::Fault::Lexer(
-            lexer::Fault::Memory,
-        ))),
+        Fault::NoSystem(front_end::Fault::Source(typed_source::Fault::Lexer(lexer::Fault::Memory))),
         "out of memory",
     ),
     (
@@ -23,9 +21,7 @@ const TEXTS: [(Fault, &str); 9] = [
         "the name at offset 7 is not declared",
     ),
     (
-        Fault::NoSystem(front_end::Fault::Elaborate(elaborate::Fault::BadStimulus(
-            7,
-        ))),
+        Fault::NoSystem(front_end::Fault::Elaborate(elaborate::Fault::BadStimulus(7))),
         "line 7 of the stimulus fits no port",
     ),
     (
