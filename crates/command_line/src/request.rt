@@ -51,24 +51,6 @@ fn word<'a>(alloc: Global, name: &'a str, help: &'a str) -> Arg<'a>
         .help(help)
 }
 
-fn file<'a>(alloc: Global) -> Arg<'a>
-    ensures { IsArgument (spec.word (codes "FILE")) result }
-{
-    word(alloc, "FILE", help::FILE)
-}
-
-fn stimulus<'a>(alloc: Global) -> Arg<'a>
-    ensures { IsArgument (spec.word (codes "STIMULUS")) result }
-{
-    word(alloc, "STIMULUS", help::STIMULUS)
-}
-
-fn trace<'a>(alloc: Global) -> Arg<'a>
-    ensures { IsArgument (spec.word (codes "TRACE")) result }
-{
-    word(alloc, "TRACE", help::TRACE)
-}
-
 fn workers<'a>(alloc: Global) -> Arg<'a>
     ensures { IsArgument (spec.number (codes "workers") (Signed (pos 1) (pos 16))) result }
 {
@@ -127,15 +109,15 @@ fn check<'a>(alloc: Global) -> Result<Command<'a>, AllocError>
         help::CHECK_LONG,
         help::CHECK_REFUSALS,
     );
-    with_argument(Ok(command), file(alloc))
+    with_argument(Ok(command), word(alloc, "FILE", help::FILE))
 }
 
 /// The command over a description and its stimulus.
 fn over_ports<'a>(alloc: Global, command: Command<'a>) -> Result<Command<'a>, AllocError>
     ensures { (app : App) → IsCommand app command.entry → IfOk result (IsCommand (spec.over_ports app)) }
 {
-    let described = with_argument(Ok(command), file(alloc));
-    with_argument(described, stimulus(alloc))
+    let described = with_argument(Ok(command), word(alloc, "FILE", help::FILE));
+    with_argument(described, word(alloc, "STIMULUS", help::STIMULUS))
 }
 
 fn debug<'a>(alloc: Global) -> Result<Command<'a>, AllocError>
@@ -161,7 +143,10 @@ fn replay<'a>(alloc: Global) -> Result<Command<'a>, AllocError>
         help::REPLAY_LONG,
         help::REPLAY_REFUSALS,
     );
-    with_argument(over_ports(alloc, command), trace(alloc))
+    with_argument(
+        over_ports(alloc, command),
+        word(alloc, "TRACE", help::TRACE),
+    )
 }
 
 fn work<'a>(alloc: Global) -> Result<Command<'a>, AllocError>
