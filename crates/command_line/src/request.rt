@@ -6,7 +6,8 @@ ghost use Rattle.clap.specs.declared.error.kind.ErrorKind.TheVariants.{OutOfMemo
 ghost use Rattle.clap.specs.declared.builder.value_parser.ValueParser.TheVariants.{Signed, Unsigned};
 ghost use Rattle.command_line.specs.Words as spec;
 ghost use Rattle.command_line.specs.walking.Building.{Chooses, ChoosesNone, Finds, IsArgument, IsCommand};
-ghost use Rattle.command_line.specs.walking.Building.{IsNoRequest, NamesNoFiles, Refuses, TellsCrew, TellsNoCrew, rows_in};
+ghost use Rattle.command_line.specs.walking.Building.{IsNoRequest, NamesNoFiles, Refuses, rows_in};
+ghost use Rattle.command_line.specs.walking.Building.{TellsCrew, TellsNoCrew};
 
 use crate::help;
 use clap::error::ErrorKind;
