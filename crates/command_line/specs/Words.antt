@@ -87,8 +87,8 @@ AskForSome words = (takes program words ≡ true) × ((request : Request) × Ask
 abbrev pub AskForNone : List Text → Type 0
 AskForNone words = (request : Request) → AskFor words request → ⊥
 
--- a fault that `clap` finds in the words (of some words it says two, and either may be told); where it finds none, that no
--- subcommand is asked for
+-- a fault that `clap` finds in the words (of some words it says two, and either may be told); where it finds none, that
+-- no subcommand is asked for
 abbrev pub IsFaultOf : List Text → ErrorKind → Type 0
 IsFaultOf words kind =
     IsAmong kind (fault_of program words)

@@ -6,7 +6,8 @@ ghost use Rattle.clap.specs.declared.error.kind.ErrorKind.TheVariants.{OutOfMemo
 ghost use Rattle.clap.specs.declared.builder.value_parser.ValueParser.TheVariants.{Signed, Unsigned};
 ghost use Rattle.command_line.specs.Words as spec;
 ghost use Rattle.command_line.specs.walking.Building.{Chooses, ChoosesNone, Finds, IsArgument, IsCommand};
-ghost use Rattle.command_line.specs.walking.Building.{IsNoRequest, NamesNoFiles, Refuses, TellsCrew, TellsNoCrew, rows_in};
+ghost use Rattle.command_line.specs.walking.Building.{IsNoRequest, NamesNoFiles, Refuses, rows_in};
+ghost use Rattle.command_line.specs.walking.Building.{TellsCrew, TellsNoCrew};
 
 use crate::help;
 use clap::error::ErrorKind;
@@ -49,24 +50,6 @@ fn word<'a>(alloc: Global, name: &'a str, help: &'a str) -> Arg<'a>
         .required(true)
         .action(ArgAction::Set)
         .help(help)
-}
-
-fn file<'a>(alloc: Global) -> Arg<'a>
-    ensures { IsArgument (spec.word (codes "FILE")) result }
-{
-    word(alloc, "FILE", help::FILE)
-}
-
-fn stimulus<'a>(alloc: Global) -> Arg<'a>
-    ensures { IsArgument (spec.word (codes "STIMULUS")) result }
-{
-    word(alloc, "STIMULUS", help::STIMULUS)
-}
-
-fn trace<'a>(alloc: Global) -> Arg<'a>
-    ensures { IsArgument (spec.word (codes "TRACE")) result }
-{
-    word(alloc, "TRACE", help::TRACE)
 }
 
 fn workers<'a>(alloc: Global) -> Arg<'a>
@@ -127,15 +110,15 @@ fn check<'a>(alloc: Global) -> Result<Command<'a>, AllocError>
         help::CHECK_LONG,
         help::CHECK_REFUSALS,
     );
-    with_argument(Ok(command), file(alloc))
+    with_argument(Ok(command), word(alloc, "FILE", help::FILE))
 }
 
 /// The command over a description and its stimulus.
 fn over_ports<'a>(alloc: Global, command: Command<'a>) -> Result<Command<'a>, AllocError>
     ensures { (app : App) → IsCommand app command.entry → IfOk result (IsCommand (spec.over_ports app)) }
 {
-    let described = with_argument(Ok(command), file(alloc));
-    with_argument(described, stimulus(alloc))
+    let described = with_argument(Ok(command), word(alloc, "FILE", help::FILE));
+    with_argument(described, word(alloc, "STIMULUS", help::STIMULUS))
 }
 
 fn debug<'a>(alloc: Global) -> Result<Command<'a>, AllocError>
@@ -161,7 +144,10 @@ fn replay<'a>(alloc: Global) -> Result<Command<'a>, AllocError>
         help::REPLAY_LONG,
         help::REPLAY_REFUSALS,
     );
-    with_argument(over_ports(alloc, command), trace(alloc))
+    with_argument(
+        over_ports(alloc, command),
+        word(alloc, "TRACE", help::TRACE),
+    )
 }
 
 fn work<'a>(alloc: Global) -> Result<Command<'a>, AllocError>

@@ -5,4 +5,4 @@ use Rattle.command_line.proofs.request.check.Goals as goal
 
 pub returns : goal.returns
 returns c =
-    c.with_argument.ensures (new_app (codes "check")) (spec.word (codes "FILE")) c.begun-command.ensures c.file.ensures
+    c.with_argument.ensures (new_app (codes "check")) (spec.word (codes "FILE")) c.begun-command.ensures c.word.ensures

@@ -6,4 +6,4 @@ use Rattle.command_line.proofs.request.over_ports.Goals as goal
 pub returns : goal.returns
 returns c app is =
     c.with_argument.ensures (with_rule app (spec.word (codes "FILE"))) (spec.word (codes "STIMULUS"))
-    (c.with_argument-described.ensures app (spec.word (codes "FILE")) is c.file.ensures) c.stimulus.ensures
+    (c.with_argument-described.ensures app (spec.word (codes "FILE")) is c.word.ensures) c.word-2.ensures

@@ -6,4 +6,4 @@ use Rattle.command_line.proofs.request.replay.Goals as goal
 pub returns : goal.returns
 returns c =
     c.with_argument.ensures (spec.over_ports (new_app (codes "replay"))) (spec.word (codes "TRACE"))
-    (c.over_ports.ensures (new_app (codes "replay")) c.begun-command.ensures) c.trace.ensures
+    (c.over_ports.ensures (new_app (codes "replay")) c.begun-command.ensures) c.word.ensures

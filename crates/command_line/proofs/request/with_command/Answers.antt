@@ -1,4 +1,4 @@
-use Rattle.std.proofs.Common.{Result, subst}
+use Rattle.std.proofs.Common.{subst}
 use Rattle.std.specs.Prelude.{IfOk}
 use Rattle.command_line.specs.walking.Building.{IsCommand}
 use Rattle.command_line.proofs.request.with_command.Goals as goal
