@@ -1,6 +1,5 @@
 // Refusals 5 and 6: what cannot stand, and what could; levels.
-use crate::finding::{Finding, text_between};
-use crate::nearest::Nearest;
+use findings::{Finding, Nearest, text_between};
 use lexer::{Kind, Token, lex};
 use std::alloc::AllocError;
 use viable_tokens::{spelled, viable_kinds};

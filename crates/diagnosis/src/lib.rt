@@ -4,23 +4,17 @@
 //! and columns are those of `source_places`.
 #![tactic(auto)]
 
-mod calls;
-mod finding;
 mod grammar;
-mod kinds;
 mod lines;
-mod names;
-mod nearest;
-mod repeated;
 mod sharing;
 mod stimulus;
 mod told;
-mod widths;
 mod words;
 
-use crate::finding::Finding;
+use findings::Finding;
+pub use findings::Input;
 use std::alloc::{AllocError, Global};
-pub use told::{Input, Inputs};
+pub use told::Inputs;
 
 /// What is told of a fault behind its line: nothing, or lines that each have their end. `number` and `field` are those of
 /// the fault. Where the text in which it is is not at hand, the page of the refusal alone is named.
@@ -51,7 +45,7 @@ fn explain_source(
         2..=4 => words::find(source.bytes, number, &mut finding)?,
         5 | 6 => grammar::find(source.bytes, number, &mut finding)?,
         15 | 16 => sharing::find(source.bytes, number, &mut finding)?,
-        _ => names::find(source.bytes, number, &mut finding)?,
+        _ => name_faults::find(source.bytes, number, &mut finding)?,
     }
     finding.text(source, false)
 }

@@ -1,7 +1,7 @@
 // Refusals of lines: 31 to 34, 51 and 61.
-use crate::finding::Finding;
 use crate::stimulus;
-use crate::told::{Input, Inputs, explain_plain};
+use crate::told::{Inputs, explain_plain};
+use findings::{Finding, Input, Nearest};
 use source_places::{end_of_line, start_of_line};
 use std::alloc::{AllocError, Global};
 
@@ -83,7 +83,7 @@ fn find_command(text: &[u8], finding: &mut Finding) -> Result<(), AllocError> {
     }
     let line = std::str::from_utf8(text).unwrap_or("");
     let word = line.split_once(' ').map_or(line, |(word, _)| word);
-    let mut nearest = crate::nearest::Nearest::none();
+    let mut nearest = Nearest::none();
     for command in &COMMANDS {
         nearest.offer(alloc, word, command)?;
     }

@@ -1,6 +1,6 @@
 // Refusals 15 and 16: what branches share.
-use crate::finding::{Finding, text_between};
 use branch_uses::{ChannelUses, Side, SideUse, channel_uses, clash_at};
+use findings::{Finding, text_between};
 use lexer::{Token, lex};
 use parser::parse;
 use std::alloc::AllocError;

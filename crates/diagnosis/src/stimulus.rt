@@ -1,8 +1,7 @@
 // Refusal 51: a line of the stimulus.
-use crate::finding::{Finding, text_between};
-use crate::kinds::kind_text;
-use crate::nearest::Nearest;
+use findings::{Finding, Nearest, text_between};
 use lexer::lex;
+use name_faults::kind_text;
 use parser::parse;
 use std::alloc::AllocError;
 use std::str;

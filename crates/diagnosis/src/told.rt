@@ -1,11 +1,5 @@
+use findings::Input;
 use std::alloc::{AllocError, Global};
-
-/// A text that was read, and how people call it: the name of its file, or what it is.
-#[derive(Clone, Copy)]
-pub struct Input<'a> {
-    pub name: &'a str,
-    pub bytes: &'a [u8],
-}
 
 /// What a run was given, as far as it was read. `missing` is the file that could not be read, for refusal 41.
 #[derive(Clone, Copy)]

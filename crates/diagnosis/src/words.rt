@@ -1,6 +1,6 @@
 // Refusals 2 to 4: bytes, comments and numbers.
-use crate::finding::{Finding, text_between};
-use bstr::decode;
+use bstr::decode_utf8 as decode;
+use findings::{Finding, text_between};
 use std::alloc::AllocError;
 
 /// What was found about a fault of the lexer at the finding's place.

@@ -7,9 +7,9 @@ mod answers;
 mod files;
 mod form;
 mod names;
-mod page;
 mod sharing;
 mod table;
+mod writing;
 
-pub use page::{Page, page_text, summary};
-pub use table::{NUMBERS, page};
+pub use table::{NUMBERS, page_of};
+pub use writing::{Page, page_text, summary};

@@ -10,7 +10,7 @@ pub static NUMBERS: [u32; 33] = [
 ];
 
 /// The page of the refusal with this number; none where no refusal has it.
-pub fn page(number: u32) -> Option<&'static Page>
+pub fn page_of(number: u32) -> Option<&'static Page>
     ensures each { IsSome result ↔ IsTrue (is_refusal number) }
     ensures right { IfSome result (λ page. page.now.number ≡ number) }
 {

@@ -1,6 +1,6 @@
 // The sites of a body, in the order of the source.
-use crate::declared::Declared;
-use crate::sites::{Role, Site};
+use crate::declarations::Declared;
+use crate::places::{Role, Site};
 use crate::widths::{Known, width_of};
 use std::alloc::{AllocError, Global};
 use syntax::{

@@ -1,4 +1,4 @@
-use crate::declared::{Declared, Kind, find, type_width, width_of_number};
+use crate::declarations::{Declared, Kind, find, type_width, width_of_number};
 use syntax::{Expression, Operator, Shape};
 
 /// What widths are found by.

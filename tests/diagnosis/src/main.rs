@@ -7,7 +7,7 @@
 #![tactic(auto)]
 
 use diagnosis::{Input, Inputs, explain};
-use refusal_pages::{page, page_text};
+use refusal_pages::{page_of, page_text};
 use std::alloc::{AllocError, Global};
 use std::io;
 use std::io::Read;
@@ -51,7 +51,7 @@ fn told(
 ) -> Result<String, AllocError> {
     let field = field.checked_sub(1);
     if number == 0 {
-        return match page(field.unwrap_or(0) as u32 % 100) {
+        return match page_of(field.unwrap_or(0) as u32 % 100) {
             Some(page) => page_text(alloc, page),
             None => String::from_str(alloc, "no page\n"),
         };

@@ -1,4 +1,4 @@
-use Rattle.std.proofs.Common.{◌≡◌, ◌+◌, ◌≤◌, ◌×◌}
+use Rattle.std.proofs.Common.{◌≡◌, ◌+◌, ◌≤◌}
 use Rattle.source_places.specs.Places.{BeginsLine, ends_before}
 use Rattle.source_places.proofs.start_of_line.Given as goal
 

@@ -1,6 +1,6 @@
 // Refusals 10 and 11: widths.
-use crate::finding::{Finding, text_of};
 use crate::names::{Around, site_text};
+use findings::{Finding, text_of};
 use lexer::{Kind as TokenKind, Token};
 use std::alloc::AllocError;
 use written_names::{Declared, Role, Site, find as declaration_of};

@@ -1,10 +1,16 @@
 // What was found about a fault, and its text.
-use crate::told::Input;
 use marked_lines::{Mark, add_marked};
 use source_places::place_of;
 use std::alloc::{AllocError, Global};
 use std::str;
 use syntax::Span;
+
+/// A text that was read, and how people call it: the name of its file, or what it is.
+#[derive(Clone, Copy)]
+pub struct Input<'a> {
+    pub name: &'a str,
+    pub bytes: &'a [u8],
+}
 
 /// Another place that has to do with the fault.
 #[derive(Drop)]

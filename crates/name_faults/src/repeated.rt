@@ -1,7 +1,7 @@
 // Refusals 8, 12 and 17: what stands twice.
-use crate::finding::{Finding, text_between};
 use crate::kinds::kind_text;
 use crate::names::{Around, site_text};
+use findings::{Finding, text_between};
 use std::alloc::AllocError;
 use written_names::{Declared, Kind, Role, Site, find as declaration_of, text_at, width_of_number};
 

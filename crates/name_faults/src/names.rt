@@ -1,8 +1,7 @@
 // Refusals 7 to 13 and 17: names, kinds and widths.
-use crate::finding::{Finding, text_between};
 use crate::kinds::{fits, help_text, kind_text, wanted_text};
-use crate::nearest::Nearest;
 use crate::{calls, repeated, widths};
+use findings::{Finding, Nearest, text_between};
 use lexer::{Token, lex};
 use parser::parse;
 use std::alloc::AllocError;

@@ -1,7 +1,7 @@
 // Refusal 13: arguments and ports.
-use crate::finding::{Finding, text_between, text_of};
 use crate::kinds::kind_text;
 use crate::names::{Around, site_text};
+use findings::{Finding, text_between, text_of};
 use std::alloc::AllocError;
 use written_names::{Declared, Kind, Role, Site, find as declaration_of, ports};
 
