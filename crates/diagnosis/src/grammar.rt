@@ -51,12 +51,12 @@ struct Seen {
 
 /// Which of the tokens begins at the offset or behind it.
 fn place_at(tokens: &[Token], offset: u64) -> usize {
-    let mut place = 0;
+    let mut place = 0_usize;
     for token in tokens {
         if token.span.start >= offset {
             return place;
         }
-        place += 1;
+        place = place.saturating_add(1);
     }
     place
 }

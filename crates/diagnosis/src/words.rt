@@ -78,12 +78,12 @@ fn find_comment(source: &[u8], finding: &mut Finding) -> Result<(), AllocError> 
 
 /// How many digits some bytes begin with.
 fn digits_of(bytes: &[u8]) -> usize {
-    let mut count = 0;
+    let mut count = 0_usize;
     for byte in bytes {
         if !byte.is_ascii_digit() {
             return count;
         }
-        count += 1;
+        count = count.saturating_add(1);
     }
     count
 }

@@ -103,14 +103,14 @@ fn gutter_columns(alloc: Global, text: &[u8], marks: &[Mark<'_>]) -> Result<usiz
 
 /// How many of the marks, the first of which stands in the part, stand in it one behind the other.
 fn marks_within(part: Part, marks: &[Mark<'_>]) -> usize {
-    let mut count = 0;
+    let mut count = 0_usize;
     let mut behind = 0;
     for mark in marks {
         if !part.has(mark.start) || mark.start < behind {
             return count;
         }
         behind = mark.stop;
-        count += 1;
+        count = count.saturating_add(1);
     }
     count
 }
@@ -125,19 +125,16 @@ pub fn add_marked(
     keeps_return: bool,
 ) -> Result<(), AllocError> {
     let columns = gutter_columns(alloc, text, marks)?;
-    let mut rest = marks;
-    'rows: while let [first, others @ ..] = rest {
-        let part = part_around(text, first.start, keeps_return);
-        let count = marks_within(part, rest).max(1);
-        add_row(
-            alloc,
-            out,
-            text,
-            part,
-            rest.get(..count).unwrap_or(rest),
-            columns,
-        )?;
-        rest = rest.get(count..).unwrap_or(others);
+    let mut shown = 0;
+    for (index, mark) in marks.iter().enumerate() {
+        if index >= shown {
+            let part = part_around(text, mark.start, keeps_return);
+            let rest = marks.get(index..).unwrap_or(&[]);
+            let count = marks_within(part, rest).max(1);
+            let row = rest.get(..count).unwrap_or(rest);
+            add_row(alloc, out, text, part, row, columns)?;
+            shown = index.saturating_add(count);
+        }
     }
     Ok(())
 }

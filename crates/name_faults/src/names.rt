@@ -1,4 +1,7 @@
 // Refusals 7 to 13 and 17: names, kinds and widths.
+ghost use Rattle.std.specs.Prelude.{◌≡◌};
+ghost use Rattle.written_names.specs.Texts.{text_of};
+
 use crate::kinds::{fits, help_text, kind_text, wanted_text};
 use crate::{calls, repeated, widths};
 use findings::{Finding, Nearest, text_between};
@@ -189,6 +192,8 @@ pub fn kind_of(around: Around<'_>, name: &[u8]) -> Option<Kind> {
 }
 
 /// The bytes of a site's name.
-pub fn site_text<'a>(around: Around<'a>, site: Site) -> &'a [u8] {
+pub fn site_text<'a>(around: Around<'a>, site: Site) -> &'a [u8]
+    ensures { result.now ≡ text_of around.entry.source.now site.span }
+{
     text_at(around.source, site.span)
 }

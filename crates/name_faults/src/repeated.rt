@@ -1,4 +1,7 @@
 // Refusals 8, 12 and 17: what stands twice.
+ghost use Rattle.std.specs.Prelude.{◌≡◌, ◌≢◌, ◌<◌, ◌≤◌, IfSome};
+ghost use Rattle.written_names.specs.Texts.{text_of};
+
 use crate::kinds::kind_text;
 use crate::names::{Around, site_text};
 use findings::{Finding, text_between};
@@ -19,7 +22,9 @@ pub fn find_name(around: Around<'_>, finding: &mut Finding) -> Result<(), AllocE
 }
 
 /// The first declaration of a name that stands elsewhere than at the offset.
-fn first_declared(around: Around<'_>, name: &[u8], offset: u64) -> Option<Declared> {
+fn first_declared(around: Around<'_>, name: &[u8], offset: u64) -> Option<Declared>
+    ensures { IfSome result (λ one. (one.span.start ≢ offset) × (text_of around.entry.source.now one.span ≡ name.now)) }
+{
     for one in around.visible {
         if one.span.start != offset && *text_at(around.source, one.span) == *name {
             return Some(*one);
@@ -57,7 +62,10 @@ pub fn find_arm(around: Around<'_>, finding: &mut Finding) -> Result<(), AllocEr
 }
 
 /// An earlier arm of the same choice on the same channel.
-fn earlier_arm(around: Around<'_>, arm: Site) -> Option<Site> {
+fn earlier_arm(around: Around<'_>, arm: Site) -> Option<Site>
+    ensures { IfSome result (λ one. (one.choice ≡ arm.choice) × (one.span.start < arm.span.start)
+        × (text_of around.entry.source.now one.span ≡ text_of around.entry.source.now arm.span)) }
+{
     for site in around.sites {
         if site.role == Role::Arm
             && site.choice == arm.choice
@@ -151,19 +159,21 @@ fn find_label(
     finding.advise(&["each value has one arm: take one of the two out"])
 }
 
-/// The innermost arm that is open on the name around the offset.
-fn enclosing(around: Around<'_>, name: &[u8]) -> Option<Site> {
-    let mut found = None;
-    for site in around.sites {
+/// The innermost arm that is open on the name around the offset: the last that begins, since arms stand in one another.
+fn enclosing(around: Around<'_>, name: &[u8]) -> Option<Site>
+    ensures { IfSome result (λ one. (one.body.0 ≤ around.offset) × (around.offset < one.body.1)
+        × (text_of around.entry.source.now one.span ≡ name.now)) }
+{
+    for site in around.sites.iter().rev() {
         if matches!(site.role, Role::Arm | Role::Opened)
             && site.body.0 <= around.offset
             && around.offset < site.body.1
             && *site_text(around, *site) == *name
         {
-            found = Some(*site);
+            return Some(*site);
         }
     }
-    found
+    None
 }
 
 /// A channel that is used in an arm that is open on it.

@@ -4,7 +4,7 @@
 //! character, so that every text has columns.
 #![tactic(auto)]
 
-ghost use Rattle.std.specs.Prelude.{◌≡◌, ◌+◌, ◌<◌, ◌≤◌, length, count_by, ◌==◌, slice_index, IfSome, MatchOption, take};
+ghost use Rattle.std.specs.Prelude.{◌≡◌, ◌≢◌, ℕ, ◌+◌, ◌<◌, ◌≤◌, length, count_by, ◌==◌, slice_index, IfSome, MatchOption, take};
 ghost use Rattle.source_places.specs.Places.{BeginsLine, characters, ends_before, line_end, within};
 
 use bstr::ByteSlice;
@@ -105,8 +105,10 @@ pub fn start_of_line(text: &[u8], line: usize) -> Option<usize>
 pub fn end_of_line(text: &[u8], offset: usize) -> usize
     ensures within { result ≤ length text.now }
     ensures end { result < length text.now → slice_index text.now result ≡ line_end }
+    ensures none { (k : ℕ) → within text.now offset ≤ k → k < result → slice_index text.now k ≢ line_end }
 {
-    for index in held(text, offset)..text.len() {
+    let from = held(text, offset);
+    for index in from..text.len() {
         if text[index] == b'\n' {
             return index;
         }

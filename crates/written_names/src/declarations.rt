@@ -1,3 +1,6 @@
+ghost use Rattle.std.specs.Prelude.{◌≡◌, IfSome};
+ghost use Rattle.written_names.specs.Texts.{text_of};
+
 use std::alloc::{AllocError, Global};
 use syntax::{
     Description, Identifier, Local, LocalKind, Port, PortKind, Procedure, Span, TypeDeclaration,
@@ -33,15 +36,23 @@ pub struct Declared {
     pub owner: usize,
 }
 
-/// The bytes of a span.
-pub fn text_at(source: &[u8], span: Span) -> &[u8] {
-    source
-        .get(span.start as usize..span.stop as usize)
-        .unwrap_or(b"")
+/// The bytes of a span; none where the source does not have them.
+pub fn text_at(source: &[u8], span: Span) -> &[u8]
+    ensures { result.now ≡ text_of source.now span }
+{
+    let start = span.start as usize;
+    let stop = span.stop as usize;
+    if start <= stop && stop <= source.len() {
+        &source[start..stop]
+    } else {
+        b""
+    }
 }
 
 /// The first of some declarations that has this name.
-pub fn find(source: &[u8], declared: &[Declared], name: &[u8]) -> Option<Declared> {
+pub fn find(source: &[u8], declared: &[Declared], name: &[u8]) -> Option<Declared>
+    ensures { IfSome result (λ one. text_of source.now one.span ≡ name.now) }
+{
     for one in declared {
         if *text_at(source, one.span) == *name {
             return Some(*one);
