@@ -12,7 +12,7 @@ use Rattle.syntax.specs.declared.expression.Expression.{Expression}
 use Rattle.syntax.specs.declared.expression.Shape.TheFolds.{fold-Expression}
 use Rattle.syntax.specs.declared.expression.Shape.TheOpen.{Expression-F, Shape-F}
 use Rattle.branch_uses.specs.declared.uses.NameUse.{NameUse}
-use Rattle.branch_uses.specs.declared.found.Clash.{Clash}
+use Rattle.branch_uses.specs.declared.uses.Clash.{Clash}
 
 -- what is asked for: the variable by its name, and the offset of one of the two uses
 pub record Question : Type 0 where
@@ -61,8 +61,8 @@ beside offset branch earlier =
     finding (earlier.uses ++ branch.uses) (against_all offset earlier.uses branch.uses (earlier.clashes ++ branch.clashes))
 
 -- two parts that do not stand side by side
-abbrev pub with : Finding → Finding → Finding
-with part earlier = finding (earlier.uses ++ part.uses) (earlier.clashes ++ part.clashes)
+abbrev pub behind : Finding → Finding → Finding
+behind part earlier = finding (earlier.uses ++ part.uses) (earlier.clashes ++ part.clashes)
 
 abbrev pub nothing : Finding
 nothing = finding [] []
@@ -117,7 +117,7 @@ action_layer q (Action-F.Receive c x) f = noted q.name x.name x.span.start true 
 action_layer q (Action-F.Input c body) f = body f
 action_layer q (Action-F.Call p arguments) f = f
 action_layer q (Action-F.Sequence children) f = in_turn children f
-action_layer q (Action-F.Parallel children) f = with (all_beside q.offset children nothing) f
+action_layer q (Action-F.Parallel children) f = behind (all_beside q.offset children nothing) f
 
 abbrev pub arm_layer : Arm-F Finds Finds Finds Finds Finds → Finds
 arm_layer a f = a.body f

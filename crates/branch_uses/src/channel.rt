@@ -4,7 +4,7 @@ use std::alloc::{AllocError, Global};
 use syntax::{Action, Arm, CaseArm, Command, Guarded, Identifier, Span};
 
 /// On which side a channel is used.
-#[derive(Clone, Copy, Debug, PartialEq, Eq)]
+#[derive(Clone, Copy, PartialEq, Eq)]
 pub enum Side {
     Sending,
     Receiving,
@@ -12,7 +12,7 @@ pub enum Side {
 }
 
 /// A use of a channel: the name where it is sent on, received from or synced.
-#[derive(Clone, Copy, Debug, PartialEq, Eq)]
+#[derive(Clone, Copy)]
 pub struct SideUse {
     pub side: Side,
     pub span: Span,

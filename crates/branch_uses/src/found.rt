@@ -2,17 +2,9 @@ ghost use Rattle.std.specs.Prelude.{◌≡◌, ◌++◌, IfOk, slice_get};
 ghost use Rattle.std.specs.Option.{option_to_list};
 ghost use Rattle.branch_uses.specs.Clashes as model;
 
-use crate::uses::NameUse;
+use crate::uses::{Clash, NameUse};
 use std::alloc::{AllocError, Global};
 use std::marker::Model;
-
-/// Two uses of a variable that clash.
-#[derive(Clone, Copy, Debug, PartialEq, Eq)]
-pub struct Clash {
-    /// The use that was asked for.
-    pub here: NameUse,
-    pub there: NameUse,
-}
 
 /// The uses of a variable that are found, and those that clash.
 #[derive(Drop)]
@@ -83,12 +75,22 @@ fn add_against_all(
     Ok(())
 }
 
-/// Adds elements behind others.
-fn add_all<T: Copy>(elements: &mut Vec<T>, others: &[T]) -> Result<(), AllocError>
-    ensures { IfOk result (λ _. elements.new.items ≡ elements.old.items ++ others.now) }
+/// Adds uses behind others.
+fn add_uses(uses: &mut Vec<NameUse>, others: &[NameUse]) -> Result<(), AllocError>
+    ensures { IfOk result (λ _. uses.new.items ≡ uses.old.items ++ others.now) }
 {
     for other in others {
-        elements.push(*other)?;
+        uses.push(*other)?;
+    }
+    Ok(())
+}
+
+/// Adds clashes behind others.
+fn add_clashes(clashes: &mut Vec<Clash>, others: &[Clash]) -> Result<(), AllocError>
+    ensures { IfOk result (λ _. clashes.new.items ≡ clashes.old.items ++ others.now) }
+{
+    for other in others {
+        clashes.push(*other)?;
     }
     Ok(())
 }
@@ -129,23 +131,23 @@ impl Found {
 
     /// Adds a part that does not stand beside what is found.
     pub fn add(&mut self, part: &Found) -> Result<(), AllocError>
-        ensures { IfOk result (λ _. self.new ≡ model.with part.now self.old) }
+        ensures { IfOk result (λ _. self.new ≡ model.behind part.now self.old) }
     {
-        add_all(&mut self.uses, part.uses.as_slice())?;
-        add_all(&mut self.clashes, part.clashes.as_slice())
+        add_uses(&mut self.uses, part.uses.as_slice())?;
+        add_clashes(&mut self.clashes, part.clashes.as_slice())
     }
 
     /// Adds a branch that stands beside what is found, with the clashes between the two.
     pub fn join(&mut self, offset: u64, branch: &Found) -> Result<(), AllocError>
         ensures { IfOk result (λ _. self.new ≡ model.beside offset branch.now self.old) }
     {
-        add_all(&mut self.clashes, branch.clashes.as_slice())?;
+        add_clashes(&mut self.clashes, branch.clashes.as_slice())?;
         add_against_all(
             &mut self.clashes,
             offset,
             self.uses.as_slice(),
             branch.uses.as_slice(),
         )?;
-        add_all(&mut self.uses, branch.uses.as_slice())
+        add_uses(&mut self.uses, branch.uses.as_slice())
     }
 }

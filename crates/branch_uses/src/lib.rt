@@ -8,7 +8,6 @@ mod uses;
 mod variable;
 
 pub use channel::{ChannelUses, Side, SideUse};
-pub use found::Clash;
 pub use port::channel_uses;
-pub use uses::NameUse;
+pub use uses::{Clash, NameUse};
 pub use variable::clash_at;

@@ -3,7 +3,8 @@ ghost use Rattle.std.specs.Prelude.{◌≡◌, map, slice_get, IfOk};
 ghost use Rattle.std.specs.Option.{option_map};
 ghost use Rattle.branch_uses.specs.Clashes as model;
 
-use crate::found::{Clash, Found};
+use crate::found::Found;
+use crate::uses::Clash;
 use std::alloc::{AllocError, Global};
 use syntax::{Action, Arm, CaseArm, Command, Expression, Guarded, Shape};
 

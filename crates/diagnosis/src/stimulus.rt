@@ -1,5 +1,5 @@
 // Refusal 51: a line of the stimulus.
-use findings::{Finding, Nearest, text_between};
+use findings::{Finding, Nearest, short, text_between};
 use lexer::lex;
 use name_faults::kind_text;
 use parser::parse;
@@ -166,6 +166,8 @@ fn find_numbers(
             ]);
         }
         if !fits_width(value, width) {
+            let value = short(value);
+            let name = short(name);
             write!(
                 finding.what,
                 "{value} does not fit in the {width} bits of `{name}`"

@@ -5,4 +5,4 @@ mod nearness;
 mod telling;
 
 pub use nearness::Nearest;
-pub use telling::{Beside, Finding, Input, text_between, text_of};
+pub use telling::{Beside, Finding, Input, short, text_between, text_of};

@@ -44,6 +44,22 @@ pub fn text_of(source: &[u8], span: Span) -> &str {
     text_between(source, span.start, span.stop)
 }
 
+/// So many bytes of a name or an expression are told at most.
+const LONGEST: usize = 60;
+
+/// The text of a name or an expression as it is told: `..` where it is long or goes over lines.
+pub fn short(text: &str) -> &str {
+    if text.len() > LONGEST || text.as_bytes().contains(&b'\n') {
+        return "..";
+    }
+    text
+}
+
+/// A part of what is told: `..` where it is a name that is very long.
+fn part_told(part: &str) -> &str {
+    if part.len() > 400 { ".." } else { part }
+}
+
 impl Finding {
     /// Nothing is said yet of the bytes from `start` up to `stop`.
     pub fn new(alloc: Global, start: u64, stop: u64) -> Finding {
@@ -71,7 +87,7 @@ impl Finding {
     /// Says what is wrong.
     pub fn say(&mut self, parts: &[&str]) -> Result<(), AllocError> {
         for part in parts {
-            self.what.push_str(part)?;
+            self.what.push_str(part_told(part))?;
         }
         Ok(())
     }
@@ -79,7 +95,7 @@ impl Finding {
     /// Says what helps.
     pub fn advise(&mut self, parts: &[&str]) -> Result<(), AllocError> {
         for part in parts {
-            self.help.push_str(part)?;
+            self.help.push_str(part_told(part))?;
         }
         Ok(())
     }

@@ -1,7 +1,7 @@
 // Refusal 13: arguments and ports.
 use crate::kinds::kind_text;
 use crate::names::{Around, site_text};
-use findings::{Finding, text_between, text_of};
+use findings::{Finding, short, text_between, text_of};
 use std::alloc::AllocError;
 use written_names::{Declared, Kind, Role, Site, find as declaration_of, ports};
 
@@ -68,7 +68,7 @@ fn arguments_at(around: Around<'_>, finding: &Finding) -> Result<Vec<Site>, Allo
 
 /// Another number of arguments than of ports.
 fn find_number(misfit: Misfit<'_>, finding: &mut Finding) -> Result<(), AllocError> {
-    let name = misfit.name;
+    let name = short(misfit.name);
     let wanted = misfit.ports.len();
     let given = misfit.arguments.len();
     let ports = if wanted == 1 { "port" } else { "ports" };

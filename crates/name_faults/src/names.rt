@@ -4,7 +4,7 @@ ghost use Rattle.written_names.specs.Texts.{text_of};
 
 use crate::kinds::{fits, help_text, kind_text, wanted_text};
 use crate::{calls, repeated, widths};
-use findings::{Finding, Nearest, text_between};
+use findings::{Finding, Nearest, short, text_between};
 use lexer::{Token, lex};
 use parser::parse;
 use std::alloc::AllocError;
@@ -138,6 +138,7 @@ fn advise_unknown(
         number = number.saturating_add(1);
         if *procedure.name.name.text() == *name.as_bytes() && number >= around.owner {
             let line = procedure.name.span.line;
+            let name = short(name);
             if number == around.owner {
                 return finding.advise(&[
                     "a procedure is visible behind its own `end` alone: none calls itself",

@@ -4,7 +4,7 @@ ghost use Rattle.written_names.specs.Texts.{text_of};
 
 use crate::kinds::kind_text;
 use crate::names::{Around, site_text};
-use findings::{Finding, text_between};
+use findings::{Finding, short, text_between};
 use std::alloc::AllocError;
 use written_names::{Declared, Kind, Role, Site, find as declaration_of, text_at, width_of_number};
 
@@ -137,6 +137,7 @@ fn find_label(
     let subject = subject_of(around, label);
     let room = subject.and_then(|site| site.width).unwrap_or(u64::MAX);
     if width > room {
+        let text = short(text);
         write!(
             finding.what,
             "label `{text}` is {width} bits wide, and the expression of the `case` {room}"
@@ -149,6 +150,7 @@ fn find_label(
         ]);
     }
     let value = label_value(around, label).unwrap_or(0);
+    let text = short(text);
     write!(
         finding.what,
         "label `{text}` stands for {value}, as an earlier label of this `case` does"

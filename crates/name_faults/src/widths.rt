@@ -1,6 +1,6 @@
 // Refusals 10 and 11: widths.
 use crate::names::{Around, site_text};
-use findings::{Finding, text_of};
+use findings::{Finding, short, text_of};
 use lexer::{Kind as TokenKind, Token};
 use std::alloc::AllocError;
 use written_names::{Declared, Role, Site, find as declaration_of};
@@ -109,7 +109,7 @@ fn find_value(
     finding.stop = value.span.stop;
     let wide = value.width.unwrap_or(0);
     let room = width_at(around, target);
-    let name = text_of(around.source, target.span);
+    let name = short(text_of(around.source, target.span));
     let text = short(text_of(around.source, value.span));
     write!(
         finding.what,
@@ -121,14 +121,6 @@ fn find_value(
         finding.help,
         "cut it by `({inner} as {room} bits)`, or make `{name}` wider"
     )
-}
-
-/// The text, or what is told in its place where it is long or goes over lines.
-fn short(text: &str) -> &str {
-    if text.len() > 40 || text.as_bytes().contains(&b'\n') {
-        return "..";
-    }
-    text
 }
 
 /// What stands in the parentheses around a text, where these are one pair and there is no cast in them.
@@ -168,8 +160,8 @@ fn find_received(
     into: Site,
     finding: &mut Finding,
 ) -> Result<(), AllocError> {
-    let channel = text_of(around.source, from.span);
-    let variable = text_of(around.source, into.span);
+    let channel = short(text_of(around.source, from.span));
+    let variable = short(text_of(around.source, into.span));
     let wide = width_at(around, from);
     let room = width_at(around, into);
     write!(

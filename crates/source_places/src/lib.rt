@@ -10,7 +10,7 @@ ghost use Rattle.source_places.specs.Places.{BeginsLine, characters, ends_before
 use bstr::ByteSlice;
 
 /// Where a byte stands.
-#[derive(Clone, Copy, Debug, PartialEq, Eq)]
+#[derive(Clone, Copy)]
 pub struct Place {
     /// From 1.
     pub line: usize,

@@ -8,7 +8,7 @@ use syntax::{
 };
 
 /// What a declared name is.
-#[derive(Clone, Copy, Debug, PartialEq, Eq)]
+#[derive(Clone, Copy, PartialEq, Eq)]
 pub enum Kind {
     Type,
     Element,
@@ -23,7 +23,7 @@ pub enum Kind {
 }
 
 /// A declared name.
-#[derive(Clone, Copy, Debug, PartialEq, Eq)]
+#[derive(Clone, Copy)]
 pub struct Declared {
     /// Where the name stands in its declaration.
     pub span: Span,

@@ -1,7 +1,7 @@
 use syntax::Span;
 
 /// What a name or an expression stands for at its place in a command.
-#[derive(Clone, Copy, Debug, PartialEq, Eq)]
+#[derive(Clone, Copy, PartialEq, Eq)]
 pub enum Role {
     /// `x` of `x := e`
     Assigned,
@@ -38,7 +38,7 @@ pub enum Role {
 }
 
 /// A place in a command at which something stands.
-#[derive(Clone, Copy, Debug, PartialEq, Eq)]
+#[derive(Clone, Copy)]
 pub struct Site {
     pub role: Role,
     pub span: Span,
