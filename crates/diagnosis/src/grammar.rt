@@ -1,13 +1,15 @@
 // Refusals 5 and 6: what cannot stand, and what could; levels.
 use findings::{Finding, Nearest, text_between};
-use lexer::{Kind, Token, lex};
+use lexer::{Fault, Kind, Token, lex};
 use std::alloc::AllocError;
 use viable_tokens::{spelled, viable_kinds};
 
 /// What was found about a fault of the parser at the finding's place.
 pub fn find(source: &[u8], number: u32, finding: &mut Finding) -> Result<(), AllocError> {
-    let Ok(mut tokens) = lex(finding.alloc, source) else {
-        return finding.say(&["no description goes on with this word"]);
+    let mut tokens = match lex(finding.alloc, source) {
+        Ok(tokens) => tokens,
+        Err(Fault::Memory) => return Err(AllocError),
+        Err(_) => return finding.say(&["no description goes on with this word"]),
     };
     let place = place_at(tokens.as_slice(), finding.start);
     let mut found = Kind::EndOfSource;

@@ -4,6 +4,7 @@
 //! and columns are those of `source_places`.
 #![tactic(auto)]
 
+mod described;
 mod grammar;
 mod lines;
 mod sharing;
@@ -44,8 +45,7 @@ fn explain_source(
     match number {
         2..=4 => words::find(source.bytes, number, &mut finding)?,
         5 | 6 => grammar::find(source.bytes, number, &mut finding)?,
-        15 | 16 => sharing::find(source.bytes, number, &mut finding)?,
-        _ => name_faults::find(source.bytes, number, &mut finding)?,
+        _ => described::find(source.bytes, number, &mut finding)?,
     }
     finding.text(source, false)
 }

@@ -1,5 +1,5 @@
 // Refusals of lines: 31 to 34, 51 and 61.
-use crate::stimulus;
+use crate::described;
 use crate::told::{Inputs, explain_plain};
 use findings::{Finding, Input, Nearest};
 use source_places::{end_of_line, start_of_line};
@@ -34,7 +34,7 @@ pub fn explain(
     }
     let mut finding = Finding::new(alloc, start as u64, stop as u64);
     match number {
-        51 => stimulus::find(input.bytes, text, inputs.source.bytes, &mut finding)?,
+        51 => described::find_stimulus(input.bytes, text, inputs.source.bytes, &mut finding)?,
         61 => find_command(text, &mut finding)?,
         _ => find_trace(number, text, stop == input.bytes.len(), &mut finding)?,
     }

@@ -1,26 +1,24 @@
 // Refusals 15 and 16: what branches share.
 use branch_uses::{ChannelUses, Side, SideUse, channel_uses, clash_at};
 use findings::{Finding, text_between};
-use lexer::{Token, lex};
-use parser::parse;
+use lexer::Token;
 use std::alloc::AllocError;
 use syntax::{Description, Span};
 use written_names::{Declared, Kind, find as declaration_of, procedure_at, types, visible};
 
-/// What was found about a fault of the rule on sharing at the finding's place.
-pub fn find(source: &[u8], number: u32, finding: &mut Finding) -> Result<(), AllocError> {
-    let alloc = finding.alloc;
-    let Ok(tokens) = lex(alloc, source) else {
-        return finding.say(&["branches that run side by side share this"]);
-    };
-    finding.stop = token_at(tokens.as_slice(), finding.start).stop;
-    let Ok(description) = parse(alloc, tokens.as_slice()) else {
-        return finding.say(&["branches that run side by side share this"]);
-    };
+/// What was found about a fault of the rule on sharing at the finding's place, in the description that the tokens are.
+pub fn find(
+    source: &[u8],
+    tokens: &[Token],
+    description: &Description,
+    number: u32,
+    finding: &mut Finding,
+) -> Result<(), AllocError> {
+    finding.stop = token_at(tokens, finding.start).stop;
     if number == 15 {
-        return find_variable(source, tokens.as_slice(), &description, finding);
+        return find_variable(source, tokens, description, finding);
     }
-    find_channel(source, &description, finding)
+    find_channel(source, description, finding)
 }
 
 /// The span of the token that begins at the offset, or an empty one there.

@@ -1,17 +1,17 @@
 // Refusal 51: a line of the stimulus.
 use findings::{Finding, Nearest, short, text_between};
-use lexer::lex;
 use name_faults::kind_text;
-use parser::parse;
 use std::alloc::AllocError;
 use std::str;
+use syntax::{Description, Span};
 use written_names::{Declared, Kind, find as declaration_of, ports, types};
 
-/// What is wrong with a line of the stimulus, by the ports of the last procedure.
+/// What is wrong with a line of the stimulus, by the ports of the last procedure of the description.
 pub fn find(
     stimulus: &[u8],
     text: &[u8],
     source: &[u8],
+    description: &Description,
     finding: &mut Finding,
 ) -> Result<(), AllocError> {
     let alloc = finding.alloc;
@@ -20,16 +20,10 @@ pub fn find(
         finding.say(&["this line is none of a stimulus"])?;
         return finding.advise(&[FORM]);
     };
-    let Ok(tokens) = lex(alloc, source) else {
-        return finding.say(&["this line fits no port"]);
-    };
-    let Ok(description) = parse(alloc, tokens.as_slice()) else {
-        return finding.say(&["this line fits no port"]);
-    };
     let Some(root) = description.procedures.as_slice().last() else {
         return finding.say(&["this line fits no port"]);
     };
-    let types = types(alloc, &description)?;
+    let types = types(alloc, description)?;
     let ports = ports(alloc, source, types.as_slice(), root)?;
     let Some(port) = declaration_of(source, ports.as_slice(), name.as_bytes()) else {
         let root_name = text_between(source, root.name.span.start, root.name.span.stop);
@@ -43,19 +37,21 @@ pub fn find(
         return advise_port(source, ports.as_slice(), name, finding);
     };
     if let Some(start) = earlier_line(stimulus, finding.start, name) {
-        finding.say(&["`", name, "` has a line already"])?;
-        let stop = start.saturating_add(name.len() as u64);
-        finding.add_beside(
-            syntax::Span {
-                start,
-                stop,
-                line: 0,
-            },
-            "the first",
-        )?;
-        return finding.advise(&["write all values of a port on one line: `i = 5 7`"]);
+        return find_again(name, start, finding);
     }
     find_values(name, rest, port, finding)
+}
+
+/// A second line for a port.
+fn find_again(name: &str, start: u64, finding: &mut Finding) -> Result<(), AllocError> {
+    finding.say(&["`", name, "` has a line already"])?;
+    let first = Span {
+        start,
+        stop: start.saturating_add(name.len() as u64),
+        line: 0,
+    };
+    finding.add_beside(first, "the first")?;
+    finding.advise(&["write all values of a port on one line: `i = 5 7`"])
 }
 
 /// How a line of a stimulus looks.

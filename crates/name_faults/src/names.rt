@@ -5,8 +5,7 @@ ghost use Rattle.written_names.specs.Texts.{text_of};
 use crate::kinds::{fits, help_text, kind_text, wanted_text};
 use crate::{calls, repeated, widths};
 use findings::{Finding, Nearest, short, text_between};
-use lexer::{Token, lex};
-use parser::parse;
+use lexer::Token;
 use std::alloc::AllocError;
 use syntax::Description;
 use written_names::{
@@ -30,37 +29,47 @@ pub struct Around<'a> {
     pub offset: u64,
 }
 
-/// What was found about a fault of typing at the finding's place.
-pub fn find(source: &[u8], number: u32, finding: &mut Finding) -> Result<(), AllocError> {
+/// What was found about a fault of typing at the finding's place, in the description that the tokens of the source are.
+pub fn find(
+    source: &[u8],
+    tokens: &[Token],
+    description: &Description,
+    number: u32,
+    finding: &mut Finding,
+) -> Result<(), AllocError> {
     let alloc = finding.alloc;
-    let Ok(tokens) = lex(alloc, source) else {
-        return finding.say(&["a name, kind or width does not fit here"]);
-    };
-    finding.stop = token_stop(tokens.as_slice(), finding.start);
-    let Ok(description) = parse(alloc, tokens.as_slice()) else {
-        return finding.say(&["a name, kind or width does not fit here"]);
-    };
-    let types = types(alloc, &description)?;
-    let owner = procedure_at(&description, finding.start);
-    let visible = visible(alloc, source, types.as_slice(), &description, owner)?;
+    finding.stop = token_stop(tokens, finding.start);
+    let types = types(alloc, description)?;
+    let owner = procedure_at(description, finding.start);
+    let visible = visible(alloc, source, types.as_slice(), description, owner)?;
     let mut sites_found = Vec::new(alloc);
     if let Some(procedure) = description.procedures.get(owner.wrapping_sub(1)) {
         sites_found = sites(alloc, source, visible.as_slice(), procedure, finding.start)?;
     }
     let around = Around {
         source,
-        description: &description,
+        description,
         types: types.as_slice(),
         visible: visible.as_slice(),
         sites: sites_found.as_slice(),
         owner,
         offset: finding.start,
     };
+    find_by_number(around, tokens, number, finding)
+}
+
+/// What was found about a fault with this number.
+fn find_by_number(
+    around: Around<'_>,
+    tokens: &[Token],
+    number: u32,
+    finding: &mut Finding,
+) -> Result<(), AllocError> {
     match number {
         7 => find_unknown(around, finding),
         8 => repeated::find_name(around, finding),
         9 => find_kind(around, finding),
-        10 => widths::find(around, tokens.as_slice(), finding),
+        10 => widths::find(around, tokens, finding),
         11 => widths::find_guard(around, finding),
         12 => repeated::find_arm(around, finding),
         13 => calls::find(around, finding),

@@ -1,6 +1,6 @@
 use crate::KINDS;
 use lexer::{Kind, Token};
-use parser::{Fault, parse};
+use parser::{Fault, refusal_within};
 use std::alloc::{AllocError, Global};
 use syntax::{Name, Span};
 
@@ -28,10 +28,10 @@ fn first_that_counts(tokens: &[Token], place: usize) -> usize {
 
 /// Whether the parser takes the last token but one of `tokens`, which begins at `offset`.
 fn is_taken(alloc: Global, tokens: &[Token], offset: u64) -> Result<bool, AllocError> {
-    match parse(alloc, tokens) {
-        Ok(_) => Ok(true),
-        Err(Fault::Memory) => Err(AllocError),
-        Err(Fault::Unexpected(at) | Fault::TooDeep(at)) => Ok(at != offset),
+    match refusal_within(alloc, tokens) {
+        None => Ok(true),
+        Some(Fault::Memory) => Err(AllocError),
+        Some(Fault::Unexpected(at) | Fault::TooDeep(at)) => Ok(at != offset),
     }
 }
 
