@@ -124,7 +124,8 @@ fn find_channel(
     let is_sync = matches!(kind, Some(Kind::Sync | Kind::SyncPort));
     let uses = channel_uses(alloc, description, owner, name.as_bytes(), is_sync)?;
     let side = crowded(&uses, kind);
-    finding.say(&["`", name, "` has ", crowd_text(side), " at one time"])?;
+    finding.say(&["`", name, "` has "])?;
+    finding.say(&[crowd_text(side), " at one time"])?;
     if is_outside(kind, side) {
         finding.say(&[", of which one is the environment of the port"])?;
     }

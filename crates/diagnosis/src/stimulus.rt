@@ -138,13 +138,8 @@ fn find_numbers(
 ) -> Result<(), AllocError> {
     let width = port.width.unwrap_or(64);
     let Some(values) = rest.strip_prefix("= ") else {
-        finding.say(&[
-            "`",
-            name,
-            "` is ",
-            kind_text(port.kind),
-            ", and its line is another",
-        ])?;
+        finding.say(&["`", name, "` is "])?;
+        finding.say(&[kind_text(port.kind), ", and its line is another"])?;
         return finding.advise(&[
             "write its values behind `=`, with one blank before each: `",
             name,

@@ -172,16 +172,11 @@ fn say_pair(
     let source = misfit.around.source;
     let port_name = text_of(source, port.span);
     let argument_name = text_of(source, argument.span);
-    finding.say(&[
-        "port `",
-        port_name,
-        "` of `",
-        misfit.name,
-        "` is ",
-        kind_text(port.kind),
-    ])?;
+    finding.say(&["port `", port_name, "` of `", misfit.name, "` is "])?;
+    finding.say(&[kind_text(port.kind)])?;
     add_width(&mut finding.what, port.width)?;
-    finding.say(&[", and `", argument_name, "` is ", kind_text(given.kind)])?;
+    finding.say(&[", and `", argument_name, "` is "])?;
+    finding.say(&[kind_text(given.kind)])?;
     add_width(&mut finding.what, given.width)?;
     finding.add_beside(port.span, "the port")?;
     finding.add_beside(argument.span, "its argument")?;

@@ -9,8 +9,7 @@ use lexer::Token;
 use std::alloc::AllocError;
 use syntax::Description;
 use written_names::{
-    Declared, Kind, Role, Site, find as declaration_of, procedure_at, sites, text_at, types,
-    visible,
+    Declared, Role, Site, find as declaration_of, procedure_at, sites, text_at, types, visible,
 };
 
 /// What is known around a fault.
@@ -181,24 +180,13 @@ fn advise_unknown(
 fn find_kind(around: Around<'_>, finding: &mut Finding) -> Result<(), AllocError> {
     let name = name_at(around.source, finding);
     let role = role_at(around.sites, around.offset);
+    finding.say(&["`", name, "` is "])?;
     let Some(found) = declaration_of(around.source, around.visible, name.as_bytes()) else {
-        return finding.say(&["`", name, "` is of another kind: ", wanted_text(role)]);
+        return finding.say(&["of another kind: ", wanted_text(role)]);
     };
-    finding.say(&[
-        "`",
-        name,
-        "` is ",
-        kind_text(found.kind),
-        ", and ",
-        wanted_text(role),
-    ])?;
+    finding.say(&[kind_text(found.kind), ", and ", wanted_text(role)])?;
     finding.add_beside(found.span, "declared here")?;
     finding.advise(&[help_text(role, found.kind)])
-}
-
-/// The kind of a name that is visible.
-pub fn kind_of(around: Around<'_>, name: &[u8]) -> Option<Kind> {
-    Some(declaration_of(around.source, around.visible, name)?.kind)
 }
 
 /// The bytes of a site's name.

@@ -14,7 +14,8 @@ pub fn find_name(around: Around<'_>, finding: &mut Finding) -> Result<(), AllocE
     let Some(first) = first_declared(around, name.as_bytes(), finding.start) else {
         return finding.say(&["`", name, "` is declared already"]);
     };
-    finding.say(&["`", name, "` is ", kind_text(first.kind), " already"])?;
+    finding.say(&["`", name, "` is "])?;
+    finding.say(&[kind_text(first.kind), " already"])?;
     finding.add_beside(first.span, "declared here")?;
     finding.advise(&[
         "take another name for one of the two: a name that is visible is not declared again",
