@@ -164,7 +164,7 @@ fn find_label(
 
 /// The innermost arm that is open on the name around the offset: the last that begins, since arms stand in one another.
 fn enclosing(around: Around<'_>, name: &[u8]) -> Option<Site>
-    ensures { IfSome result (λ one. (one.body.0 ≤ around.offset) × (around.offset < one.body.1)
+    ensures { IfSome result (λ one. (one.body.0 ≤ around.entry.offset) × (around.entry.offset < one.body.1)
         × (text_of around.entry.source.now one.span ≡ name.now)) }
 {
     for site in around.sites.iter().rev() {
