@@ -9,6 +9,8 @@ mod by_parts;
 #[cfg(test)]
 mod crowd;
 #[cfg(test)]
+mod diagnosed;
+#[cfg(test)]
 mod examples;
 #[cfg(test)]
 mod expressions;

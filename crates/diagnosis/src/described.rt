@@ -1,0 +1,44 @@
+// Faults for which the description is looked at: the source is read once more.
+use crate::{sharing, stimulus};
+use findings::Finding;
+use lexer::lex;
+use parser::parse;
+use std::alloc::AllocError;
+
+/// What was found about a fault of names, kinds, widths or sharing at the finding's place.
+pub fn find(source: &[u8], number: u32, finding: &mut Finding) -> Result<(), AllocError> {
+    let tokens = match lex(finding.alloc, source) {
+        Ok(tokens) => tokens,
+        Err(lexer::Fault::Memory) => return Err(AllocError),
+        Err(_) => return finding.say(&["a name does not fit here"]),
+    };
+    let description = match parse(finding.alloc, tokens.as_slice()) {
+        Ok(description) => description,
+        Err(parser::Fault::Memory) => return Err(AllocError),
+        Err(_) => return finding.say(&["a name does not fit here"]),
+    };
+    if number == 15 || number == 16 {
+        return sharing::find(source, tokens.as_slice(), &description, number, finding);
+    }
+    name_faults::find(source, tokens.as_slice(), &description, number, finding)
+}
+
+/// What is wrong with a line of the stimulus.
+pub fn find_stimulus(
+    stimulus: &[u8],
+    text: &[u8],
+    source: &[u8],
+    finding: &mut Finding,
+) -> Result<(), AllocError> {
+    let tokens = match lex(finding.alloc, source) {
+        Ok(tokens) => tokens,
+        Err(lexer::Fault::Memory) => return Err(AllocError),
+        Err(_) => return finding.say(&["this line fits no port"]),
+    };
+    let description = match parse(finding.alloc, tokens.as_slice()) {
+        Ok(description) => description,
+        Err(parser::Fault::Memory) => return Err(AllocError),
+        Err(_) => return finding.say(&["this line fits no port"]),
+    };
+    stimulus::find(stimulus, text, source, &description, finding)
+}

@@ -1,0 +1,51 @@
+//! What people are told of a fault: where it is, the line with a mark under it, what is wrong and what helps.
+//!
+//! A fault is a number and what stands behind it, as the fault line has them. The texts are tested and not proved; the lines
+//! and columns are those of `source_places`.
+#![tactic(auto)]
+
+mod described;
+mod grammar;
+mod lines;
+mod sharing;
+mod stimulus;
+mod told;
+mod words;
+
+use findings::Finding;
+pub use findings::Input;
+use std::alloc::{AllocError, Global};
+pub use told::Inputs;
+
+/// What is told of a fault behind its line: nothing, or lines that each have their end. `number` and `field` are those of
+/// the fault. Where the text in which it is is not at hand, the page of the refusal alone is named.
+pub fn explain(
+    alloc: Global,
+    number: u32,
+    field: Option<u64>,
+    inputs: &Inputs<'_>,
+) -> Result<String, AllocError> {
+    match (number, field) {
+        (2..=13 | 15..=17, Some(offset)) => explain_source(alloc, number, offset, inputs),
+        (31..=34 | 51 | 61, line) => lines::explain(alloc, number, line, inputs),
+        _ => told::explain_plain(alloc, number, inputs),
+    }
+}
+
+/// What is told of a fault in the source.
+fn explain_source(
+    alloc: Global,
+    number: u32,
+    offset: u64,
+    inputs: &Inputs<'_>,
+) -> Result<String, AllocError> {
+    let source = inputs.source;
+    let offset = offset.min(source.bytes.len() as u64);
+    let mut finding = Finding::new(alloc, offset, offset);
+    match number {
+        2..=4 => words::find(source.bytes, number, &mut finding)?,
+        5 | 6 => grammar::find(source.bytes, number, &mut finding)?,
+        _ => described::find(source.bytes, number, &mut finding)?,
+    }
+    finding.text(source, false)
+}

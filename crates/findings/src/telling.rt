@@ -1,0 +1,148 @@
+// What was found about a fault, and its text.
+use marked_lines::{Mark, add_marked};
+use source_places::place_of;
+use std::alloc::{AllocError, Global};
+use std::str;
+use syntax::Span;
+
+/// A text that was read, and how people call it: the name of its file, or what it is.
+#[derive(Clone, Copy)]
+pub struct Input<'a> {
+    pub name: &'a str,
+    pub bytes: &'a [u8],
+}
+
+/// Another place that has to do with the fault.
+#[derive(Drop)]
+pub struct Beside {
+    pub start: u64,
+    pub stop: u64,
+    pub note: String,
+}
+
+/// What was found about a fault at a place.
+#[derive(Drop)]
+pub struct Finding {
+    pub alloc: Global,
+    pub start: u64,
+    pub stop: u64,
+    /// What is wrong.
+    pub what: String,
+    /// What helps; nothing where it is empty.
+    pub help: String,
+    pub beside: Vec<Beside>,
+}
+
+/// The bytes from one offset up to another, as text.
+pub fn text_between(source: &[u8], start: u64, stop: u64) -> &str {
+    let bytes = source.get(start as usize..stop as usize).unwrap_or(b"");
+    str::from_utf8(bytes).unwrap_or("?")
+}
+
+/// The bytes of a span, as text.
+pub fn text_of(source: &[u8], span: Span) -> &str {
+    text_between(source, span.start, span.stop)
+}
+
+/// So many bytes of a name or an expression are told at most.
+const LONGEST: usize = 60;
+
+/// The text of a name or an expression as it is told: `..` where it is long or goes over lines.
+pub fn short(text: &str) -> &str {
+    if text.len() > LONGEST || text.as_bytes().contains(&b'\n') {
+        return "..";
+    }
+    text
+}
+
+/// A part of what is told: `..` where it is a name that is very long.
+fn part_told(part: &str) -> &str {
+    if part.len() > 400 { ".." } else { part }
+}
+
+impl Finding {
+    /// Nothing is said yet of the bytes from `start` up to `stop`.
+    pub fn new(alloc: Global, start: u64, stop: u64) -> Finding {
+        Finding {
+            alloc,
+            start,
+            stop,
+            what: String::new(alloc),
+            help: String::new(alloc),
+            beside: Vec::new(alloc),
+        }
+    }
+
+    /// Adds another place.
+    pub fn add_beside(&mut self, span: Span, note: &str) -> Result<(), AllocError> {
+        let note = String::from_str(self.alloc, note)?;
+        self.beside.push(Beside {
+            start: span.start,
+            stop: span.stop,
+            note,
+        })?;
+        Ok(())
+    }
+
+    /// Says what is wrong.
+    pub fn say(&mut self, parts: &[&str]) -> Result<(), AllocError> {
+        for part in parts {
+            self.what.push_str(part_told(part))?;
+        }
+        Ok(())
+    }
+
+    /// Says what helps.
+    pub fn advise(&mut self, parts: &[&str]) -> Result<(), AllocError> {
+        for part in parts {
+            self.help.push_str(part_told(part))?;
+        }
+        Ok(())
+    }
+
+    /// All its marks, in the order of their places.
+    fn marks(&self) -> Result<Vec<Mark<'_>>, AllocError> {
+        let mut marks = Vec::new(self.alloc);
+        marks.push(Mark {
+            start: self.start as usize,
+            stop: self.stop as usize,
+            sign: '^',
+            note: "",
+        })?;
+        for one in &self.beside {
+            marks.push(Mark {
+                start: one.start as usize,
+                stop: one.stop as usize,
+                sign: '-',
+                note: one.note.as_str(),
+            })?;
+        }
+        marks.sort_by_key(|mark| mark.start)?;
+        Ok(marks)
+    }
+
+    /// The text: the place and what is wrong, the lines with their marks, and what helps.
+    pub fn text(&self, input: Input<'_>, keeps_return: bool) -> Result<String, AllocError> {
+        let place = place_of(input.bytes, self.start as usize);
+        let mut text = String::from_str(self.alloc, input.name)?;
+        let line = place.line;
+        let column = place.column;
+        write!(text, ":{line}:{column}: ")?;
+        text.push_str(self.what.as_str())?;
+        text.push_str("\n")?;
+        let marks = self.marks()?;
+        add_marked(
+            self.alloc,
+            &mut text,
+            input.bytes,
+            marks.as_slice(),
+            keeps_return,
+        )?;
+        if !self.help.is_empty() {
+            text.push_str("  help: ")?;
+            text.push_str(self.help.as_str())?;
+            text.push_str("\n")?;
+        }
+        Ok(text)
+    }
+}

@@ -1,0 +1,124 @@
+// The part of a line that is shown.
+use crate::shown::{add_times, columns, shown};
+use bstr::ByteSlice;
+use source_places::{end_of_line, place_of};
+use std::alloc::AllocError;
+
+/// A line of more bytes is shown in part.
+const LONGEST: usize = 160;
+
+/// So many bytes of a long line are shown before a mark.
+const BEFORE: usize = 60;
+
+/// The part of a line, from one byte up to another.
+#[derive(Clone, Copy)]
+pub struct Part {
+    /// The number of its line, from 1.
+    pub line: usize,
+    pub from: usize,
+    pub to: usize,
+    /// Whether the line begins before it.
+    is_cut_before: bool,
+    /// Whether the line goes on behind it.
+    is_cut_behind: bool,
+}
+
+/// The first byte from `offset` on that does not go on with a character.
+fn character_from(text: &[u8], offset: usize) -> usize {
+    for index in offset..text.len() {
+        if !matches!(text[index], 0x80..=0xBF) {
+            return index;
+        }
+    }
+    text.len()
+}
+
+/// Where what is shown of a line ends: without a byte 13 that ends it.
+fn shown_end(text: &[u8], start: usize, keeps_return: bool) -> usize {
+    let end = end_of_line(text, start);
+    if keeps_return || end <= start || text.get(end - 1) != Some(&b'\r') {
+        return end;
+    }
+    end - 1
+}
+
+/// The part of a line around the byte at `offset`.
+pub fn part_around(text: &[u8], offset: usize, keeps_return: bool) -> Part {
+    let place = place_of(text, offset);
+    let start = place.start;
+    let end = shown_end(text, start, keeps_return);
+    let mut from = start;
+    if end.saturating_sub(start) > LONGEST && offset.saturating_sub(start) > BEFORE {
+        from = character_from(text, offset.saturating_sub(BEFORE)).min(end);
+    }
+    let mut to = end;
+    if end.saturating_sub(from) > LONGEST {
+        to = character_from(text, from.saturating_add(LONGEST)).min(end);
+    }
+    Part {
+        line: place.line,
+        from,
+        to,
+        is_cut_before: from > start,
+        is_cut_behind: to < end,
+    }
+}
+
+/// The bytes from one offset up to another, as far as the text has them.
+pub fn bytes_between(text: &[u8], from: usize, to: usize) -> &[u8] {
+    text.get(from..to).unwrap_or(b"")
+}
+
+impl Part {
+    /// Whether the byte stands in it, or behind its last one.
+    pub fn has(self, offset: usize) -> bool {
+        self.from <= offset && offset <= self.to
+    }
+
+    /// Adds it as it is shown.
+    pub fn add(self, out: &mut String, text: &[u8]) -> Result<(), AllocError> {
+        if self.is_cut_before {
+            out.push_str("...")?;
+        }
+        for character in bytes_between(text, self.from, self.to).chars() {
+            out.push(shown(character))?;
+        }
+        if self.is_cut_behind {
+            out.push_str("...")?;
+        }
+        Ok(())
+    }
+
+    /// Adds the blanks that stand under the sign for what was cut off before it.
+    pub fn add_cut(self, out: &mut String) -> Result<(), AllocError> {
+        if self.is_cut_before {
+            out.push_str("   ")?;
+        }
+        Ok(())
+    }
+}
+
+/// Adds blanks for characters, and a tab for each tab.
+pub fn add_blanks(out: &mut String, bytes: &[u8]) -> Result<(), AllocError> {
+    for character in bytes.chars() {
+        if character == '\t' {
+            out.push('\t')?;
+        }
+        add_times(out, ' ', columns(character))?;
+    }
+    Ok(())
+}
+
+/// Adds a sign under each column of some characters, at least one.
+pub fn add_signs(out: &mut String, bytes: &[u8], sign: char) -> Result<(), AllocError> {
+    let mut is_any = false;
+    for character in bytes.chars() {
+        let width = columns(character);
+        add_times(out, sign, width)?;
+        is_any = is_any || width > 0;
+    }
+    if !is_any {
+        out.push(sign)?;
+    }
+    Ok(())
+}

@@ -1,0 +1,135 @@
+// Pages of what a line of a script is answered with, where it cannot be done.
+
+use crate::Page;
+
+pub static NOT_READY: Page = Page {
+    number: 21,
+    field: "",
+    name: "not ready",
+    line: "nothing waits at this place with this arm",
+    meaning: "Nothing waits at this place with this arm.",
+    source: "",
+    told: "\
+> step /2.0
+refused 21",
+    causes: "\
+the partner of a meeting is not there yet; the place of the other partner was
+given (a meeting is stepped at its receiver, and two syncs at the lesser
+place); the arm of an `open` was left out, and arm 0 does not wait; the step
+is made already.",
+};
+
+pub static HISTORY_FULL: Page = Page {
+    number: 22,
+    field: "",
+    name: "full",
+    line: "65536 steps are live",
+    meaning: "65,536 steps are live. Undo or roll back to make room.",
+    source: "",
+    told: "",
+    causes: "",
+};
+
+pub static NO_SUCH_EVENT: Page = Page {
+    number: 23,
+    field: "",
+    name: "no such step",
+    line: "no live step has this ticket",
+    meaning: "\
+No live step has this ticket: it was taken back, or never given. Tickets are
+not used again.",
+    source: "",
+    told: "",
+    causes: "",
+};
+
+pub static NEEDED_BY: Page = Page {
+    number: 24,
+    field: "ticket",
+    name: "needed",
+    line: "the step with the ticket that is named depends on this one",
+    meaning: "\
+A live step depends on this one; the least of them is named. Take that one
+back first, or roll back, which takes all of them.",
+    source: "",
+    told: "\
+> step /0.0
+step 1 meet i 5 /1.0.0 /0.0
+> step /2.0
+step 2 meet o 5 /0.1.0 /2.0
+> undo 1
+refused 24 2",
+    causes: "taking back a cause before its consequences.",
+};
+
+pub static NEVER_WRITTEN: Page = Page {
+    number: 25,
+    field: "",
+    name: "never written",
+    line: "no live step has written this variable",
+    meaning: "\
+No live step wrote this variable, so there is nothing to blame or to roll
+back.",
+    source: "",
+    told: "",
+    causes: "",
+};
+
+pub static SPENT: Page = Page {
+    number: 26,
+    field: "",
+    name: "spent",
+    line: "no ticket is left",
+    meaning: "\
+2^63 tickets are given out, or 2^63 calls of a shared execution are recorded.
+A call of a shared execution that is refused so is not recorded. No run that
+anyone can wait for gets there.",
+    source: "",
+    told: "",
+    causes: "",
+};
+
+pub static BREAKS_FULL: Page = Page {
+    number: 27,
+    field: "",
+    name: "breakpoints are full",
+    line: "this session has 64 breakpoints",
+    meaning: "\
+The session has 64 breakpoints, and this line is none of these. Clear one, or
+set it in another session; `view` shows them with `*`.",
+    source: "",
+    told: "",
+    causes: "",
+};
+
+pub static NO_SUCH_LINE: Page = Page {
+    number: 28,
+    field: "",
+    name: "no such line",
+    line: "no command begins on this line",
+    meaning: "\
+No command begins on this line, so a breakpoint there would never stop
+anything. (The reverse does not hold: on a line with a send, `continue`,
+`halt` or the later of two syncs alone, or where a sequence or parallel begins
+with a call, `break` answers `ok` and stops nothing. A meeting is on the line
+of its receive or first sync, and what a call does is on the lines of its
+procedure.)",
+    source: "\
+procedure p is begin
+\x20 loop
+\x20   continue
+\x20 end
+end",
+    told: "\
+> break 1
+refused 28
+> break 2
+ok
+> branch 0
+stopped 2",
+    causes: "\
+a line with `end`, `else` or `[` alone, a blank line, a line that only goes on
+with a command or has a call and nothing else with which no sequence or
+parallel begins, a procedure that the last one does not reach, or a line past
+the last. Lines count from 1.",
+};

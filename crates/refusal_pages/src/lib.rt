@@ -1,0 +1,15 @@
+//! What each refusal means: its number, its name, a line, and a page with an example and the usual causes.
+//!
+//! `--help`, `balsadbg explain N` and docs/reference/refusals.md are made of these pages.
+#![tactic(auto)]
+
+mod answers;
+mod files;
+mod form;
+mod names;
+mod sharing;
+mod table;
+mod writing;
+
+pub use table::{NUMBERS, page_of};
+pub use writing::{Page, page_text, summary};

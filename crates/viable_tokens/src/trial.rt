@@ -1,0 +1,84 @@
+use crate::KINDS;
+use lexer::{Kind, Token};
+use parser::{Fault, refusal_within};
+use std::alloc::{AllocError, Global};
+use syntax::{Name, Span};
+
+/// The token of a kind at a place, for a trial.
+fn token(alloc: Global, kind: Kind, span: Span) -> Result<Token, AllocError> {
+    Ok(Token {
+        kind,
+        text: Name::new(alloc, b"")?,
+        number: 1,
+        span,
+    })
+}
+
+/// From which of the tokens before `place` on the parser's answer at `place` hangs: from the last procedure that begins
+/// before it, since procedures stand one behind the other; else from the first.
+fn first_that_counts(tokens: &[Token], place: usize) -> usize {
+    let mut first = 0;
+    for (index, token) in tokens.iter().enumerate() {
+        if index < place && token.kind == Kind::ProcedureWord {
+            first = index;
+        }
+    }
+    first
+}
+
+/// Whether the parser takes the last token but one of `tokens`, which begins at `offset`.
+fn is_taken(alloc: Global, tokens: &[Token], offset: u64) -> Result<bool, AllocError> {
+    match refusal_within(alloc, tokens) {
+        None => Ok(true),
+        Some(Fault::Memory) => Err(AllocError),
+        Some(Fault::Unexpected(at) | Fault::TooDeep(at)) => Ok(at != offset),
+    }
+}
+
+/// Whether a description can go on with a token of this kind behind `tokens`, of which those from `first` on count.
+fn is_viable(
+    alloc: Global,
+    tokens: &mut Vec<Token>,
+    first: usize,
+    kind: Kind,
+    span: Span,
+) -> Result<bool, AllocError> {
+    let behind = Span {
+        start: span.start.saturating_add(1),
+        stop: span.start.saturating_add(1),
+        line: span.line,
+    };
+    tokens.push(token(alloc, kind, span)?)?;
+    tokens.push(token(alloc, Kind::EndOfSource, behind)?)?;
+    let counted = tokens.as_slice().get(first..).unwrap_or(&[]);
+    let is_taken = is_taken(alloc, counted, span.start)?;
+    tokens.pop();
+    tokens.pop();
+    Ok(is_taken)
+}
+
+/// The kinds of tokens with which a description can go on behind the first `place` of `tokens`, in the order of `KINDS`.
+/// The tokens from there on are taken off.
+pub fn viable_kinds(
+    alloc: Global,
+    tokens: &mut Vec<Token>,
+    place: usize,
+) -> Result<Vec<Kind>, AllocError> {
+    let span = match tokens.as_slice().get(place) {
+        Some(token) => token.span,
+        None => Span {
+            start: u64::MAX,
+            stop: u64::MAX,
+            line: 1,
+        },
+    };
+    let first = first_that_counts(tokens.as_slice(), place);
+    tokens.truncate(place);
+    let mut viable = Vec::new(alloc);
+    for kind in &KINDS {
+        if is_viable(alloc, tokens, first, *kind, span)? {
+            viable.push(*kind)?;
+        }
+    }
+    Ok(viable)
+}
