@@ -1,0 +1,37 @@
+// The answer.
+ghost use Rattle.std.specs.Prelude.{IfOk};
+ghost use Rattle.runs.specs.Object.{Reaches};
+ghost use Rattle.runs.specs.Steps.{State};
+ghost use Rattle.machine.specs.AtMachine.{object};
+ghost use Rattle.waiting.specs.Progress.{StandsLike};
+ghost use Rattle.waiting.specs.Waits.{ListsWaiting};
+
+use crate::progress::{Progress, progress_of};
+use crate::replaying::replayed;
+use crate::sides::left_over;
+use machine::Machine;
+use offered_sides::{OfferedSide, sides_of};
+use std::alloc::{AllocError, Global};
+use syntax::Items;
+
+/// Who waits after a run.
+#[derive(Drop)]
+pub struct Waiting {
+    pub progress: Progress,
+    /// in order of place
+    pub sides: Items<OfferedSide>,
+}
+
+/// Exactly the sides that the state of the machine offers and whose place no allowed event has, in order of place, and how the
+/// run stands. It makes the live events again, and then takes one walk of the tree. It is an error if there is no memory.
+pub fn waiting(alloc: Global, machine: &Machine) -> Result<Waiting, AllocError>
+    ensures { IfOk result (λ told. (S : State) × Reaches (object machine.now) S × ListsWaiting S told.sides × StandsLike S told.progress) }
+{
+    machine.is_sound();
+    let state = replayed(alloc, machine)?;
+    let sides = sides_of(alloc, &state.tree, &state.store)?;
+    let events = machine.ready()?;
+    let progress = progress_of(sides.as_slice(), events.as_slice());
+    let sides = left_over(sides, events.as_slice());
+    Ok(Waiting { progress, sides })
+}
