@@ -38,7 +38,7 @@ in_last (Some f) ends = f ends
 -- those of arms, of which the first has the number k: the end at which it opens, and those of its body
 abbrev pub arms_in_turn : ℕ → ℕ → List OfArm → Onto
 arms_in_turn line k [] ends = ends
-arms_in_turn line k (a ∷ as) ends = arms_in_turn line (k + 1) as (a.body (with_end a.channel line (Opens k) ends))
+arms_in_turn line k (a ∷ rest) ends = arms_in_turn line (k + 1) rest (a.body (with_end a.channel line (Opens k) ends))
 
 -- one layer of a command, one line a form
 abbrev pub ends_layer : Action-F OnLine OfArm Onto Onto Onto → OnLine

@@ -33,10 +33,7 @@ pub struct BranchEntry {
 }
 
 /// All branches, in order of their numbers.
-pub(crate) fn branches_of(
-    alloc: Global,
-    system: &System,
-) -> Result<Items<BranchEntry>, AllocError>
+pub(crate) fn branches_of(alloc: Global, system: &System) -> Result<Items<BranchEntry>, AllocError>
     ensures all { IfOk result (λ branches. branches ≡ model.branches_of system.now) }
     ensures numbered { IfOk result (λ branches. length branches ≤ 4294967296) }
 {

@@ -86,9 +86,9 @@ told-order low next all (x ∷ k) [] r = tt
 told-order low next all (x ∷ k) (m ∷ marks) r =
     cond-order (m && is_told all x.1) x.0 (told_tickets all k marks)
     (every-of (λ u. x.0 < u) (told_tickets all k marks) (λ u i.
-        let at = in-told all k marks u i in
-        let above : suc x.0 ≤ u = (rising-in (suc x.0) next k u at.event r.1 (in-at k at.index (u, at.event) at.stands)).0 in
-        omega arith))
+    let at = in-told all k marks u i in
+    let above : suc x.0 ≤ u = (rising-in (suc x.0) next k u at.event r.1 (in-at k at.index (u, at.event) at.stands)).0 in
+    omega arith))
     (told-order (suc x.0) next all k marks r.1)
 
 -- the list of the marked entries is that of the past

@@ -73,11 +73,10 @@ module _ (low next : ℕ) (l : Live) (t index s : ℕ) (e : Event) (old new : Li
 
 -- once all is passed, the marks are those of all that t depends on
 pub all-passed : (low next : ℕ) (l : Live) (t : ℕ) (marks : List Bool) → Rising low l next → MarkedFrom l t 0 marks → MarksPast l t marks
-all-passed low next l t marks r b u =
-    (
-      (λ at. (at.1.0, in-at l at.0 (u, at.1.0) at.1.1, b.sound u at)),
-      (λ h. reached u t ((reached-through-followers low next l u t r).0 h.2) b.start),
-    )
+all-passed low next l t marks r b u = (
+  (λ at. (at.1.0, in-at l at.0 (u, at.1.0) at.1.1, b.sound u at)),
+  (λ h. reached u t ((reached-through-followers low next l u t r).0 h.2) b.start),
+)
   where
     reached : (u v : ℕ) → Reached l u v → MarkedAt l marks v → MarkedAt l marks u
     reached u v here at = at

@@ -2,9 +2,13 @@
 //! is stuck.
 #![tactic(auto)]
 
+mod behind;
 mod progress;
 mod replaying;
+mod ring;
 mod sides;
+mod sought;
+mod text;
 mod waiting;
 
 pub use progress::Progress;
