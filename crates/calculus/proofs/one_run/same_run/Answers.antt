@@ -5,7 +5,7 @@ use Rattle.calculus.proofs.one_run.same_run.Goals as goal
 
 pub are_alike-requires-clause-first : goal.are_alike-requires-clause-first
 are_alike-requires-clause-first c =
-    let first = c.in_ok-runs.ensures.0 c.if-not-branch.false in
+    let first = c.in_ok-does_run.ensures.0 c.if-not-branch.false in
     acts-once c.args.system.now c.args.a.now first.0 first.1
 
 pub are_alike-requires-clause-second : goal.are_alike-requires-clause-second
@@ -15,7 +15,7 @@ are_alike-requires-clause-second c =
 
 pub returns-then-branch-clause-one : goal.returns-then-branch-clause-one
 returns-then-branch-clause-one c =
-    one-state-of c.args.system.now c.args.a.now c.args.b.now (state_of c.in-Some.state) c.shares_well.ensures (c.in_ok-runs.ensures.0 c.if-not-branch.false)
+    one-state-of c.args.system.now c.args.a.now c.args.b.now (state_of c.in-Some.state) c.shares_well.ensures (c.in_ok-does_run.ensures.0 c.if-not-branch.false)
     (ran c.args.system.now c.args.b.now c.in_ok-state.field-0 c.in-Some.state c.in-Some.is c.in_ok-state.ensures.run)
     (c.in_ok-are_alike.ensures.0 c.if-branch.true)
 
