@@ -9,7 +9,7 @@ here=$(cd "$(dirname "$(readlink -f "${BASH_SOURCE[0]}")")" && pwd)
 root=$(cd "$here/../.." && pwd)
 . "$root/scripts/laid_out.sh"
 below="value address syntax lexer parser types system stimulus elaborate sharing_check runs calculus dependence event_places machine"
-below+=" locked_object branch_workers devices trace_file locked_execution source_view debug_session store process_tree event_inverse offered_sides channel_uses rendezvous"
+below+=" outline past waiting locked_object branch_workers devices trace_file locked_execution source_view debug_session store process_tree event_inverse offered_sides channel_uses rendezvous"
 
 while IFS=: read -r crate _; do
     case $crate in \#* | "") continue ;; esac

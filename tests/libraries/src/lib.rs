@@ -19,6 +19,8 @@ mod gates;
 #[cfg(test)]
 mod histories;
 #[cfg(test)]
+mod inquiries;
+#[cfg(test)]
 mod lines;
 #[cfg(test)]
 mod lists;
