@@ -13,4 +13,4 @@ pub use branches::{BranchEntry, Part};
 pub use ends::{End, Way};
 pub use laws::branches_by_number;
 pub use names::{ChannelEntry, VariableEntry};
-pub use outline::{Outline, outline};
+pub use outline::{Outline, outline_of};

@@ -3,6 +3,7 @@ ghost use Rattle.std.specs.Prelude.{IfOk};
 ghost use Rattle.outline.specs.Outlined.{Outlines};
 
 use crate::branches::{BranchEntry, branches_of};
+use crate::laws::branches_by_number;
 use crate::names::{ChannelEntry, VariableEntry, channels_of, variables_of};
 use sharing_check::Checked;
 use std::alloc::{AllocError, Global};
@@ -21,9 +22,10 @@ pub struct Outline {
 
 /// Exactly the branches, variables and channels of the system, each once, in order of numbers. It is an error if there is no
 /// memory.
-pub fn outline(alloc: Global, checked: &Checked) -> Result<Outline, AllocError>
+pub fn outline_of(alloc: Global, checked: &Checked) -> Result<Outline, AllocError>
     ensures { IfOk result (λ made. Outlines checked.now made) }
 {
+    branches_by_number();
     let system = checked.system();
     let branches = branches_of(alloc, system)?;
     let variables = variables_of(alloc, system.variables.as_slice())?;

@@ -1,5 +1,5 @@
 // Where the only other end of a channel stands: what has to go on before it can come.
-use crate::sought::Sought;
+use crate::sought::{Sought, within, within_any};
 use address::Entry;
 use offered_sides::{first_at_work, is_over};
 use process_tree::{Await, Code, Gate, Once, Phase, Proc, Repeat, Row, Sender, Tested, Turns};
@@ -67,7 +67,7 @@ fn ahead(
     sought: Sought,
     place: &[Entry],
 ) -> Result<Found, AllocError> {
-    if Sought::within_any(codes, sought) {
+    if within_any(codes, sought) {
         Ok(Found::Behind(Vec::from_slice(alloc, place)?))
     } else {
         Ok(Found::Nowhere)
@@ -85,7 +85,7 @@ fn look_loop(
     own: Option<&[Entry]>,
 ) -> Result<Found, AllocError> {
     match turns {
-        Turns::Fresh => later(alloc, Sought::within(&repeat.body, sought), place),
+        Turns::Fresh => later(alloc, within(&repeat.body, sought), place),
         Turns::EndedAtOnce => Ok(Found::Nowhere),
         Turns::Turn(turn, over, body) => {
             if *over {
@@ -94,7 +94,7 @@ fn look_loop(
             let number = offered_sides::body_of_turn(*turn)?;
             let entry = ordered(number)?;
             let inside = below(own, entry);
-            let again = inside.is_none() && Sought::within(&repeat.body, sought);
+            let again = inside.is_none() && within(&repeat.body, sought);
             place.push(entry)?;
             let found = look(alloc, body, sought, place, inside)?;
             let found = or_later(alloc, found, again, place)?;
@@ -151,16 +151,13 @@ fn look_sequence(
     own: Option<&[Entry]>,
 ) -> Result<Found, AllocError> {
     let codes = row.codes.as_slice();
-    let mut number = first_at_work(begun, row);
-    while number < begun.len() && is_over(&begun[number]) {
-        number += 1;
-    }
+    let number = at_work(begun, row);
     if number >= codes.len() {
         return Ok(Found::Nowhere);
     }
     let entry = ordered(number as u64)?;
     let inside = below(own, entry);
-    let behind = inside.is_none() && Sought::within_any(&codes[number + 1..], sought);
+    let behind = inside.is_none() && within_any(&codes[number + 1..], sought);
     place.push(entry)?;
     let found = if number < begun.len() {
         look(alloc, &begun[number], sought, place, inside)?
@@ -170,6 +167,16 @@ fn look_sequence(
     let found = or_later(alloc, found, behind, place)?;
     place.pop();
     Ok(found)
+}
+
+/// The number of the first child of a sequence that is not finished, of those that have begun, or the number of these.
+fn at_work(begun: &[Proc], row: &Row) -> usize {
+    for number in first_at_work(begun, row)..begun.len() {
+        if !is_over(&begun[number]) {
+            return number;
+        }
+    }
+    begun.len()
 }
 
 /// Where it stands in branches: in one of them, if it is in no other.
@@ -222,7 +229,7 @@ fn look_fresh(
         Code::Continue | Code::Halt => Ok(Found::Nowhere),
         Code::Once(once) => Ok(there(own.is_none() && is_here(once.get(), sought))),
         Code::Sender(sender) => Ok(there(own.is_none() && sought.is_sender(sender.get()))),
-        Code::Repeat(repeat) => later(alloc, Sought::within(&repeat.get().body, sought), place),
+        Code::Repeat(repeat) => later(alloc, within(&repeat.get().body, sought), place),
         Code::Decide(decide) => ahead(alloc, decide.get().arms.as_slice(), sought, place),
         Code::Await(waiting) => {
             if own.is_some() {
@@ -260,7 +267,7 @@ fn fresh_sequence(
         }
         let entry = ordered(number as u64)?;
         let inside = below(own, entry);
-        let behind = inside.is_none() && Sought::within_any(&codes[number + 1..], sought);
+        let behind = inside.is_none() && within_any(&codes[number + 1..], sought);
         place.push(entry)?;
         let found = look_fresh(alloc, code, sought, place, inside)?;
         let found = or_later(alloc, found, behind, place)?;

@@ -12,4 +12,4 @@ mod text;
 mod waiting;
 
 pub use progress::Progress;
-pub use waiting::{Waiting, waiting};
+pub use waiting::{Waiting, who_waits};

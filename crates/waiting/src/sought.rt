@@ -1,6 +1,6 @@
 // The other end of a channel that a side waits for, and whether a command that has made no move uses it.
 use offered_sides::Side;
-use process_tree::{Await, Code, Decide, Once, Row, Sender};
+use process_tree::{Await, Code, Once, Sender};
 
 /// What could be the partner of a side that waits.
 #[derive(Clone, Copy, Debug, PartialEq, Eq)]
@@ -69,49 +69,37 @@ impl Sought {
             _ => false,
         }
     }
+}
 
-    /// Whether the command, which has made no move, has one.
-    #[cycle(within)]
-    pub(crate) fn within(code: &Code, sought: Sought) -> bool {
-        match code {
-            Code::Continue | Code::Halt => false,
-            Code::Once(once) => sought.is_once(once.get()),
-            Code::Sender(sender) => sought.is_sender(sender.get()),
-            Code::Repeat(repeat) => Sought::within(&repeat.get().body, sought),
-            Code::Decide(decide) => Sought::within_arms(decide.get(), sought),
-            Code::Await(waiting) => Sought::within_waiting(waiting.get(), sought),
-            Code::InTurn(row) | Code::SideBySide(row) => Sought::within_row(row.get(), sought),
-            Code::Drain(channel) => sought.is_receive(*channel),
+/// Whether the command, which has made no move, has what is sought.
+#[cycle(within)]
+pub(crate) fn within(code: &Code, sought: Sought) -> bool {
+    match code {
+        Code::Continue | Code::Halt => false,
+        Code::Once(once) => sought.is_once(once.get()),
+        Code::Sender(sender) => sought.is_sender(sender.get()),
+        Code::Repeat(repeat) => within(&repeat.get().body, sought),
+        Code::Decide(decide) => within_any(decide.get().arms.as_slice(), sought),
+        Code::Await(waiting) => within_waiting(waiting.get(), sought),
+        Code::InTurn(row) | Code::SideBySide(row) => {
+            within_any(row.get().codes.as_slice(), sought)
         }
+        Code::Drain(channel) => sought.is_receive(*channel),
     }
+}
 
-    /// Whether one of the arms of an `if` or `case` has one.
-    #[cycle(within)]
-    fn within_arms(decide: &Decide, sought: Sought) -> bool {
-        Sought::within_any(decide.arms.as_slice(), sought)
-    }
+/// Whether arms that wait have it, or one of them is it.
+#[cycle(within)]
+fn within_waiting(waiting: &Await, sought: Sought) -> bool {
+    sought.is_arm(waiting.channels.as_slice()) || within_any(waiting.arms.as_slice(), sought)
+}
 
-    /// Whether arms that wait have one, or are one.
-    #[cycle(within)]
-    fn within_waiting(waiting: &Await, sought: Sought) -> bool {
-        sought.is_arm(waiting.channels.as_slice())
-            || Sought::within_any(waiting.arms.as_slice(), sought)
+/// Whether one of these commands has it.
+#[cycle(within)]
+pub(crate) fn within_any(codes: &[Code], sought: Sought) -> bool {
+    let mut found = false;
+    for code in codes {
+        found = found || within(code, sought);
     }
-
-    /// Whether one of the commands in a row has one.
-    #[cycle(within)]
-    fn within_row(row: &Row, sought: Sought) -> bool {
-        Sought::within_any(row.codes.as_slice(), sought)
-    }
-
-    /// Whether one of these commands has one.
-    #[cycle(within)]
-    pub(crate) fn within_any(codes: &[Code], sought: Sought) -> bool {
-        for code in codes {
-            if Sought::within(code, sought) {
-                return true;
-            }
-        }
-        false
-    }
+    found
 }

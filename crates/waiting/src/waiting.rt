@@ -30,7 +30,7 @@ pub struct Waiting {
 
 /// Exactly the sides that the state of the machine offers and whose place no allowed event has, in order of place, and how the
 /// run stands. It makes the live events again, and then takes one walk of the tree. It is an error if there is no memory.
-pub fn waiting(alloc: Global, machine: &Machine) -> Result<Waiting, AllocError>
+pub fn who_waits(alloc: Global, machine: &Machine) -> Result<Waiting, AllocError>
     ensures { IfOk result (λ told. (S : State) × Reaches (object machine.now) S × ListsWaiting S told.sides × StandsLike S told.progress) }
 {
     machine.is_sound();

@@ -6,7 +6,7 @@ mod cases;
 
 use cases::{Case, first_case, number};
 use machine::Machine;
-use outline::outline;
+use outline::outline_of;
 use past::{PastEvent, past_of_event, past_of_variable, write_past};
 use std::alloc::Global;
 use std::io;
@@ -14,7 +14,7 @@ use std::io::{BufReader, Read};
 use std::process::ExitCode;
 use std::time::Instant;
 use syntax::Items;
-use waiting::waiting;
+use waiting::who_waits;
 
 /// The past of the variable of this name, or of the ticket that these digits are.
 fn past(
@@ -34,16 +34,16 @@ fn past(
 
 /// The answer as text.
 fn answer(alloc: Global, case: &Case<'_>, out: &mut Vec<u8>) -> io::Result<()> {
-    if case.question == b"outline" {
-        outline(alloc, &case.checked(alloc)?)?.write_to(out)?;
+    if case.question == b"outline".as_slice() {
+        outline_of(alloc, &case.checked(alloc)?)?.write_to(out)?;
         return Ok(());
     }
     let machine = case.machine(alloc)?;
-    if case.question == b"waiting" {
-        waiting(alloc, &machine)?.write_to(&machine, out)?;
+    if case.question == b"waiting".as_slice() {
+        who_waits(alloc, &machine)?.write_to(&machine, out)?;
         return Ok(());
     }
-    match past(alloc, &machine, case.subject, case.question == b"why-all")? {
+    match past(alloc, &machine, case.subject, case.question == b"why-all".as_slice())? {
         Some(past) => {
             let live = machine.live_events();
             write_past(alloc, out, machine.checked(), live, past.as_slice())?;
@@ -60,7 +60,7 @@ fn time(rt: &HostRuntime, case: &Case<'_>) -> io::Result<()> {
     let machine = case.machine(alloc)?;
     let loaded = start.elapsed(rt)?.as_micros();
     let start = Instant::now(rt)?;
-    let told = waiting(alloc, &machine)?;
+    let told = who_waits(alloc, &machine)?;
     let waited = start.elapsed(rt)?.as_micros();
     let start = Instant::now(rt)?;
     let found = past(alloc, &machine, case.subject, true)?;
@@ -84,7 +84,7 @@ fn answer_all(rt: &HostRuntime) -> io::Result<()> {
         rest = behind;
         let name = case.name.escape_ascii();
         println!(rt; "== {name}")?;
-        if case.question == b"timed" {
+        if case.question == b"timed".as_slice() {
             time(rt, &case)?;
         } else {
             let mut out = Vec::new(rt.alloc());

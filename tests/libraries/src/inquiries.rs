@@ -2,13 +2,13 @@
 
 use crate::examples::{Example, FORK, ONCE, TWO_BUFFERS};
 use machine::Machine;
-use outline::outline;
+use outline::outline_of;
 use past::{past_of_event, past_of_variable, write_past};
 use std::alloc::Global;
 use std::process::Abort;
 use std::test::Fail;
 use trace_file::load_text;
-use waiting::waiting;
+use waiting::who_waits;
 
 /// Two that each wait for what the other one sends later.
 const PAIR: Example = Example {
@@ -42,7 +42,7 @@ fn loaded(alloc: Global, example: Example, trace: &[u8]) -> Result<Machine, Fail
 fn told(alloc: Global, example: Example, trace: &[u8]) -> Result<Vec<u8>, Fail> {
     let machine = loaded(alloc, example, trace)?;
     let mut text = Vec::new(alloc);
-    waiting(alloc, &machine)?.write_to(&machine, &mut text)?;
+    who_waits(alloc, &machine)?.write_to(&machine, &mut text)?;
     Ok(text)
 }
 
@@ -93,7 +93,7 @@ fn two_wait_for_one_another(rt: HostRuntime) -> Result<(), Fail> {
 fn five_wait_in_a_circle(rt: HostRuntime) -> Result<(), Fail> {
     let trace = b"balsadbg trace 2\nstep /0/0.0 0\nstep /0/1.0 0\nstep /0/2.0 0\nstep /0/3.0 0\nstep /0/4.0 0\n";
     let machine = loaded(rt.alloc(), CIRCLE, trace)?;
-    let told = waiting(rt.alloc(), &machine)?;
+    let told = who_waits(rt.alloc(), &machine)?;
     assert!(rt; told.sides.len() == 5);
     assert!(rt; told.ring.as_slice() == [0, 4, 3, 2, 1]);
     Ok(())
@@ -160,7 +160,7 @@ fn branches_and_names_have_their_numbers(rt: HostRuntime) -> Result<(), Fail> {
     let alloc = rt.alloc();
     let checked = TWO_BUFFERS.checked(alloc)?;
     let mut text = Vec::new(alloc);
-    outline(alloc, &checked)?.write_to(&mut text)?;
+    outline_of(alloc, &checked)?.write_to(&mut text)?;
     let wanted = b"branches 4
   0 /0/0 line 2
     receives a line 2
