@@ -1,5 +1,5 @@
 -- The number of an entry is that of its branch.
-use Rattle.std.proofs.Common.{◌≡◌, ◌⊎◌, ◌↔◌, inl, inr, ℕ, zero, suc, ◌+◌, ◌-◌, ◌==◌, ◌<◌, ◌≤◌, if◌then◌else◌, List, [], ◌∷◌, ◌++◌, Bool, true, false, length, Option, Some, None, refl, sym, ◌∙◌, ap, subst, slice_get, arith}
+use Rattle.std.proofs.Common.{◌≡◌, ◌⊎◌, ◌↔◌, inl, inr, ℕ, zero, suc, ◌+◌, ◌-◌, ◌==◌, ◌<◌, ◌≤◌, if◌then◌else◌, List, [], ◌∷◌, ◌++◌, Bool, true, false, length, Option, Some, None, refl, sym, ◌∙◌, ap, subst, slice_get, arith, length-append}
 use Rattle.std.specs.Prelude.{nat_lt, nat_le}
 use Rattle.std.proofs.lemmas.Bool.{eqb-true, eq-eqb, cases_lt}
 use Rattle.std.proofs.lemmas.Bool.Decides.{nat_tests}
@@ -15,12 +15,12 @@ use Rattle.outline.specs.Branches.{of_body, of_child, of_children, of_port, of_p
 use Rattle.outline.specs.declared.branches.BranchEntry.{BranchEntry}
 
 -- ---- options and lists
+abbrev value-or : {X : Type 0} → X → Option X → X
+value-or x None = x
+value-or x (Some z) = z
+
 some-is : {X : Type 0} (x y : X) → Some x ≡ Some y → x ≡ y
-some-is x y h = ap (λ (o : Option _). value o) h
-  where
-    value : Option _ → _
-    value None = x
-    value (Some z) = z
+some-is x y h = ap (value-or x) h
 
 no-some : {X : Type 0} {P : Type 0} (x : X) → None ≡ Some x → P
 no-some x h = cc
@@ -38,9 +38,10 @@ at-left [] ys i h = absurd (omega arith)
 at-left (x ∷ xs) ys zero h = refl
 at-left (x ∷ xs) ys (suc i) h = let less : i < length xs = omega arith in at-left xs ys i less
 
-at-right : (xs ys : List BranchEntry) (i : ℕ) → slice_get (xs ++ ys) (length xs + i) ≡ slice_get ys i
-at-right [] ys i = refl
-at-right (x ∷ xs) ys i = at-right xs ys i
+at-right : (xs ys : List BranchEntry) (i j : ℕ) → j ≡ length xs + i → slice_get (xs ++ ys) j ≡ slice_get ys i
+at-right [] ys i j h = let is : j ≡ i = omega arith in ap (slice_get ys) is
+at-right (x ∷ xs) ys i zero h = absurd (omega arith)
+at-right (x ∷ xs) ys i (suc j) h = let is : j ≡ length xs + i = omega arith in at-right xs ys i j is
 
 at-length : (xs : List BranchEntry) (i : ℕ) (x : BranchEntry) → slice_get xs i ≡ Some x → i < length xs
 at-length [] i x h = no-some x h
@@ -106,7 +107,7 @@ main-count body None = refl
 main-count body (Some children) = children-count children 0
 
 -- the place of branch i of the body
-main-place : Option (List Command) → ℕ → List Entry
+abbrev main-place : Option (List Command) → ℕ → List Entry
 main-place None i = Branch 0 ∷ []
 main-place (Some children) i = Branch 0 ∷ Branch i ∷ []
 
@@ -115,36 +116,38 @@ main-stands body None zero h = record { entry = of_body body; stands = refl; num
 main-stands body None (suc i) h = absurd (omega arith)
 main-stands body (Some children) i h = child-stands children 0 i h
 
-module _ (system : System) where
-  m : ℕ
-  m = count_of (parallel_of system.main)
+-- how many branches the body has
+abbrev mains : System → ℕ
+mains system = count_of (parallel_of system.main)
 
-  body-stands : (i : ℕ) → i < m → Stands (branches_of system) i i (main-place (parallel_of system.main) i)
+-- the entry of this number has the place
+abbrev Has : System → List Entry → ℕ → Type 0
+Has system a k = (e : BranchEntry) × (slice_get (branches_of system) k ≡ Some e) × Under e.place a
+
+module _ (system : System) where
+  body-stands : (i : ℕ) → i < mains system → Stands (branches_of system) i i (main-place (parallel_of system.main) i)
   body-stands i h =
-      let count = main-count system.main (parallel_of system.main) in
+      let count : length (of_main system.main (parallel_of system.main)) ≡ mains system = main-count system.main (parallel_of system.main) in
       let less : i < length (of_main system.main (parallel_of system.main)) = omega arith in
       let here = main-stands system.main (parallel_of system.main) i h in
       record { entry = here.entry; stands = at-left _ _ i less ∙ here.stands; number = here.number; place = here.place }
 
-  outer-stands : (j : ℕ) → j < length system.environment → Stands (branches_of system) (m + j) (m + j) (Branch (1 + j) ∷ [])
+  outer-stands : (j : ℕ) → j < length system.environment → Stands (branches_of system) (mains system + j) (mains system + j) (Branch (1 + j) ∷ [])
   outer-stands j h =
       let main = of_main system.main (parallel_of system.main) in
-      let count : length main ≡ m = main-count system.main (parallel_of system.main) in
+      let count : length main ≡ mains system = main-count system.main (parallel_of system.main) in
       let ports = of_ports (length main) 1 system.environment in
       let here = port-stands system.environment (length main) 1 j h in
       subst (λ (k : ℕ). Stands (branches_of system) (k + j) (k + j) (Branch (1 + j) ∷ [])) count
-      (record { entry = here.entry; stands = at-right main ports j ∙ here.stands; number = here.number; place = here.place })
+      (record { entry = here.entry; stands = at-right main ports j (length main + j) refl ∙ here.stands; number = here.number; place = here.place })
 
-  all-count : length (branches_of system) ≡ m + length system.environment
+  all-count : length (branches_of system) ≡ mains system + length system.environment
   all-count =
       let main = of_main system.main (parallel_of system.main) in
-      let first : length main ≡ m = main-count system.main (parallel_of system.main) in
+      let first : length main ≡ mains system = main-count system.main (parallel_of system.main) in
       let second : length (of_ports (length main) 1 system.environment) ≡ length system.environment = ports-count system.environment (length main) 1 in
-      joined main (of_ports (length main) 1 system.environment) ∙ (let both : length main + length (of_ports (length main) 1 system.environment) ≡ m + length system.environment = omega arith in both)
-    where
-      joined : (xs ys : List BranchEntry) → length (xs ++ ys) ≡ length xs + length ys
-      joined [] ys = refl
-      joined (x ∷ xs) ys = ap suc (joined xs ys)
+      length-append main (of_ports (length main) 1 system.environment)
+      ∙ (let both : length main + length (of_ports (length main) 1 system.environment) ≡ mains system + length system.environment = omega arith in both)
 
   -- ---- the branch of a place is that of an entry
   child-found : (p : Option (List Command)) (way : List Entry) (k : ℕ) → branch_within p way ≡ Some k → (k < count_of p) × Under (main-place p k) (Branch 0 ∷ way)
@@ -158,7 +161,7 @@ module _ (system : System) where
       let is : n ≡ k = some-is n k parts.1 in
       (subst (λ (j : ℕ). j < length children) is less, (way, ap (λ (j : ℕ). Branch 0 ∷ Branch j ∷ way) is))
 
-  port-found : (n k : ℕ) → (n ≡ 0 → ⊥) → branch_of_port system n ≡ Some k → (n - 1 < length system.environment) × (m + (n - 1) ≡ k)
+  port-found : (n k : ℕ) → (n ≡ 0 → ⊥) → branch_of_port system n ≡ Some k → (n - 1 < length system.environment) × (mains system + (n - 1) ≡ k)
   port-found n k other h =
       let parts = if-some (nat_le n (length system.environment)) (as_number (places.branches_of system.main + (n - 1))) k h in
       let on : nat_le n (length system.environment) ≡ true = parts.0 in
@@ -167,16 +170,12 @@ module _ (system : System) where
       let is : places.branches_of system.main + (n - 1) ≡ k = some-is _ k inner.1 in
       (omega arith, is)
 
-  -- the entry has the place
-  Has : List Entry → ℕ → Type 0
-  Has a k = (e : BranchEntry) × (slice_get (branches_of system) k ≡ Some e) × Under e.place a
-
-  found : (a : List Entry) (k : ℕ) → branch_at system a ≡ Some k → Has a k
+  found : (a : List Entry) (k : ℕ) → branch_at system a ≡ Some k → Has system a k
   found [] k h = no-some k h
   found (Ordered n ∷ rest) k h = no-some k h
   found (Branch n ∷ rest) k h = pick (n == 0) refl h
     where
-      pick : (b : Bool) → (n == 0) ≡ b → (if b then branch_within (parallel_of system.main) rest else branch_of_port system n) ≡ Some k → Has (Branch n ∷ rest) k
+      pick : (b : Bool) → (n == 0) ≡ b → (if b then branch_within (parallel_of system.main) rest else branch_of_port system n) ≡ Some k → Has system (Branch n ∷ rest) k
       pick true is h =
           let inside = child-found (parallel_of system.main) rest k h in
           let here = body-stands k inside.0 in
@@ -199,8 +198,8 @@ module _ (system : System) where
       let on : nat_lt k (length children) ≡ true = grind (arith, nat_tests) in
       (Branch k ∷ rest, is, then-is (nat_lt k (length children)) (Some k) on)
 
-  has : (a : List Entry) (k : ℕ) → length (branches_of system) ≤ 4294967296 → Has a k → branch_at system a ≡ Some k
-  has a k small h = elim (cases_lt k m) [
+  has : (a : List Entry) (k : ℕ) → length (branches_of system) ≤ 4294967296 → Has system a k → branch_at system a ≡ Some k
+  has a k small h = elim (cases_lt k (mains system)) [
     | inl less ↦
         let here = body-stands k less in
         let same : h.0 ≡ here.entry = one-entry (branches_of system) k h.0 here.entry h.1 here.stands in
@@ -211,8 +210,8 @@ module _ (system : System) where
     | inr past ↦
         let count = all-count in
         let bound : k < length (branches_of system) = at-length (branches_of system) k h.0 h.1 in
-        let j : ℕ = k - m in
-        let is : m + j ≡ k = omega arith in
+        let j : ℕ = k - mains system in
+        let is : mains system + j ≡ k = omega arith in
         let less : j < length system.environment = omega arith in
         let here = outer-stands j less in
         let there : slice_get (branches_of system) k ≡ Some here.entry = subst (λ (i : ℕ). slice_get (branches_of system) i ≡ Some here.entry) is here.stands in
@@ -221,7 +220,7 @@ module _ (system : System) where
         ap (branch_at system) at ∙ port-branch j k h.2.0 less is (omega arith)
   ]
     where
-      port-branch : (j k : ℕ) (rest : List Entry) → j < length system.environment → m + j ≡ k → k ≤ 4294967295 → branch_at system (Branch (1 + j) ∷ rest) ≡ Some k
+      port-branch : (j k : ℕ) (rest : List Entry) → j < length system.environment → mains system + j ≡ k → k ≤ 4294967295 → branch_at system (Branch (1 + j) ∷ rest) ≡ Some k
       port-branch j k rest less is small = pick ((1 + j) == 0) refl
         where
           pick : (b : Bool) → ((1 + j) == 0) ≡ b → (if b then branch_within (parallel_of system.main) rest else branch_of_port system (1 + j)) ≡ Some k
@@ -235,15 +234,15 @@ module _ (system : System) where
               ∙ ap (λ (i : ℕ). Some i) number
 
   in-order : (i : ℕ) (e : BranchEntry) → slice_get (branches_of system) i ≡ Some e → e.number ≡ i
-  in-order i e h = elim (cases_lt i m) [
+  in-order i e h = elim (cases_lt i (mains system)) [
     | inl less ↦
         let here = body-stands i less in
         ap (λ (x : BranchEntry). x.number) (one-entry (branches_of system) i e here.entry h here.stands) ∙ here.number
     | inr past ↦
         let count = all-count in
         let bound : i < length (branches_of system) = at-length (branches_of system) i e h in
-        let j : ℕ = i - m in
-        let is : m + j ≡ i = omega arith in
+        let j : ℕ = i - mains system in
+        let is : mains system + j ≡ i = omega arith in
         let less : j < length system.environment = omega arith in
         let here = outer-stands j less in
         let there : slice_get (branches_of system) i ≡ Some here.entry = subst (λ (k : ℕ). slice_get (branches_of system) k ≡ Some here.entry) is here.stands in

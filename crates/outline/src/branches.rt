@@ -12,7 +12,7 @@ use syntax::Items;
 use system::{Action, Branch, Command, System};
 
 /// What a branch is.
-#[derive(Clone, Copy, Debug, PartialEq, Eq)]
+#[derive(Clone, Copy)]
 pub enum Part {
     /// the root's body, or a child of it where that is a parallel; with its line, from 1
     Body(u64),

@@ -9,7 +9,7 @@ use syntax::Items;
 use system::{Action, Arm, Command, Guarded, Labelled};
 
 /// How a command uses a channel.
-#[derive(Clone, Copy, Debug, PartialEq, Eq)]
+#[derive(Clone, Copy)]
 pub enum Way {
     Sends,
     Receives,
@@ -19,7 +19,7 @@ pub enum Way {
 }
 
 /// A use of a channel by a command.
-#[derive(Clone, Copy, Debug)]
+#[derive(Clone, Copy)]
 pub struct End {
     /// the number of the channel
     pub channel: u32,

@@ -1,5 +1,5 @@
 -- The sweep down over the live events: what is marked as it goes on.
-use Rattle.std.proofs.Common.{◌≡◌, ◌⊎◌, ◌↔◌, inl, inr, ℕ, zero, suc, ◌+◌, ◌<◌, ◌≤◌, List, Bool, true, false, length, Some, refl, sym, ◌∙◌, ap, subst, arith}
+use Rattle.std.proofs.Common.{◌≡◌, ◌⊎◌, ◌↔◌, inl, inr, ℕ, zero, suc, ◌+◌, ◌<◌, ◌≤◌, List, [], ◌∷◌, ◌++◌, Bool, true, false, length, take, get_or, Some, refl, sym, ◌∙◌, ap, subst, arith}
 use Rattle.std.specs.Prelude.{slice_get, slice_set}
 use Rattle.std.proofs.lemmas.Bool.{cases_lt}
 use Rattle.std.proofs.lemmas.Option.{slice_get_within}
@@ -8,7 +8,7 @@ use Rattle.runs.specs.Live.{Live, LiveAt, Rising, DependsOn, same}
 use Rattle.runs.specs.declared.event.Event.{Event}
 use Rattle.dependence.specs.Followers.{Follower, ListsLeads, Reached, here, along}
 use Rattle.dependence.specs.walking.Marking.{MarkedAt}
-use Rattle.dependence.proofs.ListPlaces.{in-at, at-one}
+use Rattle.dependence.proofs.ListPlaces.{in-at, at-one, at-within, got-here}
 use Rattle.dependence.proofs.Linking.{one-index}
 use Rattle.dependence.proofs.Standing.{lesser-stands}
 use Rattle.dependence.proofs.Following.{follows-on, follows-live}
@@ -81,3 +81,17 @@ all-passed low next l t marks r b u = (
     reached : (u v : ℕ) → Reached l u v → MarkedAt l marks v → MarkedAt l marks u
     reached u v here at = at
     reached u v (along {u = w} before f) at = reached u w before (b.onward v w at.0 at.1 (omega arith) at f)
+
+-- the entry that is read at an index
+pub read-at : (l k : Live) (p : ℕ) (r : ℕ × Event) → k ≡ l → p < length l → (e : Event) × (slice_get l p ≡ Some ((get_or k p r).0, e))
+read-at l k p r is less =
+    let at = at-within l p less in
+    let same : get_or k p r ≡ at.0 = ap (λ (m : Live). get_or m p r) is ∙ got-here l p at.0 r at.1 in
+    (at.0.1, at.1 ∙ ap (λ (y : ℕ × Event). Some (y.0, at.0.1)) (sym same))
+
+-- all of a list in front of more
+pub take-whole : (n : ℕ) (xs ys : List Bool) → n ≡ length xs → take n (xs ++ ys) ≡ xs
+take-whole zero [] ys h = refl
+take-whole zero (x ∷ xs) ys h = absurd (omega arith)
+take-whole (suc n) [] ys h = absurd (omega arith)
+take-whole (suc n) (x ∷ xs) ys h = let rest : n ≡ length xs = omega arith in ap (λ (zs : List Bool). x ∷ zs) (take-whole n xs ys rest)

@@ -7,7 +7,7 @@ use offered_sides::{OfferedSide, Side};
 use runs::Event;
 
 /// How a run stands.
-#[derive(Clone, Copy, Debug, PartialEq, Eq)]
+#[derive(Clone, Copy)]
 pub enum Progress {
     /// some event is allowed
     GoesOn,

@@ -1,6 +1,7 @@
 -- The marked entries as a list of tickets.
-use Rattle.std.proofs.Common.{◌≡◌, ◌⊎◌, ◌↔◌, inl, inr, ℕ, zero, suc, ◌<◌, ◌≤◌, List, [], ◌∷◌, ◌++◌, Bool, true, false, cond, Some, refl, sym, ◌∙◌, ap, subst, arith, map}
+use Rattle.std.proofs.Common.{◌≡◌, ◌⊎◌, ◌↔◌, inl, inr, ℕ, zero, suc, ◌<◌, ◌≤◌, List, [], ◌∷◌, ◌++◌, Bool, true, false, cond, Some, refl, sym, ◌∙◌, ap, subst, arith, map, length, get_or}
 use Rattle.std.specs.Prelude.{slice_get, ◌&&◌}
+use Rattle.std.proofs.lemmas.Option.{slice_get-get_or}
 use Rattle.syntax.specs.Lists.{In, Every}
 use Rattle.runs.specs.InOrder.{InOrder}
 use Rattle.runs.specs.Live.{Live, LiveAt, Rising, DependsOn}
@@ -109,3 +110,7 @@ listed low next all l t marks past r marked lists = record {
   in_order = subst (λ (ts : List ℕ). InOrder ◌<◌ ts) (sym lists.tickets) (told-order low next all l marks r);
   direct = lists.direct;
 }
+
+-- the entry of a loop over the live events
+pub at-item : (l k : Live) (i : ℕ) (x : ℕ × Event) → k ≡ l → i < length k → x ≡ get_or k i x → slice_get l i ≡ Some x
+at-item l k i x is less here = subst (λ (m : Live). slice_get m i ≡ Some x) is (slice_get-get_or k i x less ∙ ap (λ (y : ℕ × Event). Some y) (sym here))
