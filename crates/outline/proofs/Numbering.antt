@@ -114,7 +114,9 @@ main-place (Some children) i = Branch 0 ∷ Branch i ∷ []
 main-stands : (body : Command) (p : Option (List Command)) (i : ℕ) → i < count_of p → Stands (of_main body p) i i (main-place p i)
 main-stands body None zero h = record { entry = of_body body; stands = refl; number = refl; place = refl }
 main-stands body None (suc i) h = absurd (omega arith)
-main-stands body (Some children) i h = child-stands children 0 i h
+main-stands body (Some children) i h =
+    let is : 0 + i ≡ i = omega arith in
+    subst (λ (n : ℕ). Stands (of_children 0 children) i n (Branch 0 ∷ Branch n ∷ [])) is (child-stands children 0 i h)
 
 -- how many branches the body has
 abbrev mains : System → ℕ

@@ -7,7 +7,7 @@ mod ends;
 mod laws;
 mod names;
 mod outline;
-// mod text;
+mod text;
 
 pub use branches::{BranchEntry, Part};
 pub use ends::{End, Way};

@@ -4,7 +4,7 @@
 mod listing;
 mod marking;
 mod past;
-// mod text;
+mod text;
 
 pub use past::{PastEvent, past_of_event, past_of_variable};
-// pub use text::write_past;
+pub use text::write_past;

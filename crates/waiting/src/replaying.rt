@@ -18,7 +18,7 @@ pub(crate) struct Replayed {
 
 /// The tree and the values to which the live events of the machine lead, each of which is made again. It is an error if there
 /// is no memory.
-pub(crate) fn replayed(alloc: Global, machine: &Machine) -> Result<Replayed, AllocError>
+pub(crate) fn made_again(alloc: Global, machine: &Machine) -> Result<Replayed, AllocError>
     ensures { IfOk result (λ made. StandsAfter (object machine.now) made.tree made.store) }
 {
     machine.is_sound();

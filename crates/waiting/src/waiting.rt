@@ -7,7 +7,7 @@ ghost use Rattle.waiting.specs.Progress.{StandsLike};
 ghost use Rattle.waiting.specs.Waits.{ListsWaiting};
 
 use crate::progress::{Progress, progress_of};
-use crate::replaying::replayed;
+use crate::replaying::made_again;
 use crate::sides::left_over;
 use machine::Machine;
 use offered_sides::{OfferedSide, sides_of};
@@ -28,7 +28,7 @@ pub fn who_waits(alloc: Global, machine: &Machine) -> Result<Waiting, AllocError
     ensures { IfOk result (λ told. (S : State) × Reaches (object machine.now) S × ListsWaiting S told.sides × StandsLike S told.progress) }
 {
     machine.is_sound();
-    let state = replayed(alloc, machine)?;
+    let state = made_again(alloc, machine)?;
     let sides = sides_of(alloc, &state.tree, &state.store)?;
     let events = machine.ready()?;
     let progress = progress_of(sides.as_slice(), events.as_slice());

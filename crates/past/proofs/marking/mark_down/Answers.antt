@@ -1,4 +1,4 @@
-use Rattle.std.proofs.Common.{◌≡◌, ◌∙◌, ℕ, suc, ◌+◌, ◌-◌, ◌<◌, length, Some, Bool, refl, sym, ap, subst, arith, length-set}
+use Rattle.std.proofs.Common.{◌≡◌, ◌∙◌, ℕ, suc, ◌+◌, ◌-◌, ◌<◌, length, Some, Bool, true, refl, sym, ap, subst, arith, length-set}
 use Rattle.std.specs.Prelude.{slice_set}
 use Rattle.std.proofs.lemmas.Option.{slice_get-get_or, slice_get_within}
 use Rattle.runs.specs.Live.{Live}
@@ -16,7 +16,7 @@ loop-index-init c =
     let more : suc first ≡ first + 1 = omega arith in
     record {
       within = omega arith;
-      marked = subst (λ (k : ℕ). MarkedFrom l c.args.ticket k (slice_set c.args.marks.now first _)) more
+      marked = subst (λ (k : ℕ). MarkedFrom l c.args.ticket k (slice_set c.args.marks.now first true)) more
           (marked-first 0 c.is_sound.ensures.rising.0 l c.args.marks.now c.args.ticket first at.0 c.is_sound.ensures.rising.1 c.requires.size at.1 c.requires.none);
     }
 
