@@ -42,9 +42,14 @@ fn zeros(alloc: Global, system: &System) -> Result<Vec<u64>, AllocError> {
 /// Keeps what the event wrote.
 fn note(values: &mut [u64], event: &Event) {
     if let (Some(variable), Some(value)) = (event.written, event.value) {
-        if let Some(held) = values.get_mut(variable as usize) {
-            *held = value.bits();
-        }
+        keep(values, variable, value.bits());
+    }
+}
+
+/// Keeps the value of a variable.
+fn keep(values: &mut [u64], variable: u32, bits: u64) {
+    if let Some(held) = values.get_mut(variable as usize) {
+        *held = bits;
     }
 }
 

@@ -105,14 +105,14 @@ left-order es (y ∷ xs) o =
     (every-of (NotBehind y) (left_over es xs) (λ x i. every-in (NotBehind y) xs x o.0 (left-in es xs x i).0))
     (left-order es xs o.1)
 
+-- what is kept by a test that tells of each element what it is to
+kept-or-left : (b : Bool) (y : OfferedSide) (kept left : List OfferedSide) → kept ≡ left → cond (cond b false true) (y ∷ kept) kept ≡ cond b left (y ∷ left)
+kept-or-left true y kept left is = is
+kept-or-left false y kept left is = ap (λ (l : List OfferedSide). y ∷ l) is
+
 pub left-filter : (es : List Event) (xs : List OfferedSide) → filter (λ (x : OfferedSide). cond (has_any x.place es) false true) xs ≡ left_over es xs
 left-filter es [] = refl
-left-filter es (y ∷ xs) = step (has_any y.place es)
-  where
-    step : (b : Bool) → cond (cond b false true) (y ∷ filter (λ (x : OfferedSide). cond (has_any x.place es) false true) xs) (filter (λ (x : OfferedSide). cond (has_any x.place es) false true) xs)
-        ≡ cond b (left_over es xs) (y ∷ left_over es xs)
-    step true = left-filter es xs
-    step false = ap (λ (l : List OfferedSide). y ∷ l) (left-filter es xs)
+left-filter es (y ∷ xs) = kept-or-left (has_any y.place es) y _ _ (left-filter es xs)
 
 none-any : (a : Place) (es : List Event) (b : Bool) → has_any a es ≡ b → ((e : Event) → In e es → In a (places e) → ⊥) → b ≡ false
 none-any a es true h none = let found = any-in a es h in absurd (none found.0 found.1 found.2)

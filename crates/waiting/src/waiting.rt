@@ -33,8 +33,5 @@ pub fn who_waits(alloc: Global, machine: &Machine) -> Result<Waiting, AllocError
     let events = machine.ready()?;
     let progress = progress_of(sides.as_slice(), events.as_slice());
     let sides = left_over(sides, events.as_slice());
-    Ok(Waiting {
-        progress,
-        sides,
-    })
+    Ok(Waiting { progress, sides })
 }
