@@ -2,13 +2,13 @@
 //! is stuck.
 #![tactic(auto)]
 
-// mod behind;
+mod behind;
 mod progress;
 mod replaying;
-// mod ring;
+mod ring;
 mod sides;
-// mod sought;
-// mod text;
+mod sought;
+mod text;
 mod waiting;
 
 pub use progress::Progress;
