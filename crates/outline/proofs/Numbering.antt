@@ -1,7 +1,7 @@
 -- The number of an entry is that of its branch.
-use Rattle.std.proofs.Common.{◌≡◌, ◌⊎◌, ◌↔◌, inl, inr, ℕ, zero, suc, ◌+◌, ◌-◌, ◌==◌, ◌<◌, ◌≤◌, if◌then◌else◌, List, [], ◌∷◌, ◌++◌, Bool, true, false, length, Option, Some, None, refl, sym, ◌∙◌, ap, subst, slice_get, arith, length-append}
+use Rattle.std.proofs.Common.{◌≡◌, inl, inr, ℕ, zero, suc, ◌+◌, ◌-◌, ◌==◌, ◌<◌, ◌≤◌, if◌then◌else◌, List, [], ◌∷◌, ◌++◌, Bool, true, false, length, Option, Some, None, refl, sym, ◌∙◌, ap, subst, slice_get, arith, length-append}
 use Rattle.std.specs.Prelude.{nat_lt, nat_le}
-use Rattle.std.proofs.lemmas.Bool.{eqb-true, eq-eqb, cases_lt}
+use Rattle.std.proofs.lemmas.Bool.{eqb-true, cases_lt}
 use Rattle.std.proofs.lemmas.Bool.Decides.{nat_tests}
 use Rattle.address.specs.declared.Entry.{Entry}
 use Rattle.address.specs.declared.Entry.TheVariants.{Ordered, Branch}
@@ -11,7 +11,7 @@ use Rattle.system.specs.declared.system.System.{System}
 use Rattle.system.specs.declared.system.Branch as outside
 use Rattle.system_places.specs.SystemBranches as places
 use Rattle.system_places.specs.SystemBranches.{parallel_of, count_of, child_number, branch_within, branch_of_port, branch_at}
-use Rattle.outline.specs.Branches.{of_body, of_child, of_children, of_port, of_ports, of_main, branches_of, Under, IsNumbered, BranchesByNumber}
+use Rattle.outline.specs.Branches.{of_body, of_child, of_children, of_port, of_ports, of_main, branches_of, Under, BranchesByNumber}
 use Rattle.outline.specs.declared.branches.BranchEntry.{BranchEntry}
 
 -- ---- options and lists
