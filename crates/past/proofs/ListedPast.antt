@@ -1,18 +1,16 @@
 -- The marked entries as a list of tickets.
-use Rattle.std.proofs.Common.{◌≡◌, ◌⊎◌, ◌↔◌, inl, inr, ℕ, zero, suc, ◌<◌, ◌≤◌, List, [], ◌∷◌, ◌++◌, Bool, true, false, cond, Some, refl, sym, ◌∙◌, ap, subst, arith, map, length, get_or}
+use Rattle.std.proofs.Common.{◌≡◌, ◌⊎◌, inl, inr, ℕ, zero, suc, ◌<◌, ◌≤◌, List, [], ◌∷◌, Bool, true, false, cond, Some, refl, sym, ◌∙◌, ap, subst, arith, length, get_or}
 use Rattle.std.specs.Prelude.{slice_get, ◌&&◌}
 use Rattle.std.proofs.lemmas.Option.{slice_get-get_or}
 use Rattle.syntax.specs.Lists.{In, Every}
 use Rattle.runs.specs.InOrder.{InOrder}
-use Rattle.runs.specs.Live.{Live, LiveAt, Rising, DependsOn}
+use Rattle.runs.specs.Live.{Live, Rising}
 use Rattle.runs.specs.declared.event.Event.{Event}
 use Rattle.runs.proofs.Lists.{every-of}
 use Rattle.runs.proofs.Options.{none-some}
 use Rattle.runs.proofs.Tickets.{rising-in, rising-one}
-use Rattle.dependence.specs.Followers.{ListsLeads}
-use Rattle.dependence.specs.walking.Marking.{MarkedAt}
 use Rattle.dependence.proofs.ListPlaces.{in-at, at-one}
-use Rattle.past.specs.Past.{is_told, tickets_of, IsInPast, ListsPast}
+use Rattle.past.specs.Past.{is_told, ListsPast}
 use Rattle.past.specs.walking.Marked.{MarksPast, told_tickets, ListsMarked}
 use Rattle.past.specs.declared.past.PastEvent.{PastEvent}
 

@@ -1,17 +1,16 @@
 -- The sweep down over the live events: what is marked as it goes on.
-use Rattle.std.proofs.Common.{◌≡◌, ◌⊎◌, ◌↔◌, inl, inr, ℕ, zero, suc, ◌+◌, ◌<◌, ◌≤◌, List, [], ◌∷◌, ◌++◌, Bool, true, false, length, take, get_or, Some, refl, sym, ◌∙◌, ap, subst, arith}
+use Rattle.std.proofs.Common.{◌≡◌, ◌⊎◌, ◌↔◌, inl, inr, ℕ, zero, suc, ◌<◌, List, [], ◌∷◌, ◌++◌, Bool, true, false, length, take, get_or, Some, refl, sym, ◌∙◌, ap, subst, arith}
 use Rattle.std.specs.Prelude.{slice_get, slice_set}
 use Rattle.std.proofs.lemmas.Bool.{cases_lt}
-use Rattle.std.proofs.lemmas.Option.{slice_get_within}
 use Rattle.syntax.specs.Lists.{In}
-use Rattle.runs.specs.Live.{Live, LiveAt, Rising, DependsOn, same}
+use Rattle.runs.specs.Live.{Live, Rising, DependsOn, same}
 use Rattle.runs.specs.declared.event.Event.{Event}
 use Rattle.dependence.specs.Followers.{Follower, ListsLeads, Reached, here, along}
 use Rattle.dependence.specs.walking.Marking.{MarkedAt}
 use Rattle.dependence.proofs.ListPlaces.{in-at, at-one, at-within, got-here}
 use Rattle.dependence.proofs.Linking.{one-index}
 use Rattle.dependence.proofs.Standing.{lesser-stands}
-use Rattle.dependence.proofs.Following.{follows-on, follows-live}
+use Rattle.dependence.proofs.Following.{follows-on}
 use Rattle.dependence.proofs.FollowerLaws.{direct-follows, reached-through-followers}
 use Rattle.dependence.proofs.Markings.{set-marked}
 use Rattle.past.specs.walking.Marked.{MarkedFrom, MarksPast}

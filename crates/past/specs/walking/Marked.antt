@@ -1,6 +1,6 @@
 -- Marks beside the live events, at the same indexes, from an event down to the first.
 -- No reader has to believe it: the proof of `past_of` ties it to `ListsPast`.
-use Rattle.std.specs.Prelude.{◌≡◌, ◌↔◌, ℕ, ◌≤◌, List, [], ◌∷◌, Bool, true, ◌&&◌, cond}
+use Rattle.std.specs.Prelude.{◌≡◌, ◌↔◌, ℕ, ◌≤◌, List, [], ◌∷◌, Bool, ◌&&◌, cond}
 use Rattle.syntax.specs.Lists.{Every}
 use Rattle.runs.specs.Live.{Live, LiveAt, DependsOn}
 use Rattle.runs.specs.declared.event.Event.{Event}

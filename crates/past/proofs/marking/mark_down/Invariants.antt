@@ -1,4 +1,4 @@
-use Rattle.std.proofs.Common.{◌≡◌, ◌≤◌, length}
+use Rattle.std.proofs.Common.{◌≤◌, length}
 use Rattle.past.specs.walking.Marked.{MarkedFrom}
 use Rattle.past.proofs.marking.mark_down.Given as goal
 

@@ -1,4 +1,4 @@
-use Rattle.std.proofs.Common.{◌≡◌, List, Bool, length, drop, ◌++◌, sym, subst, arith}
+use Rattle.std.proofs.Common.{◌≡◌, List, Bool, length, drop, sym, subst, arith}
 use Rattle.past.specs.walking.Marked.{MarksPast}
 use Rattle.past.proofs.Sweeping.{take-whole}
 use Rattle.past.proofs.marking.mark_past.Goals as goal
