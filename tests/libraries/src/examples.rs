@@ -8,8 +8,8 @@ use std::test::Fail;
 /// A source text and a stimulus.
 #[derive(Clone, Copy)]
 pub struct Example {
-    source: &'static str,
-    stimulus: &'static str,
+    pub source: &'static str,
+    pub stimulus: &'static str,
 }
 
 impl Example {

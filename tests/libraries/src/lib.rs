@@ -21,6 +21,8 @@ mod gates;
 #[cfg(test)]
 mod histories;
 #[cfg(test)]
+mod inquiries;
+#[cfg(test)]
 mod lines;
 #[cfg(test)]
 mod lists;

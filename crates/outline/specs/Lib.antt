@@ -1,0 +1,5 @@
+pub mod Branches
+pub mod Ends
+pub mod Names
+pub mod Outlined
+pub mod walking

@@ -1,0 +1,2 @@
+pub mod ListedPast
+pub mod Sweeping

@@ -1,0 +1,12 @@
+use Rattle.std.proofs.Common.{◌≡◌, ◌++◌, drop}
+use Rattle.syntax.specs.Lists.{Every}
+use Rattle.dependence.specs.Followers.{ListsLeads}
+use Rattle.past.specs.Past.{tickets_of}
+use Rattle.past.specs.walking.Marked.{told_tickets}
+use Rattle.past.proofs.listing.list_marked.Given as goal
+
+abbrev pub invariant-loop-index : goal.invariant-loop-index
+invariant-loop-index l = record {
+  tickets : tickets_of l.past ++ told_tickets l.all (drop l.index l.live.live) (drop l.index l.marks) ≡ told_tickets l.all l.live.live l.marks;
+  direct : Every (λ p. ListsLeads l.live.live p.ticket p.follows) l.past;
+}

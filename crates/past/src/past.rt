@@ -1,0 +1,66 @@
+// What is asked: the past of an event, and of the last event that wrote a variable.
+ghost use Rattle.std.specs.Prelude.{IfOk, MatchOption};
+ghost use Rattle.runs.specs.Live.{LastWriter, NoneAt, NoWriter, IsLive};
+ghost use Rattle.std.specs.Prelude.{ℕ};
+ghost use Rattle.past.specs.Past.{ListsPast};
+
+use crate::listing::list_marked;
+use crate::marking::mark_past;
+use dependence::Live;
+use std::alloc::{AllocError, Global};
+use syntax::Items;
+
+/// A live event that another depends on.
+#[derive(Drop)]
+pub struct PastEvent {
+    pub ticket: u64,
+    /// the tickets of the live events that it follows, falling: of those on which it depends directly with no live event between
+    pub follows: Items<u64>,
+}
+
+/// Exactly the live events on which the one of this ticket depends, itself among them, in order of tickets, each with those that
+/// it follows; where not `all` are asked for, of them those that carried a value. `None` where no live event has the ticket. It
+/// takes one sweep over the live events, and is an error if there is no memory.
+pub fn past_of_event(
+    alloc: Global,
+    live: &Live,
+    ticket: u64,
+    all: bool,
+) -> Result<Option<Items<PastEvent>>, AllocError>
+    ensures { IfOk result (λ told. MatchOption told (NoneAt live.now.live ticket) (λ past. ListsPast all live.now.live ticket past)) }
+{
+    match live.index_of(ticket) {
+        Some(_) => Ok(Some(past_of(alloc, live, ticket, all)?)),
+        None => Ok(None),
+    }
+}
+
+/// The same of the last live event that wrote the variable. `None` where no live event wrote it.
+pub fn past_of_variable(
+    alloc: Global,
+    live: &Live,
+    variable: u32,
+    all: bool,
+) -> Result<Option<Items<PastEvent>>, AllocError>
+    ensures { IfOk result (λ told. MatchOption told (NoWriter live.now.live variable) (λ past. (t : ℕ) × LastWriter live.now.live variable t × ListsPast all live.now.live t past)) }
+{
+    match live.last_writer(variable) {
+        Some(ticket) => Ok(Some(past_of(alloc, live, ticket, all)?)),
+        None => Ok(None),
+    }
+}
+
+/// The past of the live event of this ticket.
+fn past_of(
+    alloc: Global,
+    live: &Live,
+    ticket: u64,
+    all: bool,
+) -> Result<Items<PastEvent>, AllocError>
+    requires { IsLive live.now.live ticket }
+    ensures { IfOk result (λ past. ListsPast all live.now.live ticket past) }
+{
+    live.is_sound();
+    let marks = mark_past(alloc, live, ticket)?;
+    list_marked(alloc, live, marks.as_slice(), all)
+}

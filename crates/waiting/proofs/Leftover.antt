@@ -1,0 +1,163 @@
+-- The sides that are left over are those that wait.
+use Rattle.std.proofs.Common.{◌≡◌, ◌⊎◌, ◌↔◌, inl, inr, List, [], ◌∷◌, Bool, true, false, ◌&&◌, ◌||◌, cond, Option, Some, None, refl, sym, ◌∙◌, ap, subst}
+use Rattle.std.specs.List.{filter}
+use Rattle.std.proofs.lemmas.Bool.{and_parts}
+use Rattle.syntax.specs.Lists.{In, Every}
+use Rattle.runs.specs.InOrder.{InOrder}
+use Rattle.runs.specs.Events.{places, places_of}
+use Rattle.runs.specs.Moves.{Place}
+use Rattle.runs.specs.Ready.{ReadyList}
+use Rattle.runs.specs.Steps.{State, Allowed}
+use Rattle.runs.specs.Tests.{same_place}
+use Rattle.runs.specs.declared.event.Event.{Event}
+use Rattle.runs.proofs.Lists.{every-of, every-in}
+use Rattle.offered_sides.specs.Sides.{Offered, OffersExactly, NotBehind}
+use Rattle.offered_sides.specs.declared.side.OfferedSide.{OfferedSide}
+use Rattle.offered_sides.proofs.PlacedSides.{place-true, place-itself}
+use Rattle.waiting.specs.Waits.{Waits, ListsWaiting}
+use Rattle.waiting.specs.Progress.{is_outlet, NoneAllowed, StandsLike}
+use Rattle.waiting.specs.declared.progress.Progress.TheVariants.{GoesOn, Done, Stuck}
+use Rattle.waiting.specs.walking.Among.{is_second, has_place, has_any, left_over, all_outlets, at_rest, progress_of}
+
+or-parts : (a b : Bool) → (a || b) ≡ true → (a ≡ true) ⊎ (b ≡ true)
+or-parts true b h = inl refl
+or-parts false b h = inr h
+
+or-left : (a b : Bool) → a ≡ true → (a || b) ≡ true
+or-left true b h = refl
+or-left false b h = cc
+
+or-right : (a b : Bool) → b ≡ true → (a || b) ≡ true
+or-right true b h = refl
+or-right false b h = h
+
+-- ---- an event has the place
+second-in : (a : Place) (b : Option Place) → is_second a b ≡ true → In a (places_of b)
+second-in a None h = cc
+second-in a (Some b) h = inl (place-true a b h)
+
+in-second : (a : Place) (b : Option Place) → In a (places_of b) → is_second a b ≡ true
+in-second a None i = absurd i
+in-second a (Some b) (inl is) = subst (λ (c : Place). same_place a c ≡ true) is (place-itself a)
+in-second a (Some b) (inr i) = absurd i
+
+has-in : (a : Place) (e : Event) → has_place a e ≡ true → In a (places e)
+has-in a e h = elim (or-parts (same_place a e.first) (is_second a e.second) h) [
+  | inl first ↦ inl (place-true a e.first first)
+  | inr second ↦ inr (second-in a e.second second)
+]
+
+in-has : (a : Place) (e : Event) → In a (places e) → has_place a e ≡ true
+in-has a e i = elim i [
+  | inl is ↦ or-left (same_place a e.first) (is_second a e.second) (subst (λ (c : Place). same_place a c ≡ true) is (place-itself a))
+  | inr later ↦ or-right (same_place a e.first) (is_second a e.second) (in-second a e.second later)
+]
+
+-- ---- one of the events has it
+in-any : (a : Place) (es : List Event) (e : Event) → In e es → In a (places e) → has_any a es ≡ true
+in-any a [] e i j = absurd i
+in-any a (f ∷ es) e (inl is) j = or-left (has_place a f) (has_any a es) (in-has a f (subst (λ (g : Event). In a (places g)) is j))
+in-any a (f ∷ es) e (inr i) j = or-right (has_place a f) (has_any a es) (in-any a es e i j)
+
+any-in : (a : Place) (es : List Event) → has_any a es ≡ true → (e : Event) × In e es × In a (places e)
+any-in a [] h = cc
+any-in a (f ∷ es) h = elim (or-parts (has_place a f) (has_any a es) h) [
+  | inl here ↦ (f, inl refl, has-in a f here)
+  | inr later ↦ let rest = any-in a es later in (rest.0, inr rest.1, rest.2)
+]
+
+-- ---- the sides that are left over
+in-cond : (b : Bool) (x y : OfferedSide) (rest : List OfferedSide) → In x (cond b rest (y ∷ rest)) → ((b ≡ false) × (x ≡ y)) ⊎ In x rest
+in-cond true x y rest i = inr i
+in-cond false x y rest (inl is) = inl (refl, is)
+in-cond false x y rest (inr i) = inr i
+
+cond-here : (b : Bool) (x : OfferedSide) (rest : List OfferedSide) → b ≡ false → In x (cond b rest (x ∷ rest))
+cond-here true x rest h = cc
+cond-here false x rest h = inl refl
+
+cond-later : (b : Bool) (x y : OfferedSide) (rest : List OfferedSide) → In x rest → In x (cond b rest (y ∷ rest))
+cond-later true x y rest i = i
+cond-later false x y rest i = inr i
+
+left-in : (es : List Event) (xs : List OfferedSide) (x : OfferedSide) → In x (left_over es xs) → In x xs × (has_any x.place es ≡ false)
+left-in es [] x i = absurd i
+left-in es (y ∷ xs) x i = elim (in-cond (has_any y.place es) x y (left_over es xs) i) [
+  | inl here ↦ (inl here.1, subst (λ (z : OfferedSide). has_any z.place es ≡ false) (sym here.1) here.0)
+  | inr later ↦ let rest = left-in es xs x later in (inr rest.0, rest.1)
+]
+
+in-left : (es : List Event) (xs : List OfferedSide) (x : OfferedSide) → In x xs → has_any x.place es ≡ false → In x (left_over es xs)
+in-left es [] x i h = absurd i
+in-left es (y ∷ xs) x (inl is) h =
+    subst (λ (z : OfferedSide). In x (cond (has_any y.place es) (left_over es xs) (z ∷ left_over es xs))) is
+    (cond-here (has_any y.place es) x (left_over es xs) (subst (λ (z : OfferedSide). has_any z.place es ≡ false) is h))
+in-left es (y ∷ xs) x (inr i) h = cond-later (has_any y.place es) x y (left_over es xs) (in-left es xs x i h)
+
+cond-order : (b : Bool) (y : OfferedSide) (rest : List OfferedSide) → Every (NotBehind y) rest → InOrder NotBehind rest → InOrder NotBehind (cond b rest (y ∷ rest))
+cond-order true y rest e o = o
+cond-order false y rest e o = (e, o)
+
+left-order : (es : List Event) (xs : List OfferedSide) → InOrder NotBehind xs → InOrder NotBehind (left_over es xs)
+left-order es [] o = tt
+left-order es (y ∷ xs) o =
+    cond-order (has_any y.place es) y (left_over es xs)
+    (every-of (NotBehind y) (left_over es xs) (λ x i. every-in (NotBehind y) xs x o.0 (left-in es xs x i).0))
+    (left-order es xs o.1)
+
+-- what is kept by a test that tells of each element what it is to
+kept-or-left : (b : Bool) (y : OfferedSide) (kept left : List OfferedSide) → kept ≡ left → cond (cond b false true) (y ∷ kept) kept ≡ cond b left (y ∷ left)
+kept-or-left true y kept left is = is
+kept-or-left false y kept left is = ap (λ (l : List OfferedSide). y ∷ l) is
+
+pub left-filter : (es : List Event) (xs : List OfferedSide) → filter (λ (x : OfferedSide). cond (has_any x.place es) false true) xs ≡ left_over es xs
+left-filter es [] = refl
+left-filter es (y ∷ xs) = kept-or-left (has_any y.place es) y _ _ (left-filter es xs)
+
+none-any : (a : Place) (es : List Event) (b : Bool) → has_any a es ≡ b → ((e : Event) → In e es → In a (places e) → ⊥) → b ≡ false
+none-any a es true h none = let found = any-in a es h in absurd (none found.0 found.1 found.2)
+none-any a es false h none = refl
+
+-- of all that is offered, with all that is allowed
+pub lists-waiting : (S : State) (xs : List OfferedSide) (es : List Event) → OffersExactly S xs → InOrder NotBehind xs → ReadyList S es → ListsWaiting S (left_over es xs)
+lists-waiting S xs es offers order ready = record {
+  exactly = λ x. (
+    (λ i.
+        let found = left-in es xs x i in
+        record {
+          offered = (offers.exactly x).0 found.0;
+          alone = λ e a j.
+              let told : has_any x.place es ≡ true = in-any x.place es e ((ready.exactly e).1 a) j in
+              let both : true ≡ false = sym told ∙ found.1 in
+              cc;
+        }),
+    (λ w. in-left es xs x ((offers.exactly x).1 w.offered)
+        (none-any x.place es (has_any x.place es) refl (λ e i j. w.alone e ((ready.exactly e).0 i) j))),
+  );
+  in_order = left-order es xs order;
+}
+
+-- ---- how a state stands
+each-outlet : (xs : List OfferedSide) (x : OfferedSide) → all_outlets xs ≡ true → In x xs → is_outlet x.side ≡ true
+each-outlet [] x h i = absurd i
+each-outlet (y ∷ xs) x h (inl is) = ap (λ (z : OfferedSide). is_outlet z.side) is ∙ (and_parts (is_outlet y.side) (all_outlets xs) h).0
+each-outlet (y ∷ xs) x h (inr i) = each-outlet xs x (and_parts (is_outlet y.side) (all_outlets xs) h).1 i
+
+and-false : (a b : Bool) → (a && b) ≡ false → (a ≡ false) ⊎ (b ≡ false)
+and-false true b h = inr h
+and-false false b h = inl refl
+
+some-other : (xs : List OfferedSide) → all_outlets xs ≡ false → (x : OfferedSide) × In x xs × (is_outlet x.side ≡ false)
+some-other [] h = cc
+some-other (y ∷ xs) h = elim (and-false (is_outlet y.side) (all_outlets xs) h) [
+  | inl here ↦ (y, inl refl, here)
+  | inr later ↦ let rest = some-other xs later in (rest.0, inr rest.1, rest.2)
+]
+
+rests : (S : State) (xs : List OfferedSide) (b : Bool) → all_outlets xs ≡ b → OffersExactly S xs → NoneAllowed S → StandsLike S (at_rest b)
+rests S xs true h offers none = (none, λ x o. each-outlet xs x h ((offers.exactly x).1 o))
+rests S xs false h offers none = let found = some-other xs h in (none, (found.0, (offers.exactly found.0).0 found.1, found.2))
+
+pub stands-like : (S : State) (xs : List OfferedSide) (es : List Event) → OffersExactly S xs → ReadyList S es → StandsLike S (progress_of xs es)
+stands-like S xs [] offers ready = rests S xs (all_outlets xs) refl offers (λ e a. (ready.exactly e).1 a)
+stands-like S xs (e ∷ es) offers ready = (e, (ready.exactly e).0 (inl refl))

@@ -1,0 +1,33 @@
+use Rattle.std.proofs.Common.{◌≡◌, ◌∙◌, List, sym, ap, ap₂, subst}
+use Rattle.runs.specs.Steps.{State}
+use Rattle.runs.specs.Ready.{ReadyList}
+use Rattle.runs.specs.declared.event.Event.{Event}
+use Rattle.offered_sides.specs.Sides.{OffersExactly}
+use Rattle.offered_sides.specs.View.{state_of}
+use Rattle.offered_sides.specs.declared.side.OfferedSide.{OfferedSide}
+use Rattle.waiting.specs.Waits.{ListsWaiting}
+use Rattle.waiting.specs.Progress.{StandsLike}
+use Rattle.waiting.specs.declared.progress.Progress.{Progress}
+use Rattle.waiting.specs.walking.Among.{left_over, progress_of}
+use Rattle.waiting.proofs.Leftover.{lists-waiting, stands-like}
+use Rattle.waiting.proofs.waiting.who_waits.Goals as goal
+
+pub returns : goal.returns
+returns c =
+    let S : State = state_of c.in_ok-state.state.tree c.in_ok-state.state.store in
+    let stands = c.in_ok-state.ensures in
+    let sides : List OfferedSide = c.in_ok-sides.sides in
+    let events : List Event = c.in_ok-events.events in
+    let exact : OffersExactly S sides = c.in_ok-sides.ensures.exactly stands.tidy in
+    let ready = c.in_ok-events.ensures in
+    let one = c.is_sound.ensures.one_state in
+    let same : ready.0 ≡ S = one.2 ready.0 ready.1 ∙ sym (one.2 S stands.reaches) in
+    let list : ReadyList S events = subst (λ (T : State). ReadyList T events) same ready.2 in
+    let left : c.left_over-sides.result ≡ left_over events sides = c.left_over-sides.ensures ∙ ap (λ (es : List Event). left_over es sides) c.as_slice-3.ensures in
+    let told : c.progress_of-progress.result ≡ progress_of sides events =
+    c.progress_of-progress.ensures ∙ ap₂ (λ (xs : List OfferedSide) (es : List Event). progress_of xs es) c.as_slice.ensures c.as_slice-2.ensures in (
+      S,
+      stands.reaches,
+      subst (λ (xs : List OfferedSide). ListsWaiting S xs) (sym left) (lists-waiting S sides events exact (c.in_ok-sides.ensures.in_order stands.tidy) list),
+      subst (λ (p : Progress). StandsLike S p) (sym told) (stands-like S sides events exact list),
+    )

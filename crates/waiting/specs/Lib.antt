@@ -1,0 +1,3 @@
+pub mod Progress
+pub mod Waits
+pub mod walking

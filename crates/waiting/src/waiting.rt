@@ -1,0 +1,50 @@
+// The answer.
+ghost use Rattle.std.specs.Prelude.{IfOk};
+ghost use Rattle.runs.specs.Object.{Reaches};
+ghost use Rattle.runs.specs.Steps.{State};
+ghost use Rattle.machine.specs.AtMachine.{object};
+ghost use Rattle.waiting.specs.Progress.{StandsLike};
+ghost use Rattle.waiting.specs.Waits.{ListsWaiting};
+
+use crate::progress::{Progress, progress_of};
+use crate::replaying::made_again;
+use crate::ring::{all_behind, ring_among};
+use crate::sides::left_over;
+use address::Address;
+use machine::Machine;
+use offered_sides::{OfferedSide, sides_of};
+use std::alloc::{AllocError, Global};
+use syntax::Items;
+
+/// Who waits after a run.
+#[derive(Drop)]
+pub struct Waiting {
+    pub progress: Progress,
+    /// the sides that wait, in order of place
+    pub sides: Items<OfferedSide>,
+    /// for each of them the place that has to go on before its partner can come, if that is known
+    pub behind: Vec<Option<Address>>,
+    /// the indexes of sides of which each waits for the next, and the last for the first; empty where no such ring was found
+    pub ring: Vec<usize>,
+}
+
+/// Exactly the sides that the state of the machine offers and whose place no allowed event has, in order of place, and how the
+/// run stands. It makes the live events again, and then takes one walk of the tree. It is an error if there is no memory.
+pub fn who_waits(alloc: Global, machine: &Machine) -> Result<Waiting, AllocError>
+    ensures { IfOk result (λ told. (S : State) × Reaches (object machine.now) S × ListsWaiting S told.sides × StandsLike S told.progress) }
+{
+    machine.is_sound();
+    let state = made_again(alloc, machine)?;
+    let sides = sides_of(alloc, &state.tree, &state.store)?;
+    let events = machine.ready()?;
+    let progress = progress_of(sides.as_slice(), events.as_slice());
+    let sides = left_over(sides, events.as_slice());
+    let behind = all_behind(alloc, &state.tree, sides.as_slice())?;
+    let ring = ring_among(alloc, sides.as_slice(), behind.as_slice())?;
+    Ok(Waiting {
+        progress,
+        sides,
+        behind,
+        ring,
+    })
+}

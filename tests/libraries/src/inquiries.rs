@@ -1,0 +1,191 @@
+//! What there is, who waits, and why: the answers as text, for the worked examples of docs/semantics.md and for rings.
+
+use crate::examples::{Example, FORK, ONCE, TWO_BUFFERS};
+use machine::Machine;
+use outline::outline_of;
+use past::{past_of_event, past_of_variable, write_past};
+use std::alloc::Global;
+use std::process::Abort;
+use std::test::Fail;
+use trace_file::load_text;
+use waiting::who_waits;
+
+/// Two that each wait for what the other one sends later.
+const PAIR: Example = Example {
+    source: "procedure p is channel c, d : 8 bits variable x, y : 8 bits
+        begin [c -> x ; d <- x] || [d -> y ; c <- y] end",
+    stimulus: "",
+};
+
+/// Five in a circle, each of which waits for the one before it.
+const CIRCLE: Example = Example {
+    source: "procedure cell (input i : 8 bits ; output o : 8 bits) is
+        variable x : 8 bits begin loop i -> x ; o <- x end end
+        procedure p is channel a, b, c, d, e : 8 bits
+        begin cell (a, b) || cell (b, c) || cell (c, d) || cell (d, e) || cell (e, a) end",
+    stimulus: "",
+};
+
+/// One that waits for either of two that have come to their end.
+const CHOICE: Example = Example {
+    source: "procedure p (input a, b : 8 bits ; output o : 8 bits) is
+        begin select a then o <- a | b then o <- b end end",
+    stimulus: "",
+};
+
+/// The example behind the steps of the trace.
+fn loaded(alloc: Global, example: Example, trace: &[u8]) -> Result<Machine, Fail> {
+    Ok(load_text(alloc, example.checked(alloc)?, trace)?)
+}
+
+/// Who waits, as text.
+fn told(alloc: Global, example: Example, trace: &[u8]) -> Result<Vec<u8>, Fail> {
+    let machine = loaded(alloc, example, trace)?;
+    let mut text = Vec::new(alloc);
+    who_waits(alloc, &machine)?.write_to(&machine, &mut text)?;
+    Ok(text)
+}
+
+/// Whether the texts are the same; else the first is shown.
+fn is(rt: &impl Abort, text: &Vec<u8>, wanted: &[u8]) {
+    assert!(rt; text.as_slice() == wanted);
+}
+
+#[test]
+fn a_run_goes_on_while_an_event_is_allowed(rt: HostRuntime) -> Result<(), Fail> {
+    let text = told(rt.alloc(), ONCE, b"balsadbg trace 2\n")?;
+    is(&rt, &text, b"goes on\nwaiting 1\n  /2.0 environment: takes from o, behind /0.0\n");
+    Ok(())
+}
+
+#[test]
+fn a_run_is_done_when_only_outputs_are_offered(rt: HostRuntime) -> Result<(), Fail> {
+    let text = told(rt.alloc(), ONCE, b"balsadbg trace 2\nstep /0.0 0\nstep /2.0 0\n")?;
+    is(&rt, &text, b"done\nwaiting 1\n  /2.1 environment: takes from o\n");
+    Ok(())
+}
+
+#[test]
+fn a_held_sender_waits_for_its_arm(rt: HostRuntime) -> Result<(), Fail> {
+    let text = told(rt.alloc(), FORK, b"balsadbg trace 2\nstep /0.0.0 0\n")?;
+    is(&rt, &text, b"goes on\nwaiting 1\n  /1.0.1 environment: is held on i, behind /0.0.1\n");
+    Ok(())
+}
+
+#[test]
+fn the_second_value_waits_behind_the_first(rt: HostRuntime) -> Result<(), Fail> {
+    let trace = b"balsadbg trace 2\nstep /0.0.0 0\nstep /2.0 0\nstep /3.0 0\n";
+    let text = told(rt.alloc(), FORK, trace)?;
+    let wanted = b"goes on\nwaiting 2\n  /2.1 environment: takes from a\n  /3.1 environment: takes from b\n";
+    is(&rt, &text, wanted);
+    Ok(())
+}
+
+#[test]
+fn two_wait_for_one_another(rt: HostRuntime) -> Result<(), Fail> {
+    let text = told(rt.alloc(), PAIR, b"balsadbg trace 2\n")?;
+    let wanted = b"stuck\nwaiting 2\n  /0/0.0 line 2: receives from c, behind /0/1.0\n  /0/1.0 line 2: receives from d, behind /0/0.0\nring 2\n  /0/0.0\n  /0/1.0\n";
+    is(&rt, &text, wanted);
+    Ok(())
+}
+
+#[test]
+fn five_wait_in_a_circle(rt: HostRuntime) -> Result<(), Fail> {
+    let trace = b"balsadbg trace 2\nstep /0/0.0 0\nstep /0/1.0 0\nstep /0/2.0 0\nstep /0/3.0 0\nstep /0/4.0 0\n";
+    let machine = loaded(rt.alloc(), CIRCLE, trace)?;
+    let told = who_waits(rt.alloc(), &machine)?;
+    assert!(rt; told.sides.len() == 5);
+    assert!(rt; told.ring.as_slice() == [0, 4, 3, 2, 1]);
+    Ok(())
+}
+
+#[test]
+fn arms_wait_for_inputs_that_have_no_values(rt: HostRuntime) -> Result<(), Fail> {
+    let text = told(rt.alloc(), CHOICE, b"balsadbg trace 2\n")?;
+    let wanted = b"stuck\nwaiting 3\n  /0.0 line 2: opens arm 0 on a\n  /0.0 line 2: opens arm 1 on b\n  /3.0 environment: takes from o, behind /0\n";
+    is(&rt, &text, wanted);
+    Ok(())
+}
+
+/// The two buffers behind four steps: both turn, and the value goes on to the second.
+const FOUR: &[u8] =
+    b"balsadbg trace 2\nstep /0/0.0 0\nstep /0/0.1.0 0\nstep /0/1.0 0\nstep /0/1.1.0 0\n";
+
+#[test]
+fn a_value_has_a_past(rt: HostRuntime) -> Result<(), Fail> {
+    let alloc = rt.alloc();
+    let machine = loaded(alloc, TWO_BUFFERS, FOUR)?;
+    let Some(past) = past_of_variable(alloc, machine.live_events(), 1, false)? else {
+        return Err(Fail::from(std::alloc::AllocError));
+    };
+    let mut text = Vec::new(alloc);
+    write_past(alloc, &mut text, machine.checked(), machine.live_events(), past.as_slice())?;
+    let wanted = b"  2 line 2: a carries 5 into 1:x, after 1\n  4 line 2: c carries 5 into 2:x, reads 1:x 5, after 2 3\n";
+    is(&rt, &text, wanted);
+    Ok(())
+}
+
+#[test]
+fn the_whole_past_has_turns_too(rt: HostRuntime) -> Result<(), Fail> {
+    let alloc = rt.alloc();
+    let machine = loaded(alloc, TWO_BUFFERS, FOUR)?;
+    let Some(past) = past_of_event(alloc, machine.live_events(), 4, true)? else {
+        return Err(Fail::from(std::alloc::AllocError));
+    };
+    let mut tickets = Vec::new(alloc);
+    for event in past.as_slice() {
+        tickets.push(event.ticket)?;
+    }
+    assert!(rt; tickets.as_slice() == [1, 2, 3, 4]);
+    let Some(short) = past_of_event(alloc, machine.live_events(), 3, true)? else {
+        return Err(Fail::from(std::alloc::AllocError));
+    };
+    assert!(rt; short.len() == 1);
+    Ok(())
+}
+
+#[test]
+fn what_was_never_written_has_no_past(rt: HostRuntime) -> Result<(), Fail> {
+    let alloc = rt.alloc();
+    let machine = loaded(alloc, TWO_BUFFERS, b"balsadbg trace 2\n")?;
+    let none = past_of_variable(alloc, machine.live_events(), 0, true)?;
+    assert!(rt; none.is_none());
+    let none = past_of_event(alloc, machine.live_events(), 1, true)?;
+    assert!(rt; none.is_none());
+    Ok(())
+}
+
+#[test]
+fn branches_and_names_have_their_numbers(rt: HostRuntime) -> Result<(), Fail> {
+    let alloc = rt.alloc();
+    let checked = TWO_BUFFERS.checked(alloc)?;
+    let mut text = Vec::new(alloc);
+    outline_of(alloc, &checked)?.write_to(&mut text)?;
+    let wanted = b"branches 4
+  0 /0/0 line 2
+    receives a line 2
+    sends c line 2
+  1 /0/1 line 2
+    receives c line 2
+    sends b line 2
+  2 /1 environment
+    sends a
+  3 /2 environment
+    receives b
+variables 2
+  1:x 8 bits
+  2:x 8 bits
+channels 3
+  a 8 bits
+    receives, branch 0 line 2
+    sends, branch 2
+  b 8 bits
+    sends, branch 1 line 2
+    receives, branch 3
+  c 8 bits
+    sends, branch 0 line 2
+    receives, branch 1 line 2
+";
+    is(&rt, &text, wanted);
+    Ok(())
+}
