@@ -6,7 +6,6 @@ mod files;
 mod help;
 mod request;
 mod running;
-mod streams;
 mod telling;
 
 use debug_session::{Counted, Fault};
@@ -15,7 +14,6 @@ use running::run;
 use std::io::{BufReader, ErrorKind, Stdin, Write};
 use std::process::ExitCode;
 use std::{env, io};
-use streams::Devices;
 use telling::write_fault;
 
 /// What the system gives to a run: its words and its standard input.
@@ -34,12 +32,19 @@ impl Given {
 }
 
 fn main(rt: HostRuntime) -> ExitCode {
-    let out = Counted::new(rt.stdout());
+    let mut out = Counted::new(rt.stdout());
     let mut err = Counted::new(rt.stderr());
     match Given::by(&rt) {
-        Ok(Given { words, reader }) => {
-            let mut devices = Devices { reader, out, err };
-            let status = run(&rt, words.as_slice(), &Disk::new(&rt), &mut devices);
+        Ok(Given { words, mut reader }) => {
+            let files = Disk::new(&rt);
+            let status = run(
+                &rt,
+                words.as_slice(),
+                &files,
+                &mut reader,
+                &mut out,
+                &mut err,
+            );
             ExitCode::from(status)
         }
         Err(error) if error.kind() == ErrorKind::InvalidData => {

@@ -12,7 +12,6 @@ ghost use Rattle.command_line.specs.Words.{AreMistaken, AskFor, AskForHelp, AskF
 use crate::answering::{check, read_texts, replay_files, work_files};
 use crate::files::Files;
 use crate::request::{Request, requested};
-use crate::streams::Devices;
 use crate::telling::{tell, write_fault};
 use clap::Error;
 use clap::error::ErrorKind;
@@ -108,19 +107,21 @@ pub fn serve<W: AllocGlobal + Threads + Wait + Sync, F: Files, I: Read, O: Write
     rt: &W,
     request: Request<'_>,
     files: &F,
-    devices: &mut Devices<I, O, E>,
+    reader: &mut Counted<BufReader<I>>,
+    out: &mut Counted<O>,
+    err: &mut Counted<E>,
 ) -> Ended
     ensures served { (done : Outcome)
         × Serves (F.holds files.now) request.entry
-        (used (reader_remaining I.remaining) devices.old.reader devices.new.reader)
-        (used O.contents devices.old.out devices.new.out) done
+        (used (reader_remaining I.remaining) reader.old reader.new)
+        (used O.contents out.old out.new) done
         × (result.status ≡ status_of done)
-        × Tells (told_text done) (used E.contents devices.old.err devices.new.err) result.told }
+        × Tells (told_text done) (used E.contents err.old err.new) result.told }
     ensures status { result.status ≤ 1 }
-    ensures quiet { result.status ≡ 0 → devices.new.err ≡ devices.old.err }
+    ensures quiet { result.status ≡ 0 → err.new ≡ err.old }
 {
-    let done = perform(rt, request, files, &mut devices.reader, &mut devices.out);
-    finish(done, &mut devices.err)
+    let done = perform(rt, request, files, reader, out);
+    finish(done, err)
 }
 
 /// The text of an error that is no want of memory, which is not empty.
@@ -190,22 +191,24 @@ pub fn run<R: AllocGlobal + Threads + Wait + Sync, S: AsStr, F: Files, I: Read, 
     rt: &R,
     words: &[S],
     files: &F,
-    devices: &mut Devices<I, O, E>,
+    reader: &mut Counted<BufReader<I>>,
+    out: &mut Counted<O>,
+    err: &mut Counted<E>,
 ) -> u8
     ensures run { ServesAsked (AskFor (map S.text words.now)) (F.holds files.now) result
-        (used (reader_remaining I.remaining) devices.old.reader devices.new.reader)
-        (used O.contents devices.old.out devices.new.out) (used E.contents devices.old.err devices.new.err)
-        ⊎ ((devices.new.reader ≡ devices.old.reader)
+        (used (reader_remaining I.remaining) reader.old reader.new)
+        (used O.contents out.old out.new) (used E.contents err.old err.new)
+        ⊎ ((reader.new ≡ reader.old)
         × Explains (AskForSome (map S.text words.now) → ⊥)
         (AreMistaken (map S.text words.now)) (AskForHelp (map S.text words.now)) result
-        (used O.contents devices.old.out devices.new.out) (used E.contents devices.old.err devices.new.err)) }
+        (used O.contents out.old out.new) (used E.contents err.old err.new)) }
     ensures status { result ≤ 2 }
-    ensures mistake { result ≡ 2 → devices.new.out ≡ devices.old.out }
-    ensures unread { result ≡ 2 → devices.new.reader ≡ devices.old.reader }
-    ensures quiet { result ≡ 0 → devices.new.err ≡ devices.old.err }
+    ensures mistake { result ≡ 2 → out.new ≡ out.old }
+    ensures unread { result ≡ 2 → reader.new ≡ reader.old }
+    ensures quiet { result ≡ 0 → err.new ≡ err.old }
 {
     match requested(rt.alloc(), words) {
-        Ok(request) => serve(rt, request, files, devices).status,
-        Err(error) => explain(rt.alloc(), &error, &mut devices.out, &mut devices.err),
+        Ok(request) => serve(rt, request, files, reader, out, err).status,
+        Err(error) => explain(rt.alloc(), &error, out, err),
     }
 }

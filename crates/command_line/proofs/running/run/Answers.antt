@@ -8,7 +8,7 @@ pub returns-in-Err-clause-run : goal.returns-in-Err-clause-run
 returns-in-Err-clause-run g c = inr (
   refl,
   explains-words (map g.S.AsStr.text c.args.words.now) (kind_of c.in-Err.error) c.explain.result
-      (used g.O.Write.contents c.args.devices.now.out c.explain.new.out)
-      (used g.E.Write.contents c.args.devices.now.err c.explain.new.err)
+      (used g.O.Write.contents c.args.out.now c.explain.new.out)
+      (used g.E.Write.contents c.args.err.now c.explain.new.err)
       c.in-Err.ensures.refused c.in-Err.ensures.fault c.explain.ensures.explained,
 )
