@@ -1,6 +1,6 @@
 //! What each refusal means: its number, its name, a line, and a page with an example and the usual causes.
 //!
-//! `--help`, `balsadbg explain N` and docs/reference/refusals.md are made of these pages.
+//! A help text, the answer to a question about one number and a document of all can be made of these pages.
 #![tactic(auto)]
 
 mod answers;

@@ -53,7 +53,10 @@ fn each_number_has_a_page(rt: HostRuntime) -> Result<(), Fail> {
 #[test]
 fn a_word_that_cannot_stand_is_told(rt: HostRuntime) -> Result<(), Fail> {
     let text = told(rt.alloc(), 5, 15, b"procedure p is begni halt end")?;
-    assert_eq!(rt; text.as_str(), "p:1:16: `begni` cannot stand here: expected `begin`, `channel`, `shared`, `sync` or `variable`\n  1 | procedure p is begni halt end\n    |                ^^^^^\n  help: did you mean `begin`?\n");
+    assert_eq!(rt;
+        text.as_str(),
+        "p:1:16: `begni` cannot stand here: expected `begin`, `channel`, `shared`, `sync` or `variable`\n  1 | procedure p is begni halt end\n    |                ^^^^^\n  help: did you mean `begin`?\n"
+    );
     Ok(())
 }
 
@@ -61,7 +64,10 @@ fn a_word_that_cannot_stand_is_told(rt: HostRuntime) -> Result<(), Fail> {
 fn widths_are_told(rt: HostRuntime) -> Result<(), Fail> {
     let source = b"procedure p is variable x : 8 bits begin x := 255 + 1 end";
     let text = told(rt.alloc(), 10, 46, source)?;
-    assert_eq!(rt; text.as_str(), "p:1:47: `255 + 1` is 9 bits wide, and `x` has 8\n  1 | procedure p is variable x : 8 bits begin x := 255 + 1 end\n    |                         -                     ^^^^^^^\n    |                         declared here\n  help: cut it by `(255 + 1 as 8 bits)`, or make `x` wider\n");
+    assert_eq!(rt;
+        text.as_str(),
+        "p:1:47: `255 + 1` is 9 bits wide, and `x` has 8\n  1 | procedure p is variable x : 8 bits begin x := 255 + 1 end\n    |                         -                     ^^^^^^^\n    |                         declared here\n  help: cut it by `(255 + 1 as 8 bits)`, or make `x` wider\n"
+    );
     Ok(())
 }
 
@@ -69,7 +75,11 @@ fn widths_are_told(rt: HostRuntime) -> Result<(), Fail> {
 fn two_uses_that_clash_are_told(rt: HostRuntime) -> Result<(), Fail> {
     let source = b"procedure p is variable x, y : 8 bits begin x := 1 || y := x end";
     let text = told(rt.alloc(), 15, 44, source)?;
-    assert!(rt; text.as_str().contains("    |                                             ^              - and read here\n"));
+    assert!(rt;
+        text.as_str().contains(
+            "    |                                             ^              - and read here\n"
+        )
+    );
     let source = b"procedure p is sync s begin sync s || sync s || sync s end";
     let text = told(rt.alloc(), 16, 20, source)?;
     assert!(rt; text.as_str().contains("`s` has three syncs at one time\n"));
@@ -79,7 +89,12 @@ fn two_uses_that_clash_are_told(rt: HostRuntime) -> Result<(), Fail> {
 /// A source, a number and an offset that have nothing to do with one another.
 #[test]
 fn a_fault_of_another_source_is_told_somehow(rt: HostRuntime) -> Result<(), Fail> {
-    let sources: [&[u8]; 4] = [b"", b"procedure", b"procedure p is begin halt end", b"\xff\n\r"];
+    let sources: [&[u8]; 4] = [
+        b"",
+        b"procedure",
+        b"procedure p is begin halt end",
+        b"\xff\n\r",
+    ];
     for source in sources {
         for number in NUMBERS {
             told(rt.alloc(), number, 10, source)?;

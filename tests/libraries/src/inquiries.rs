@@ -54,21 +54,37 @@ fn is(rt: &impl Abort, text: &Vec<u8>, wanted: &[u8]) {
 #[test]
 fn a_run_goes_on_while_an_event_is_allowed(rt: HostRuntime) -> Result<(), Fail> {
     let text = told(rt.alloc(), ONCE, b"balsadbg trace 2\n")?;
-    is(&rt, &text, b"goes on\nwaiting 1\n  /2.0 environment: takes from o, behind /0.0\n");
+    is(
+        &rt,
+        &text,
+        b"goes on\nwaiting 1\n  /2.0 environment: takes from o, behind /0.0\n",
+    );
     Ok(())
 }
 
 #[test]
 fn a_run_is_done_when_only_outputs_are_offered(rt: HostRuntime) -> Result<(), Fail> {
-    let text = told(rt.alloc(), ONCE, b"balsadbg trace 2\nstep /0.0 0\nstep /2.0 0\n")?;
-    is(&rt, &text, b"done\nwaiting 1\n  /2.1 environment: takes from o\n");
+    let text = told(
+        rt.alloc(),
+        ONCE,
+        b"balsadbg trace 2\nstep /0.0 0\nstep /2.0 0\n",
+    )?;
+    is(
+        &rt,
+        &text,
+        b"done\nwaiting 1\n  /2.1 environment: takes from o\n",
+    );
     Ok(())
 }
 
 #[test]
 fn a_held_sender_waits_for_its_arm(rt: HostRuntime) -> Result<(), Fail> {
     let text = told(rt.alloc(), FORK, b"balsadbg trace 2\nstep /0.0.0 0\n")?;
-    is(&rt, &text, b"goes on\nwaiting 1\n  /1.0.1 environment: is held on i, behind /0.0.1\n");
+    is(
+        &rt,
+        &text,
+        b"goes on\nwaiting 1\n  /1.0.1 environment: is held on i, behind /0.0.1\n",
+    );
     Ok(())
 }
 
@@ -76,7 +92,8 @@ fn a_held_sender_waits_for_its_arm(rt: HostRuntime) -> Result<(), Fail> {
 fn the_second_value_waits_behind_the_first(rt: HostRuntime) -> Result<(), Fail> {
     let trace = b"balsadbg trace 2\nstep /0.0.0 0\nstep /2.0 0\nstep /3.0 0\n";
     let text = told(rt.alloc(), FORK, trace)?;
-    let wanted = b"goes on\nwaiting 2\n  /2.1 environment: takes from a\n  /3.1 environment: takes from b\n";
+    let wanted =
+        b"goes on\nwaiting 2\n  /2.1 environment: takes from a\n  /3.1 environment: takes from b\n";
     is(&rt, &text, wanted);
     Ok(())
 }
@@ -84,25 +101,28 @@ fn the_second_value_waits_behind_the_first(rt: HostRuntime) -> Result<(), Fail> 
 #[test]
 fn two_wait_for_one_another(rt: HostRuntime) -> Result<(), Fail> {
     let text = told(rt.alloc(), PAIR, b"balsadbg trace 2\n")?;
-    let wanted = b"stuck\nwaiting 2\n  /0/0.0 line 2: receives from c, behind /0/1.0\n  /0/1.0 line 2: receives from d, behind /0/0.0\nring 2\n  /0/0.0\n  /0/1.0\n";
+    let wanted =
+        b"stuck\nwaiting 2\n  /0/0.0 line 2: receives from c, behind /0/1.0\n  /0/1.0 line 2: receives from d, behind /0/0.0\nring 2\n  /0/0.0\n  /0/1.0\n";
     is(&rt, &text, wanted);
     Ok(())
 }
 
 #[test]
 fn five_wait_in_a_circle(rt: HostRuntime) -> Result<(), Fail> {
-    let trace = b"balsadbg trace 2\nstep /0/0.0 0\nstep /0/1.0 0\nstep /0/2.0 0\nstep /0/3.0 0\nstep /0/4.0 0\n";
+    let trace =
+        b"balsadbg trace 2\nstep /0/0.0 0\nstep /0/1.0 0\nstep /0/2.0 0\nstep /0/3.0 0\nstep /0/4.0 0\n";
     let machine = loaded(rt.alloc(), CIRCLE, trace)?;
     let told = who_waits(rt.alloc(), &machine)?;
     assert!(rt; told.sides.len() == 5);
-    assert!(rt; told.ring.as_slice() == [0, 4, 3, 2, 1]);
+    assert!(rt; told.ring.as_slice() == [0, 4, 3, 2, 1].as_slice());
     Ok(())
 }
 
 #[test]
 fn arms_wait_for_inputs_that_have_no_values(rt: HostRuntime) -> Result<(), Fail> {
     let text = told(rt.alloc(), CHOICE, b"balsadbg trace 2\n")?;
-    let wanted = b"stuck\nwaiting 3\n  /0.0 line 2: opens arm 0 on a\n  /0.0 line 2: opens arm 1 on b\n  /3.0 environment: takes from o, behind /0\n";
+    let wanted =
+        b"stuck\nwaiting 3\n  /0.0 line 2: opens arm 0 on a\n  /0.0 line 2: opens arm 1 on b\n  /3.0 environment: takes from o, behind /0\n";
     is(&rt, &text, wanted);
     Ok(())
 }
@@ -119,8 +139,15 @@ fn a_value_has_a_past(rt: HostRuntime) -> Result<(), Fail> {
         return Err(Fail::from(std::alloc::AllocError));
     };
     let mut text = Vec::new(alloc);
-    write_past(alloc, &mut text, machine.checked(), machine.live_events(), past.as_slice())?;
-    let wanted = b"  2 line 2: a carries 5 into 1:x, after 1\n  4 line 2: c carries 5 into 2:x, reads 1:x 5, after 2 3\n";
+    write_past(
+        alloc,
+        &mut text,
+        machine.checked(),
+        machine.live_events(),
+        past.as_slice(),
+    )?;
+    let wanted =
+        b"  2 line 2: a carries 5 into 1:x, after 1\n  4 line 2: c carries 5 into 2:x, reads 1:x 5, after 2 3\n";
     is(&rt, &text, wanted);
     Ok(())
 }
@@ -136,7 +163,7 @@ fn the_whole_past_has_turns_too(rt: HostRuntime) -> Result<(), Fail> {
     for event in past.as_slice() {
         tickets.push(event.ticket)?;
     }
-    assert!(rt; tickets.as_slice() == [1, 2, 3, 4]);
+    assert!(rt; tickets.as_slice() == [1, 2, 3, 4].as_slice());
     let Some(short) = past_of_event(alloc, machine.live_events(), 3, true)? else {
         return Err(Fail::from(std::alloc::AllocError));
     };
