@@ -6,6 +6,7 @@ from dataclasses import dataclass, field
 OPEN_GOAL = re.compile(r"note: (\S+?):(\d+):\d+: .*?not proved.*? \(`([^`]+)`\)")
 ERROR = re.compile(r"(?:\./)?((?:src|specs|proofs)/\S+?):(\d+):\d+: error\b:? ?(.*)")
 FUNCTION = re.compile(r"fn (\S+): (.*)")
+OTHER = re.compile(r"((?:impl|struct|enum|trait) \S+): (.*)")
 # A proof file that names what an edit took away, and what cites such a proof.
 NAMES_ALONE = re.compile(r"has no field|is not in scope|has no `|was not admitted")
 # What stands on something that was refused elsewhere, and says nothing of its own.
@@ -35,8 +36,8 @@ class Error:
 
 
 @dataclass
-class OfFunction:
-    """The line of the check on one function, with the goals that were left open in it."""
+class Told:
+    """The line of the check on one function, or on an `impl` or a type, with the goals that were left open in it."""
 
     name: str
     text: str
@@ -52,7 +53,8 @@ class Check:
 
     status: int
     lines: list[str]
-    functions: dict[str, OfFunction] = field(default_factory=dict)
+    functions: dict[str, Told] = field(default_factory=dict)
+    others: list[Told] = field(default_factory=list)
     errors: list[Error] = field(default_factory=list)
 
     def last(self) -> str:
@@ -71,7 +73,10 @@ def read(status: int, said: str) -> Check:
         elif error := ERROR.match(line):
             check.errors.append(Error(error[1], int(error[2]), error[3]))
         elif function := FUNCTION.match(line):
-            check.functions[function[1]] = OfFunction(function[1], function[2], goals)
+            check.functions[function[1]] = Told(function[1], function[2], goals)
+            goals = []
+        elif other := OTHER.match(line):
+            check.others.append(Told(other[1], other[2], goals))
             goals = []
     return check
 
