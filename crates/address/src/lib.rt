@@ -2,7 +2,7 @@
 //! sequence, which are apart in a parallel, one total order of all, and their text.
 #![tactic(auto)]
 
-ghost use Rattle.std.specs.Prelude.{◌≡◌, ◌↔◌, IsTrue, IfOk};
+ghost use Rattle.std.specs.Prelude.{◌≡◌, ◌↔◌, ◌++◌, ◌∷◌, [], IsTrue, IfOk, IfErr};
 
 mod laws;
 mod order;
@@ -10,6 +10,7 @@ mod text;
 
 pub use laws::{compare_laws, place_laws, text_laws};
 pub use order::{before, compare};
+use smallvec::SmallVec;
 use std::alloc::{AllocError, Global};
 use std::marker::Model;
 pub use text::{read, read_entry};
@@ -23,11 +24,20 @@ pub enum Entry {
     Branch(u32),
 }
 
+/// The first of all, since a list that keeps short ones in itself needs some entry where none stands yet.
+impl Default for Entry {
+    fn default() -> Entry {
+        Entry::Ordered(0)
+    }
+}
+
 /// A place in a tree of nested sequences and parallels, which contracts see as the list of its
 /// entries from the root. The empty list is the root.
+///
+/// One of up to 5 entries takes no memory of its own.
 #[derive(Debug, Drop)]
 pub struct Address {
-    entries: Vec<Entry>,
+    entries: SmallVec<Entry, 5>,
 }
 
 impl Model for Address {
@@ -40,19 +50,45 @@ impl Model for Address {
 }
 
 impl Address {
+    /// The address with these entries. It is an error if there is no memory for more than 5.
+    pub fn new(alloc: Global, entries: &[Entry]) -> Result<Address, AllocError>
+        ensures { IfOk result (λ made. made ≡ entries.now) }
+    {
+        let entries = SmallVec::from_slice(alloc, entries)?;
+        Ok(Address { entries })
+    }
+
+    /// The address with these entries and `last` behind them. It is an error if there is no memory for more than 5.
+    pub fn below(alloc: Global, entries: &[Entry], last: Entry) -> Result<Address, AllocError>
+        ensures { IfOk result (λ made. made ≡ entries.now ++ last ∷ []) }
+    {
+        let mut made = SmallVec::with_capacity(alloc, entries.len().saturating_add(1))?;
+        made.extend_from_slice(entries)?;
+        made.push(last)?;
+        Ok(Address { entries: made })
+    }
+
     /// The address with the entries of `entries`, with no new memory.
     pub fn from_vec(entries: Vec<Entry>) -> Address
         ensures { result ≡ entries.items }
     {
-        Address { entries }
+        Address {
+            entries: SmallVec::from_vec(entries),
+        }
     }
 
-    /// The vector of the entries, with no new memory.
-    pub fn into_vec(self) -> Vec<Entry>
-        ensures { result.items ≡ self }
+    /// The vector of the entries. Where they stand in the address itself and there is no memory, it is given back.
+    pub fn into_vec(self) -> Result<Vec<Entry>, Address>
+        ensures ok { IfOk result (λ made. made.items ≡ self) }
+        ensures err { IfErr result (λ left. left ≡ self) }
     {
         let Address { entries } = self;
-        entries
+        match entries.into_vec() {
+            Ok(entries) => Ok(entries),
+            Err(failed) => Err(Address {
+                entries: failed.value,
+            }),
+        }
     }
 
     /// The entries from the root.
@@ -66,8 +102,7 @@ impl Address {
     pub fn copy(&self, alloc: Global) -> Result<Address, AllocError>
         ensures { IfOk result (λ made. made ≡ self.now) }
     {
-        let entries = Vec::from_slice(alloc, self.entries())?;
-        Ok(Address { entries })
+        Address::new(alloc, self.entries())
     }
 
     /// Whether both have the same entries.

@@ -38,8 +38,8 @@ unmakable source stimulus procedures (no_system.BadStimulus line) typed h = (pro
 pub unshared : (source stimulus : List ℕ) (system : System) (fault : sharing_check.Fault) → Makes source stimulus system
     → sharing.Refuses system fault → IsRefused source stimulus (of_sharing fault)
 unshared source stimulus system not_shared.Memory made refused = tt
-unshared source stimulus system (not_shared.Shared offset) made refused = (λ e. cc, (system, made, refused))
-unshared source stimulus system (not_shared.Width offset) made refused = (λ e. cc, (system, made, refused))
+unshared source stimulus system (not_shared.SharedVariable offset) made refused = (λ e. cc, (system, made, refused))
+unshared source stimulus system (not_shared.SharedChannel offset) made refused = (λ e. cc, (system, made, refused))
 
 -- a fault that was handed on is what it was made of
 pub told : {A : Type 0} (r : Result A Fault) (fault : Fault) (P : Fault → Type 0) → IsErrAnd r (λ given. given ≡ fault) → P fault → IfErr r P

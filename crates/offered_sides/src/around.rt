@@ -134,8 +134,7 @@ impl Around {
     pub fn add(&mut self, alloc: Global, side: Side) -> Result<(), AllocError>
         ensures { OnOk result (self.new ≡ added (side_at [] side ∷ []) self.old) }
     {
-        let entries = Vec::from_slice(alloc, self.entries.as_slice())?;
-        let place = Address::from_vec(entries);
+        let place = Address::new(alloc, self.entries.as_slice())?;
         self.found.push(OfferedSide { place, side })
     }
 
@@ -143,9 +142,8 @@ impl Around {
     pub fn add_act(&mut self, alloc: Global, act: u64, side: Side) -> Result<(), AllocError>
         ensures { OnOk result (self.new ≡ added (side_at (Entry.Ordered act ∷ []) side ∷ []) self.old) }
     {
-        let mut entries = Vec::from_slice(alloc, self.entries.as_slice())?;
-        entries.push(Entry::Ordered(small(act)?))?;
-        let place = Address::from_vec(entries);
+        let last = Entry::Ordered(small(act)?);
+        let place = Address::below(alloc, self.entries.as_slice(), last)?;
         self.found.push(OfferedSide { place, side })
     }
 }

@@ -171,7 +171,7 @@ fn outer(channel: u32, way: Way) -> End
 fn place_of(alloc: Global, entries: &[Entry]) -> Result<Address, AllocError>
     ensures { IfOk result (λ made. made ≡ entries.now) }
 {
-    Ok(Address::from_vec(Vec::from_slice(alloc, entries)?))
+    Address::new(alloc, entries)
 }
 
 /// The number in 32 bits. It is an error if it has more, which no description reaches that fits into the limits of size.

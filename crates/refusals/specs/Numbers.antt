@@ -45,5 +45,5 @@ elaborate_number (no_system.BadStimulus line) = 51
 -- a fault of the rule on sharing
 abbrev pub sharing_number : sharing.Fault → ℕ
 sharing_number not_shared.Memory = 1
-sharing_number (not_shared.Shared offset) = 15
-sharing_number (not_shared.Width offset) = 16
+sharing_number (not_shared.SharedVariable offset) = 15
+sharing_number (not_shared.SharedChannel offset) = 16

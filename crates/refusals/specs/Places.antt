@@ -45,5 +45,5 @@ elaborate_line (no_system.BadStimulus line) = Some line
 -- a fault of the rule on sharing
 abbrev pub sharing_offset : sharing.Fault → Option ℕ
 sharing_offset not_shared.Memory = None
-sharing_offset (not_shared.Shared offset) = Some offset
-sharing_offset (not_shared.Width offset) = Some offset
+sharing_offset (not_shared.SharedVariable offset) = Some offset
+sharing_offset (not_shared.SharedChannel offset) = Some offset

@@ -14,11 +14,11 @@ pub enum Fault {
     /// One branch of a parallel writes a variable that another branch uses. The name there is the first use that takes
     /// part.
     #[error("the variable at offset {0} is used in one branch and written in another")]
-    Shared(u64),
+    SharedVariable(u64),
     /// More branches than may use a channel at one time use the one that is declared there: two senders, two receivers,
     /// or three users of a channel without data. The environment counts as a branch.
     #[error("too many branches use the channel that is declared at offset {0}")]
-    Width(u64),
+    SharedChannel(u64),
 }
 
 impl Fault {
@@ -28,8 +28,8 @@ impl Fault {
     {
         match self {
             Fault::Memory => 1,
-            Fault::Shared(_) => 15,
-            Fault::Width(_) => 16,
+            Fault::SharedVariable(_) => 15,
+            Fault::SharedChannel(_) => 16,
         }
     }
 
@@ -39,7 +39,7 @@ impl Fault {
     {
         match self {
             Fault::Memory => None,
-            Fault::Shared(offset) | Fault::Width(offset) => Some(*offset),
+            Fault::SharedVariable(offset) | Fault::SharedChannel(offset) => Some(*offset),
         }
     }
 }

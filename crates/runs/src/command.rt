@@ -1,9 +1,9 @@
-ghost use Rattle.std.specs.Prelude.{◌≡◌, Some};
-ghost use Rattle.runs.specs.Refusals.{refusal_number, refusal_message};
+ghost use Rattle.std.specs.Prelude.{◌≡◌};
+ghost use Rattle.runs.specs.Refusals.{refusal_number};
 
 use crate::{Choice, Event};
-use std::fmt;
 use syntax::Items;
+use thiserror::Error;
 use value::Value;
 
 /// The most events that may be live at one time.
@@ -59,25 +59,34 @@ pub enum Reply {
 }
 
 /// Why a command was refused. A refusal changes nothing.
-#[derive(Clone, Copy, Debug, PartialEq, Eq)]
+#[derive(Clone, Copy, Debug, PartialEq, Eq, Error)]
 pub enum Refusal {
     /// there was no memory for it
+    #[error("there is no memory left")]
     Memory,
     /// no event with this choice may be taken now
+    #[error("no event may be taken there now")]
     NotReady,
     /// as many events are live as may be
+    #[error("as many events are live as may be")]
     HistoryFull,
     /// no live event has this ticket
+    #[error("no live event has this ticket")]
     NoSuchEvent,
     /// the live event of this ticket depends on it; no lesser one does
+    #[error("event {0} depends on it")]
     NeededBy(u64),
     /// no live event wrote the variable, or there is no such variable
+    #[error("no live event wrote this variable")]
     NeverWritten,
     /// no ticket is left
+    #[error("no ticket is left")]
     Spent,
     /// as many lines have a breakpoint as may have one
+    #[error("as many lines have a breakpoint as may have one")]
     BreaksFull,
     /// no command begins on this line
+    #[error("no command begins on this line")]
     NoSuchLine,
 }
 
@@ -96,24 +105,6 @@ impl Refusal {
             Refusal::Spent => 26,
             Refusal::BreaksFull => 27,
             Refusal::NoSuchLine => 28,
-        }
-    }
-}
-
-impl fmt::Display for Refusal {
-    ghost output = { λ r. Some (refusal_message r) };
-
-    fn fmt<W: fmt::Write>(&self, f: &mut fmt::Formatter<W>) -> fmt::Result {
-        match self {
-            Refusal::Memory => f.write_str("there is no memory left"),
-            Refusal::NotReady => f.write_str("no event may be taken there now"),
-            Refusal::HistoryFull => f.write_str("as many events are live as may be"),
-            Refusal::NoSuchEvent => f.write_str("no live event has this ticket"),
-            Refusal::NeededBy(ticket) => write!(f, "event {ticket} depends on it"),
-            Refusal::NeverWritten => f.write_str("no live event wrote this variable"),
-            Refusal::Spent => f.write_str("no ticket is left"),
-            Refusal::BreaksFull => f.write_str("as many lines have a breakpoint as may have one"),
-            Refusal::NoSuchLine => f.write_str("no command begins on this line"),
         }
     }
 }

@@ -3,7 +3,7 @@ use Rattle.std.specs.Prelude.{ℕ, ◌≡◌, ◌⊎◌, ◌≤◌, ◌<◌, tru
 use Rattle.system.specs.declared.system.System.{System}
 use Rattle.sharing_check.specs.Rule.{SharesWell, is_sync, is_shared, width, sender_on, receiver_on, user_on}
 use Rattle.refusals.specs.declared.sharing_check.Fault.{Fault}
-use Rattle.refusals.specs.declared.sharing_check.Fault.TheVariants.{Memory, Shared, Width}
+use Rattle.refusals.specs.declared.sharing_check.Fault.TheVariants.{Memory, SharedVariable, SharedChannel}
 use Rattle.syntax.specs.Lists.{In}
 use Rattle.address.specs.Places.{Apart}
 use Rattle.system.specs.declared.system.Channel.{Channel}
@@ -59,5 +59,5 @@ pub record Accepts (system : System) : Type 0 where
 -- what is found against the system: clashes go before widths, and the least offset tells
 abbrev pub Refuses : System → Fault → Type 0
 Refuses system Memory = Unit {0}
-Refuses system (Shared offset) = Least (ClashesAt system) offset
-Refuses system (Width offset) = NoClash system × Least (PassesAt system) offset
+Refuses system (SharedVariable offset) = Least (ClashesAt system) offset
+Refuses system (SharedChannel offset) = NoClash system × Least (PassesAt system) offset

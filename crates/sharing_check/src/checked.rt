@@ -72,10 +72,10 @@ pub fn check_sharing(alloc: Global, system: System) -> Result<Checked, Fault>
     ensures refused { IfErr result (λ fault. Refuses system fault) }
 {
     if let Some(offset) = least_clash(alloc, &system)? {
-        return Err(Fault::Shared(offset));
+        return Err(Fault::SharedVariable(offset));
     }
     if let Some(offset) = least_passing(alloc, &system)? {
-        return Err(Fault::Width(offset));
+        return Err(Fault::SharedChannel(offset));
     }
     let system = Arc::new(alloc, system)?;
     Ok(Checked { system })

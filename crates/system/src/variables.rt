@@ -5,13 +5,14 @@ ghost use Rattle.system.specs.Translation.{expression_of};
 ghost use Rattle.system.specs.walking.Variables.{inserted_all};
 
 use crate::Expression;
+use smallvec::SmallVec;
 use std::alloc::{AllocError, Global};
 use std::marker::Model;
 
-/// Variables by number, ascending and each once as long as they come in by `insert`.
+/// Variables by number, ascending and each once as long as they come in by `insert`. Up to 3 take no memory of their own.
 #[derive(Debug, Drop)]
 pub struct Variables {
-    numbers: Vec<u32>,
+    numbers: SmallVec<u32, 3>,
 }
 
 impl Model for Variables {
@@ -28,7 +29,7 @@ impl Variables {
         ensures { result ≡ [] }
     {
         Variables {
-            numbers: Vec::new(alloc),
+            numbers: SmallVec::new(alloc),
         }
     }
 
@@ -36,7 +37,9 @@ impl Variables {
     pub fn from_vec(numbers: Vec<u32>) -> Variables
         ensures { result ≡ numbers.items }
     {
-        Variables { numbers }
+        Variables {
+            numbers: SmallVec::from_vec(numbers),
+        }
     }
 
     /// The numbers in order.
@@ -50,7 +53,7 @@ impl Variables {
     pub fn copy(&self, alloc: Global) -> Result<Variables, AllocError>
         ensures { IfOk result (λ made. made ≡ self.now) }
     {
-        let numbers = Vec::from_slice(alloc, self.as_slice())?;
+        let numbers = SmallVec::from_slice(alloc, self.as_slice())?;
         Ok(Variables { numbers })
     }
 

@@ -25,7 +25,7 @@ const TEXTS: [(Fault, &str); 9] = [
         "line 7 of the stimulus fits no port",
     ),
     (
-        Fault::NoSystem(front_end::Fault::Sharing(sharing_check::Fault::Width(7))),
+        Fault::NoSystem(front_end::Fault::Sharing(sharing_check::Fault::SharedChannel(7))),
         "too many branches use the channel that is declared at offset 7",
     ),
     (Fault::Memory, "out of memory"),
