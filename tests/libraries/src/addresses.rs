@@ -86,10 +86,29 @@ fn copies(rt: HostRuntime) -> Result<(), Fail> {
     let place = place(rt.alloc(), "/0.7")?;
     let made = place.copy(rt.alloc())?;
     assert!(rt; made.equals(&place));
-    let entries = made.into_vec();
+    let Ok(entries) = made.into_vec() else {
+        return Err(Fail::from(std::alloc::AllocError));
+    };
     assert_eq!(rt;
         entries.as_slice(),
         [Entry::Branch(0), Entry::Ordered(7)].as_slice()
     );
+    Ok(())
+}
+
+// Places of up to 5 entries stand in the value, longer ones on the heap; nobody sees which.
+#[test]
+fn short_and_long_places_are_alike(rt: HostRuntime) -> Result<(), Fail> {
+    for length in 0..12 {
+        let mut entries = Vec::new(rt.alloc());
+        for number in 0..length {
+            entries.push(Entry::Ordered(number))?;
+        }
+        let made = Address::new(rt.alloc(), entries.as_slice())?;
+        let below = Address::below(rt.alloc(), made.entries(), Entry::Branch(7))?;
+        entries.push(Entry::Branch(7))?;
+        assert_eq!(rt; below.entries(), entries.as_slice());
+        assert!(rt; below.copy(rt.alloc())?.equals(&Address::from_vec(entries)));
+    }
     Ok(())
 }
