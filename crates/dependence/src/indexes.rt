@@ -1,5 +1,5 @@
 // Looking for a ticket: by halves, since tickets rise.
-ghost use Rattle.std.specs.Prelude.{◌≡◌, ◌<◌, Some, slice_get, MatchOption};
+ghost use Rattle.std.specs.Prelude.{◌≡◌, ◌<◌, Some, Unit, slice_get, MatchOption};
 ghost use Rattle.syntax.specs.Lists.{In};
 ghost use Rattle.runs.specs.InOrder.{InOrder};
 ghost use Rattle.runs.specs.Live.{NoneAt, IsLive};
@@ -12,9 +12,26 @@ pub(crate) fn index_of(live: &[LiveEvent], ticket: u64) -> Option<usize>
     requires { IsRising live.now }
     ensures { MatchOption result (NoneAt live.now ticket) (λ i. StandsAt live.now ticket i) }
 {
+    if let Some(index) = by_distance(live, ticket) {
+        return Some(index);
+    }
     match live.binary_search_by_key(&ticket, |entry| entry.0) {
         Ok(index) => Some(index),
         Err(_) => None,
+    }
+}
+
+/// Where the event of this ticket stands, if all that came behind it are live.
+fn by_distance(live: &[LiveEvent], ticket: u64) -> Option<usize>
+    ensures { MatchOption result (Unit {0}) (λ i. StandsAt live.now ticket i) }
+{
+    let last = live.last()?;
+    let behind = last.0.checked_sub(ticket)?;
+    let index = (live.len() - 1).checked_sub(behind as usize)?;
+    if live[index].0 == ticket {
+        Some(index)
+    } else {
+        None
     }
 }
 

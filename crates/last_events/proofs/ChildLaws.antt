@@ -70,10 +70,10 @@ pub child-free : (rows : List Row) (p : List Entry) (n i : ℕ) → Stands rows 
 child-free rows p n i st absent = record {
   inside = st.inside;
   within = st.within;
-  below = λ s at. order-transitive s.0.items p (first_child p) (st.below s at) (child-over p);
-  above = λ s at low. elim (order-total s.0.items p) [
+  below = λ s at. order-transitive s.0 p (first_child p) (st.below s at) (child-over p);
+  above = λ s at low. elim (order-total s.0 p) [
     | inl less ↦ st.above s at less
-    | inr (inl more) ↦ none-between p s.0.items more low
+    | inr (inl more) ↦ none-between p s.0 more low
     | inr (inr same) ↦
         absent s (subst (λ (ss : List Seat). In s ss) (sym (parts rows n i st.inside)) (in-right s (before rows n i) (behind rows n i) at)) same
   ];
@@ -84,23 +84,23 @@ module _ (rows : List Row) (p : List Entry) (n i : ℕ) (table : IsTable rows) (
   rising-held : Rising (places (before rows n i ++ held.seat ∷ behind rows n (suc i)))
   rising-held = subst (λ (ss : List Seat). Rising (places ss)) (parted rows n i held.seat held.at) table.rising
 
-  under-child : (s : Seat) → In s (before rows n (suc i)) → order_of s.0.items (first_child p) ≡ Less
+  under-child : (s : Seat) → In s (before rows n (suc i)) → order_of s.0 (first_child p) ≡ Less
   under-child s at = elim (in-either s (before rows n i) (held.seat ∷ []) (subst (λ (ss : List Seat). In s ss) (before-more rows n i held.seat held.at) at)) [
     | inl low ↦
-        order-transitive s.0.items p (first_child p)
-        (subst (λ (a : List Entry). order_of s.0.items a ≡ Less) held.same
+        order-transitive s.0 p (first_child p)
+        (subst (λ (a : List Entry). order_of s.0 a ≡ Less) held.same
         (rising-across (before rows n i) (held.seat ∷ behind rows n (suc i)) s held.seat rising-held low (inl refl)))
         (child-over p)
     | inr (inl same) ↦
-        subst (λ (a : List Entry). order_of a (first_child p) ≡ Less) (sym (ap (λ (q : Seat). q.0.items) same ∙ held.same)) (child-over p)
+        subst (λ (a : List Entry). order_of a (first_child p) ≡ Less) (sym (ap (λ (q : Seat). q.0) same ∙ held.same)) (child-over p)
     | inr (inr none) ↦ absurd none
   ]
 
-  over-child : (s : Seat) → In s (behind rows n (suc i)) → order_of s.0.items (first_child p) ≡ Less → ⊥
+  over-child : (s : Seat) → In s (behind rows n (suc i)) → order_of s.0 (first_child p) ≡ Less → ⊥
   over-child s at low =
       let right : Rising (places (held.seat ∷ behind rows n (suc i))) = rising-right (before rows n i) (held.seat ∷ behind rows n (suc i)) rising-held in
-      none-between p s.0.items
-      (subst (λ (a : List Entry). order_of a s.0.items ≡ Less) held.same (right.0 s.0.items (place-of s (behind rows n (suc i)) at))) low
+      none-between p s.0
+      (subst (λ (a : List Entry). order_of a s.0 ≡ Less) held.same (right.0 s.0 (place-of s (behind rows n (suc i)) at))) low
 
   pub child-behind : Stands rows (first_child p) n (suc i)
   child-behind = record {
@@ -118,13 +118,13 @@ row-fits (r ∷ rs) zero i h = omega (arith, r.ok)
 row-fits (r ∷ rs) (suc n) i h = row-fits rs n i h
 
 -- ---- what stands there
-pub ticket-behind : (rows : List Row) (p : List Entry) (n i : ℕ) (s : Seat) → Stands rows p n i → slice_get (behind rows n i) 0 ≡ Some s → s.0.items ≡ p →
+pub ticket-behind : (rows : List Row) (p : List Entry) (n i : ℕ) (s : Seat) → Stands rows p n i → slice_get (behind rows n i) 0 ≡ Some s → s.0 ≡ p →
     ticket_at (flat rows) p ≡ Some s.1
 ticket-behind rows p n i s st at same =
     let rest = get-cons (behind rows n i) s at in
     subst (λ (a : List Entry). ticket_at (flat rows) a ≡ Some s.1) same
-    (ap (λ (ss : List Seat). ticket_at ss s.0.items) (parts rows n i st.inside ∙ ap (λ (ss : List Seat). before rows n i ++ ss) rest.1)
-    ∙ (lookup-past s.0.items (before rows n i) (s ∷ rest.0) (λ t low is. less-differs t.0.items p (st.below t low) (sym is ∙ same))
+    (ap (λ (ss : List Seat). ticket_at ss s.0) (parts rows n i st.inside ∙ ap (λ (ss : List Seat). before rows n i ++ ss) rest.1)
+    ∙ (lookup-past s.0 (before rows n i) (s ∷ rest.0) (λ t low is. less-differs t.0 p (st.below t low) (sym is ∙ same))
     ∙ lookup-here s.0 s.1 rest.0))
 
 pub ticket-none : (rows : List Row) (p : List Entry) → Absent rows p → ticket_at (flat rows) p ≡ None

@@ -21,35 +21,35 @@ use Rattle.last_events.proofs.ForkLaws.{shared-not-less, shares-back, shares-on,
 
 -- ---- keys
 -- whether a key is this place
-abbrev pub is_key : List Entry → Vec Entry Global → Bool
-is_key a k = is_eq (order_of a k.items)
+abbrev pub is_key : List Entry → List Entry → Bool
+is_key a k = is_eq (order_of a k)
 
 -- as a map of places asks, which `equal_runs` has
-abbrev pub is_asked : List Entry → Vec Entry Global → Bool
-is_asked a k = is_eq (slice_cmp cmp-value.it a k.items)
+abbrev pub is_asked : List Entry → List Entry → Bool
+is_asked a k = is_eq (slice_cmp cmp-value.it a k)
 
 pub asked-is : (a : List Entry) → is_asked a ≡ is_key a
-asked-is a i k = is_eq (entries_cmp-is a k.items i)
+asked-is a i k = is_eq (entries_cmp-is a k i)
 
-pub looked : (a : List Entry) (es : List (Vec Entry Global × ℕ)) → lookup (is_asked a) es ≡ lookup (is_key a) es
-looked a es = ap (λ (test : Vec Entry Global → Bool). lookup test es) (asked-is a)
+pub looked : (a : List Entry) (es : List (List Entry × ℕ)) → lookup (is_asked a) es ≡ lookup (is_key a) es
+looked a es = ap (λ (test : List Entry → Bool). lookup test es) (asked-is a)
 
 eq-of : (o : Ordering) → is_eq o ≡ true → o ≡ Equal
 eq-of Less h = absurd (true≢false (sym h))
 eq-of Equal h = refl
 eq-of Greater h = absurd (true≢false (sym h))
 
-pub key-is : (a : List Entry) (k : Vec Entry Global) → is_key a k ≡ true → a ≡ k.items
-key-is a k h = order-ties a k.items (eq-of (order_of a k.items) h)
+pub key-is : (a : List Entry) (k : List Entry) → is_key a k ≡ true → a ≡ k
+key-is a k h = order-ties a k (eq-of (order_of a k) h)
 
 pub not-true : (b : Bool) → (b ≡ true → ⊥) → b ≡ false
 not-true true h = absurd (h refl)
 not-true false h = refl
 
 -- ---- how many keys are less than a bound: the measure of a walk
-abbrev pub count_below : List Entry → List (Vec Entry Global × ℕ) → ℕ
+abbrev pub count_below : List Entry → List (List Entry × ℕ) → ℕ
 count_below b [] = 0
-count_below b (e ∷ es) = cond (is_lt (order_of e.0.items b)) (suc (count_below b es)) (count_below b es)
+count_below b (e ∷ es) = cond (is_lt (order_of e.0 b)) (suc (count_below b es)) (count_below b es)
 
 lt-of : (o : Ordering) → is_lt o ≡ true → o ≡ Less
 lt-of Less h = refl
@@ -68,14 +68,14 @@ count-strict true false m n h le = absurd (true≢false (sym (h refl)))
 count-strict false true m n h le = omega arith
 count-strict false false m n h le = le
 
-less-test : (b c : List Entry) (e : Vec Entry Global) → ((a : List Entry) → order_of a c ≡ Less → order_of a b ≡ Less) →
-    is_lt (order_of e.items c) ≡ true → is_lt (order_of e.items b) ≡ true
-less-test b c e h low = ap is_lt (h e.items (lt-of (order_of e.items c) low))
+less-test : (b c : List Entry) (e : List Entry) → ((a : List Entry) → order_of a c ≡ Less → order_of a b ≡ Less) →
+    is_lt (order_of e c) ≡ true → is_lt (order_of e b) ≡ true
+less-test b c e h low = ap is_lt (h e (lt-of (order_of e c) low))
 
-count-less : (b c : List Entry) → ((a : List Entry) → order_of a c ≡ Less → order_of a b ≡ Less) → (es : List (Vec Entry Global × ℕ)) → count_below c es ≤ count_below b es
+count-less : (b c : List Entry) → ((a : List Entry) → order_of a c ≡ Less → order_of a b ≡ Less) → (es : List (List Entry × ℕ)) → count_below c es ≤ count_below b es
 count-less b c h [] = omega arith
 count-less b c h (e ∷ es) =
-    count-step (is_lt (order_of e.0.items c)) (is_lt (order_of e.0.items b)) (count_below c es) (count_below b es) (less-test b c e.0 h) (count-less b c h es)
+    count-step (is_lt (order_of e.0 c)) (is_lt (order_of e.0 b)) (count_below c es) (count_below b es) (less-test b c e.0 h) (count-less b c h es)
 
 count-here : (p q : Bool) (m n : ℕ) → p ≡ false → q ≡ true → m ≤ n → cond p (suc m) m < cond q (suc n) n
 count-here true q m n hp hq le = absurd (true≢false hp)
@@ -88,19 +88,19 @@ not-less Equal h = refl
 not-less Greater h = refl
 
 key-step : (b c s : List Entry) (t : ℕ) → ((a : List Entry) → order_of a c ≡ Less → order_of a b ≡ Less) → order_of s b ≡ Less → (order_of s c ≡ Less → ⊥) →
-    (e : Vec Entry Global × ℕ) (es : List (Vec Entry Global × ℕ)) (p : Bool) → is_key s e.0 ≡ p → cond p (Some e.1) (lookup (is_key s) es) ≡ Some t →
+    (e : List Entry × ℕ) (es : List (List Entry × ℕ)) (p : Bool) → is_key s e.0 ≡ p → cond p (Some e.1) (lookup (is_key s) es) ≡ Some t →
     (lookup (is_key s) es ≡ Some t → count_below c es < count_below b es) → count_below c (e ∷ es) < count_below b (e ∷ es)
 key-step b c s t h low high e es true is at rest =
-    let same : s ≡ e.0.items = key-is s e.0 is in
-    count-here (is_lt (order_of e.0.items c)) (is_lt (order_of e.0.items b)) (count_below c es) (count_below b es)
-    (not-less (order_of e.0.items c) (λ less. high (subst (λ (a : List Entry). order_of a c ≡ Less) (sym same) less)))
+    let same : s ≡ e.0 = key-is s e.0 is in
+    count-here (is_lt (order_of e.0 c)) (is_lt (order_of e.0 b)) (count_below c es) (count_below b es)
+    (not-less (order_of e.0 c) (λ less. high (subst (λ (a : List Entry). order_of a c ≡ Less) (sym same) less)))
     (ap is_lt (subst (λ (a : List Entry). order_of a b ≡ Less) same low)) (count-less b c h es)
 key-step b c s t h low high e es false is at rest =
-    count-strict (is_lt (order_of e.0.items c)) (is_lt (order_of e.0.items b)) (count_below c es) (count_below b es) (less-test b c e.0 h) (rest at)
+    count-strict (is_lt (order_of e.0 c)) (is_lt (order_of e.0 b)) (count_below c es) (count_below b es) (less-test b c e.0 h) (rest at)
 
 -- the place s, in the table, is less than b and not than c
 pub count-falls : (b c s : List Entry) (t : ℕ) → ((a : List Entry) → order_of a c ≡ Less → order_of a b ≡ Less) → order_of s b ≡ Less → (order_of s c ≡ Less → ⊥) →
-    (es : List (Vec Entry Global × ℕ)) → lookup (is_key s) es ≡ Some t → count_below c es < count_below b es
+    (es : List (List Entry × ℕ)) → lookup (is_key s) es ≡ Some t → count_below c es < count_below b es
 count-falls b c s t h low high [] at = absurd (true≢false (ap is_some (sym at)))
 count-falls b c s t h low high (e ∷ es) at =
     key-step b c s t h low high e es (is_key s e.0) refl at (λ there. count-falls b c s t h low high es there)

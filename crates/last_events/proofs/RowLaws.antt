@@ -44,21 +44,21 @@ in-drop-less x (suc m) zero xs h i = absurd (omega arith)
 in-drop-less x (suc m) (suc n) [] h i = i
 in-drop-less x (suc m) (suc n) (y ∷ xs) h i = let less : m ≤ n = omega arith in in-drop-less x m n xs less i
 
-pub place-of : (s : Seat) (ss : List Seat) → In s ss → In s.0.items (places ss)
+pub place-of : (s : Seat) (ss : List Seat) → In s ss → In s.0 (places ss)
 place-of s [] i = absurd i
-place-of s (r ∷ ss) i = elim i [ inl is ↦ inl (ap (λ (q : Seat). q.0.items) is) | inr later ↦ inr (place-of s ss later) ]
+place-of s (r ∷ ss) i = elim i [ inl is ↦ inl (ap (λ (q : Seat). q.0) is) | inr later ↦ inr (place-of s ss later) ]
 
-pub place-taken : (s : Seat) (n : ℕ) (ss : List Seat) → In s (take n ss) → In s.0.items (take n (places ss))
+pub place-taken : (s : Seat) (n : ℕ) (ss : List Seat) → In s (take n ss) → In s.0 (take n (places ss))
 place-taken s zero ss i = absurd i
 place-taken s (suc n) [] i = absurd i
-place-taken s (suc n) (r ∷ ss) i = elim i [ inl is ↦ inl (ap (λ (q : Seat). q.0.items) is) | inr later ↦ inr (place-taken s n ss later) ]
+place-taken s (suc n) (r ∷ ss) i = elim i [ inl is ↦ inl (ap (λ (q : Seat). q.0) is) | inr later ↦ inr (place-taken s n ss later) ]
 
-pub place-dropped : (s : Seat) (n : ℕ) (ss : List Seat) → In s (drop n ss) → In s.0.items (drop n (places ss))
+pub place-dropped : (s : Seat) (n : ℕ) (ss : List Seat) → In s (drop n ss) → In s.0 (drop n (places ss))
 place-dropped s zero ss i = place-of s ss i
 place-dropped s (suc n) [] i = absurd i
 place-dropped s (suc n) (r ∷ ss) i = place-dropped s n ss i
 
-seat-of : (a : List Entry) (ss : List Seat) → In a (places ss) → (s : Seat) × In s ss × (a ≡ s.0.items)
+seat-of : (a : List Entry) (ss : List Seat) → In a (places ss) → (s : Seat) × In s ss × (a ≡ s.0)
 seat-of a [] i = absurd i
 seat-of a (r ∷ ss) i = elim i [
   | inl is ↦ (r, inl refl, is)
@@ -69,7 +69,7 @@ seat-of a (r ∷ ss) i = elim i [
 pub rising-left : (xs ys : List Seat) → Rising (places (xs ++ ys)) → Rising (places xs)
 rising-left [] ys r = tt
 rising-left (x ∷ xs) ys r = (
-  λ b i. let s = seat-of b xs i in subst (λ (c : List Entry). order_of x.0.items c ≡ Less) (sym s.2) (r.0 s.0.0.items (place-of s.0 (xs ++ ys) (in-left s.0 xs ys s.1))),
+  λ b i. let s = seat-of b xs i in subst (λ (c : List Entry). order_of x.0 c ≡ Less) (sym s.2) (r.0 s.0.0 (place-of s.0 (xs ++ ys) (in-left s.0 xs ys s.1))),
   rising-left xs ys r.1,
 )
 
@@ -77,34 +77,34 @@ pub rising-right : (xs ys : List Seat) → Rising (places (xs ++ ys)) → Rising
 rising-right [] ys r = r
 rising-right (x ∷ xs) ys r = rising-right xs ys r.1
 
-pub rising-across : (xs ys : List Seat) (s t : Seat) → Rising (places (xs ++ ys)) → In s xs → In t ys → order_of s.0.items t.0.items ≡ Less
+pub rising-across : (xs ys : List Seat) (s t : Seat) → Rising (places (xs ++ ys)) → In s xs → In t ys → order_of s.0 t.0 ≡ Less
 rising-across [] ys s t r i j = absurd i
 rising-across (x ∷ xs) ys s t r i j = elim i [
-  | inl is ↦ subst (λ (q : Seat). order_of q.0.items t.0.items ≡ Less) (sym is) (r.0 t.0.items (place-of t (xs ++ ys) (in-right t xs ys j)))
+  | inl is ↦ subst (λ (q : Seat). order_of q.0 t.0 ≡ Less) (sym is) (r.0 t.0 (place-of t (xs ++ ys) (in-right t xs ys j)))
   | inr later ↦ rising-across xs ys s t r.1 later j
 ]
 
-rising-join : (xs ys : List Seat) → Rising (places xs) → Rising (places ys) → ((s t : Seat) → In s xs → In t ys → order_of s.0.items t.0.items ≡ Less) → Rising (places (xs ++ ys))
+rising-join : (xs ys : List Seat) → Rising (places xs) → Rising (places ys) → ((s t : Seat) → In s xs → In t ys → order_of s.0 t.0 ≡ Less) → Rising (places (xs ++ ys))
 rising-join [] ys r q across = q
 rising-join (x ∷ xs) ys r q across = (
   λ b i.
       let s = seat-of b (xs ++ ys) i in
-      subst (λ (c : List Entry). order_of x.0.items c ≡ Less) (sym s.2)
+      subst (λ (c : List Entry). order_of x.0 c ≡ Less) (sym s.2)
       (elim (in-either s.0 xs ys s.1) [
-        | inl here ↦ r.0 s.0.0.items (place-of s.0 xs here)
+        | inl here ↦ r.0 s.0.0 (place-of s.0 xs here)
         | inr there ↦ across x s.0 (inl refl) there
       ]),
   rising-join xs ys r.1 q (λ s t i j. across s t (inr i) j),
 )
 
 -- one more between
-pub rising-more : (xs ys : List Seat) (s : Seat) → Rising (places (xs ++ ys)) → ((t : Seat) → In t xs → order_of t.0.items s.0.items ≡ Less) →
-    ((t : Seat) → In t ys → order_of s.0.items t.0.items ≡ Less) → Rising (places (xs ++ s ∷ ys))
+pub rising-more : (xs ys : List Seat) (s : Seat) → Rising (places (xs ++ ys)) → ((t : Seat) → In t xs → order_of t.0 s.0 ≡ Less) →
+    ((t : Seat) → In t ys → order_of s.0 t.0 ≡ Less) → Rising (places (xs ++ s ∷ ys))
 rising-more xs ys s r low high =
     rising-join xs (s ∷ ys) (rising-left xs ys r)
-    ((λ b i. let t = seat-of b ys i in subst (λ (c : List Entry). order_of s.0.items c ≡ Less) (sym t.2) (high t.0 t.1)), rising-right xs ys r)
+    ((λ b i. let t = seat-of b ys i in subst (λ (c : List Entry). order_of s.0 c ≡ Less) (sym t.2) (high t.0 t.1)), rising-right xs ys r)
     (λ t u i j. elim j [
-      | inl is ↦ subst (λ (q : Seat). order_of t.0.items q.0.items ≡ Less) (sym is) (low t i)
+      | inl is ↦ subst (λ (q : Seat). order_of t.0 q.0 ≡ Less) (sym is) (low t i)
       | inr later ↦ rising-across xs ys t u r i later
     ])
 
@@ -115,18 +115,18 @@ rising-less xs ys s r =
     rising-join xs ys (rising-left xs (s ∷ ys) r) right.1 (λ t u i j. rising-across xs (s ∷ ys) t u r i (inr j))
 
 -- another ticket
-pub same-places : (xs ys : List Seat) (k : Vec Entry Global) (t u : ℕ) → places (xs ++ (k, t) ∷ ys) ≡ places (xs ++ (k, u) ∷ ys)
+pub same-places : (xs ys : List Seat) (k : List Entry) (t u : ℕ) → places (xs ++ (k, t) ∷ ys) ≡ places (xs ++ (k, u) ∷ ys)
 same-places [] ys k t u = refl
-same-places (x ∷ xs) ys k t u = ap (λ (ps : List (List Entry)). x.0.items ∷ ps) (same-places xs ys k t u)
+same-places (x ∷ xs) ys k t u = ap (λ (ps : List (List Entry)). x.0 ∷ ps) (same-places xs ys k t u)
 
 -- ---- what a table of seats answers
-no-key : (a : List Entry) (k : Vec Entry Global) → a ≢ k.items → is_key a k ≡ false
+no-key : (a : List Entry) (k : List Entry) → a ≢ k → is_key a k ≡ false
 no-key a k differs = not-true (is_key a k) (λ here. differs (key-is a k here))
 
-own-key : (k : Vec Entry Global) → is_key k.items k ≡ true
-own-key k = ap is_eq (order-itself k.items)
+own-key : (k : List Entry) → is_key k k ≡ true
+own-key k = ap is_eq (order-itself k)
 
-pub lookup-past : (a : List Entry) (xs ys : List Seat) → ((s : Seat) → In s xs → a ≢ s.0.items) → lookup (is_key a) (xs ++ ys) ≡ lookup (is_key a) ys
+pub lookup-past : (a : List Entry) (xs ys : List Seat) → ((s : Seat) → In s xs → a ≢ s.0) → lookup (is_key a) (xs ++ ys) ≡ lookup (is_key a) ys
 lookup-past a [] ys h = refl
 lookup-past a (x ∷ xs) ys h =
     ap (λ (p : Bool). cond p (Some x.1) (lookup (is_key a) (xs ++ ys))) (no-key a x.0 (h x (inl refl)))
@@ -136,54 +136,54 @@ lookup-same : (a : List Entry) (xs ys zs : List Seat) → lookup (is_key a) ys �
 lookup-same a [] ys zs h = h
 lookup-same a (x ∷ xs) ys zs h = ap (λ (o : Option ℕ). cond (is_key a x.0) (Some x.1) o) (lookup-same a xs ys zs h)
 
-pub lookup-here : (k : Vec Entry Global) (t : ℕ) (ys : List Seat) → lookup (is_key k.items) ((k, t) ∷ ys) ≡ Some t
-lookup-here k t ys = ap (λ (p : Bool). cond p (Some t) (lookup (is_key k.items) ys)) (own-key k)
+pub lookup-here : (k : List Entry) (t : ℕ) (ys : List Seat) → lookup (is_key k) ((k, t) ∷ ys) ≡ Some t
+lookup-here k t ys = ap (λ (p : Bool). cond p (Some t) (lookup (is_key k) ys)) (own-key k)
 
-lookup-other : (a : List Entry) (k : Vec Entry Global) (t : ℕ) (ys : List Seat) → a ≢ k.items → lookup (is_key a) ((k, t) ∷ ys) ≡ lookup (is_key a) ys
+lookup-other : (a : List Entry) (k : List Entry) (t : ℕ) (ys : List Seat) → a ≢ k → lookup (is_key a) ((k, t) ∷ ys) ≡ lookup (is_key a) ys
 lookup-other a k t ys differs = ap (λ (p : Bool). cond p (Some t) (lookup (is_key a) ys)) (no-key a k differs)
 
-lookup-none : (a : List Entry) (ys : List Seat) → ((s : Seat) → In s ys → a ≢ s.0.items) → lookup (is_key a) ys ≡ None
+lookup-none : (a : List Entry) (ys : List Seat) → ((s : Seat) → In s ys → a ≢ s.0) → lookup (is_key a) ys ≡ None
 lookup-none a [] h = refl
 lookup-none a (x ∷ ys) h =
     ap (λ (p : Bool). cond p (Some x.1) (lookup (is_key a) ys)) (no-key a x.0 (h x (inl refl))) ∙ lookup-none a ys (λ s i. h s (inr i))
 
 found-step : (a : List Entry) (u : ℕ) (e : Seat) (es : List Seat) (p : Bool) → is_key a e.0 ≡ p → cond p (Some e.1) (lookup (is_key a) es) ≡ Some u →
-    (lookup (is_key a) es ≡ Some u → (s : Seat) × In s es × (a ≡ s.0.items)) → (s : Seat) × In s (e ∷ es) × (a ≡ s.0.items)
+    (lookup (is_key a) es ≡ Some u → (s : Seat) × In s es × (a ≡ s.0)) → (s : Seat) × In s (e ∷ es) × (a ≡ s.0)
 found-step a u e es true is at rest = (e, inl refl, key-is a e.0 is)
 found-step a u e es false is at rest = let s = rest at in (s.0, inr s.1, s.2)
 
 -- the seat of a place in the table
-pub found-seat : (a : List Entry) (u : ℕ) (es : List Seat) → lookup (is_key a) es ≡ Some u → (s : Seat) × In s es × (a ≡ s.0.items)
+pub found-seat : (a : List Entry) (u : ℕ) (es : List Seat) → lookup (is_key a) es ≡ Some u → (s : Seat) × In s es × (a ≡ s.0)
 found-seat a u [] at = absurd (none-some u at)
 found-seat a u (e ∷ es) at = found-step a u e es (is_key a e.0) refl at (λ there. found-seat a u es there)
 
 pub less-differs : (a b : List Entry) → order_of a b ≡ Less → a ≢ b
 less-differs a b less is = itself-not-less b (subst (λ (c : List Entry). order_of c b ≡ Less) is less)
 
-pub put-between : (xs ys : List Seat) (k : Vec Entry Global) (t : ℕ) → ((s : Seat) → In s xs → order_of s.0.items k.items ≡ Less) → PutAt (xs ++ ys) k.items t (xs ++ (k, t) ∷ ys)
+pub put-between : (xs ys : List Seat) (k : List Entry) (t : ℕ) → ((s : Seat) → In s xs → order_of s.0 k ≡ Less) → PutAt (xs ++ ys) k t (xs ++ (k, t) ∷ ys)
 put-between xs ys k t low = record {
-  here = lookup-past k.items xs ((k, t) ∷ ys) (λ s i is. less-differs s.0.items k.items (low s i) (sym is)) ∙ lookup-here k t ys;
+  here = lookup-past k xs ((k, t) ∷ ys) (λ s i is. less-differs s.0 k (low s i) (sym is)) ∙ lookup-here k t ys;
   others = λ b differs. lookup-same b xs ((k, t) ∷ ys) ys (lookup-other b k t ys differs);
 }
 
-pub put-over : (xs ys : List Seat) (k : Vec Entry Global) (t u : ℕ) → ((s : Seat) → In s xs → order_of s.0.items k.items ≡ Less) →
-    PutAt (xs ++ (k, u) ∷ ys) k.items t (xs ++ (k, t) ∷ ys)
+pub put-over : (xs ys : List Seat) (k : List Entry) (t u : ℕ) → ((s : Seat) → In s xs → order_of s.0 k ≡ Less) →
+    PutAt (xs ++ (k, u) ∷ ys) k t (xs ++ (k, t) ∷ ys)
 put-over xs ys k t u low = record {
-  here = lookup-past k.items xs ((k, t) ∷ ys) (λ s i is. less-differs s.0.items k.items (low s i) (sym is)) ∙ lookup-here k t ys;
+  here = lookup-past k xs ((k, t) ∷ ys) (λ s i is. less-differs s.0 k (low s i) (sym is)) ∙ lookup-here k t ys;
   others = λ b differs. lookup-same b xs ((k, t) ∷ ys) ((k, u) ∷ ys) (lookup-other b k t ys differs ∙ sym (lookup-other b k u ys differs));
 }
 
-pub removed-between : (xs ys : List Seat) (s : Seat) → Rising (places (xs ++ s ∷ ys)) → RemovedAt (xs ++ s ∷ ys) s.0.items (xs ++ ys)
+pub removed-between : (xs ys : List Seat) (s : Seat) → Rising (places (xs ++ s ∷ ys)) → RemovedAt (xs ++ s ∷ ys) s.0 (xs ++ ys)
 removed-between xs ys s r =
     let right : Rising (places (s ∷ ys)) = rising-right xs (s ∷ ys) r in
     record {
       here =
-          lookup-past s.0.items xs ys (λ t i is. less-differs t.0.items s.0.items (rising-across xs (s ∷ ys) t s r i (inl refl)) (sym is))
-          ∙ lookup-none s.0.items ys (λ t i is. less-differs s.0.items t.0.items (right.0 t.0.items (place-of t ys i)) is);
+          lookup-past s.0 xs ys (λ t i is. less-differs t.0 s.0 (rising-across xs (s ∷ ys) t s r i (inl refl)) (sym is))
+          ∙ lookup-none s.0 ys (λ t i is. less-differs s.0 t.0 (right.0 t.0 (place-of t ys i)) is);
       others = λ b differs. lookup-same b xs ys (s ∷ ys) (sym (lookup-other b s.0 s.1 ys differs));
     }
 
-pub removed-none : (ss : List Seat) (a : List Entry) → ((s : Seat) → In s ss → s.0.items ≢ a) → RemovedAt ss a ss
+pub removed-none : (ss : List Seat) (a : List Entry) → ((s : Seat) → In s ss → s.0 ≢ a) → RemovedAt ss a ss
 removed-none ss a h = record { here = lookup-none a ss (λ s i is. h s i (sym is)); others = λ b differs. refl }
 
 -- ---- seats by their number
@@ -277,7 +277,7 @@ row-get (r ∷ rs) (suc n) d h = let less : n < length rs = omega arith in row-g
 pub row-is : (rows : List Row) (n : ℕ) (r : Row) → slice_get rows n ≡ Some r → row_at rows n ≡ r.items
 row-is [] zero r at = absurd (none-some r at)
 row-is [] (suc n) r at = absurd (none-some r at)
-row-is (q ∷ rs) zero r at = ap (λ (p : Row). p.items) (some-is q r at)
+row-is (q ∷ rs) zero r at = ap (λ (p : Row). p) (some-is q r at)
 row-is (q ∷ rs) (suc n) r at = row-is rs n r at
 
 pub row-none : (rows : List Row) (n : ℕ) → slice_get rows n ≡ None → row_at rows n ≡ []

@@ -14,7 +14,7 @@ use Rattle.last_events.specs.declared.uses.UseTable.{UseTable}
 
 -- the ticket of the event that stands at the place a
 abbrev pub ticket_at : PlaceTable → List Entry → Option ℕ
-ticket_at table a = lookup (λ (k : Vec Entry Global). is_eq (order_of a k.items)) table
+ticket_at table a = lookup (λ (k : List Entry). is_eq (order_of a k)) table
 
 -- the place of the first child of what stands at a
 abbrev pub first_child : List Entry → List Entry

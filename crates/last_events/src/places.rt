@@ -15,7 +15,7 @@ use std::marker::Model;
 #[derive(Drop)]
 pub struct PlaceTable {
     alloc: Global,
-    rows: Vec<Vec<(Vec<Entry>, u64)>>,
+    rows: Vec<Vec<(Address, u64)>>,
 }
 
 impl Model for PlaceTable {
@@ -23,7 +23,7 @@ impl Model for PlaceTable {
     ghost use Rattle.std.specs.Global.{Global};
     ghost use Rattle.address.specs.declared.Entry.{Entry};
 
-    ghost Value = { List (Vec Entry Global × ℕ) };
+    ghost Value = { List (List Entry × ℕ) };
 
     ghost use Rattle.last_events.specs.walking.Rows.{flat, IsTable};
 
@@ -66,7 +66,7 @@ impl PlaceTable {
         ensures put { OnOk result (PutAt self.old place.now ticket self.new) }
         ensures refused { OnErr result (Same self.old self.new) }
     {
-        let key = Vec::from_slice(self.alloc, place.entries())?;
+        let key = place.copy(self.alloc)?;
         put_seat(self.alloc, &mut self.rows, key, ticket)
     }
 
@@ -156,7 +156,7 @@ impl PlaceTable {
         }
         let row = self.rows[spot.row].as_slice();
         match row.get(spot.index - 1) {
-            Some(seat) => Some((seat.0.as_slice(), seat.1)),
+            Some(seat) => Some((seat.0.entries(), seat.1)),
             None => None,
         }
     }

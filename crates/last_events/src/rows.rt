@@ -5,11 +5,11 @@ ghost use Rattle.last_events.specs.walking.Rows.{IsTable, Filled, flat, row_at, 
 
 use crate::children::is_first_child;
 use crate::search::count_less;
-use address::Entry;
+use address::{Address, Entry};
 use std::alloc::{AllocError, Global};
 
 /// A row of so many places takes no more.
-const FULL: usize = 128;
+const FULL: usize = 64;
 
 /// Where a place stands or would stand: in which row, and behind how many places of it.
 #[derive(Clone, Copy)]
@@ -19,7 +19,7 @@ pub(crate) struct Spot {
 }
 
 /// Behind all lesser places: at the end of a row rather than at the beginning of the next one.
-pub(crate) fn spot_of(rows: &[Vec<(Vec<Entry>, u64)>], place: &[Entry]) -> Spot
+pub(crate) fn spot_of(rows: &[Vec<(Address, u64)>], place: &[Entry]) -> Spot
     requires table { IsTable rows.now }
     requires some { 0 < length rows.now }
     ensures { Stands rows.now place.now result.row result.index }
@@ -31,7 +31,7 @@ pub(crate) fn spot_of(rows: &[Vec<(Vec<Entry>, u64)>], place: &[Entry]) -> Spot
 }
 
 /// Where the place itself stands, if this is the spot behind all lesser places.
-fn found(rows: &[Vec<(Vec<Entry>, u64)>], place: &[Entry], spot: Spot) -> Option<Spot>
+fn found(rows: &[Vec<(Address, u64)>], place: &[Entry], spot: Spot) -> Option<Spot>
     requires table { IsTable rows.now }
     requires stands { Stands rows.now place.now spot.row spot.index }
     ensures { MatchOption result (Absent rows.now place.now) (λ s. HoldsAt rows.now place.now s.row s.index) }
@@ -43,7 +43,7 @@ fn found(rows: &[Vec<(Vec<Entry>, u64)>], place: &[Entry], spot: Spot) -> Option
     let Some(seat) = row.get(next.index) else {
         return None;
     };
-    if seat.0.as_slice() == place {
+    if seat.0.entries() == place {
         Some(next)
     } else {
         None
@@ -51,7 +51,7 @@ fn found(rows: &[Vec<(Vec<Entry>, u64)>], place: &[Entry], spot: Spot) -> Option
 }
 
 /// The beginning of the next row where the spot is at the end of one, else the spot.
-fn next_of(rows: &[Vec<(Vec<Entry>, u64)>], spot: Spot) -> Spot
+fn next_of(rows: &[Vec<(Address, u64)>], spot: Spot) -> Spot
     requires filled { Filled rows.now }
     requires inside { spot.row < length rows.now }
     ensures { slice_get (row_at rows.now result.row) result.index ≡ slice_get (behind rows.now spot.row spot.index) 0 }
@@ -67,7 +67,7 @@ fn next_of(rows: &[Vec<(Vec<Entry>, u64)>], spot: Spot) -> Spot
 }
 
 /// The ticket at the first child of the place.
-pub(crate) fn ticket_at_first_child(rows: &[Vec<(Vec<Entry>, u64)>], place: &[Entry]) -> Option<u64>
+pub(crate) fn ticket_at_first_child(rows: &[Vec<(Address, u64)>], place: &[Entry]) -> Option<u64>
     requires table { IsTable rows.now }
     requires some { 0 < length rows.now }
     ensures { result ≡ ticket_at (flat rows.now) (first_child place.now) }
@@ -80,7 +80,7 @@ pub(crate) fn ticket_at_first_child(rows: &[Vec<(Vec<Entry>, u64)>], place: &[En
     let Some(seat) = row.get(next.index) else {
         return None;
     };
-    if is_first_child(seat.0.as_slice(), place) {
+    if is_first_child(seat.0.entries(), place) {
         Some(seat.1)
     } else {
         None
@@ -88,7 +88,7 @@ pub(crate) fn ticket_at_first_child(rows: &[Vec<(Vec<Entry>, u64)>], place: &[En
 }
 
 /// Where the first child of the place stands or would stand: behind the place, with no other between.
-fn spot_of_first_child(rows: &[Vec<(Vec<Entry>, u64)>], place: &[Entry]) -> Spot
+fn spot_of_first_child(rows: &[Vec<(Address, u64)>], place: &[Entry]) -> Spot
     requires table { IsTable rows.now }
     requires some { 0 < length rows.now }
     ensures { Stands rows.now (first_child place.now) result.row result.index }
@@ -106,20 +106,20 @@ fn spot_of_first_child(rows: &[Vec<(Vec<Entry>, u64)>], place: &[Entry]) -> Spot
 /// Puts the ticket at the place. Without memory for it all places and tickets stay.
 pub(crate) fn put_seat(
     alloc: Global,
-    rows: &mut Vec<Vec<(Vec<Entry>, u64)>>,
-    place: Vec<Entry>,
+    rows: &mut Vec<Vec<(Address, u64)>>,
+    place: Address,
     ticket: u64,
 ) -> Result<(), AllocError>
     requires { IsTable rows.old.items }
     ensures table { IsTable rows.new.items }
-    ensures put { OnOk result (PutAt (flat rows.old.items) place.items ticket (flat rows.new.items)) }
+    ensures put { OnOk result (PutAt (flat rows.old.items) place ticket (flat rows.new.items)) }
     ensures refused { OnErr result (flat rows.new.items ≡ flat rows.old.items) }
 {
     if rows.is_empty() {
         return add_row(alloc, rows, 0, place, ticket);
     }
-    let spot = spot_of(rows.as_slice(), place.as_slice());
-    match found(rows.as_slice(), place.as_slice(), spot) {
+    let spot = spot_of(rows.as_slice(), place.entries());
+    match found(rows.as_slice(), place.entries(), spot) {
         Some(held) => {
             let row = &mut rows[held.row];
             row[held.index].1 = ticket;
@@ -130,7 +130,7 @@ pub(crate) fn put_seat(
 }
 
 /// Takes out the place, where it stands among the others.
-pub(crate) fn remove_seat(rows: &mut Vec<Vec<(Vec<Entry>, u64)>>, place: &[Entry])
+pub(crate) fn remove_seat(rows: &mut Vec<Vec<(Address, u64)>>, place: &[Entry])
     requires { IsTable rows.old.items }
     ensures table { IsTable rows.new.items }
     ensures removed { RemovedAt (flat rows.old.items) place.now (flat rows.new.items) }
@@ -145,7 +145,7 @@ pub(crate) fn remove_seat(rows: &mut Vec<Vec<(Vec<Entry>, u64)>>, place: &[Entry
 }
 
 /// Takes out what stands at the spot, and its row with the last place of it.
-fn take_out(rows: &mut Vec<Vec<(Vec<Entry>, u64)>>, spot: Spot)
+fn take_out(rows: &mut Vec<Vec<(Address, u64)>>, spot: Spot)
     requires filled { Filled rows.old.items }
     requires inside { spot.row < length rows.old.items }
     requires within { spot.index < length (row_at rows.old.items spot.row) }
@@ -162,9 +162,9 @@ fn take_out(rows: &mut Vec<Vec<(Vec<Entry>, u64)>>, spot: Spot)
 /// Puts the place in at the spot.
 fn insert(
     alloc: Global,
-    rows: &mut Vec<Vec<(Vec<Entry>, u64)>>,
+    rows: &mut Vec<Vec<(Address, u64)>>,
     spot: Spot,
-    place: Vec<Entry>,
+    place: Address,
     ticket: u64,
 ) -> Result<(), AllocError>
     requires filled { Filled rows.old.items }
@@ -189,9 +189,9 @@ fn insert(
 /// Puts the place into a row of its own, before the row of this number or behind all.
 fn add_row(
     alloc: Global,
-    rows: &mut Vec<Vec<(Vec<Entry>, u64)>>,
+    rows: &mut Vec<Vec<(Address, u64)>>,
     number: usize,
-    place: Vec<Entry>,
+    place: Address,
     ticket: u64,
 ) -> Result<(), AllocError>
     requires filled { Filled rows.old.items }
@@ -208,9 +208,9 @@ fn add_row(
 
 /// Puts the place into the row of the spot.
 fn insert_into(
-    rows: &mut Vec<Vec<(Vec<Entry>, u64)>>,
+    rows: &mut Vec<Vec<(Address, u64)>>,
     spot: Spot,
-    place: Vec<Entry>,
+    place: Address,
     ticket: u64,
 ) -> Result<(), AllocError>
     requires filled { Filled rows.old.items }
@@ -226,7 +226,7 @@ fn insert_into(
 
 /// Makes a row of its own of what stands behind the first `count` places of this one.
 fn cut_row(
-    rows: &mut Vec<Vec<(Vec<Entry>, u64)>>,
+    rows: &mut Vec<Vec<(Address, u64)>>,
     number: usize,
     count: usize,
 ) -> Result<(), AllocError>

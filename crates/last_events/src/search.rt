@@ -4,7 +4,7 @@ ghost use Rattle.address.specs.declared.Entry.{Entry};
 ghost use Rattle.last_events.specs.walking.Search.{Rising, Splits, first_place};
 
 use crate::forks::{fork, is_less};
-use address::Entry;
+use address::{Address, Entry};
 
 /// What stands at a place.
 pub(crate) trait Placed {
@@ -15,20 +15,20 @@ pub(crate) trait Placed {
         ensures { result.now ≡ place self.now };
 }
 
-impl Placed for (Vec<Entry>, u64) {
-    ghost place = { λ seat. seat.0.items };
+impl Placed for (Address, u64) {
+    ghost place = { λ seat. seat.0 };
 
     fn place(&self) -> &[Entry] {
-        self.0.as_slice()
+        self.0.entries()
     }
 }
 
-impl Placed for Vec<(Vec<Entry>, u64)> {
+impl Placed for Vec<(Address, u64)> {
     ghost place = { λ row. first_place row.items };
 
     fn place(&self) -> &[Entry] {
         match self.first() {
-            Some(seat) => seat.0.as_slice(),
+            Some(seat) => seat.0.entries(),
             None => &[],
         }
     }

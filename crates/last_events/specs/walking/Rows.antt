@@ -10,10 +10,10 @@ use Rattle.last_events.specs.walking.Search.{Rising}
 
 -- a place and the ticket of its event
 abbrev pub Seat : Type 0
-Seat = Vec Entry Global × ℕ
+Seat = List Entry × ℕ
 
 abbrev pub Row : Type 0
-Row = Vec (Vec Entry Global × ℕ) Global
+Row = Vec (List Entry × ℕ) Global
 
 -- all seats, row by row
 abbrev pub flat : List Row → List Seat
@@ -21,7 +21,7 @@ flat [] = []
 flat (r ∷ rs) = r.items ++ flat rs
 
 abbrev pub places : List Seat → List (List Entry)
-places = map (λ (s : Seat). s.0.items)
+places = map (λ (s : Seat). s.0)
 
 -- no row is empty
 abbrev pub Filled : List Row → Type 0
@@ -53,18 +53,18 @@ behind (r ∷ rs) (suc n) i = behind rs n i
 pub record Stands (rows : List Row) (place : List Entry) (row index : ℕ) : Type 0 where
   pub inside : row < length rows
   pub within : index ≤ length (row_at rows row)
-  pub below : (s : Seat) → In s (before rows row index) → order_of s.0.items place ≡ Less
-  pub above : (s : Seat) → In s (behind rows row index) → order_of s.0.items place ≡ Less → ⊥
+  pub below : (s : Seat) → In s (before rows row index) → order_of s.0 place ≡ Less
+  pub above : (s : Seat) → In s (behind rows row index) → order_of s.0 place ≡ Less → ⊥
   pub first : index ≡ 0 → row ≡ 0
 
 -- the place stands at this index of a row
 pub record HoldsAt (rows : List Row) (place : List Entry) (row index : ℕ) : Type 0 where
   pub seat : Seat
   pub at : slice_get (row_at rows row) index ≡ Some seat
-  pub same : seat.0.items ≡ place
+  pub same : seat.0 ≡ place
 
 abbrev pub Absent : List Row → List Entry → Type 0
-Absent rows place = (s : Seat) → In s (flat rows) → s.0.items ≢ place
+Absent rows place = (s : Seat) → In s (flat rows) → s.0 ≢ place
 
 -- a row was cut behind so many seats of it
 pub record IsCut (old : List Row) (row count : ℕ) (new : List Row) : Type 0 where

@@ -19,6 +19,6 @@ pub record Splits (ps : List (List Entry)) (bound : List Entry) (n : ℕ) : Type
   pub above : (a : List Entry) → In a (drop n ps) → order_of a bound ≡ Less → ⊥
 
 -- the place of the first seat
-abbrev pub first_place : List (Vec Entry Global × ℕ) → List Entry
+abbrev pub first_place : List (List Entry × ℕ) → List Entry
 first_place [] = []
-first_place (s ∷ ss) = s.0.items
+first_place (s ∷ ss) = s.0
