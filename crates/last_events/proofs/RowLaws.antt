@@ -1,5 +1,5 @@
 -- Rows of seats: what stands before a spot and behind it, and what an edit of a row leaves.
-use Rattle.std.proofs.Common.{◌≡◌, ◌≢◌, ◌⊎◌, inl, inr, ℕ, zero, suc, ◌<◌, ◌≤◌, Bool, true, false, cond, List, [], ◌∷◌, ◌++◌, length, take, drop, set, Vec, Option, Result, Ok, Err, OnErr, Some, None, slice_get, get_or, refl, sym, ap, subst, ◌∙◌, arith, Less, Global}
+use Rattle.std.proofs.Common.{◌≡◌, ◌≢◌, ◌⊎◌, inl, inr, ℕ, zero, suc, ◌<◌, ◌≤◌, Bool, true, false, cond, List, [], ◌∷◌, ◌++◌, length, take, drop, set, Option, Result, Ok, Err, OnErr, Some, None, slice_get, get_or, refl, sym, ap, subst, ◌∙◌, arith, Less}
 use Rattle.std.specs.Ordering.{is_eq}
 use Rattle.std.specs.Map.{lookup}
 use Rattle.address.specs.declared.Entry.{Entry}
@@ -277,7 +277,7 @@ row-get (r ∷ rs) (suc n) d h = let less : n < length rs = omega arith in row-g
 pub row-is : (rows : List Row) (n : ℕ) (r : Row) → slice_get rows n ≡ Some r → row_at rows n ≡ r.items
 row-is [] zero r at = absurd (none-some r at)
 row-is [] (suc n) r at = absurd (none-some r at)
-row-is (q ∷ rs) zero r at = ap (λ (p : Row). p) (some-is q r at)
+row-is (q ∷ rs) zero r at = ap (λ (p : Row). p.items) (some-is q r at)
 row-is (q ∷ rs) (suc n) r at = row-is rs n r at
 
 pub row-none : (rows : List Row) (n : ℕ) → slice_get rows n ≡ None → row_at rows n ≡ []

@@ -1,5 +1,5 @@
 -- Where a place stands among the rows, and what the table of places says then.
-use Rattle.std.proofs.Common.{◌≡◌, ◌≢◌, ◌⊎◌, inl, inr, ℕ, zero, suc, ◌<◌, ◌≤◌, List, [], ◌∷◌, ◌++◌, length, take, drop, map, set, Vec, Result, Ok, Err, OnOk, OnErr, Some, None, slice_get, get_or, refl, sym, ap, subst, ◌∙◌, arith, Less, Global}
+use Rattle.std.proofs.Common.{◌≡◌, ◌≢◌, ◌⊎◌, inl, inr, ℕ, zero, suc, ◌<◌, ◌≤◌, List, [], ◌∷◌, ◌++◌, length, take, drop, map, set, Result, Ok, Err, OnOk, OnErr, Some, None, slice_get, get_or, refl, sym, ap, subst, ◌∙◌, arith, Less}
 use Rattle.std.specs.Map.{lookup}
 use Rattle.address.specs.declared.Entry.{Entry}
 use Rattle.address.specs.Order.{order_of}

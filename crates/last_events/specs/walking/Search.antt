@@ -1,7 +1,6 @@
 -- Places in ascending order, and where one parts them.
 -- No reader has to believe it: the proofs of `PlaceTable` tie it to `ticket_at`.
-use Rattle.std.specs.Prelude.{◌≡◌, ℕ, ◌≤◌, List, [], ◌∷◌, length, take, drop, Vec}
-use Rattle.std.specs.Global.{Global}
+use Rattle.std.specs.Prelude.{◌≡◌, ℕ, ◌≤◌, List, [], ◌∷◌, length, take, drop}
 use Rattle.std.specs.declared.cmp.Ordering.TheVariants.{Less}
 use Rattle.address.specs.Order.{order_of}
 use Rattle.address.specs.declared.Entry.{Entry}

@@ -23,7 +23,7 @@ returns-then-eq c =
     holds-read c.args.rows.now c.args.place.now c.next_of-next.result.row c.next_of-next.result.index c.in-Some-get.seat.now
     (seat-read c.args.rows.now c.next_of-next.result.row c.next_of-next.result.index c.in-Some.row.now c.deref.result.now c.in-Some-get.seat.now row.3.0 row.1
     c.deref.ensures.value seat.3.0 seat.1)
-    (sym c.as_slice.ensures.value ∙ (slice_eq-Decides entry_eq-Decides c.as_slice.result.now c.args.place.now c.eq.result c.eq.ensures).0 c.if-eq.true)
+    (sym c.entries.ensures ∙ (slice_eq-Decides entry_eq-Decides c.entries.result.now c.args.place.now c.eq.result c.eq.ensures).0 c.if-eq.true)
 
 pub returns-else-eq : goal.returns-else-eq
 returns-else-eq c =
@@ -35,4 +35,4 @@ returns-else-eq c =
     absent-other c.args.rows.now c.args.place.now c.args.spot.row c.args.spot.index c.in-Some-get.seat.now c.requires.table c.requires.stands
     (sym c.next_of-next.ensures ∙ at)
     (λ same. true≢false
-    (sym ((slice_eq-Decides entry_eq-Decides c.as_slice.result.now c.args.place.now c.eq.result c.eq.ensures).1 (c.as_slice.ensures.value ∙ same)) ∙ c.if-eq.false))
+    (sym ((slice_eq-Decides entry_eq-Decides c.entries.result.now c.args.place.now c.eq.result c.eq.ensures).1 (c.entries.ensures ∙ same)) ∙ c.if-eq.false))

@@ -28,7 +28,7 @@ returns-then-is_first_child c =
     c.deref.ensures.value seat.3.0 seat.1 in
     sym (ticket-behind c.args.rows.now (first_child c.args.place.now) c.spot_of_first_child-spot.result.row c.spot_of_first_child-spot.result.index
     c.in-Some-get.seat.now c.spot_of_first_child-spot.ensures (sym c.next_of-next.ensures ∙ at)
-    (sym c.as_slice.ensures.value ∙ c.is_first_child.ensures.0 c.if-is_first_child.true))
+    (sym c.entries.ensures ∙ c.is_first_child.ensures.0 c.if-is_first_child.true))
 
 pub returns-else-is_first_child : goal.returns-else-is_first_child
 returns-else-is_first_child c =
@@ -40,4 +40,4 @@ returns-else-is_first_child c =
     sym (ticket-none c.args.rows.now (first_child c.args.place.now)
     (absent-other c.args.rows.now (first_child c.args.place.now) c.spot_of_first_child-spot.result.row c.spot_of_first_child-spot.result.index
     c.in-Some-get.seat.now c.requires.table c.spot_of_first_child-spot.ensures (sym c.next_of-next.ensures ∙ at)
-    (λ same. true≢false (sym (c.is_first_child.ensures.1 (c.as_slice.ensures.value ∙ same)) ∙ c.if-is_first_child.false))))
+    (λ same. true≢false (sym (c.is_first_child.ensures.1 (c.entries.ensures ∙ same)) ∙ c.if-is_first_child.false))))

@@ -21,8 +21,8 @@ returns-in-Some c =
     let at : slice_get (row_at c.self.inside.rows.items c.spot_of-spot.result.row) (c.spot_of-spot.result.index - 1) ≡ Some c.in-Some.seat.now =
     seat-read c.self.inside.rows.items c.spot_of-spot.result.row (c.spot_of-spot.result.index - 1) c.index.result.now c.as_slice-row.result.now c.in-Some.seat.now
     st.inside c.index.ensures c.as_slice-row.ensures.value seat.3.0 seat.1 in
-    subst (λ (t : List Seat). LastBelow t c.args.bound.now c.as_slice-in-Some.result.now c.in-Some.seat.now.1) c.self.view_is
-    (subst (λ (a : List Entry). LastBelow (flat c.self.inside.rows.items) c.args.bound.now a c.in-Some.seat.now.1) (sym c.as_slice-in-Some.ensures.value)
+    subst (λ (t : List Seat). LastBelow t c.args.bound.now c.entries.result.now c.in-Some.seat.now.1) c.self.view_is
+    (subst (λ (a : List Entry). LastBelow (flat c.self.inside.rows.items) c.args.bound.now a c.in-Some.seat.now.1) (sym c.entries.ensures)
     (last-below c.self.inside.rows.items c.args.bound.now c.spot_of-spot.result.row c.spot_of-spot.result.index (c.spot_of-spot.result.index - 1) c.in-Some.seat.now
     c.self.invariant st next at))
 
