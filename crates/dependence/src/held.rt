@@ -10,7 +10,6 @@ ghost use Rattle.dependence.specs.walking.Unmarked.{Thinned};
 use crate::links::{Links, remove};
 use crate::live::LiveEvent;
 use crate::taking::thin;
-use smallvec::SmallVec;
 use std::alloc::{AllocError, Global};
 use std::marker::Model;
 
@@ -34,8 +33,8 @@ impl HeldLinks {
         ensures { IfOk result (λ held. (held.followers.items ≡ []) × (held.leads.items ≡ leads.items)) }
     {
         let links = Links {
-            followers: SmallVec::new(alloc),
-            leads: SmallVec::from_vec(leads),
+            followers: Vec::new(alloc),
+            leads,
         };
         Ok(HeldLinks {
             links: Box::new(alloc, links)?,

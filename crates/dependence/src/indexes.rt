@@ -1,5 +1,5 @@
 // Looking for a ticket: by halves, since tickets rise.
-ghost use Rattle.std.specs.Prelude.{◌≡◌, ◌<◌, Some, Unit, slice_get, MatchOption};
+ghost use Rattle.std.specs.Prelude.{◌≡◌, ◌<◌, Some, slice_get, MatchOption};
 ghost use Rattle.syntax.specs.Lists.{In};
 ghost use Rattle.runs.specs.InOrder.{InOrder};
 ghost use Rattle.runs.specs.Live.{NoneAt, IsLive};

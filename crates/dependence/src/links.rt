@@ -9,14 +9,13 @@ ghost use Rattle.dependence.specs.walking.Tables.{IsRising, Falling, PartLinked,
 use crate::held::HeldLinks;
 use crate::indexes::{index_in, index_of_live};
 use crate::live::LiveEvent;
-use smallvec::SmallVec;
 use std::alloc::AllocError;
 
 /// Of one live event: the tickets of its followers, ascending, and of the events that it follows, falling.
 #[derive(Drop)]
 pub(crate) struct Links {
-    pub(crate) followers: SmallVec<u64, 3>,
-    pub(crate) leads: SmallVec<u64, 3>,
+    pub(crate) followers: Vec<u64>,
+    pub(crate) leads: Vec<u64>,
 }
 
 /// Puts the new ticket behind the followers of each of these events. Without memory for it all lists are as before.
@@ -85,7 +84,7 @@ fn unlink_one(live: &[LiveEvent], links: &mut [HeldLinks], lead: u64, ticket: u6
 }
 
 /// Takes the ticket out of those that ascend.
-pub(crate) fn remove(tickets: &mut SmallVec<u64, 3>, ticket: u64)
+pub(crate) fn remove(tickets: &mut Vec<u64>, ticket: u64)
     requires { InOrder ◌<◌ tickets.old.items }
     ensures { Removed ticket tickets.old.items tickets.new.items }
 {

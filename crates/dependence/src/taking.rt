@@ -16,7 +16,6 @@ use crate::indexes::{index_in, index_of_live};
 use crate::live::LiveEvent;
 use crate::marks::{clear, is_marked, unmarked_below};
 use crate::tables::Tables;
-use smallvec::SmallVec;
 
 /// Takes the marked events out with their marks. What depends on a marked one is marked.
 pub(crate) fn take_marked(
@@ -114,7 +113,7 @@ fn unlink_from(live: &[LiveEvent], links: &mut [HeldLinks], marks: &[bool], lead
 }
 
 /// Takes the marked tickets out of these, which ascend, where this one is among them. Else they are out already.
-pub(crate) fn thin(live: &[LiveEvent], marks: &[bool], tickets: &mut SmallVec<u64, 3>, ticket: u64)
+pub(crate) fn thin(live: &[LiveEvent], marks: &[bool], tickets: &mut Vec<u64>, ticket: u64)
     requires rising { IsRising live.now }
     requires size { length marks.now ≡ length live.now }
     requires ordered { InOrder ◌<◌ tickets.old.items }
