@@ -9,5 +9,5 @@ read_number Memory = 1
 read_number Failed = 41
 
 -- a writer failed
-pub write_number : ℕ
+abbrev pub write_number : ℕ
 write_number = 42
