@@ -5,4 +5,5 @@ endif
 let b:did_ftplugin = 1
 
 setlocal commentstring=--\ %s comments=s:(--,e:--),:-- iskeyword=48-57,65-90,95,97-122
-let b:undo_ftplugin = "setlocal commentstring< comments< iskeyword<"
+setlocal formatoptions-=t formatoptions+=croql
+let b:undo_ftplugin = "setlocal commentstring< comments< iskeyword< formatoptions<"
