@@ -42,7 +42,7 @@ unmade_front procedures stimulus front fault (later, given) h =
 
 -- where none is missing the first are all
 pub all_read : (stimulus : List ℕ) (front : List Entry) (is_cut : Bool) → is_cut ≡ false
-    → (later : List Entry) × AreEntries 1 (lines stimulus) (front ++ later) × (is_cut ≡ false → later ≡ [])
+    → (later : List Entry) × AreEntries 1 (lines stimulus) (front ++ later) × (is_cut ≡ false → later ≡ []) × (later ≡ [] → is_cut ≡ false)
     → AreEntries 1 (lines stimulus) front
-all_read stimulus front is_cut whole (later, given, none) =
+all_read stimulus front is_cut whole (later, given, none, _) =
     subst (AreEntries 1 (lines stimulus)) (ap (λ (es : List Entry). front ++ es) (none whole) ∙ append-nil front) given

@@ -55,9 +55,9 @@ filled_lines (x ∷ rest) = by (x == 10) refl (filled_lines rest)
 
 -- where as many entries as bytes are kept none is missing
 pub none_missing : (text : Text) (kept : List Entry) (is_cut : Bool)
-    → (later : List Entry) × AreEntries 1 (lines text) (kept ++ later) × (is_cut ≡ false → later ≡ [])
+    → (later : List Entry) × AreEntries 1 (lines text) (kept ++ later) × (is_cut ≡ false → later ≡ []) × (later ≡ [] → is_cut ≡ false)
     → (is_cut ≡ true → length kept ≡ length text) → AreEntries 1 (lines text) kept
-none_missing text kept is_cut (later, given, whole) full =
+none_missing text kept is_cut (later, given, whole, _) full =
     let few : length (kept ++ later) ≤ length text = omega (arith, entries_filled 1 (lines text) (kept ++ later) given, filled_lines text) in
     let none : later ≡ [] =
     elim (cases_Bool is_cut) [

@@ -14,9 +14,10 @@ pub record Kept (text : Text) (n : ℕ) (kept : List Entry) (is_cut : Bool) (res
   pub later : List Entry
   pub passed : Progress text n (kept ++ later) rest
   pub whole : is_cut ≡ false → later ≡ []
+  pub none_missing : later ≡ [] → is_cut ≡ false
 
 pub kept_start : (text : Text) → Kept text 1 [] false text
-kept_start text = record { later = []; passed = progress_start text; whole = λ h. refl }
+kept_start text = record { later = []; passed = progress_start text; whole = λ h. refl; none_missing = λ h. refl }
 
 -- what a line adds to the entries before it adds behind more of them
 added_behind : (n : ℕ) (line : Text) (before after : List Entry) → IsAdded n line before after → IsAdded n line (before ++ []) (after ++ [])
@@ -33,6 +34,7 @@ kept_added text n before after was_cut is_cut rest count k cut some whole same a
       later = [];
       passed = progress_more text n (before ++ []) rest count (after ++ []) passed cut some (added_behind n (take count rest) before after added);
       whole = λ h. refl;
+      none_missing = λ h. same ∙ whole;
     }
 
 -- a line is passed whose entry is missing
@@ -49,6 +51,7 @@ kept_missed text n kept after was_cut is_cut rest count k cut some same given cu
       later = k.later ++ new;
       passed = subst (λ es. Progress text (n + 1) es (drop 1 (drop count rest))) same_found passed;
       whole = λ h. absurd (false≢true (sym h ∙ cut_now));
+      none_missing = λ h. absurd (omega (arith, simp length-append at (ap length h)));
     }
 
 -- an empty line is passed
@@ -60,6 +63,7 @@ kept_empty text n kept after was_cut is_cut rest count k cut some same none cut_
       later = k.later;
       passed = progress_more text n (kept ++ k.later) rest count (after ++ k.later) k.passed cut some (inl (none, ap (λ es. es ++ k.later) same));
       whole = λ h. k.whole (sym cut_same ∙ h);
+      none_missing = λ h. cut_same ∙ k.none_missing h;
     }
 
 -- a line is passed
@@ -108,5 +112,5 @@ full_more n most line before after was_cut is_cut few at passed cut =
 
 -- at the end all are read
 pub kept_end : (text : Text) (n : ℕ) (kept : List Entry) (is_cut : Bool) (rest : Text) → Kept text n kept is_cut rest → rest ≡ []
-    → (later : List Entry) × AreEntries 1 (lines text) (kept ++ later) × (is_cut ≡ false → later ≡ [])
-kept_end text n kept is_cut rest k none = (k.later, progress_end text n (kept ++ k.later) rest k.passed none, k.whole)
+    → (later : List Entry) × AreEntries 1 (lines text) (kept ++ later) × (is_cut ≡ false → later ≡ []) × (later ≡ [] → is_cut ≡ false)
+kept_end text n kept is_cut rest k none = (k.later, progress_end text n (kept ++ k.later) rest k.passed none, k.whole, k.none_missing)

@@ -40,7 +40,7 @@ impl Front {
     /// All of the text is read, and refused as `Stimulus::read` refuses it. Of lines behind the front nothing is kept.
     pub fn read(alloc: Global, text: &[u8], most: usize) -> Result<Front, Fault>
         ensures entries { IfOk result (λ front. (later : List Entry) × AreEntries 1 (lines text.now) (front.stimulus.entries ++ later)
-            × (front.is_cut ≡ false → later ≡ [])) }
+            × (front.is_cut ≡ false → later ≡ []) × (later ≡ [] → front.is_cut ≡ false)) }
         ensures few { IfOk result (λ front. (length front.stimulus.entries ≤ most)
             × (front.is_cut ≡ true → length front.stimulus.entries ≡ most)) }
         ensures fault { IfErr result (λ fault. (fault ≡ Memory) ⊎ ((n : ℕ) × (fault ≡ BadStimulus n) × FirstOther 1 (lines text.now) n)) }

@@ -4,16 +4,15 @@ use Rattle.types.specs.Commands.{Scope}
 use Rattle.types.specs.Declarations.{SoFar, after_procedure, judged_procedure, with_procedures, with_types, types_of, judged_description}
 use Rattle.types.specs.Findings.{Verdict, becomes, both, with_next}
 use Rattle.types.specs.Names.{VisibleNames}
-use Rattle.types.specs.walking.Judged.{scope_behind, last_scope, Judges}
+use Rattle.types.specs.walking.Judged.{Judgement, scope_behind, last_scope, Judges, IsSpent}
 use Rattle.types.specs.walking.Least.{least}
-use Rattle.types.specs.walking.Scopes.{entries, scope_of}
-use Rattle.types.specs.declared.typing.Typing.{Typing}
+use Rattle.refusals.specs.declared.types.Fault.TheVariants.{Memory}
 use Rattle.typed.specs.declared.tree.PortKind.{PortKind}
 use Rattle.typed.specs.declared.tree.Procedure.{Procedure}
 use Rattle.syntax.specs.declared.declaration.Description.{Description}
 use Rattle.syntax.specs.declared.declaration.Procedure as tree_procedure
 use Rattle.syntax.specs.declared.declaration.TypeDeclaration.{TypeDeclaration}
-use Rattle.types.proofs.Order.{lesser-lesser}
+use Rattle.types.proofs.Order.{lesser-lesser, lesser-memory}
 
 -- ---- further procedures
 
@@ -55,31 +54,31 @@ procedures-beside types scope done (p ∷ rest) =
 
 -- nothing but the types is judged yet
 pub judges-types :
-    (typing : Typing) (types : List TypeDeclaration) (start : VisibleNames) (right : Verdict (Unit {0}))
+    (judged : Judgement) (types : List TypeDeclaration) (start : VisibleNames) (right : Verdict (Unit {0}))
     → start ≡ []
-    → ◌≡◌ {A = SoFar least} (record { names = entries typing.scope.names; right = right }) (with_types least (record { names = start; right = Ok tt }) types)
-    → typing.scope.signatures ≡ []
-    → typing.found ≡ beside right (Ok [])
-    → Judges typing (record { types = types; procedures = [] })
+    → ◌≡◌ {A = SoFar least} (record { names = judged.scope.names; right = right }) (with_types least (record { names = start; right = Ok tt }) types)
+    → judged.scope.procedures ≡ []
+    → judged.found ≡ beside right (Ok [])
+    → Judges judged (record { types = types; procedures = [] })
 unfolding judged_description
-judges-types typing types start right start_is types_are none found_is =
+judges-types judged types start right start_is types_are none found_is =
     let d : Description = record { types = types; procedures = [] } in
-    let all : ◌≡◌ {A = SoFar least} (record { names = entries typing.scope.names; right = right }) (types_of least d) =
+    let all : ◌≡◌ {A = SoFar least} (record { names = judged.scope.names; right = right }) (types_of least d) =
     types_are ∙ ap (λ x. with_types least (record { names = x; right = Ok tt }) types) start_is in
-    let names_are : entries typing.scope.names ≡ (types_of least d).names = ap (λ (s : SoFar least). s.names) all in
+    let names_are : judged.scope.names ≡ (types_of least d).names = ap (λ (s : SoFar least). s.names) all in
     record {
       scope =
-          ap (λ (x : List (List PortKind)). record { names = entries typing.scope.names; procedures = x }) none
+          ap (λ (x : List (List PortKind)). record { names = judged.scope.names; procedures = x }) none
           ∙ ap (λ (x : VisibleNames). record { names = x; procedures = [] }) names_are;
       found = found_is ∙ ap (λ (s : SoFar least). beside s.right (Ok [])) all;
     }
 
 -- further procedures are judged
 pub judges-more :
-    (before after : Typing) (ps : List tree_procedure.Procedure) (d : Description)
+    (before after : Judgement) (ps : List tree_procedure.Procedure) (d : Description)
     → Judges before d
-    → after.found ≡ with_procedures least (scope_of before.scope) before.found ps
-    → scope_of after.scope ≡ scope_behind (scope_of before.scope) ps
+    → after.found ≡ with_procedures least before.scope before.found ps
+    → after.scope ≡ scope_behind before.scope ps
     → Judges after (record { types = d.types; procedures = d.procedures ++ ps })
 unfolding judged_description
 judges-more before after ps d is found_is scope_is =
@@ -99,11 +98,25 @@ judges-more before after ps d is found_is scope_is =
 
 -- the types and the procedures that were given are all of the description
 pub judges-all :
-    (typing : Typing) (d : Description) (types : List TypeDeclaration) (procedures : List tree_procedure.Procedure)
+    (judged : Judgement) (d : Description) (types : List TypeDeclaration) (procedures : List tree_procedure.Procedure)
     → types ≡ d.types
     → procedures ≡ d.procedures
-    → Judges typing (record { types = types; procedures = procedures })
-    → Judges typing d
-judges-all typing d types procedures all_types all_procedures is =
-    subst (λ ts. Judges typing (record { types = ts; procedures = d.procedures })) all_types
-    (subst (λ ps. Judges typing (record { types = types; procedures = ps })) all_procedures is)
+    → Judges judged (record { types = types; procedures = procedures })
+    → Judges judged d
+judges-all judged d types procedures all_types all_procedures is =
+    subst (λ ts. Judges judged (record { types = ts; procedures = d.procedures })) all_types
+    (subst (λ ps. Judges judged (record { types = types; procedures = ps })) all_procedures is)
+
+-- ---- without memory
+
+spent-next : {A : Type 0} (next : Verdict A) → with_next least (Err Memory) next ≡ Err Memory
+spent-next (Ok a) = refl
+spent-next (Err fault) = ap (λ f. Err f) (lesser-memory fault)
+
+-- where there was no memory, no further procedure changes what is answered
+pub spent-more : (scope : Scope) (found : Verdict (List Procedure)) (ps : List tree_procedure.Procedure)
+    → found ≡ Err Memory → with_procedures least scope found ps ≡ Err Memory
+spent-more scope found [] is = is
+spent-more scope found (p ∷ rest) is =
+    spent-more (after_procedure least scope p) (with_next least found (judged_procedure least scope p)) rest
+    (ap (λ f. with_next least f (judged_procedure least scope p)) is ∙ spent-next (judged_procedure least scope p))

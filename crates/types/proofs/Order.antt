@@ -90,3 +90,16 @@ lesser-again f g = by (goes_before g f) (goes_before f g) refl refl
 pub lesser-one : (f g : Fault) → (lesser f g ≡ f) ⊎ (lesser f g ≡ g)
 unfolding lesser
 lesser-one f g = elim (goes_before g f) as (λ b. ((if b then g else f) ≡ f) ⊎ ((if b then g else f) ≡ g)) [ true ↦ inr refl | false ↦ inl refl ]
+
+-- want of memory is answered before all
+pub lesser-memory : (f : Fault) → lesser Memory f ≡ Memory
+unfolding lesser goes_before
+lesser-memory Memory = refl
+lesser-memory (UnknownName o) = refl
+lesser-memory (NameTwice o) = refl
+lesser-memory (WrongKind o) = refl
+lesser-memory (TooWide o) = refl
+lesser-memory (GuardNotOneBit o) = refl
+lesser-memory (BadArm o) = refl
+lesser-memory (PortMismatch o) = refl
+lesser-memory (EnclosedTwice o) = refl

@@ -7,4 +7,7 @@ pub mod Arms
 pub mod Calls
 pub mod Commands
 pub mod Declarations
+pub mod Laws
+pub mod Parts
+pub mod Visible
 pub mod walking

@@ -12,11 +12,13 @@ mod command;
 mod declaration;
 mod expression;
 mod forms;
+mod laws;
 mod scope;
 mod typing;
 mod uses;
 mod verdict;
 
+pub use laws::{expressions_have_one_width, names_are_declared_once, unused_may_be_left_out};
 pub use refusals::types::Fault;
 use std::alloc::Global;
 use syntax::Description;

@@ -1,16 +1,18 @@
 // A description that is typed part by part.
-ghost use Rattle.std.specs.Prelude.{◌≡◌, [], ◌++◌, Ok, IfOk, IfErr, OnOk};
+ghost use Rattle.std.specs.Prelude.{◌≡◌, [], ◌++◌, Ok, Err, IfOk, IfErr, OnOk, OnErr};
 ghost use Rattle.types.specs.Declarations.{found_description};
 ghost use Rattle.types.specs.Findings.{IsRefused, becomes, both};
-ghost use Rattle.types.specs.walking.Judged.{Judges};
+ghost use Rattle.types.specs.walking.Judged.{IsSpent, Judges};
 ghost use Rattle.types.specs.walking.Least.{least};
 ghost use Rattle.syntax.specs.declared.declaration.Description.{Description};
+ghost use Rattle.refusals.specs.declared.types.Fault.TheVariants.{Memory};
 
 use crate::Fault;
 use crate::declaration::{declare_types, settled_procedures};
 use crate::scope::Scope;
 use crate::verdict::Verdict;
 use std::alloc::{AllocError, Global};
+use std::marker::Model;
 use std::mem;
 use syntax::{Items, TypeDeclaration};
 use typed::{Procedure, Typed};
@@ -22,6 +24,20 @@ pub struct Typing {
     scope: Scope,
     /// the procedures so far, or the fault that would be answered of what was judged
     found: Verdict<Items<Procedure>>,
+}
+
+impl Model for Typing {
+    ghost use Rattle.types.specs.walking.Judged.{Judgement};
+    ghost use Rattle.std.specs.Coded.{codes};
+    ghost use Rattle.typed.specs.contracts.tree.Procedure as procedure;
+
+    ghost Value = { Judgement };
+
+    ghost coded = { Prim.hlevel (codes, procedure.the_row.coded) };
+
+    ghost use Rattle.types.specs.walking.Scopes.{scope_of};
+
+    ghost view = { λ typing. record { scope = scope_of typing.scope; found = typing.found } };
 }
 
 impl Typing {
@@ -38,10 +54,12 @@ impl Typing {
         })
     }
 
-    /// Judges the procedures that stand behind those judged before. It is refused for want of memory alone, and then
-    /// nothing is known of what it holds: it is to be dropped.
+    /// Judges the procedures that stand behind those judged before. It is refused for want of memory alone: then the
+    /// description is lost, and `finish` answers want of memory, whatever is added before.
     pub fn add(&mut self, alloc: Global, procedures: &[syntax::Procedure]) -> Result<(), AllocError>
-        ensures { (d : Description) → Judges self.old d → OnOk result (Judges self.new (record { types = d.types; procedures = d.procedures ++ procedures.now })) }
+        ensures judged { (d : Description) → Judges self.old d → OnOk result (Judges self.new (record { types = d.types; procedures = d.procedures ++ procedures.now })) }
+        ensures refused { OnErr result (IsSpent self.new) }
+        ensures spent { IsSpent self.old → IsSpent self.new }
     {
         let found = mem::replace(&mut self.found, Err(Fault::Memory));
         self.found = settled_procedures(alloc, &mut self.scope, procedures, found)?;
@@ -49,10 +67,11 @@ impl Typing {
     }
 
     /// The description with its names, kinds and widths settled, or of all its faults that with the least offset, and
-    /// at one offset that with the least number.
+    /// at one offset that with the least number. Behind an `add` that was refused it is `Memory`.
     pub fn finish(self) -> Result<Typed, Fault>
         ensures typed { (d : Description) → Judges self d → IfOk result (λ typed. found_description d ≡ Ok typed) }
         ensures fault { (d : Description) → Judges self d → IfErr result (λ fault. IsRefused (found_description d) fault) }
+        ensures spent { IsSpent self → result ≡ Err Memory }
     {
         let Typing {
             scope: _scope,

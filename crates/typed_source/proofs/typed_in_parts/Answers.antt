@@ -13,7 +13,7 @@ loop-is_last-init c =
     let read : IsNext true c.new-lexing.result first c.next_part.new.lexing = rw c.in-Some.is at c.in_ok-first.ensures.read in
     let judged : Judges c.add.new.self first.description =
     judges-all c.add.new.self first.description c.as_slice.result.now c.as_slice-2.result.now c.as_slice.ensures c.as_slice-2.ensures
-    (c.in_ok-add.ensures (record { types = c.as_slice.result.now; procedures = [] }) c.in_ok-typing.ensures) in
+    (c.in_ok-add.ensures.judged (record { types = c.as_slice.result.now; procedures = [] }) c.in_ok-typing.ensures) in
     stands_first c.args.source.now c.new-lexing.result c.next_part.new.lexing first c.add.new.self c.new-lexing.ensures read judged
 
 pub returns-in_err-next-clause-fault : goal.returns-in_err-next-clause-fault
@@ -30,7 +30,7 @@ loop-is_last-preserved c =
     let stands : Stands c.args.source.now false c.loop-is_last.lexing c.loop-is_last.typing = rw more at c.loop-is_last.invariant in
     let read : IsNext false c.loop-is_last.lexing next c.next_part-in-loop-is_last.new.lexing = rw c.in-Some-2.is at c.in_ok-next.ensures.read in
     stands_next c.args.source.now c.loop-is_last.lexing c.next_part-in-loop-is_last.new.lexing next c.loop-is_last.typing c.add-in-loop-is_last.new.self stands read
-    (λ d judged. rw c.as_slice-in-loop-is_last.ensures at (c.in_ok-add-2.ensures d judged))
+    (λ d judged. rw c.as_slice-in-loop-is_last.ensures at (c.in_ok-add-2.ensures.judged d judged))
 
 pub returns-in_err-finish-clause-fault : goal.returns-in_err-finish-clause-fault
 returns-in_err-finish-clause-fault c =

@@ -1,13 +1,19 @@
--- What `Typing` holds of a description whose types and first procedures are judged.
+-- What `Typing` stands for: a description whose types and first procedures are judged.
 -- No reader has to believe it: `check_types` goes through `new`, `add` and `finish`, and its clauses cite `found_description` alone.
-use Rattle.std.specs.Prelude.{◌≡◌, List, [], ◌∷◌}
+use Rattle.std.specs.Prelude.{◌≡◌, List, [], ◌∷◌, Err}
 use Rattle.types.specs.Commands.{Scope}
 use Rattle.types.specs.Declarations.{after_procedure, types_of, judged_description}
 use Rattle.types.specs.walking.Least.{least}
-use Rattle.types.specs.walking.Scopes.{scope_of}
-use Rattle.types.specs.declared.typing.Typing.{Typing}
+use Rattle.types.specs.Findings.{Verdict}
+use Rattle.refusals.specs.declared.types.Fault.TheVariants.{Memory}
+use Rattle.typed.specs.declared.tree.Procedure as typed
 use Rattle.syntax.specs.declared.declaration.Description.{Description}
 use Rattle.syntax.specs.declared.declaration.Procedure.{Procedure}
+
+-- the scope behind what is judged so far, and its procedures, or the fault that would be answered
+pub record Judgement : Type 0 where
+  pub scope : Scope
+  pub found : Verdict (List typed.Procedure)
 
 -- the scope behind procedures that follow this scope
 abbrev pub scope_behind : Scope → List Procedure → Scope
@@ -19,6 +25,10 @@ abbrev pub last_scope : Description → Scope
 last_scope d = scope_behind (record { names = (types_of least d).names; procedures = [] }) d.procedures
 
 -- the types and the procedures that were given so far are those of this description
-pub record Judges (typing : Typing) (d : Description) : Type 0 where
-  pub scope : scope_of typing.scope ≡ last_scope d
-  pub found : typing.found ≡ judged_description least d
+pub record Judges (judged : Judgement) (d : Description) : Type 0 where
+  pub scope : judged.scope ≡ last_scope d
+  pub found : judged.found ≡ judged_description least d
+
+-- there was no memory, which is all that is answered from then on
+abbrev pub IsSpent : Judgement → Type 0
+IsSpent judged = judged.found ≡ Err Memory
