@@ -1,3 +1,4 @@
+pub mod BucketLemmas
 pub mod CommentLemmas
 pub mod FrontLemmas
 pub mod KindLemmas

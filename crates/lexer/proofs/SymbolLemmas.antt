@@ -15,7 +15,7 @@ use Rattle.lexer.specs.declared.token.Kind.{Kind}
 use Rattle.lexer.proofs.PieceLemmas.{class_shown}
 
 -- a test that the texts of a table pass is passed by each text that is found there
-lookup_passes : (test : Text → Bool) (table : List (Text × Kind)) (text : Text) → list_all (λ entry. test entry.0) table ≡ true → IsSome (lookup table text) → test text ≡ true
+pub lookup_passes : (test : Text → Bool) (table : List (Text × Kind)) (text : Text) → list_all (λ entry. test entry.0) table ≡ true → IsSome (lookup table text) → test text ≡ true
 lookup_passes test [] text all found = absurd (false≢true found)
 lookup_passes test (entry ∷ entries) text all found = elim (cases_Bool (pointwise nat_eq entry.0 text)) [
   | inl same ↦ subst (λ t. test t ≡ true) (same_text entry.0 text (sym same)) (and_parts _ _ all).0

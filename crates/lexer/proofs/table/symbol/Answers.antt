@@ -2,6 +2,6 @@ use Rattle.std.proofs.Common.{rules}
 use Rattle.lexer.specs.Table.{symbol}
 use Rattle.lexer.proofs.table.symbol.Goals as goal
 
-pub returns : goal.returns
+pub returns-in-empty : goal.returns-in-empty
 unfolding symbol
-returns c = search rules
+returns-in-empty c = search rules

@@ -1,0 +1,37 @@
+-- A text that begins with no first byte of a table is not in it.
+use Rattle.std.proofs.Common.{◌≡◌, ◌≢◌, ℕ, Bool, true, false, ◌||◌, List, [], ◌∷◌, inl, inr, refl, sym, ◌∙◌, Option, Some, None}
+use Rattle.std.specs.Prelude.{nat_eq, slice_index, IsSome}
+use Rattle.std.specs.List.{list_all}
+use Rattle.std.proofs.lemmas.Bool.{false≢true, cases_Bool, eqb-true}
+use Rattle.syntax.specs.Texts.{Text}
+use Rattle.lexer.specs.Table.{lookup}
+use Rattle.lexer.specs.declared.token.Kind.{Kind}
+use Rattle.lexer.proofs.SymbolLemmas.{lookup_passes}
+
+abbrev among : List ℕ → ℕ → Bool
+among [] byte = false
+among (first ∷ firsts) byte = nat_eq first byte || among firsts byte
+
+-- the byte is none of these
+abbrev pub Differs : List ℕ → ℕ → Type 0
+Differs [] byte = Unit {0}
+Differs (first ∷ firsts) byte = (byte ≢ first) × Differs firsts byte
+
+differs : (firsts : List ℕ) (byte : ℕ) → Differs firsts byte → among firsts byte ≡ false
+differs [] byte other = refl
+differs (first ∷ firsts) byte other = elim (cases_Bool (nat_eq first byte)) [
+  | inl same ↦ absurd (other.0 (sym (eqb-true first byte same)))
+  | inr still ↦ rw still (differs firsts byte other.1)
+]
+
+-- whether a text begins with one of these bytes
+abbrev pub begins_among : List ℕ → Text → Bool
+begins_among firsts text = among firsts (slice_index text 0)
+
+not_found : (found : Option Kind) → ¬ IsSome found → None ≡ found
+not_found None none = refl
+not_found (Some kind) none = absurd (none refl)
+
+pub not_in : (table : List (Text × Kind)) (firsts : List ℕ) (byte : ℕ) (rest : Text) → list_all (λ entry. begins_among firsts entry.0) table ≡ true → Differs firsts byte → None ≡ lookup table (byte ∷ rest)
+not_in table firsts byte rest all other =
+    not_found (lookup table (byte ∷ rest)) (λ found. false≢true (sym (differs firsts byte other) ∙ lookup_passes (begins_among firsts) table (byte ∷ rest) all found))
