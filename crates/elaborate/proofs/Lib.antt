@@ -4,3 +4,15 @@ pub mod Calls
 pub mod PlaceLemmas
 pub mod LookupLemmas
 pub mod MisfitLemmas
+pub mod PartFolds
+pub mod Factored
+pub mod CopyLemmas
+pub mod TreeSizes
+pub mod Counted
+pub mod Expanded
+pub mod NameLemmas
+pub mod RootLemmas
+pub mod PortBranches
+pub mod DistinctNames
+pub mod SystemNodes
+pub mod CallPlaces

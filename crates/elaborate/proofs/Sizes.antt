@@ -1,7 +1,8 @@
 -- Sizes that are cut above their limits on the way are the whole sizes cut at the end.
 use Rattle.std.proofs.Common.{◌≡◌, ℕ, zero, suc, ◌+◌, ◌-◌, ◌<◌, ◌≤◌, max, min, List, [], ◌∷◌, ◌++◌, Some, None, length, get_or, drop, map, refl, ap, sym, ◌∙◌, subst, arith, slice_index_or, Bool, IsTrue, ◌↔◌}
 use Rattle.std.proofs.lemmas.List.{at_drop_more}
-use Rattle.elaborate.specs.Size.{Cut, whole, nothing, plain_nodes, beside, around, expression_layer, expression_size, all_beside, action_size, arm_size, command_size, guarded_size, labelled_size, size_of, procedure_size, sizes_onto, system_size, IsSmall}
+use Rattle.elaborate.specs.Size.{nothing, IsSmall}
+use Rattle.elaborate.specs.walking.Counting.{Cut, whole, plain_nodes, beside, around, expression_layer, expression_size, all_beside, action_size, arm_size, command_size, guarded_size, labelled_size, size_of, procedure_size, sizes_onto, system_size}
 use Rattle.elaborate.specs.walking.Limited.{limited}
 use Rattle.elaborate.specs.walking.SizeParts.{size_of_guarded, size_of_labelled, size_of_arm}
 use Rattle.elaborate.specs.declared.count.Size.{Size}
@@ -69,7 +70,7 @@ all_cut before (x ∷ xs) = ap (λ s. all_beside limited s (map limited xs)) (be
 all_both : (xs ys : List Size) → ys ≡ map limited xs → all_beside limited nothing ys ≡ limited (all_beside whole nothing xs)
 all_both xs ys e = ap (all_beside limited nothing) e ∙ all_cut nothing xs
 
-called_cut : (called : List Size) (k : ℕ) → slice_index_or (map limited called) k nothing ≡ limited (slice_index_or called k nothing)
+called_cut : (called : List Size) (k : ℕ) → slice_index_or (map limited called) k (around limited nothing) ≡ limited (slice_index_or called k (around whole nothing))
 called_cut [] k = refl
 called_cut (s ∷ called) zero = refl
 called_cut (s ∷ called) (suc k) = called_cut called k
@@ -218,10 +219,11 @@ pub system_cut : (ps : List Procedure) (ports values : ℕ) → system_size limi
 system_cut ps ports values =
     let sizes = sizes_onto whole [] ps in
     let e : sizes_onto limited [] ps ≡ map limited sizes = sizes_cut [] ps in
-    let last : slice_index_or (sizes_onto limited [] ps) (length (sizes_onto limited [] ps) - 1) nothing ≡ limited (slice_index_or sizes (length sizes - 1) nothing) =
-    ap (λ r. slice_index_or r (length r - 1) nothing) e
-    ∙ (ap (λ n. slice_index_or (map limited sizes) (n - 1) nothing) (length_mapped sizes) ∙ called_cut sizes (length sizes - 1)) in
-    beside_both (slice_index_or sizes (length sizes - 1) nothing) (beside whole (plain_nodes whole ports) (plain_nodes whole values)) _ _ last
+    let last : slice_index_or (sizes_onto limited [] ps) (length (sizes_onto limited [] ps) - 1) (around limited nothing)
+    ≡ limited (slice_index_or sizes (length sizes - 1) (around whole nothing)) =
+    ap (λ r. slice_index_or r (length r - 1) (around limited nothing)) e
+    ∙ (ap (λ n. slice_index_or (map limited sizes) (n - 1) (around limited nothing)) (length_mapped sizes) ∙ called_cut sizes (length sizes - 1)) in
+    beside_both (slice_index_or sizes (length sizes - 1) (around whole nothing)) (beside whole (plain_nodes whole ports) (plain_nodes whole values)) _ _ last
     (beside_both (plain_nodes whole ports) (plain_nodes whole values) (plain_nodes limited ports) (plain_nodes limited values) refl refl)
 
 -- a size that is cut is within the limits exactly where the whole one is

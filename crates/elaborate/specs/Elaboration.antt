@@ -1,16 +1,17 @@
 -- The one system that a description and a stimulus give, and when they are refused.
-use Rattle.std.specs.Prelude.{◌≡◌, ◌-◌, List, [], Some, None, length, Option, slice_get}
-use Rattle.elaborate.specs.Body.{WithMade, after_call, called, makers}
+use Rattle.std.specs.Prelude.{◌≡◌, ◌+◌, ◌-◌, ◌++◌, List, [], Some, None, map, length, Option, slice_get}
+use Rattle.elaborate.specs.Calls.{Expansion, Entered, called, expansions}
+use Rattle.elaborate.specs.Copies.{channel_of_port, variables_among, channels_among, numbers_behind}
 use Rattle.elaborate.specs.Environment.{branches_from}
 use Rattle.elaborate.specs.Fit.{first_misfit, values_given}
-use Rattle.elaborate.specs.Making.{nothing_made, ports_onto, Numbered}
-use Rattle.elaborate.specs.Size.{whole, system_size, IsSmall}
+use Rattle.elaborate.specs.Size.{beside, plain_nodes, command_size, IsSmall}
 use Rattle.elaborate.specs.declared.count.Size.{Size}
 use Rattle.system.specs.declared.command.Command as tree_command
 use Rattle.refusals.specs.declared.elaborate.Fault.{Fault}
 use Rattle.refusals.specs.declared.elaborate.Fault.TheVariants.{Memory, TooManyNodes, BadStimulus}
 use Rattle.stimulus.specs.declared.stimulus.Entry.{Entry}
 use Rattle.system.specs.declared.system.System.{System}
+use Rattle.typed.specs.declared.tree.Local.{Local}
 use Rattle.typed.specs.declared.tree.Procedure.{Procedure}
 use Rattle.typed.specs.declared.tree.Port.{Port}
 
@@ -19,31 +20,46 @@ abbrev pub ports_of : Option Procedure → List Port
 ports_of None = []
 ports_of (Some p) = p.ports
 
--- the ports of the last procedure
+-- the ports of the last procedure, which is the root
 abbrev pub root_ports : List Procedure → List Port
 root_ports ps = ports_of (slice_get ps (length ps - 1))
 
--- the channels of the root's ports, made first
-abbrev pub root_channels : List Procedure → Numbered
-root_channels ps = ports_onto [] nothing_made (root_ports ps)
+-- what the root becomes
+abbrev pub root : List Procedure → Expansion
+root ps = called (expansions ps) (length ps - 1)
 
--- what the last procedure makes over the channels of its ports; its names are as they are written
-abbrev pub root_makes : List Procedure → WithMade tree_command.Command
-root_makes ps =
-    after_call 0 (called (makers ps) (length ps - 1) (record { ports = (root_channels ps).numbers; prefix = [] }) (root_channels ps).made)
+-- the channels of its ports, which come before everything else
+abbrev pub port_channels : List Procedure → List Local
+port_channels ps = map channel_of_port (root_ports ps)
 
--- the system: what the root makes, and the environment's branch on each of its ports
+-- the copies that are made for it, whose own names are as they are written
+abbrev pub root_copies : List Procedure → List Local
+root_copies ps = (root ps).copies []
+
+-- how it is entered: each of its ports stands for the channel of that port
+abbrev pub root_entered : List Procedure → Entered
+root_entered ps = record { prefix = []; before = port_channels ps; ports = numbers_behind [] (port_channels ps) }
+
+-- its body, with the bodies of its calls
+abbrev pub main_of : List Procedure → tree_command.Command
+main_of ps = (root ps).body (root_entered ps)
+
+-- the system: what the root becomes, and the environment's branch on each of its ports
 abbrev pub system_of : List Procedure → List Entry → System
 system_of ps entries = record {
-  main = (root_makes ps).0;
+  main = main_of ps;
   environment = branches_from entries 0 (root_ports ps);
-  variables = (root_makes ps).1.variables;
-  channels = (root_makes ps).1.channels;
+  variables = variables_among (port_channels ps ++ root_copies ps);
+  channels = channels_among (port_channels ps ++ root_copies ps);
 }
 
--- how large the system is
+-- How large the system is: its commands and expressions, its branches, the values that these send, and the copies.
+-- (Where the ports have names of their own and every entry fits, that is the `system_size` of the system: a law of
+-- `src/laws.rt`.)
 abbrev pub whole_size : List Procedure → List Entry → Size
-whole_size ps entries = system_size whole ps (length (root_ports ps)) (values_given entries)
+whole_size ps entries =
+    beside (command_size (main_of ps))
+    (plain_nodes (length (root_ports ps) + values_given entries + length (root_copies ps)))
 
 -- the line of the first entry that does not fit is refused, and then a system past the limits
 abbrev pub IsRefused : List Procedure → List Entry → Fault → Type 0

@@ -1,5 +1,5 @@
 -- What the environment does on the ports of the root.
-use Rattle.std.specs.Prelude.{ℕ, ◌+◌, min, List, [], ◌∷◌, Option, Some, None}
+use Rattle.std.specs.Prelude.{ℕ, ◌+◌, List, [], ◌∷◌, Option, Some, None}
 use Rattle.value.specs.Word.{Word, most_bits, resized}
 use Rattle.system.specs.Expression.{word}
 use Rattle.elaborate.specs.Fit.{entry_named}
@@ -11,10 +11,6 @@ use Rattle.system.specs.declared.system.Branch.TheVariants as branch
 use Rattle.typed.specs.declared.tree.Port.{Port}
 use Rattle.typed.specs.declared.tree.PortKind.{PortKind}
 use Rattle.typed.specs.declared.tree.PortKind.TheVariants as kind
-
--- a number of 32 bits: the place in a list, and the largest for all places behind, which no accepted system has
-abbrev pub capped_number : ℕ → ℕ
-capped_number place = min place 4294967295
 
 -- numbers as values of a width, which holds them where the stimulus fits
 abbrev pub at_width : ℕ → List ℕ → List Word
@@ -47,8 +43,8 @@ branch_on channel (kind.Input width) entry = branch.Feed channel width (at_width
 branch_on channel (kind.Output width) entry = branch.Drain channel
 branch_on channel kind.Sync entry = branch.Syncs channel (syncs_of entry)
 
--- the branch of each port, the first of which has this place
+-- the branch of each port, the first of which has this place: a port's place is the number of its channel
 abbrev pub branches_from : List Entry → ℕ → List Port → List Branch
 branches_from entries place [] = []
 branches_from entries place (port ∷ ports) =
-    branch_on (capped_number place) port.kind (entry_named entries port.name) ∷ branches_from entries (place + 1) ports
+    branch_on place port.kind (entry_named entries port.name) ∷ branches_from entries (place + 1) ports

@@ -1,8 +1,12 @@
 pub mod Fit
-pub mod Size
 pub mod Environment
-pub mod Instances
-pub mod Making
+pub mod Naming
+pub mod Copies
 pub mod Body
+pub mod Calls
+pub mod Size
 pub mod Elaboration
+pub mod Places
+pub mod SourcePlaces
+pub mod Laws
 pub mod walking

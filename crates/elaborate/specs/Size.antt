@@ -1,22 +1,15 @@
--- How large a system is, its calls replaced. The sizes of parts are put together as they are (`whole`). What counts gives
--- another `cut`: it cuts each size above the limits.
-use Rattle.std.specs.Prelude.{ℕ, ◌+◌, ◌-◌, ◌≤◌, max, List, [], ◌∷◌, ◌++◌, Option, Some, None, length, slice_index_or}
+-- How large a system is.
+use Rattle.std.specs.Prelude.{ℕ, ◌+◌, ◌-◌, ◌≤◌, max, List, [], ◌∷◌, Option, Some, None, length}
 use Rattle.elaborate.specs.declared.count.Size.{Size}
-use Rattle.typed.specs.declared.tree.Expression.{Expression}
-use Rattle.typed.specs.declared.tree.Expression.TheOpen.{Expression-F}
-use Rattle.typed.specs.declared.tree.Expression.TheFolds.{fold-Expression}
-use Rattle.typed.specs.declared.tree.Command.{Command}
-use Rattle.typed.specs.declared.tree.Procedure.{Procedure}
-use Rattle.typed.specs.declared.tree.Action.TheOpen.{Action-F, Arm-F, Command-F, Guarded-F, Labelled-F}
-use Rattle.typed.specs.declared.tree.Action.TheFolds.{fold-Command}
-
--- what is done with each size
-abbrev pub Cut : Type 0
-Cut = Size → Size
-
--- nothing
-abbrev pub whole : Cut
-whole s = s
+use Rattle.system.specs.declared.expression.Expression.{Expression}
+use Rattle.system.specs.declared.expression.Expression.TheOpen.{Expression-F}
+use Rattle.system.specs.declared.expression.Expression.TheFolds.{fold-Expression}
+use Rattle.system.specs.declared.command.Command.{Command}
+use Rattle.system.specs.declared.command.Action.TheOpen.{Action-F, Arm-F, Command-F, Guarded-F, Labelled-F}
+use Rattle.system.specs.declared.command.Action.TheFolds.{fold-Command}
+use Rattle.system.specs.declared.system.Branch.{Branch}
+use Rattle.system.specs.declared.system.Branch.TheVariants.{Feed, Drain, Syncs}
+use Rattle.system.specs.declared.system.System.{System}
 
 -- the most nodes of a system
 abbrev pub most_nodes : ℕ
@@ -31,95 +24,97 @@ abbrev pub nothing : Size
 nothing = record { nodes = 0; levels = 0 }
 
 -- so many nodes that are no commands
-abbrev pub plain_nodes : Cut → ℕ → Size
-plain_nodes cut n = cut (record { nodes = n; levels = 0 })
+abbrev pub plain_nodes : ℕ → Size
+plain_nodes n = record { nodes = n; levels = 0 }
 
 -- two parts side by side
-abbrev pub beside : Cut → Size → Size → Size
-beside cut a b = cut (record { nodes = a.nodes + b.nodes; levels = max a.levels b.levels })
+abbrev pub beside : Size → Size → Size
+beside a b = record { nodes = a.nodes + b.nodes; levels = max a.levels b.levels }
 
 -- a command around parts
-abbrev pub around : Cut → Size → Size
-around cut parts = cut (record { nodes = parts.nodes + 1; levels = parts.levels + 1 })
+abbrev pub around : Size → Size
+around parts = record { nodes = parts.nodes + 1; levels = parts.levels + 1 }
 
--- each number, name, operator and cast is a node
-abbrev pub expression_layer : Cut → Expression-F Size → Size
-expression_layer cut (Expression-F.Constant v) = plain_nodes cut 1
-expression_layer cut (Expression-F.Variable x w) = plain_nodes cut 1
-expression_layer cut (Expression-F.Received c w) = plain_nodes cut 1
-expression_layer cut (Expression-F.Binary op a b) = beside cut (plain_nodes cut 1) (beside cut a b)
-expression_layer cut (Expression-F.Not a) = beside cut (plain_nodes cut 1) a
-expression_layer cut (Expression-F.Cast a w) = beside cut (plain_nodes cut 1) a
-
--- an expression
-abbrev pub expression_size : Cut → Expression → Size
-expression_size cut = fold-Expression Size (expression_layer cut)
-
--- a part and all of these side by side
-abbrev pub all_beside : Cut → Size → List Size → Size
-all_beside cut before [] = before
-all_beside cut before (s ∷ rest) = all_beside cut (beside cut before s) rest
+-- parts side by side
+abbrev pub all_beside : List Size → Size
+all_beside [] = nothing
+all_beside (s ∷ rest) = beside s (all_beside rest)
 
 -- what stands behind an `else`, nothing where there is none
 abbrev pub last_size : Option Size → Size
 last_size None = nothing
 last_size (Some s) = s
 
--- one layer of a command, where `called` has the size of each procedure: a call itself is nothing
-abbrev pub action_size : Cut → List Size → Action-F Size Size Size Size Size → Size
-action_size cut called Action-F.Continue = around cut nothing
-action_size cut called Action-F.Halt = around cut nothing
-action_size cut called (Action-F.Assign x w e) = around cut (expression_size cut e)
-action_size cut called (Action-F.Send c w e) = around cut (expression_size cut e)
-action_size cut called (Action-F.Receive c x) = around cut nothing
-action_size cut called (Action-F.Sync c) = around cut nothing
-action_size cut called (Action-F.Loop body) = around cut body
-action_size cut called (Action-F.While e body) = around cut (beside cut (expression_size cut e) body)
-action_size cut called (Action-F.If arms last) = around cut (beside cut (all_beside cut nothing arms) (last_size last))
-action_size cut called (Action-F.Case e arms last) =
-    around cut (beside cut (expression_size cut e) (beside cut (all_beside cut nothing arms) (last_size last)))
-action_size cut called (Action-F.Input c body) = around cut body
-action_size cut called (Action-F.Select arms) = around cut (all_beside cut nothing arms)
-action_size cut called (Action-F.Arbitrate arms) = around cut (all_beside cut nothing arms)
-action_size cut called (Action-F.Sequence children) = around cut (all_beside cut nothing children)
-action_size cut called (Action-F.Parallel children) = around cut (all_beside cut nothing children)
-action_size cut called (Action-F.Call p arguments) = slice_index_or called p nothing
+-- each number, name, operator and cast is a node
+abbrev pub expression_layer : Expression-F Size → Size
+expression_layer (Expression-F.Constant v) = plain_nodes 1
+expression_layer (Expression-F.Variable x w) = plain_nodes 1
+expression_layer (Expression-F.Received c w) = plain_nodes 1
+expression_layer (Expression-F.Binary op a b) = beside (plain_nodes 1) (beside a b)
+expression_layer (Expression-F.Not a) = beside (plain_nodes 1) a
+expression_layer (Expression-F.Cast a w) = beside (plain_nodes 1) a
+
+-- an expression
+abbrev pub expression_size : Expression → Size
+expression_size = fold-Expression Size expression_layer
+
+-- what stands in a command
+abbrev pub action_size : Action-F Size Size Size Size Size → Size
+action_size Action-F.Continue = nothing
+action_size Action-F.Halt = nothing
+action_size (Action-F.Assign x w e) = expression_size e
+action_size (Action-F.Send c w e) = expression_size e
+action_size (Action-F.Receive c x) = nothing
+action_size (Action-F.Sync c) = nothing
+action_size (Action-F.Loop body) = body
+action_size (Action-F.While e body) = beside (expression_size e) body
+action_size (Action-F.If arms last) = beside (all_beside arms) (last_size last)
+action_size (Action-F.Case e arms last) = beside (expression_size e) (beside (all_beside arms) (last_size last))
+action_size (Action-F.Input c body) = body
+action_size (Action-F.Select arms) = all_beside arms
+action_size (Action-F.Arbitrate arms) = all_beside arms
+action_size (Action-F.Sequence children) = all_beside children
+action_size (Action-F.Parallel children) = all_beside children
 
 -- an arm of `select` or `arbitrate`
 abbrev pub arm_size : Arm-F Size Size Size Size Size → Size
 arm_size a = a.body
 
--- a command, whatever its line
-abbrev pub command_size : Command-F Size Size Size Size Size → Size
-command_size c = c.action
+-- a command: a node, around what stands in it
+abbrev pub command_layer : Command-F Size Size Size Size Size → Size
+command_layer c = around c.action
 
 -- an arm of `if`: its guard counts
-abbrev pub guarded_size : Cut → Guarded-F Size Size Size Size Size → Size
-guarded_size cut a = beside cut (expression_size cut a.guard) a.body
+abbrev pub guarded_size : Guarded-F Size Size Size Size Size → Size
+guarded_size a = beside (expression_size a.guard) a.body
 
 -- an arm of `case`: its labels count nothing
 abbrev pub labelled_size : Labelled-F Size Size Size Size Size → Size
 labelled_size a = a.body
 
--- a command with its calls replaced
-abbrev pub size_of : Cut → List Size → Command → Size
-size_of cut called =
-    fold-Command Size Size Size Size Size (action_size cut called) arm_size command_size (guarded_size cut) labelled_size
+-- a command
+abbrev pub command_size : Command → Size
+command_size = fold-Command Size Size Size Size Size action_size arm_size command_layer guarded_size labelled_size
 
--- a procedure where it is called: a node for each local, and its body
-abbrev pub procedure_size : Cut → List Size → Procedure → Size
-procedure_size cut called p = beside cut (plain_nodes cut (length p.locals)) (size_of cut called p.body)
+-- the values that the environment sends in a branch
+abbrev pub values_sent : Branch → ℕ
+values_sent (Feed channel width values) = length values
+values_sent (Drain channel) = 0
+values_sent (Syncs channel count) = 0
 
--- the procedures in order, each of which calls those before it
-abbrev pub sizes_onto : Cut → List Size → List Procedure → List Size
-sizes_onto cut called [] = called
-sizes_onto cut called (p ∷ ps) = sizes_onto cut (called ++ procedure_size cut called p ∷ []) ps
+-- the values that it sends in all of them
+abbrev pub all_values_sent : List Branch → ℕ
+all_values_sent [] = 0
+all_values_sent (b ∷ bs) = values_sent b + all_values_sent bs
 
--- the last procedure, with a node for each of its ports and for each value that the environment sends
-abbrev pub system_size : Cut → List Procedure → ℕ → ℕ → Size
-system_size cut ps ports values =
-    let sizes = sizes_onto cut [] ps in
-    beside cut (slice_index_or sizes (length sizes - 1) nothing) (beside cut (plain_nodes cut ports) (plain_nodes cut values))
+-- A system: its commands and expressions, its branches and the values that these send, its variables, and its channels
+-- but those of the ports, of which each has a branch.
+abbrev pub system_size : System → Size
+system_size system =
+    let branches = length system.environment in
+    beside (command_size system.main)
+    (plain_nodes (branches + all_values_sent system.environment
+    + length system.variables + (length system.channels - branches)))
 
 -- at most 16,384 nodes, and no command inside more than 1,024 others
 abbrev pub IsSmall : Size → Type 0

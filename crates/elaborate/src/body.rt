@@ -1,7 +1,7 @@
 // The body of a procedure with its calls replaced and its names by numbers.
 ghost use Rattle.std.specs.Prelude.{◌≡◌, [], map, IfOk, OnOk};
 ghost use Rattle.std.specs.Option.{option_map};
-ghost use Rattle.elaborate.specs.Body as body;
+ghost use Rattle.elaborate.specs.walking.Makers as body;
 ghost use Rattle.elaborate.specs.walking.BodyParts.{maker_of_guarded, maker_of_labelled, maker_of_arm};
 
 use crate::forms::{

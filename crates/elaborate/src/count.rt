@@ -1,7 +1,8 @@
 // How large a system is, counted before it is made.
 ghost use Rattle.std.specs.Prelude.{◌≡◌, ◌↔◌, IsTrue, map, IfOk, length, List, [], slice_index_or, ◌-◌};
 ghost use Rattle.std.specs.Option.{option_map};
-ghost use Rattle.elaborate.specs.Size as model;
+ghost use Rattle.elaborate.specs.Size.{nothing, IsSmall};
+ghost use Rattle.elaborate.specs.walking.Counting as model;
 ghost use Rattle.elaborate.specs.walking.Limited.{limited};
 ghost use Rattle.elaborate.specs.walking.SizeParts.{size_of_guarded, size_of_labelled, size_of_arm};
 
@@ -114,20 +115,20 @@ fn size_of(command: &Command, sizes: &[Size]) -> Size
     }
 }
 
-/// The size of a procedure that is called, nothing where there is none.
+/// The size of a procedure that is called. One that is not there is a command that does nothing.
 fn size_of_call(procedure: u32, sizes: &[Size]) -> Size
-    ensures { result ≡ slice_index_or sizes.now procedure model.nothing }
+    ensures { result ≡ slice_index_or sizes.now procedure (model.around limited nothing) }
 {
     match sizes.get(procedure as usize) {
         Some(size) => *size,
-        None => Size::NONE,
+        None => around(Size::NONE),
     }
 }
 
 /// The size of commands side by side.
 #[cycle(size)]
 fn size_of_all(commands: &[Command], sizes: &[Size]) -> Size
-    ensures { result ≡ model.all_beside limited model.nothing (map (model.size_of limited sizes.now) commands.now) }
+    ensures { result ≡ model.all_beside limited nothing (map (model.size_of limited sizes.now) commands.now) }
 {
     let mut size = Size::NONE;
     for command in commands {
@@ -139,7 +140,7 @@ fn size_of_all(commands: &[Command], sizes: &[Size]) -> Size
 /// The size of the arms of an `if`.
 #[cycle(size)]
 fn size_of_guarded(arms: &[Guarded], sizes: &[Size]) -> Size
-    ensures { result ≡ model.all_beside limited model.nothing (map (size_of_guarded limited sizes.now) arms.now) }
+    ensures { result ≡ model.all_beside limited nothing (map (size_of_guarded limited sizes.now) arms.now) }
 {
     let mut size = Size::NONE;
     for arm in arms {
@@ -152,7 +153,7 @@ fn size_of_guarded(arms: &[Guarded], sizes: &[Size]) -> Size
 /// The size of the arms of a `case`.
 #[cycle(size)]
 fn size_of_labelled(arms: &[Labelled], sizes: &[Size]) -> Size
-    ensures { result ≡ model.all_beside limited model.nothing (map (size_of_labelled limited sizes.now) arms.now) }
+    ensures { result ≡ model.all_beside limited nothing (map (size_of_labelled limited sizes.now) arms.now) }
 {
     let mut size = Size::NONE;
     for arm in arms {
@@ -164,7 +165,7 @@ fn size_of_labelled(arms: &[Labelled], sizes: &[Size]) -> Size
 /// The size of the arms of a `select` or an `arbitrate`.
 #[cycle(size)]
 fn size_of_arms(arms: &[Arm], sizes: &[Size]) -> Size
-    ensures { result ≡ model.all_beside limited model.nothing (map (size_of_arm limited sizes.now) arms.now) }
+    ensures { result ≡ model.all_beside limited nothing (map (size_of_arm limited sizes.now) arms.now) }
 {
     let mut size = Size::NONE;
     for arm in arms {
@@ -204,13 +205,13 @@ fn sizes_of(alloc: Global, procedures: &[Procedure]) -> Result<Vec<Size>, AllocE
     Ok(sizes)
 }
 
-/// The last size, nothing where there is none.
+/// The last size. Where there is none, there is a command that does nothing.
 fn last_of(sizes: &[Size]) -> Size
-    ensures { result ≡ slice_index_or sizes.now (length sizes.now - 1) model.nothing }
+    ensures { result ≡ slice_index_or sizes.now (length sizes.now - 1) (model.around limited nothing) }
 {
     match sizes.get(sizes.len().saturating_sub(1)) {
         Some(size) => *size,
-        None => Size::NONE,
+        None => around(Size::NONE),
     }
 }
 
@@ -237,7 +238,7 @@ pub fn is_small(
     ports: usize,
     values: usize,
 ) -> Result<bool, AllocError>
-    ensures { IfOk result (λ small. IsTrue small ↔ model.IsSmall (model.system_size model.whole procedures.now ports values)) }
+    ensures { IfOk result (λ small. IsTrue small ↔ IsSmall (model.system_size model.whole procedures.now ports values)) }
 {
     let size = size_of_system(alloc, procedures, ports, values)?;
     Ok(within_limits(size))
@@ -245,7 +246,7 @@ pub fn is_small(
 
 /// Whether a size is within the limits.
 fn within_limits(size: Size) -> bool
-    ensures { IsTrue result ↔ model.IsSmall size }
+    ensures { IsTrue result ↔ IsSmall size }
 {
     size.nodes <= MOST_NODES && size.levels <= MOST_NESTED
 }

@@ -3,6 +3,8 @@ ghost use Rattle.std.specs.Prelude.{◌≡◌, IfOk};
 ghost use Rattle.std.specs.Option.{option_copied};
 ghost use Rattle.elaborate.specs.Environment as environment;
 ghost use Rattle.elaborate.specs.Fit as fit;
+ghost use Rattle.elaborate.specs.walking.Making.{capped_number};
+ghost use Rattle.elaborate.specs.walking.Walked.{walked_branches};
 
 use crate::lookups::NamedEntries;
 use crate::made::capped_number;
@@ -19,7 +21,7 @@ pub fn branches(
     ports: &[Port],
     entries: &NamedEntries<'_>,
 ) -> Result<Items<Branch>, AllocError>
-    ensures { IfOk result (λ made. made ≡ environment.branches_from entries.now 0 ports.now) }
+    ensures { IfOk result (λ made. made ≡ walked_branches entries.now 0 ports.now) }
 {
     let mut branches = Items::with_capacity(alloc, ports.len())?;
     for (place, port) in ports.iter().enumerate() {
@@ -35,7 +37,7 @@ fn branch_of(
     port: &Port,
     entries: &NamedEntries<'_>,
 ) -> Result<Branch, AllocError>
-    ensures { IfOk result (λ made. made ≡ environment.branch_on (environment.capped_number place) port.now.kind (fit.entry_named entries.now port.now.name)) }
+    ensures { IfOk result (λ made. made ≡ environment.branch_on (capped_number place) port.now.kind (fit.entry_named entries.now port.now.name)) }
 {
     let channel = capped_number(place);
     let entry = entries.find(port.name.text());

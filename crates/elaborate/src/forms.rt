@@ -86,7 +86,7 @@ pub fn parallel_command(
 }
 
 impl Instance {
-    ghost use Rattle.elaborate.specs.Instances as instances;
+    ghost use Rattle.elaborate.specs.walking.Instances as instances;
 
     /// A `loop` that ends where the guard is 0.
     #[inline(never)]

@@ -1,6 +1,6 @@
 // What the names of a procedure stand for where it is called.
 ghost use Rattle.std.specs.Prelude.{◌≡◌, IfOk};
-ghost use Rattle.elaborate.specs.Instances.{operator_of, number_at};
+ghost use Rattle.elaborate.specs.Naming.{operator_of, number_at};
 
 use std::alloc::{AllocError, Global};
 use syntax::{Boxed, Items};
@@ -39,7 +39,7 @@ fn number_at(numbers: &[u32], place: u32) -> u32
 }
 
 impl Instance {
-    ghost use Rattle.elaborate.specs.Instances as instances;
+    ghost use Rattle.elaborate.specs.walking.Instances as instances;
 
     /// The channel that a port or local is.
     pub fn channel(&self, binding: Binding) -> u32

@@ -1,7 +1,6 @@
 // The variables and channels of a system as they are made.
 ghost use Rattle.std.specs.Prelude.{◌≡◌, [], length, IfOk, OnOk};
-ghost use Rattle.elaborate.specs.Environment.{capped_number};
-ghost use Rattle.elaborate.specs.Making.{kind_of_port};
+ghost use Rattle.elaborate.specs.walking.Making.{capped_number, kind_of_port};
 
 use crate::instance::{Entrance, Instance};
 use std::alloc::{AllocError, Global};
@@ -37,8 +36,8 @@ fn kind_of_port(kind: PortKind) -> ChannelKind
 }
 
 impl Made {
-    ghost use Rattle.elaborate.specs.Making as making;
-    ghost use Rattle.elaborate.specs.Making.{instance_of, entered};
+    ghost use Rattle.elaborate.specs.walking.Making as making;
+    ghost use Rattle.elaborate.specs.walking.Making.{instance_of, entered};
 
     /// Nothing.
     pub fn nothing(alloc: Global) -> Made

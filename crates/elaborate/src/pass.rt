@@ -1,6 +1,7 @@
 ghost use Rattle.std.specs.Prelude.{◌≡◌, ◌⊎◌, ◌↔◌, IsTrue, IfOk, IfErr, OnOk};
 ghost use Rattle.elaborate.specs.Elaboration as model;
 ghost use Rattle.elaborate.specs.Size.{IsSmall};
+ghost use Rattle.elaborate.specs.walking.Walked.{walked_system};
 ghost use Rattle.refusals.specs.declared.elaborate.Fault.TheVariants.{Memory};
 
 use crate::body::called_body;
@@ -99,6 +100,18 @@ fn made_system(
 ) -> Result<System, AllocError>
     requires { IsSmall (model.whole_size procedures.now entries.now) }
     ensures { IfOk result (λ system. system ≡ model.system_of procedures.now entries.now) }
+{
+    let system = system_in_order(alloc, procedures, entries)?;
+    Ok(system)
+}
+
+/// The system, as it is made one part behind the other.
+fn system_in_order(
+    alloc: Global,
+    procedures: &[Procedure],
+    entries: &NamedEntries<'_>,
+) -> Result<System, AllocError>
+    ensures { IfOk result (λ system. system ≡ walked_system procedures.now entries.now) }
 {
     let ports = root_ports(procedures);
     let environment = branches(alloc, ports, entries)?;

@@ -1,7 +1,7 @@
 -- What is made of the parts of a command that are no commands themselves.
--- No reader has to believe it: these are the folds of `maker_of` in `Body.antt` at other parts.
+-- No reader has to believe it: these are the folds of `maker_of` in `Makers.antt` at other parts.
 use Rattle.std.specs.Prelude.{ℕ, List}
-use Rattle.elaborate.specs.Body.{Maker, ProcedureMaker, action_maker, arm_maker, command_maker, guarded_maker, labelled_maker}
+use Rattle.elaborate.specs.walking.Makers.{Maker, ProcedureMaker, action_maker, arm_maker, command_maker, guarded_maker, labelled_maker}
 use Rattle.system.specs.declared.command.Arm as tree_arm
 use Rattle.system.specs.declared.command.Command as tree_command
 use Rattle.system.specs.declared.command.Guarded as tree_guarded

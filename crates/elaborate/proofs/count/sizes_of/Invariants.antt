@@ -1,5 +1,5 @@
 use Rattle.std.proofs.Common.{◌≡◌, [], drop}
-use Rattle.elaborate.specs.Size.{sizes_onto}
+use Rattle.elaborate.specs.walking.Counting.{sizes_onto}
 use Rattle.elaborate.specs.walking.Limited.{limited}
 use Rattle.elaborate.proofs.count.sizes_of.Given as goal
 

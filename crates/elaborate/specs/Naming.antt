@@ -1,6 +1,5 @@
--- What the names of a procedure stand for where it is called.
+-- What the names of a body stand for.
 use Rattle.std.specs.Prelude.{ℕ, List, map, slice_index_or}
-use Rattle.system.specs.Named.{prefix_of_call}
 use Rattle.typed.specs.declared.tree.Binding.{Binding}
 use Rattle.typed.specs.declared.tree.Binding.TheVariants as binding
 use Rattle.typed.specs.declared.tree.ChannelUse.{ChannelUse}
@@ -8,8 +7,6 @@ use Rattle.typed.specs.declared.tree.VariableUse.{VariableUse}
 use Rattle.typed.specs.declared.tree.Expression.{Expression}
 use Rattle.typed.specs.declared.tree.Expression.TheOpen.{Expression-F}
 use Rattle.typed.specs.declared.tree.Expression.TheFolds.{fold-Expression}
-use Rattle.elaborate.specs.declared.instance.Instance.{Instance}
-use Rattle.elaborate.specs.declared.instance.Entrance.{Entrance}
 use Rattle.system.specs.declared.expression.Use.{Use}
 use Rattle.system.specs.declared.expression.Expression as named
 use Rattle.system.specs.declared.expression.Expression.TheViews as expression
@@ -18,6 +15,11 @@ use Rattle.syntax.specs.declared.expression.Operator.{Operator}
 use Rattle.syntax.specs.declared.expression.Operator.TheVariants as written
 use Rattle.system.specs.declared.expression.Operator as elaborated
 use Rattle.system.specs.declared.expression.Operator.TheVariants as operator
+
+-- the channel that stands for each port, and the number of each local
+pub record Names : Type 0 where
+  pub ports : List ℕ
+  pub locals : List ℕ
 
 -- the operator that is written so
 abbrev pub operator_of : Operator → elaborated.Operator
@@ -38,36 +40,31 @@ abbrev pub number_at : List ℕ → ℕ → ℕ
 number_at numbers place = slice_index_or numbers place 0
 
 -- the channel that a port or local is
-abbrev pub channel_at : Instance → Binding → ℕ
-channel_at instance (binding.Port p) = number_at instance.ports p
-channel_at instance (binding.Local p) = number_at instance.locals p
+abbrev pub channel_at : Names → Binding → ℕ
+channel_at names (binding.Port p) = number_at names.ports p
+channel_at names (binding.Local p) = number_at names.locals p
 
 -- a use of a channel, with its number
-abbrev pub channel_use : Instance → ChannelUse → Use
-channel_use instance u = record { number = channel_at instance u.channel; offset = u.offset }
+abbrev pub channel_use : Names → ChannelUse → Use
+channel_use names u = record { number = channel_at names u.channel; offset = u.offset }
 
 -- a use of a variable, with its number
-abbrev pub variable_use : Instance → VariableUse → Use
-variable_use instance u = record { number = number_at instance.locals u.variable; offset = u.offset }
+abbrev pub variable_use : Names → VariableUse → Use
+variable_use names u = record { number = number_at names.locals u.variable; offset = u.offset }
 
 -- the channels of the arguments of a call
-abbrev pub channels_of : Instance → List ChannelUse → List ℕ
-channels_of instance uses = map (λ u. channel_at instance u.channel) uses
+abbrev pub channels_of : Names → List ChannelUse → List ℕ
+channels_of names uses = map (λ u. channel_at names u.channel) uses
 
 -- one layer of an expression with numbers for its names
-abbrev pub expression_layer : Instance → Expression-F named.Expression → named.Expression
-expression_layer instance (Expression-F.Constant v) = named.Constant v
-expression_layer instance (Expression-F.Variable x w) = named.Variable (variable_use instance x) w
-expression_layer instance (Expression-F.Received c w) = named.Received (channel_at instance c) w
-expression_layer instance (Expression-F.Binary op a b) = expression.Binary (operator_of op) a b
-expression_layer instance (Expression-F.Not a) = expression.Not a
-expression_layer instance (Expression-F.Cast a w) = expression.Cast a w
+abbrev pub expression_layer : Names → Expression-F named.Expression → named.Expression
+expression_layer names (Expression-F.Constant v) = named.Constant v
+expression_layer names (Expression-F.Variable x w) = named.Variable (variable_use names x) w
+expression_layer names (Expression-F.Received c w) = named.Received (channel_at names c) w
+expression_layer names (Expression-F.Binary op a b) = expression.Binary (operator_of op) a b
+expression_layer names (Expression-F.Not a) = expression.Not a
+expression_layer names (Expression-F.Cast a w) = expression.Cast a w
 
 -- the expression with numbers for its names
-abbrev pub expression_in : Instance → Expression → named.Expression
-expression_in instance = fold-Expression named.Expression (expression_layer instance)
-
--- what the call of this number enters a procedure with
-abbrev pub entrance_of : Instance → List ChannelUse → ℕ → Entrance
-entrance_of instance arguments call =
-    record { ports = channels_of instance arguments; prefix = prefix_of_call instance.prefix call }
+abbrev pub expression_in : Names → Expression → named.Expression
+expression_in names = fold-Expression named.Expression (expression_layer names)

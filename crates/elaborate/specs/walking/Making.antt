@@ -1,10 +1,10 @@
--- The variables and channels of a system as they are made.
-use Rattle.std.specs.Prelude.{ℕ, List, [], ◌∷◌, ◌++◌, Bool, true, false, length}
+-- The variables and channels of a system as they are made, one behind the other. Numbers end at those of 32 bits.
+-- No reader has to believe it: `proofs/CopyLemmas.antt` ties it to the copies of `Copies.antt`.
+use Rattle.std.specs.Prelude.{ℕ, min, List, [], ◌∷◌, ◌++◌, Bool, true, false, length}
 use Rattle.typed.specs.declared.tree.Local.{Local}
 use Rattle.typed.specs.declared.tree.LocalKind.{LocalKind}
 use Rattle.typed.specs.declared.tree.LocalKind.TheVariants as local
 use Rattle.typed.specs.declared.tree.Port.{Port}
-use Rattle.elaborate.specs.Environment.{capped_number}
 use Rattle.elaborate.specs.declared.made.Made.{Made}
 use Rattle.system.specs.declared.system.ChannelKind.{ChannelKind}
 use Rattle.system.specs.declared.system.ChannelKind.TheVariants as kind
@@ -12,6 +12,10 @@ use Rattle.typed.specs.declared.tree.PortKind.{PortKind}
 use Rattle.typed.specs.declared.tree.PortKind.TheVariants as port
 use Rattle.elaborate.specs.declared.instance.Instance.{Instance}
 use Rattle.elaborate.specs.declared.instance.Entrance.{Entrance}
+
+-- a number of 32 bits: the place in a list, and the largest for all places behind
+abbrev pub capped_number : ℕ → ℕ
+capped_number place = min place 4294967295
 
 -- values of the port's width, or nothing
 abbrev pub kind_of_port : PortKind → ChannelKind

@@ -1,0 +1,28 @@
+// The laws of the definitions that the contracts cite, each the contract of a function that does nothing.
+ghost use Rattle.elaborate.specs.Laws.{NamesAreDistinct, BranchesAreInPortOrder, CallsAddNoPlace, WithoutCallsIsItself, NodesAreOfTheSystem};
+
+/// The variables and channels of an accepted system have names of their own, where each procedure declares distinct names
+/// without `:`, as every typed description does.
+pub fn name_law()
+    ensures { NamesAreDistinct }
+{}
+
+/// The environment has a branch for each port of the root, in the order of the ports, on the channel of its port.
+pub fn environment_law()
+    ensures { BranchesAreInPortOrder }
+{}
+
+/// A call adds no entry to a place: the body of a procedure stands where its call stands.
+pub fn place_law()
+    ensures { CallsAddNoPlace }
+{}
+
+/// A description whose root calls nothing is elaborated to that root itself.
+pub fn itself_law()
+    ensures { WithoutCallsIsItself }
+{}
+
+/// The nodes that are counted are those of the system that is made.
+pub fn node_law()
+    ensures { NodesAreOfTheSystem }
+{}
