@@ -13,12 +13,25 @@ use Rattle.syntax.specs.Lists.{In}
 use Rattle.runs.specs.Events.{acting}
 use Rattle.runs.specs.declared.event.Event.{Event}
 use Rattle.runs.proofs.Lists.{in-parts}
-use Rattle.last_events.proofs.PlaceLaws.{is_key, is_asked, asked-is, looked}
 use Rattle.calculus.specs.declared.index.Index.{Index}
 use Rattle.calculus.specs.walking.Comparing.{place_at, PutAt, Indexes}
 use Rattle.calculus.proofs.ListPlaces.{get-left, get-last}
 
 -- ---- keys
+-- whether a key is this place
+abbrev is_key : List Entry → Vec Entry Global → Bool
+is_key a k = is_eq (order_of a k.items)
+
+-- as the map asks
+abbrev is_asked : List Entry → Vec Entry Global → Bool
+is_asked a k = is_eq (slice_cmp cmp-value.it a k.items)
+
+asked-is : (a : List Entry) → is_asked a ≡ is_key a
+asked-is a i k = is_eq (entries_cmp-is a k.items i)
+
+pub looked : (a : List Entry) (es : List (Vec Entry Global × ℕ)) → lookup (is_asked a) es ≡ lookup (is_key a) es
+looked a es = ap (λ (test : Vec Entry Global → Bool). lookup test es) (asked-is a)
+
 eq-of : (o : Ordering) → is_eq o ≡ true → o ≡ Equal
 eq-of Less h = absurd (true≢false (sym h))
 eq-of Equal h = refl

@@ -275,7 +275,9 @@ fn in_branch(alloc: Global, place: &Address, number: u64) -> Result<Address, All
 fn with_entry(alloc: Global, place: &Address, entry: Entry) -> Result<Address, AllocError>
     ensures { IfOk result (λ made. made ≡ place.now ++ entry ∷ []) }
 {
-    Address::below(alloc, place.entries(), entry)
+    let mut entries = Vec::from_slice(alloc, place.entries())?;
+    entries.push(entry)?;
+    Ok(Address::from_vec(entries))
 }
 
 /// The first act of this turn of a loop.

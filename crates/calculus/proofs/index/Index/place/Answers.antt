@@ -1,7 +1,7 @@
 use Rattle.std.proofs.Common.{List, ap, ◌∙◌}
 use Rattle.address.specs.declared.Entry.{Entry}
-use Rattle.last_events.proofs.PlaceLaws.{looked}
 use Rattle.calculus.specs.walking.Comparing.{place_at}
+use Rattle.calculus.proofs.IndexLaws.{looked}
 use Rattle.calculus.proofs.index.Index.place.Goals as goal
 
 pub returns : goal.returns
