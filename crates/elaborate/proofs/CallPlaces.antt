@@ -1,8 +1,8 @@
 -- A call adds no entry to a place: the places of a system are those of the source with the body of a procedure at its call.
-use Rattle.std.proofs.Common.{◌≡◌, ℕ, ◌+◌, ◌-◌, List, [], ◌∷◌, ◌++◌, Option, Some, None, length, drop, map, option_map, get_or, refl, ap, ◌∙◌, subst, rules, slice_index_or}
+use Rattle.std.proofs.Common.{◌≡◌, ℕ, zero, suc, ◌+◌, ◌-◌, ◌≤◌, List, [], ◌∷◌, ◌++◌, Option, Some, None, length, drop, map, option_map, get_or, refl, ap, sym, ◌∙◌, subst, arith, rules, slice_index_or}
 use Rattle.elaborate.specs.Body as body
-use Rattle.elaborate.specs.Body.{Call, Part, both, all, if_any, first_of, part_of, action_part, arm_part, command_part, guarded_part, labelled_part}
-use Rattle.elaborate.specs.Calls.{Expansion, Entered, called, missing, bodies_of_calls, names_in, expansion_of, expansions_onto}
+use Rattle.elaborate.specs.Body.{Call, Part, plain, both, all, if_any, first_of, nothing_to_do, part_of, action_part, arm_part, command_part, guarded_part, labelled_part}
+use Rattle.elaborate.specs.Calls.{Expansion, Entered, called, missing, bodies_of_calls, names_in, expansion_of, expansions_onto, expansions}
 use Rattle.elaborate.specs.Copies.{all_copied}
 use Rattle.elaborate.specs.Elaboration.{root_entered}
 use Rattle.elaborate.specs.Laws.{CallsAddNoPlace}

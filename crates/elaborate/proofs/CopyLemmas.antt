@@ -1,5 +1,5 @@
 -- The variables and channels that are made are those among the copies, each with its number.
-use Rattle.std.proofs.Common.{◌≡◌, ℕ, ◌+◌, ◌≤◌, List, [], ◌∷◌, ◌++◌, map, length, refl, ap, sym, ◌∙◌, arith, append_assoc, length-append}
+use Rattle.std.proofs.Common.{◌≡◌, ℕ, suc, ◌+◌, ◌≤◌, List, [], ◌∷◌, ◌++◌, map, length, refl, ap, sym, ◌∙◌, arith, append_assoc, length-append}
 use Rattle.std.proofs.lemmas.List.{append-nil}
 use Rattle.elaborate.specs.Copies.{copied, all_copied, kind_of_port, channel_of_port, variable_of, channel_of, variables_among, channels_among, number_behind, numbers_behind}
 use Rattle.elaborate.specs.declared.made.Made.{Made}

@@ -1,9 +1,10 @@
 -- What is counted before a system is made is the size of what is made.
-use Rattle.std.proofs.Common.{◌≡◌, ℕ, zero, suc, ◌+◌, ◌≤◌, List, [], ◌∷◌, ◌++◌, Option, Some, None, length, take, drop, map, option_map, refl, ap, sym, ◌∙◌, subst, arith, length-append, slice_index_or}
+use Rattle.std.proofs.Common.{◌≡◌, ℕ, zero, suc, ◌+◌, ◌-◌, ◌<◌, ◌≤◌, max, List, [], ◌∷◌, ◌++◌, Option, Some, None, length, take, drop, map, option_map, refl, ap, sym, ◌∙◌, subst, arith, length-append, slice_index_or}
 use Rattle.elaborate.specs.Body as body
 use Rattle.elaborate.specs.Body.{Call, Part, plain, both, all, if_any, first_of, part_of, action_part, arm_part, command_part, guarded_part, labelled_part}
 use Rattle.elaborate.specs.Naming as naming
 use Rattle.elaborate.specs.Naming.{Names, channel_use, variable_use, expression_in, operator_of, channel_at}
+use Rattle.elaborate.specs.Size as size
 use Rattle.elaborate.specs.Size.{nothing, plain_nodes, beside, around, all_beside, last_size, expression_size, command_size}
 use Rattle.elaborate.specs.declared.count.Size.{Size}
 use Rattle.elaborate.specs.walking.Counting as counting

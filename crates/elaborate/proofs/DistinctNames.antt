@@ -1,16 +1,17 @@
 -- The names of an accepted system are distinct.
-use Rattle.std.proofs.Common.{◌≡◌, ◌⊎◌, inl, inr, ℕ, ◌+◌, ◌<◌, ◌≤◌, List, [], ◌∷◌, ◌++◌, map, length, refl, ap, sym, ◌∙◌, subst, arith, append_assoc}
-use Rattle.std.proofs.lemmas.List.{append_cancel_left, map-append}
+use Rattle.std.proofs.Common.{◌≡◌, ◌⊎◌, inl, inr, ℕ, zero, suc, ◌+◌, ◌-◌, ◌<◌, ◌≤◌, ◌^◌, List, [], ◌∷◌, ◌++◌, map, length, get_or, refl, ap, sym, ◌∙◌, subst, arith, append_assoc, length-append}
+use Rattle.std.proofs.lemmas.List.{append-nil, append_cancel_left, map-append}
 use Rattle.elaborate.specs.Body.{Call, part_of}
 use Rattle.elaborate.specs.Calls.{Expansion, Entered, called, missing, copies_of_calls, bodies_of_calls, names_in, expansion_of, expansions_onto, expansions}
-use Rattle.elaborate.specs.Copies.{all_copied, channel_of_port, variable_of, channel_of, variables_among, channels_among}
-use Rattle.elaborate.specs.Elaboration.{port_channels, root_copies, root_entered, main_of}
+use Rattle.elaborate.specs.Copies.{copied, all_copied, channel_of_port, variable_of, channel_of, variables_among, channels_among}
+use Rattle.elaborate.specs.Elaboration.{root_ports, root, port_channels, root_copies, root_entered, main_of, system_of, whole_size, IsAccepted}
 use Rattle.elaborate.specs.Laws.{Distinct, declared_names, HasOwnNames, NamesAreDistinct}
 use Rattle.elaborate.specs.Naming.{Names, channels_of}
 use Rattle.elaborate.proofs.Counted.{total_of, nodes_of}
 use Rattle.elaborate.proofs.Expanded.{one_behind, bodies_length, body_bounds}
 use Rattle.elaborate.proofs.NameLemmas.{in_left, in_right, in_either, every_in, every_append, every_right, every_more, distinct_append, distinct_right, distinct_between, Begins, OfCall, of_this_call, of_later_call, begins_so, calls_apart, own_apart}
 use Rattle.elaborate.proofs.RootLemmas.{root_is, root_ports_are, own_copied}
+use Rattle.stimulus.specs.declared.stimulus.Entry.{Entry}
 use Rattle.syntax.specs.Lists.{In, Every}
 use Rattle.syntax.specs.Texts.{Text}
 use Rattle.system.specs.Named.{prefix_of_call}

@@ -1,11 +1,11 @@
 -- What is made of a description within the limits is its system, and what was counted before is how large that is.
-use Rattle.std.proofs.Common.{◌≡◌, ℕ, zero, suc, ◌+◌, ◌-◌, ◌≤◌, min, Bool, IsTrue, ◌↔◌, List, [], ◌∷◌, ◌++◌, length, take, refl, ap, sym, ◌∙◌, subst, arith, append_assoc, length-append, get_or}
+use Rattle.std.proofs.Common.{◌≡◌, ℕ, zero, suc, ◌+◌, ◌-◌, ◌<◌, ◌≤◌, min, Bool, IsTrue, ◌↔◌, List, [], ◌∷◌, ◌++◌, length, take, map, refl, ap, sym, ◌∙◌, subst, arith, append_assoc, length-append, get_or}
 use Rattle.std.proofs.lemmas.List.{append-nil, length-map, take_all}
-use Rattle.elaborate.specs.Body.{Call, part_of, nothing_to_do}
+use Rattle.elaborate.specs.Body.{Call, Part, part_of, nothing_to_do}
 use Rattle.elaborate.specs.Calls as calls
-use Rattle.elaborate.specs.Calls.{Entered, Expansion, copies_of_calls, bodies_of_calls, names_in, expansion_of, expansions_onto}
-use Rattle.elaborate.specs.Copies.{copied, all_copied, channel_of_port, numbers_behind}
-use Rattle.elaborate.specs.Elaboration.{root_ports, port_channels, root_copies, root_entered, main_of, system_of, whole_size}
+use Rattle.elaborate.specs.Calls.{Entered, Expansion, copies_of_calls, bodies_of_calls, names_in, expansion_of, expansions_onto, expansions}
+use Rattle.elaborate.specs.Copies.{copied, all_copied, channel_of_port, numbers_behind, variables_among, channels_among}
+use Rattle.elaborate.specs.Elaboration.{root_ports, root, port_channels, root_copies, root_entered, main_of, system_of, whole_size}
 use Rattle.elaborate.specs.Environment.{branch_on, branches_from}
 use Rattle.elaborate.specs.Fit.{entry_named, values_given}
 use Rattle.elaborate.specs.Naming.{Names, channels_of}
@@ -20,7 +20,7 @@ use Rattle.elaborate.specs.walking.Instances.{names_of, entrance_of}
 use Rattle.elaborate.specs.walking.Makers as makers
 use Rattle.elaborate.specs.walking.Makers.{WithMade, ProcedureMaker, next_call, after_call, maker_of, procedure_maker, makers_onto}
 use Rattle.elaborate.specs.walking.Making as making
-use Rattle.elaborate.specs.walking.Making.{Numbered, instance_of}
+use Rattle.elaborate.specs.walking.Making.{Numbered, locals_onto, instance_of}
 use Rattle.elaborate.specs.walking.Walked.{walked_branches, root_channels, root_makes, walked_system}
 use Rattle.elaborate.proofs.CopyLemmas.{made_of, numbered, locals_are, ports_are}
 use Rattle.elaborate.proofs.Factored.{Bodies, all_made, one_made, in_front, factored}

@@ -1,7 +1,7 @@
 -- The environment's branches, by the place of the port.
-use Rattle.std.proofs.Common.{◌≡◌, ℕ, zero, suc, ◌+◌, List, [], ◌∷◌, ◌++◌, Some, None, map, length, slice_get, refl, ap, ◌∙◌, arith}
+use Rattle.std.proofs.Common.{◌≡◌, ℕ, zero, suc, ◌+◌, ◌≤◌, List, [], ◌∷◌, ◌++◌, Some, None, map, length, slice_get, refl, ap, sym, ◌∙◌, subst, arith, append_assoc}
 use Rattle.elaborate.specs.Copies.{channel_of_port, kind_of_port, channel_of, channels_among}
-use Rattle.elaborate.specs.Elaboration.{root_ports, root_copies}
+use Rattle.elaborate.specs.Elaboration.{root_ports, port_channels, root_copies, system_of}
 use Rattle.elaborate.specs.Environment.{branch_on, branches_from}
 use Rattle.elaborate.specs.Fit.{entry_named}
 use Rattle.elaborate.specs.Laws.{BranchesAreInPortOrder}

@@ -1,13 +1,14 @@
 -- The root is the last procedure, over what those before it become.
-use Rattle.std.proofs.Common.{◌≡◌, ℕ, ◌+◌, ◌-◌, List, [], ◌∷◌, ◌++◌, Some, length, slice_get, refl, ap, ◌∙◌, arith, length-append}
-use Rattle.std.proofs.lemmas.List.{get_or_push}
+use Rattle.std.proofs.Common.{◌≡◌, ℕ, zero, suc, ◌+◌, ◌-◌, ◌<◌, ◌≤◌, List, [], ◌∷◌, ◌++◌, Some, None, map, length, slice_get, get_or, refl, ap, sym, ◌∙◌, subst, arith, length-append}
+use Rattle.std.proofs.lemmas.List.{get_or_push, length_push}
 use Rattle.elaborate.specs.Body.{part_of}
-use Rattle.elaborate.specs.Calls.{Expansion, called, missing, bodies_of_calls, copies_of_calls, expansion_of, expansions_onto, expansions}
-use Rattle.elaborate.specs.Copies.{all_copied, numbers_behind}
-use Rattle.elaborate.specs.Elaboration.{ports_of, root_ports, root, root_entered}
+use Rattle.elaborate.specs.Calls.{Expansion, Entered, called, missing, bodies_of_calls, copies_of_calls, expansion_of, expansions_onto, expansions}
+use Rattle.elaborate.specs.Copies.{copied, all_copied, channel_of_port, numbers_behind}
+use Rattle.elaborate.specs.Elaboration.{ports_of, root_ports, root, port_channels, root_copies, root_entered, main_of}
 use Rattle.elaborate.specs.Laws.{WithoutCallsIsItself}
 use Rattle.elaborate.specs.Naming.{Names}
 use Rattle.std.proofs.lemmas.List.{append-nil}
+use Rattle.system.specs.declared.command.Command as tree_command
 use Rattle.typed.specs.declared.tree.Local.{Local}
 use Rattle.typed.specs.declared.tree.Procedure.{Procedure}
 

@@ -1,11 +1,11 @@
 -- The nodes counted are those of the system.
-use Rattle.std.proofs.Common.{◌≡◌, inl, inr, ℕ, suc, ◌+◌, ◌-◌, ◌≤◌, Bool, true, false, ◌&&◌, not, is_some, List, [], ◌∷◌, ◌++◌, Option, Some, None, map, length, refl, ap, sym, ◌∙◌, subst, arith, append_assoc, length-append}
+use Rattle.std.proofs.Common.{◌≡◌, ◌⊎◌, inl, inr, ℕ, zero, suc, ◌+◌, ◌-◌, ◌≤◌, Bool, true, false, ◌&&◌, not, is_some, List, [], ◌∷◌, ◌++◌, Option, Some, None, map, length, refl, ap, sym, ◌∙◌, subst, arith, append_assoc, length-append}
 use Rattle.std.proofs.lemmas.List.{append-nil, length-map}
 use Rattle.std.proofs.lemmas.Slice.Eq.{bytes_eq-Decides}
 use Rattle.std.specs.Str.{bytes_eq}
 use Rattle.elaborate.specs.Copies.{channel_of_port, kind_of_port, channel_of, channels_among, variables_among}
-use Rattle.elaborate.specs.Elaboration.{root_ports, port_channels, root_copies, main_of}
-use Rattle.elaborate.specs.Environment.{at_width, values_of, branch_on, branches_from}
+use Rattle.elaborate.specs.Elaboration.{root_ports, port_channels, root_copies, main_of, system_of, whole_size, IsAccepted}
+use Rattle.elaborate.specs.Environment.{at_width, given_values, values_of, branch_on, branches_from}
 use Rattle.elaborate.specs.Fit.{kind_named, entry_named, kind_takes, port_takes, entry_fits, first_misfit, count_given, values_given}
 use Rattle.elaborate.specs.Laws.{Distinct, NodesAreOfTheSystem}
 use Rattle.elaborate.specs.Size.{beside, plain_nodes, command_size, values_sent, all_values_sent}

@@ -1,7 +1,7 @@
 -- The size of each form of a command and of an expression.
-use Rattle.std.proofs.Common.{◌≡◌, ℕ, ◌+◌, ◌≤◌, List, Option, map, option_map, ap, ◌∙◌, arith, rules}
-use Rattle.elaborate.specs.Body.{command}
-use Rattle.elaborate.specs.Size.{nothing, plain_nodes, beside, around, all_beside, last_size, expression_size, action_size, arm_size, command_layer, guarded_size, labelled_size, command_size}
+use Rattle.std.proofs.Common.{◌≡◌, ℕ, ◌+◌, ◌≤◌, max, List, [], ◌∷◌, Option, Some, None, map, option_map, length, refl, ap, ◌∙◌, arith, rules}
+use Rattle.elaborate.specs.Body.{command, nothing_to_do}
+use Rattle.elaborate.specs.Size.{nothing, plain_nodes, beside, around, all_beside, last_size, expression_layer, expression_size, action_size, arm_size, command_layer, guarded_size, labelled_size, command_size}
 use Rattle.elaborate.specs.declared.count.Size.{Size}
 use Rattle.system.specs.declared.command.Action as tree
 use Rattle.system.specs.declared.command.Action.TheViews as action

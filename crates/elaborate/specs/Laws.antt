@@ -1,5 +1,5 @@
 -- What follows from the definitions, each a clause of the contract of a function in `src/laws.rt`.
-use Rattle.std.specs.Prelude.{◌≡◌, ℕ, ◌++◌, List, [], ◌∷◌, Some, map, length, slice_get}
+use Rattle.std.specs.Prelude.{◌≡◌, ℕ, ◌++◌, List, [], ◌∷◌, Some, None, map, length, slice_get}
 use Rattle.elaborate.specs.Body.{part_of}
 use Rattle.elaborate.specs.Copies.{numbers_behind}
 use Rattle.elaborate.specs.Elaboration.{root_ports, port_channels, root_copies, main_of, system_of, whole_size, IsAccepted}

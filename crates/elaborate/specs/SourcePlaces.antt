@@ -1,5 +1,5 @@
 -- The places of the commands of a source, where the body of a procedure stands at the place of its call.
-use Rattle.std.specs.Prelude.{◌-◌, List, [], ◌∷◌, ◌++◌, length, slice_index_or}
+use Rattle.std.specs.Prelude.{ℕ, ◌-◌, List, [], ◌∷◌, ◌++◌, length, slice_index_or}
 use Rattle.elaborate.specs.Places.{Places, with_children, and_last}
 use Rattle.typed.specs.declared.tree.Command.{Command}
 use Rattle.typed.specs.declared.tree.Procedure.{Procedure}
