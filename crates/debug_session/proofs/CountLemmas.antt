@@ -16,6 +16,7 @@ pub stops-reads : (s : System) (line : List ℕ) (number : ℕ) (fault : Fault) 
 stops-reads s line number Fault.Memory n h = refl
 stops-reads s line number (Fault.NoSystem f) n h = absurd h
 stops-reads s line number (Fault.Trace f) n h = absurd h
+stops-reads s line number (Fault.Refused why) n h = absurd h
 stops-reads s line number Fault.ReadFailed n h = absurd h
 stops-reads s line number Fault.WriteFailed n h = absurd h
 stops-reads s line number (Fault.BadCommand k) n h = refl
@@ -25,6 +26,7 @@ pub stops-writes : (s : System) (line : List ℕ) (number : ℕ) (fault : Fault)
 stops-writes s line number Fault.Memory n h = refl
 stops-writes s line number (Fault.NoSystem f) n h = absurd h
 stops-writes s line number (Fault.Trace f) n h = absurd h
+stops-writes s line number (Fault.Refused why) n h = absurd h
 stops-writes s line number Fault.ReadFailed n h = absurd h
 stops-writes s line number Fault.WriteFailed n h = absurd h
 stops-writes s line number (Fault.BadCommand k) n h = refl
@@ -34,6 +36,7 @@ pub refused-reads : (source stimulus : List ℕ) (fault : Fault) (n : ℕ) → I
 refused-reads source stimulus Fault.Memory n h = refl
 refused-reads source stimulus (Fault.NoSystem f) n h = refl
 refused-reads source stimulus (Fault.Trace f) n h = refl
+refused-reads source stimulus (Fault.Refused why) n h = refl
 refused-reads source stimulus Fault.ReadFailed n h = absurd h
 refused-reads source stimulus Fault.WriteFailed n h = refl
 refused-reads source stimulus (Fault.BadCommand k) n h = refl
@@ -43,6 +46,7 @@ pub refused-writes : (source stimulus : List ℕ) (fault : Fault) (n : ℕ) → 
 refused-writes source stimulus Fault.Memory n h = refl
 refused-writes source stimulus (Fault.NoSystem f) n h = refl
 refused-writes source stimulus (Fault.Trace f) n h = refl
+refused-writes source stimulus (Fault.Refused why) n h = refl
 refused-writes source stimulus Fault.ReadFailed n h = refl
 refused-writes source stimulus Fault.WriteFailed n h = absurd h
 refused-writes source stimulus (Fault.BadCommand k) n h = refl

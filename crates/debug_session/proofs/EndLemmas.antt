@@ -53,6 +53,7 @@ stopped-unwritten s o at_end taken given held more Fault.ReadFailed not some b s
 stopped-unwritten s o at_end taken given held more Fault.WriteFailed not some b stops = absurd (not.1 refl)
 stopped-unwritten s o at_end taken given held more (Fault.NoSystem fault) not some b stops = absurd stops
 stopped-unwritten s o at_end taken given held more (Fault.Trace fault) not some b stops = absurd stops
+stopped-unwritten s o at_end taken given held more (Fault.Refused why) not some b stops = absurd stops
 
 -- what was held is out
 stopped-written : (s : System) (o : AtLine) (at_end : Type 0) (taken given held more : List ℕ) (fault : Fault) → IsNoDevice fault → more ≡ held
@@ -69,6 +70,7 @@ stopped-written s o at_end taken given held more Fault.ReadFailed not e stops = 
 stopped-written s o at_end taken given held more Fault.WriteFailed not e stops = absurd (not.1 refl)
 stopped-written s o at_end taken given held more (Fault.NoSystem fault) not e stops = absurd stops
 stopped-written s o at_end taken given held more (Fault.Trace fault) not e stops = absurd stops
+stopped-written s o at_end taken given held more (Fault.Refused why) not e stops = absurd stops
 
 -- the end, where what was held is out
 ended-written : (s : System) (o : AtLine) (read left wrote contents after : Option (List ℕ)) (held more : List ℕ) (r : Result (Unit {0}) Fault)
@@ -118,6 +120,7 @@ ended-by-device s o read left wrote contents held (Err Fault.WriteFailed) device
 ended-by-device s o read left wrote contents held (Err Fault.Memory) device h = absurd device
 ended-by-device s o read left wrote contents held (Err (Fault.NoSystem f)) device h = absurd device
 ended-by-device s o read left wrote contents held (Err (Fault.Trace f)) device h = absurd device
+ended-by-device s o read left wrote contents held (Err (Fault.Refused why)) device h = absurd device
 ended-by-device s o read left wrote contents held (Err (Fault.BadCommand k)) device h = absurd device
 
 -- the end, where what was held could not be written, and the result is that
@@ -141,6 +144,7 @@ quiet-reads (Ok x) n h = refl
 quiet-reads (Err Fault.Memory) n h = refl
 quiet-reads (Err (Fault.NoSystem f)) n h = refl
 quiet-reads (Err (Fault.Trace f)) n h = refl
+quiet-reads (Err (Fault.Refused why)) n h = refl
 quiet-reads (Err Fault.ReadFailed) n h = absurd (h.0 refl)
 quiet-reads (Err Fault.WriteFailed) n h = refl
 quiet-reads (Err (Fault.BadCommand k)) n h = refl
@@ -150,6 +154,7 @@ quiet-writes (Ok x) n h = refl
 quiet-writes (Err Fault.Memory) n h = refl
 quiet-writes (Err (Fault.NoSystem f)) n h = refl
 quiet-writes (Err (Fault.Trace f)) n h = refl
+quiet-writes (Err (Fault.Refused why)) n h = refl
 quiet-writes (Err Fault.ReadFailed) n h = refl
 quiet-writes (Err Fault.WriteFailed) n h = absurd (h.1 refl)
 quiet-writes (Err (Fault.BadCommand k)) n h = refl

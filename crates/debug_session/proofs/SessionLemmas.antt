@@ -199,6 +199,7 @@ unasked s o m read left left' wrote contents contents' held held' given number F
 )
 unasked s o m read left left' wrote contents contents' held held' given number (Fault.NoSystem fault) p gives stops = absurd stops
 unasked s o m read left left' wrote contents contents' held held' given number (Fault.Trace fault) p gives stops = absurd stops
+unasked s o m read left left' wrote contents contents' held held' given number (Fault.Refused why) p gives stops = absurd stops
 unasked s o m read left left' wrote contents contents' held held' given number (Fault.BadCommand n) p gives stops = absurd stops
 
 -- a line with its end, or without where the reader, whose bytes were known from `read` on, is at its end
@@ -227,6 +228,7 @@ stops-at s o m at_end lines out held line tail number Fault.WriteFailed h one e 
 stops-at s o m at_end lines out held line tail number Fault.ReadFailed h one e t c stops = absurd stops
 stops-at s o m at_end lines out held line tail number (Fault.NoSystem fault) h one e t c stops = absurd stops
 stops-at s o m at_end lines out held line tail number (Fault.Trace fault) h one e t c stops = absurd stops
+stops-at s o m at_end lines out held line tail number (Fault.Refused why) h one e t c stops = absurd stops
 
 -- the line that was taken is not answered
 unanswered : (s : System) (o m : AtLine) (read left left' wrote contents : Option (List ℕ)) (held : List ℕ) (number : ℕ) (line : List ℕ)

@@ -14,5 +14,6 @@ IsRefused source stimulus (Fault.NoSystem fault) =
 -- nothing else refuses them
 IsRefused source stimulus Fault.ReadFailed = ⊥
 IsRefused source stimulus (Fault.Trace fault) = ⊥
+IsRefused source stimulus (Fault.Refused why) = ⊥
 IsRefused source stimulus Fault.WriteFailed = ⊥
 IsRefused source stimulus (Fault.BadCommand number) = ⊥

@@ -80,6 +80,7 @@ StoppedByFault system a at_end taken output Fault.WriteFailed =
 -- no other fault comes once the session has begun
 StoppedByFault system a at_end taken output (Fault.NoSystem fault) = ⊥
 StoppedByFault system a at_end taken output (Fault.Trace fault) = ⊥
+StoppedByFault system a at_end taken output (Fault.Refused why) = ⊥
 
 -- what a session took from its reader and gave to its writer, and how it ended
 abbrev pub Ends : System → AtLine → Option (List ℕ) → Option (List ℕ) → Option (List ℕ) → Option (List ℕ)

@@ -17,12 +17,13 @@ use std::io::{BufReader, Read, Write};
 
 /// Answers each line of the reader. It ends where the reader is at its end, or at the first fault: then the answers of
 /// the lines before are out, and where writing failed a beginning of the answers. Before the reader asks its device for
-/// more, all answers are out: they are held back only while its buffer has another line.
+/// more, all answers are out: they are held back only while its buffer has another line. Each line is taken into `line`.
 pub(crate) fn answer_lines<R: Read, W: Write>(
     alloc: Global,
     sitting: &mut Sitting<'_>,
     reader: &mut Counted<BufReader<R>>,
     writer: &mut Counted<W>,
+    line: &mut Vec<u8>,
 ) -> Result<(), Fault>
     ensures ends { Ends sitting.old.desk.machine.checked sitting.old
         (reader_remaining R.remaining (device reader.old)) (reader_remaining R.remaining (device reader.new))
@@ -31,7 +32,7 @@ pub(crate) fn answer_lines<R: Read, W: Write>(
     ensures write_failures { failures writer.new ≡ after_writing result (failures writer.old) }
 {
     let mut held = Vec::new(alloc);
-    let ended = hold_answers(alloc, sitting, reader, writer, &mut held);
+    let ended = hold_answers(alloc, sitting, reader, writer, &mut held, line);
     if has_failed(&ended) {
         return ended;
     }
@@ -53,6 +54,7 @@ fn hold_answers<R: Read, W: Write>(
     reader: &mut Counted<BufReader<R>>,
     writer: &mut Counted<W>,
     held: &mut Vec<u8>,
+    line: &mut Vec<u8>,
 ) -> Result<(), Fault>
     requires { held.old.items ≡ [] }
     ensures ends { EndsHolding sitting.old.desk.machine.checked sitting.old
@@ -61,9 +63,8 @@ fn hold_answers<R: Read, W: Write>(
     ensures read_failures { failures reader.new ≡ after_reading result (failures reader.old) }
     ensures write_failures { failures writer.new ≡ after_writing result (failures writer.old) }
 {
-    let mut line = Vec::new(alloc);
     for number in 1..u64::MAX {
-        let is_complete = next_line(reader, writer, held, &mut line)?;
+        let is_complete = next_line(reader, writer, held, line)?;
         let answer = answer_line(alloc, sitting, line.as_slice(), number)?;
         hold(writer, held, answer.as_slice())?;
         if !is_complete {

@@ -3,6 +3,7 @@ ghost use Rattle.debug_session.specs.FaultNumbers.{fault_number, fault_field};
 ghost use Rattle.debug_session.specs.Wrapping.{of_front_end, of_trace};
 ghost use Rattle.debug_session.specs.declared.fault.Fault.TheVariants.{Memory};
 
+use runs::Refusal;
 use std::alloc::{AllocError, AllocFailed};
 use thiserror::Error;
 
@@ -26,6 +27,10 @@ pub enum Fault {
     /// The line of the script says nothing that can be answered.
     #[error("line {0} of the script is no command")]
     BadCommand(u64),
+    /// What is asked of a run cannot be told, as a question about a step that is not there. A session never ends so: it
+    /// answers its line with the refusal, and goes on.
+    #[error("{0}")]
+    Refused(Refusal),
 }
 
 impl Fault {
@@ -40,6 +45,7 @@ impl Fault {
             Fault::ReadFailed => 41,
             Fault::WriteFailed => 42,
             Fault::BadCommand(_) => 61,
+            Fault::Refused(why) => u32::from(why.number()),
         }
     }
 
@@ -51,7 +57,7 @@ impl Fault {
             Fault::NoSystem(fault) => fault.field(),
             Fault::Trace(fault) => fault.field(),
             Fault::BadCommand(line) => Some(*line),
-            Fault::Memory | Fault::ReadFailed | Fault::WriteFailed => None,
+            Fault::Memory | Fault::ReadFailed | Fault::WriteFailed | Fault::Refused(_) => None,
         }
     }
 }

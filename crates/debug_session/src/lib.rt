@@ -24,4 +24,4 @@ pub use read::read_command;
 pub use replay_live::replay;
 pub use reply::{write_reply, write_session};
 pub use session::Session;
-pub use whole::{accept, debug};
+pub use whole::{accept, debug, debug_keeping};

@@ -45,8 +45,28 @@ pub fn debug<R: Read, W: Write>(
     ensures read_failures { failures reader.new ≡ after_reading result (failures reader.old) }
     ensures write_failures { failures writer.new ≡ after_writing result (failures writer.old) }
 {
+    let mut line = Vec::new(alloc);
+    debug_keeping(alloc, reader, writer, source, stimulus, &mut line)
+}
+
+/// The same, where `line` has the last line that was taken, without its end, once it ends. So a line that says nothing can
+/// be shown: no reader has it any more. No clause speaks of `line`.
+pub fn debug_keeping<R: Read, W: Write>(
+    alloc: Global,
+    reader: &mut Counted<BufReader<R>>,
+    writer: &mut Counted<W>,
+    source: &[u8],
+    stimulus: &[u8],
+    line: &mut Vec<u8>,
+) -> Result<(), Fault>
+    ensures debugged { Debugged source.now stimulus.now ((reader.new ≡ reader.old) × (writer.new ≡ writer.old))
+        (reader_remaining R.remaining (device reader.old)) (reader_remaining R.remaining (device reader.new))
+        (W.contents (device writer.old)) (W.contents (device writer.new)) result }
+    ensures read_failures { failures reader.new ≡ after_reading result (failures reader.old) }
+    ensures write_failures { failures writer.new ≡ after_writing result (failures writer.old) }
+{
     let mut sitting = begin(alloc, source, stimulus)?;
-    answer_lines(alloc, &mut sitting, reader, writer)
+    answer_lines(alloc, &mut sitting, reader, writer, line)
 }
 
 /// Session 0 before its first line, on the system of source and stimulus.

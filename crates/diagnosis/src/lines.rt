@@ -160,5 +160,5 @@ fn help_of_step(text: &[u8], is_last: bool) -> &'static str {
     if is_last {
         return "the file ends inside this line: is it whole, with byte 10 behind its last line?";
     }
-    "a step is as `trace` prints it, as in `meet i 5 /1.0.0 /0.0`"
+    "a step is as `trace` prints it, with its place and its arm, as in `step /0.0 0`"
 }

@@ -37,7 +37,8 @@ pub static NO_SUCH_EVENT: Page = Page {
     line: "no live step has this ticket",
     meaning: "\
 No live step has this ticket: it was taken back, or never given. Tickets are
-not used again.",
+not used again. Where `balsadbg why` ends with 23, the trace has no step of
+this number.",
     source: "",
     told: "",
     causes: "",
@@ -69,7 +70,8 @@ pub static NEVER_WRITTEN: Page = Page {
     line: "no live step has written this variable",
     meaning: "\
 No live step wrote this variable, so there is nothing to blame or to roll
-back.",
+back. Where `balsadbg why` ends with 25, no step of the trace wrote it, or no
+variable has the name.",
     source: "",
     told: "",
     causes: "",

@@ -12,4 +12,4 @@ mod table;
 mod writing;
 
 pub use table::{NUMBERS, page_of};
-pub use writing::{Page, page_text, summary};
+pub use writing::{Page, list_text, page_text, summary};

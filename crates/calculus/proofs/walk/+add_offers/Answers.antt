@@ -15,3 +15,10 @@ passing-preserved t c = (
   beside_offers _ _ _ _ _ _ _ _ _ _ _ c.in-Beside.is c.get-in-Beside.ensures c.get-left.ensures c.in_ok-inner-in-Beside.ensures
       c.in_ok-add_offers-in-Beside.ensures ∙ c.passing.invariant.1,
 )
+
+pub passing-preserved-in_ok-add_offers-in-Beside : goal.passing-preserved-in_ok-add_offers-in-Beside
+passing-preserved-in_ok-add_offers-in-Beside t c = (
+  rest_fits _ _ _ _ _ _ c.in-Beside.is c.get-left.ensures c.passing.invariant.0,
+  beside_offers _ _ _ _ _ _ _ _ _ _ _ c.in-Beside.is c.get-in-Beside.ensures c.get-left.ensures c.in_ok-inner-in-Beside.ensures
+      c.in_ok-add_offers-in-Beside.ensures ∙ c.passing.invariant.1,
+)

@@ -1,7 +1,7 @@
 use Rattle.std.proofs.Common.{inr}
 use Rattle.std.specs.Io.Buffered.{reader_remaining}
 use Rattle.debug_session.proofs.SessionLemmas.{begun}
-use Rattle.debug_session.proofs.whole.debug.Goals as goal
+use Rattle.debug_session.proofs.whole.debug_keeping.Goals as goal
 
 pub returns-clause-debugged : goal.returns-clause-debugged
 returns-clause-debugged g c =
