@@ -8,9 +8,9 @@ use Rattle.syntax.specs.declared.command.Command.{Command}
 use Rattle.syntax.specs.declared.command.Guarded.{Guarded}
 use Rattle.syntax.specs.declared.command.Action.TheFolds.{fold-Command, fold-Arm, fold-CaseArm, fold-Guarded}
 use Rattle.syntax.specs.declared.command.Action.TheOpen.{Action-F, Arm-F, CaseArm-F, Command-F, Guarded-F}
-use Rattle.syntax.specs.declared.expression.Expression.{Expression}
-use Rattle.syntax.specs.declared.expression.Shape.TheFolds.{fold-Expression}
-use Rattle.syntax.specs.declared.expression.Shape.TheOpen.{Expression-F, Shape-F}
+use Rattle.syntax.specs.declared.expression.Expr.{Expr}
+use Rattle.syntax.specs.declared.expression.Shape.TheFolds.{fold-Expr}
+use Rattle.syntax.specs.declared.expression.Shape.TheOpen.{Expr-F, Shape-F}
 use Rattle.branch_uses.specs.declared.uses.NameUse.{NameUse}
 use Rattle.branch_uses.specs.declared.uses.Clash.{Clash}
 
@@ -76,12 +76,12 @@ shape_layer name (Shape-F.Binary op left right) start f = right (left f)
 shape_layer name (Shape-F.Not operand) start f = operand f
 shape_layer name (Shape-F.Cast operand type) start f = operand f
 
-abbrev pub expression_layer : Expression-F (ℕ → Finds) Finds → Finds
+abbrev pub expression_layer : Expr-F (ℕ → Finds) Finds → Finds
 expression_layer e = e.shape e.own_start
 
 -- what an expression reads
-abbrev pub reading : List ℕ → Expression → Finds
-reading name = fold-Expression (ℕ → Finds) Finds (shape_layer name) expression_layer
+abbrev pub reading : List ℕ → Expr → Finds
+reading name = fold-Expr (ℕ → Finds) Finds (shape_layer name) expression_layer
 
 -- ---- commands
 

@@ -6,10 +6,10 @@ ghost use Rattle.branch_uses.specs.Clashes as model;
 use crate::found::Found;
 use crate::uses::Clash;
 use std::alloc::{AllocError, Global};
-use syntax::{Action, Arm, CaseArm, Command, Expression, Guarded, Shape};
+use syntax::{Action, Arm, CaseArm, Command, Expr, Guarded, Shape};
 
 /// Adds what an expression reads.
-fn add_reads(expression: &Expression, name: &[u8], found: &mut Found) -> Result<(), AllocError>
+fn add_reads(expression: &Expr, name: &[u8], found: &mut Found) -> Result<(), AllocError>
     ensures { IfOk result (λ _. found.new ≡ model.reading name.now expression.now found.old) }
 {
     match expression.shape.get() {

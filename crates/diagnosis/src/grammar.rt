@@ -12,7 +12,7 @@ pub fn find(source: &[u8], number: u32, finding: &mut Finding) -> Result<(), All
         Err(_) => return finding.say(&["no description goes on with this word"]),
     };
     let place = place_at(tokens.as_slice(), finding.start);
-    let mut found = Kind::EndOfSource;
+    let mut found = Kind::End;
     if let Some(token) = tokens.as_slice().get(place) {
         finding.stop = token.span.stop;
         found = token.kind;
@@ -25,7 +25,7 @@ pub fn find(source: &[u8], number: u32, finding: &mut Finding) -> Result<(), All
     }
     let before = kind_before(tokens.as_slice(), place);
     let touches = touches_number(tokens.as_slice(), place);
-    if found == Kind::EndOfSource {
+    if found == Kind::End {
         add_last_word(tokens.as_slice(), place, finding)?;
     }
     let viable = viable_kinds(finding.alloc, &mut tokens, place)?;
@@ -185,7 +185,7 @@ fn say_expected(
     viable: &[Kind],
     finding: &mut Finding,
 ) -> Result<(), AllocError> {
-    if found == Kind::EndOfSource {
+    if found == Kind::End {
         finding.say(&["the source ends here: expected "])?;
     } else {
         let text = text_between(source, finding.start, finding.stop);
@@ -210,7 +210,7 @@ fn advise(
     if seen.found == Kind::Name && !seen.is_first {
         return advise_word(source, viable, finding);
     }
-    if seen.found == Kind::EndOfSource && source.contains(&b'\r') && !source.contains(&b'\n') {
+    if seen.found == Kind::End && source.contains(&b'\r') && !source.contains(&b'\n') {
         return finding.advise(&[
             "the lines end with byte 13 alone, so that a comment goes on to the end: save with Unix line ends",
         ]);
@@ -236,7 +236,7 @@ fn help_for(seen: Seen, viable: &[Kind]) -> &'static str {
     if found == Kind::EndWord && has(viable, Kind::Bar) && !has(viable, Kind::EndWord) {
         return "an `arbitrate` has two arms: `arbitrate a then .. | b then .. end`";
     }
-    if matches!(found, Kind::ProcedureWord | Kind::EndOfSource) && has(viable, Kind::EndWord) {
+    if matches!(found, Kind::ProcedureWord | Kind::End) && has(viable, Kind::EndWord) {
         return "an `end` is missing before this: each procedure, `loop`, `if`, `case`, `select`, `arbitrate` and `-> then` has one";
     }
     if found == Kind::Comma && has(viable, Kind::Semicolon) {
@@ -269,7 +269,7 @@ fn is_word(kind: Kind) -> bool {
         .as_bytes()
         .get(1)
         .is_some_and(|byte| byte.is_ascii_alphabetic())
-        && !matches!(kind, Kind::Name | Kind::Number | Kind::EndOfSource)
+        && !matches!(kind, Kind::Name | Kind::Number | Kind::End)
 }
 
 /// The word without its backquotes.

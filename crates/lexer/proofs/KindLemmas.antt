@@ -14,11 +14,11 @@ use Rattle.lexer.specs.declared.class.Class.{Class}
 use Rattle.lexer.specs.declared.class.Class.TheVariants as class
 use Rattle.lexer.specs.declared.position.Position.{Position}
 use Rattle.lexer.specs.declared.token.Kind.{Kind}
-use Rattle.lexer.specs.declared.token.Kind.TheVariants.{Name, Number, ProcedureWord, EndOfSource}
+use Rattle.lexer.specs.declared.token.Kind.TheVariants.{Name, Number, ProcedureWord, End}
 use Rattle.lexer.specs.declared.token.Token.{Token}
 
 abbrev goes_on : Kind → Bool
-goes_on EndOfSource = false
+goes_on End = false
 goes_on _ = true
 
 -- a test that the kinds of a table pass is passed by each kind that is found there
@@ -32,28 +32,28 @@ lookup_passes test (entry ∷ entries) text all kind found = elim (cases_Bool (p
   | inr other ↦ lookup_passes test entries text (and_parts _ _ all).1 kind (rw other at found)
 ]
 
-going_on : (kind : Kind) → goes_on kind ≡ true → kind ≢ EndOfSource
+going_on : (kind : Kind) → goes_on kind ≡ true → kind ≢ End
 going_on kind passes end = false≢true (rw end at passes)
 
-symbol_goes_on : (text : Text) (kind : Kind) → symbol text ≡ Some kind → kind ≢ EndOfSource
+symbol_goes_on : (text : Text) (kind : Kind) → symbol text ≡ Some kind → kind ≢ End
 unfolding symbol
 symbol_goes_on text kind found = going_on kind (lookup_passes goes_on symbols text refl kind found)
 
-reserved_goes_on : (text : Text) (kind : Kind) → reserved_word text ≡ Some kind → kind ≢ EndOfSource
+reserved_goes_on : (text : Text) (kind : Kind) → reserved_word text ≡ Some kind → kind ≢ End
 unfolding reserved_word
 reserved_goes_on text kind found = going_on kind (lookup_passes goes_on reserved_words text refl kind found)
 
-word_goes_on : (found : Option Kind) → ((kind : Kind) → found ≡ Some kind → kind ≢ EndOfSource) → unwrap_or found Name ≢ EndOfSource
+word_goes_on : (found : Option Kind) → ((kind : Kind) → found ≡ Some kind → kind ≢ End) → unwrap_or found Name ≢ End
 word_goes_on None all end = absurd (cc)
 word_goes_on (Some kind) all end = all kind refl end
 
-one_token : (position : Position) (kind : Kind) (text : Text) (number : ℕ) → kind ≢ EndOfSource → HasNoEnd (token_at position kind text number ∷ [])
+one_token : (position : Position) (kind : Kind) (text : Text) (number : ℕ) → kind ≢ End → HasNoEnd (token_at position kind text number ∷ [])
 one_token position kind text number other =
-    let P : Token → Type 0 = λ (token : Token). token.kind ≢ EndOfSource in
+    let P : Token → Type 0 = λ (token : Token). token.kind ≢ End in
     All-cons P (token_at position kind text number) [] other (All-nil P)
 
-found_token : (position : Position) (text : Text) (number : ℕ) (found : Option Kind) → ((kind : Kind) → found ≡ Some kind → kind ≢ EndOfSource) → HasNoEnd (option_to_list (option_map (λ kind. token_at position kind text number) found))
-found_token position text number None all = All-nil (λ (token : Token). token.kind ≢ EndOfSource)
+found_token : (position : Position) (text : Text) (number : ℕ) (found : Option Kind) → ((kind : Kind) → found ≡ Some kind → kind ≢ End) → HasNoEnd (option_to_list (option_map (λ kind. token_at position kind text number) found))
+found_token position text number None all = All-nil (λ (token : Token). token.kind ≢ End)
 found_token position text number (Some kind) all = one_token position kind text number (all kind refl)
 
 -- no piece makes the end of the source
@@ -61,10 +61,10 @@ pub piece_has_no_end : (position : Position) (class : Class) (text : Text) → H
 piece_has_no_end position class.Word text = one_token position (unwrap_or (reserved_word text) Name) text 0 (word_goes_on (reserved_word text) (reserved_goes_on text))
 piece_has_no_end position class.Number text = one_token position Number text (token_number class.Number text) (λ e. cc)
 piece_has_no_end position class.Symbol text = found_token position text 0 (symbol text) (symbol_goes_on text)
-piece_has_no_end position class.Blank text = All-nil (λ (token : Token). token.kind ≢ EndOfSource)
-piece_has_no_end position class.LineComment text = All-nil (λ (token : Token). token.kind ≢ EndOfSource)
-piece_has_no_end position class.NestedComment text = All-nil (λ (token : Token). token.kind ≢ EndOfSource)
-piece_has_no_end position class.OpenComment text = All-nil (λ (token : Token). token.kind ≢ EndOfSource)
+piece_has_no_end position class.Blank text = All-nil (λ (token : Token). token.kind ≢ End)
+piece_has_no_end position class.LineComment text = All-nil (λ (token : Token). token.kind ≢ End)
+piece_has_no_end position class.NestedComment text = All-nil (λ (token : Token). token.kind ≢ End)
+piece_has_no_end position class.OpenComment text = All-nil (λ (token : Token). token.kind ≢ End)
 
 abbrev no_procedure : Kind → Bool
 no_procedure ProcedureWord = false

@@ -13,8 +13,8 @@ use Rattle.lexer.specs.declared.class.Class.TheVariants.{Word}
 use Rattle.lexer.specs.declared.lexing.Found.{Found}
 use Rattle.lexer.specs.declared.lexing.Lexing.{Lexing}
 use Rattle.lexer.specs.declared.lexing.Stop.{Stop}
-use Rattle.lexer.specs.declared.lexing.Stop.TheVariants.{Full, Procedure, End}
-use Rattle.lexer.specs.declared.token.Kind.TheVariants.{EndOfSource, ProcedureWord}
+use Rattle.lexer.specs.declared.lexing.Stop.TheVariants.{Full, Procedure, EndOfSource}
+use Rattle.lexer.specs.declared.token.Kind.TheVariants.{End, ProcedureWord}
 use Rattle.lexer.specs.declared.token.Token.{Token}
 use Rattle.refusals.specs.declared.lexer.Fault.{Fault}
 use Rattle.lexer.proofs.KindLemmas.{piece_has_no_end, piece_is_procedure}
@@ -62,7 +62,7 @@ less_left old new found off =
     rw off.rest (omega (arith, some, within, length-drop off.size old.rest.now))
 
 -- where nothing is left
-pub at_end : (here : Lexing) → here.rest.now ≡ [] → Ends here (token_at here.position EndOfSource [] 0 ∷ [])
+pub at_end : (here : Lexing) → here.rest.now ≡ [] → Ends here (token_at here.position End [] 0 ∷ [])
 at_end here none source before read =
     reaches_end source before here.position (subst (λ rest. Reaches source before here.position rest) none read)
 
@@ -126,7 +126,7 @@ part_begun old before most = record {
   added = [];
   same = sym (append-nil before);
   goes = goes_nowhere old;
-  no_end = All-nil (λ (token : Token). token.kind ≢ EndOfSource);
+  no_end = All-nil (λ (token : Token). token.kind ≢ End);
   count = omega arith;
   bytes = omega arith;
   begun = λ word none. inl (none, refl);
@@ -138,7 +138,7 @@ part_on old before most here new part onward tokens left found so off readable t
   added = so.added ++ tokens;
   same = more ∙ ap (λ (front : List Token). front ++ tokens) so.same ∙ append_assoc before so.added tokens;
   goes = goes_on old here new so.added tokens so.goes (subst (λ (made : List Token). Goes here made new) token (over_piece here new found off readable));
-  no_end = All-append (λ (token : Token). token.kind ≢ EndOfSource) so.added tokens so.no_end (subst HasNoEnd token (piece_has_no_end found.position found.class found.text.now));
+  no_end = All-append (λ (token : Token). token.kind ≢ End) so.added tokens so.no_end (subst HasNoEnd token (piece_has_no_end found.position found.class found.text.now));
   count = let count = so.count in omega (arith, count, some, length-append so.added tokens);
   bytes = let bytes = so.bytes in omega (arith, bytes, one, length-append so.added tokens, less_left here new found off);
   begun = begun_on old before here new part onward tokens found so.begun off token more;
@@ -167,9 +167,9 @@ pub part_at_procedure : (old : Lexing) (before : List Token) (most : ℕ) (here 
 part_at_procedure old before most here part left so word =
     let count = so.count in (so.added, so.same, (so.goes, so.no_end, omega (arith, count), so.bytes, word))
 
-pub part_at_end : (old : Lexing) (before : List Token) (most : ℕ) (here new : Lexing) (part onward : List Token) (left : ℕ) → IsPartSoFar old before most here part left → here.rest.now ≡ [] → onward ≡ part ++ token_at here.position EndOfSource [] 0 ∷ [] → 1 ≤ left → EndsPart old before most End new onward
+pub part_at_end : (old : Lexing) (before : List Token) (most : ℕ) (here new : Lexing) (part onward : List Token) (left : ℕ) → IsPartSoFar old before most here part left → here.rest.now ≡ [] → onward ≡ part ++ token_at here.position End [] 0 ∷ [] → 1 ≤ left → EndsPart old before most EndOfSource new onward
 part_at_end old before most here new part onward left so none more room =
-    let last = token_at here.position EndOfSource [] 0 ∷ [] in
+    let last = token_at here.position End [] 0 ∷ [] in
     let count = so.count in
     (so.added ++ last, more ∙ ap (λ (front : List Token). front ++ last) so.same ∙ append_assoc before so.added last, (goes_to_end old here so.added last so.goes (at_end here none), omega (arith, count, room, length-append so.added last)))
 

@@ -18,7 +18,7 @@ use Rattle.lexer.specs.Tokens.{AreTokens, IsReadable, behind, first_position, to
 use Rattle.lexer.specs.declared.class.Class.{Class}
 use Rattle.refusals.specs.declared.lexer.Fault.{Fault}
 use Rattle.lexer.specs.declared.position.Position.{Position}
-use Rattle.lexer.specs.declared.token.Kind.TheVariants.{EndOfSource}
+use Rattle.lexer.specs.declared.token.Kind.TheVariants.{End}
 use Rattle.lexer.specs.declared.token.Token.{Token}
 
 -- at the beginning
@@ -45,7 +45,7 @@ reaches_next source tokens position rest class n reached front readable = record
 }
 
 -- where the source ends
-pub reaches_end : (source : Text) (tokens : List Token) (position : Position) → Reaches source tokens position [] → AreTokens source (tokens ++ token_at position EndOfSource [] 0 ∷ [])
+pub reaches_end : (source : Text) (tokens : List Token) (position : Position) → Reaches source tokens position [] → AreTokens source (tokens ++ token_at position End [] 0 ∷ [])
 reaches_end source tokens position reached =
     let all = reached.onward [] [] (record { whole = refl; cut = tt; readable = tt }) in
     (all.pieces, all.read, sym all.same)

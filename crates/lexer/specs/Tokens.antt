@@ -9,7 +9,7 @@ use Rattle.lexer.specs.declared.class.Class.{Class}
 use Rattle.lexer.specs.declared.class.Class.TheVariants as class
 use Rattle.lexer.specs.declared.position.Position.{Position}
 use Rattle.lexer.specs.declared.token.Kind.{Kind}
-use Rattle.lexer.specs.declared.token.Kind.TheVariants.{Name, Number, EndOfSource}
+use Rattle.lexer.specs.declared.token.Kind.TheVariants.{Name, Number, End}
 use Rattle.lexer.specs.declared.token.Token.{Token}
 
 -- the value of the digits that follow on digits of a value
@@ -81,7 +81,7 @@ pub record IsReadTo (source : Text) (pieces : List Piece) (rest : Text) : Type 0
 
 -- the tokens of pieces of which the first is at the position, and behind them the end
 abbrev pub tokens_from : Position → List Piece → List Token
-tokens_from position [] = token_at position EndOfSource [] 0 ∷ []
+tokens_from position [] = token_at position End [] 0 ∷ []
 tokens_from position (piece ∷ pieces) = option_to_list (token_of position piece.class piece.text) ++ tokens_from (behind position piece.text) pieces
 
 -- the first position of a source

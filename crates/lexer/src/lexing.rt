@@ -25,8 +25,8 @@ pub enum Stop {
     Full,
     /// The next token is `procedure`, and there is one in the part already.
     Procedure,
-    /// The source ends: the last token is of the kind `EndOfSource`.
-    End,
+    /// The source ends: the last token is of the kind `End`.
+    EndOfSource,
 }
 
 /// A piece of the source, and where it begins.
@@ -42,7 +42,7 @@ impl<'a> Lexing<'a> {
     ghost use Rattle.std.specs.Prelude.{◌≡◌, ◌≤◌, ◌++◌, ◌⊎◌, [], List, IfOk, IfErr, OnOk, MatchOption};
     ghost use Rattle.lexer.specs.Tokens.{token_at};
     ghost use Rattle.lexer.specs.walking.Parts.{BeginsProcedure, HasRead, IsAtProcedure, IsCutOff, IsPart, IsRest, Refuses};
-    ghost use Rattle.lexer.specs.declared.token.Kind.TheVariants.{EndOfSource};
+    ghost use Rattle.lexer.specs.declared.token.Kind.TheVariants.{End};
     ghost use Rattle.lexer.specs.declared.token.Token.{Token};
     ghost use Rattle.refusals.specs.declared.lexer.Fault.TheVariants.{Memory};
 
@@ -82,13 +82,13 @@ impl<'a> Lexing<'a> {
 
     /// The token that stands where nothing is left.
     pub(crate) fn end(&self, alloc: Global) -> Result<Token, AllocError>
-        ensures { IfOk result (λ token. token ≡ token_at self.now.position EndOfSource [] 0) }
+        ensures { IfOk result (λ token. token ≡ token_at self.now.position End [] 0) }
     {
-        Token::new(alloc, self.position, Kind::EndOfSource, b"", 0)
+        Token::new(alloc, self.position, Kind::End, b"", 0)
     }
 
     /// Adds the tokens that follow to `part`: `most` of them, or those up to a `procedure` where one stands in `part`
-    /// already, or all up to the end of the source with one of the kind `EndOfSource`.
+    /// already, or all up to the end of the source with one of the kind `End`.
     ///
     /// A `procedure` that `part` held before counts too; other tokens that it held do not count against `most`.
     /// `Memory` may come at any token. At an error nothing is known of `part` and of what is left.
@@ -111,7 +111,7 @@ impl<'a> Lexing<'a> {
             let mut next = *self;
             let Some(found) = next.cut()? else {
                 part.push(self.end(alloc)?)?;
-                return Ok(Stop::End);
+                return Ok(Stop::EndOfSource);
             };
             if let Some(token) = token_of(alloc, found.position, found.class, found.text)? {
                 if matches!(token.kind, Kind::ProcedureWord) {

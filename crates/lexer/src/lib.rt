@@ -25,7 +25,7 @@ use syntax::Name;
 use token::push_token;
 pub use token::{Kind, Token};
 
-/// The tokens of `source`, with one of the kind `EndOfSource` behind them.
+/// The tokens of `source`, with one of the kind `End` behind them.
 ///
 /// A source that is no list of tokens is refused at the first byte where that shows.
 pub fn lex(alloc: Global, source: &[u8]) -> Result<Vec<Token>, Fault>

@@ -116,7 +116,7 @@ pub enum Kind {
     /// `>=`
     GreaterOrEqualSign,
     /// What ends each list of tokens. Its text is empty.
-    EndOfSource,
+    End,
 }
 
 /// A part of the source that is neither blank nor comment.

@@ -2,10 +2,10 @@
 use Rattle.std.proofs.Common.{◌≡◌, ℕ, zero, suc, true, false, List, [], ◌∷◌, refl}
 use Rattle.lexer.specs.declared.token.Kind.{Kind}
 use Rattle.lexer.specs.declared.token.Kind.TheVariants as kind
-use Rattle.lexer.specs.declared.token.Kind.TheVariants.{EndOfSource}
+use Rattle.lexer.specs.declared.token.Kind.TheVariants.{End}
 use Rattle.syntax.specs.declared.span.Span.{Span}
 use Rattle.syntax.specs.declared.name.Identifier.{Identifier}
-use Rattle.syntax.specs.declared.expression.Expression.{Expression}
+use Rattle.syntax.specs.declared.expression.Expr.{Expr}
 use Rattle.syntax.specs.declared.command.Command.{Command}
 use Rattle.syntax.specs.declared.command.Action.{Action}
 use Rattle.syntax.specs.declared.command.Action.TheVariants as action
@@ -34,7 +34,7 @@ parallel_follow = kind.DoubleBar ∷ expression_follow
 abbrev pub command_follow : List Kind
 command_follow = kind.Semicolon ∷ parallel_follow
 
-word_full : (spelled : Kind) → is_one_of (spelled ∷ []) EndOfSource ≡ false → is_one_of (spelled ∷ []) spelled ≡ true → (action : Action) →
+word_full : (spelled : Kind) → is_one_of (spelled ∷ []) End ≡ false → is_one_of (spelled ∷ []) spelled ≡ true → (action : Action) →
     Full (r.word spelled action) (r.word spelled action) (g.word spelled action) (g.word spelled action) (spelled ∷ []) false []
 unfolding r.word g.word
 word_full spelled ends is action = bind_full (take_full _ _ ends is) (λ token. pure_full _) refl
@@ -56,7 +56,7 @@ unfolding r.call g.call same_kind
 call_full procedure =
     declared (bind_full (take_full _ _ refl refl) (λ _. bind_full arguments_full (λ given. bind_full (take_full _ _ refl refl) (λ stop. pure_full _) refl) refl) refl) refl refl
 
-module _ {e e' : Reader Expression} {i i' : Rule Expression} (expression : Full e e' i i' expression_start false expression_follow) where
+module _ {e e' : Reader Expr} {i i' : Rule Expr} (expression : Full e e' i i' expression_start false expression_follow) where
   assignment_full : (variable : Identifier) → Full (r.assignment e variable) (r.assignment e' variable) (g.assignment i variable) (g.assignment i' variable) (kind.AssignSign ∷ []) false expression_follow
   unfolding r.assignment g.assignment same_kind
   assignment_full variable = declared (bind_full (take_full _ _ refl refl) (λ _. bind_full expression (λ value. pure_full _) refl) refl) refl refl
@@ -103,7 +103,7 @@ command_of_sentence simple = alone_or_joined_sentence _ _ (alone_or_joined_sente
 
 -- ---- the parts of what opens a level
 
-module _ {c c' : Reader Command} {e e' : Reader Expression} {h h' : Rule Command} {i i' : Rule Expression} (command : Full c c' h h' command_start false command_follow)
+module _ {c c' : Reader Command} {e e' : Reader Expr} {h h' : Rule Command} {i i' : Rule Expr} (command : Full c c' h h' command_start false command_follow)
     (expression : Full e e' i i' expression_start false expression_follow) where
   body_full : Full (r.body c e) (r.body c' e') (g.body h i) (g.body h' i') (kind.ThenWord ∷ []) false command_follow
   unfolding r.body g.body same_kind
@@ -140,7 +140,7 @@ module _ {c c' : Reader Command} {e e' : Reader Expression} {h h' : Rule Command
   unfolding r.arm_of g.arm_of same_kind
   arm_full = declared (bind_full identifier_full (λ channel. bind_full body_full (λ chosen. pure_full _) refl) refl) refl refl
 
-module _ {h : Rule Command} {i : Rule Expression} (command : HasSentence h) (expression : HasSentence i) where
+module _ {h : Rule Command} {i : Rule Expr} (command : HasSentence h) (expression : HasSentence i) where
   body_sentence : HasSentence (g.body h i)
   unfolding g.body same_kind
   body_sentence = bind_sentence (take_sentence _ _ refl) (λ _. command)
@@ -167,7 +167,7 @@ module _ {h : Rule Command} {i : Rule Expression} (command : HasSentence h) (exp
 
 -- ---- what a command begins with, over the laws of what stands a level deeper, where there is such a level
 
-module _ (depth : ℕ) {b b' : Reader Expression} {c c' : Reader Command} {e e' : Reader Expression} {l l' : Rule Expression} {h h' : Rule Command} {i i' : Rule Expression}
+module _ (depth : ℕ) {b b' : Reader Expr} {c c' : Reader Command} {e e' : Reader Expr} {l l' : Rule Expr} {h h' : Rule Command} {i i' : Rule Expr}
     (beside : Full b b' l l' expression_start false expression_follow) (command : IsDeep depth → Full c c' h h' command_start false command_follow)
     (expression : IsDeep depth → Full e e' i i' expression_start false expression_follow) (some_command : HasSentence h') (some_expression : HasSentence i') where
   bracketed_laws : Laws (r.bracketed depth b c e) (r.bracketed (suc depth) b' c' e') (g.bracketed depth l h i) (g.bracketed (suc depth) l' h' i') (kind.LeftBracket ∷ []) false []
@@ -260,7 +260,7 @@ module _ (depth : ℕ) {b b' : Reader Expression} {c c' : Reader Command} {e e' 
       refl refl) refl refl) refl refl) refl refl) refl refl) refl refl) refl refl) refl refl) refl refl))
       refl refl
 
-simple_of_sentence : (depth : ℕ) (l : Rule Expression) (h : Rule Command) (i : Rule Expression) → HasSentence (g.simple_of depth l h i)
+simple_of_sentence : (depth : ℕ) (l : Rule Expr) (h : Rule Command) (i : Rule Expr) → HasSentence (g.simple_of depth l h i)
 unfolding g.simple_of g.any_simple g.word same_kind
 simple_of_sentence depth l h i =
     inside_sentence (either_sentence _ (either_sentence _ (either_sentence _ (either_sentence _ (either_sentence _ (either_sentence _ (either_sentence _ (either_sentence _ (either_sentence _

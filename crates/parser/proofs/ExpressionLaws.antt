@@ -2,9 +2,9 @@
 use Rattle.std.proofs.Common.{◌≡◌, ℕ, zero, suc, true, false, List, [], ◌∷◌, ◌++◌, refl}
 use Rattle.lexer.specs.declared.token.Kind.{Kind}
 use Rattle.lexer.specs.declared.token.Kind.TheVariants as kind
-use Rattle.lexer.specs.declared.token.Kind.TheVariants.{EndOfSource}
+use Rattle.lexer.specs.declared.token.Kind.TheVariants.{End}
 use Rattle.syntax.specs.declared.span.Span.{Span}
-use Rattle.syntax.specs.declared.expression.Expression.{Expression}
+use Rattle.syntax.specs.declared.expression.Expr.{Expr}
 use Rattle.parser.specs.Input.{is_one_of, same_kind}
 use Rattle.parser.specs.Rules.{Rule}
 use Rattle.parser.specs.walking.Readers.{Reader}
@@ -42,21 +42,21 @@ variable_name_full : Full r.variable_name r.variable_name g.variable_name g.vari
 unfolding r.variable_name g.variable_name same_kind
 variable_name_full = declared (bind_full identifier_full (λ name. pure_full _) refl) refl refl
 
-module _ (depth : ℕ) {o o' : Reader Expression} {h h' : Rule Expression} {start follow : List Kind} (operand : Full o o' h h' start false follow) where
+module _ (depth : ℕ) {o o' : Reader Expr} {h h' : Rule Expr} {start follow : List Kind} (operand : Full o o' h h' start false follow) where
   operation_laws :
-      (signs : List Kind) → is_one_of signs EndOfSource ≡ false → (left : Expression) →
+      (signs : List Kind) → is_one_of signs End ≡ false → (left : Expr) →
       Laws (r.operation depth signs o left) (r.operation (suc depth) signs o' left) (g.operation depth signs h left) (g.operation (suc depth) signs h' left) (signs ++ []) false (follow ++ [])
   unfolding r.operation g.operation
   operation_laws signs ends left =
       opens depth signs ends (λ sign. bind_sentence operand.deeper (λ right. pure_sentence _)) (λ _ sign. bind_full operand (λ right. pure_full _) refl)
 
   grouped_full :
-      (signs : List Kind) → is_one_of signs EndOfSource ≡ false → all_in (signs ++ []) signs ≡ true → none_in (signs ++ []) (follow ++ []) ≡ true → none_in (signs ++ []) follow ≡ true →
+      (signs : List Kind) → is_one_of signs End ≡ false → all_in (signs ++ []) signs ≡ true → none_in (signs ++ []) (follow ++ []) ≡ true → none_in (signs ++ []) follow ≡ true →
       Full (r.grouped depth signs o) (r.grouped (suc depth) signs o') (g.grouped depth signs h) (g.grouped (suc depth) signs h') (start ++ []) false ((signs ++ (follow ++ [])) ++ follow)
   unfolding r.grouped g.grouped
   grouped_full signs ends inner apart apart' = bind_full operand (λ first. repeat_full signs (λ left. operation_laws signs ends left) ends inner apart first) apart'
 
-module _ (depth : ℕ) {f f' : Reader Expression} {h h' : Rule Expression} (factor : Full f f' h h' expression_start false []) where
+module _ (depth : ℕ) {f f' : Reader Expr} {h h' : Rule Expr} (factor : Full f f' h h' expression_start false []) where
   sum_full : Full (r.sum_of depth f) (r.sum_of (suc depth) f') (g.sum_of depth h) (g.sum_of (suc depth) h') expression_start false sum_signs
   unfolding r.sum_of g.sum_of same_kind
   sum_full = declared (grouped_full depth factor sum_signs refl refl refl refl) refl refl
@@ -73,17 +73,17 @@ module _ (depth : ℕ) {f f' : Reader Expression} {h h' : Rule Expression} (fact
   unfolding r.expression_of g.expression_of same_kind
   expression_of_full = declared (inside_full (grouped_full depth conjunct_full expression_words refl refl refl refl)) refl refl
 
-cast_full : (start : Span) (operand : Expression) → Full (r.cast start operand) (r.cast start operand) (g.cast start operand) (g.cast start operand) (kind.AsWord ∷ []) false []
+cast_full : (start : Span) (operand : Expr) → Full (r.cast start operand) (r.cast start operand) (g.cast start operand) (g.cast start operand) (kind.AsWord ∷ []) false []
 unfolding r.cast g.cast same_kind
 cast_full start operand =
     declared (bind_full (take_full _ _ refl refl) (λ _. bind_full type_name_full (λ to. bind_full (take_full _ _ refl refl) (λ stop. pure_full _) refl) refl) refl) refl refl
 
-closing_full : (start : Span) (operand : Expression) → Full (r.closing start operand) (r.closing start operand) (g.closing start operand) (g.closing start operand) (kind.RightParenthesis ∷ []) false []
+closing_full : (start : Span) (operand : Expr) → Full (r.closing start operand) (r.closing start operand) (g.closing start operand) (g.closing start operand) (kind.RightParenthesis ∷ []) false []
 unfolding r.closing g.closing same_kind
 closing_full start operand = declared (bind_full (take_full _ _ refl refl) (λ stop. pure_full _) refl) refl refl
 
 -- over the laws of what stands a level deeper, where there is such a level
-module _ (depth : ℕ) {f f' e e' : Reader Expression} {h h' i i' : Rule Expression} (factor : IsDeep depth → Full f f' h h' expression_start false [])
+module _ (depth : ℕ) {f f' e e' : Reader Expr} {h h' i i' : Rule Expr} (factor : IsDeep depth → Full f f' h h' expression_start false [])
     (expression : IsDeep depth → Full e e' i i' expression_start false expression_follow) (some_factor : HasSentence h') (some_expression : HasSentence i') where
   negation_laws : Laws (r.negation depth f e) (r.negation (suc depth) f' e') (g.negation depth h i) (g.negation (suc depth) h' i') (kind.NotWord ∷ []) false []
   unfolding r.negation g.negation same_kind
@@ -104,7 +104,7 @@ module _ (depth : ℕ) {f f' e e' : Reader Expression} {h h' i i' : Rule Express
   factor_of_full =
       declared (inside_full (branch_full _ negation_laws (branch_full _ parenthesised_laws (branch_full _ number_full.laws variable_name_full refl refl) refl refl) refl refl)) refl refl
 
-factor_of_sentence : (depth : ℕ) (h i : Rule Expression) → HasSentence (g.factor_of depth h i)
+factor_of_sentence : (depth : ℕ) (h i : Rule Expr) → HasSentence (g.factor_of depth h i)
 unfolding g.factor_of g.any_factor
 factor_of_sentence depth h i = inside_sentence (either_sentence _ (either_sentence _ (either_sentence _ variable_name_full.here)))
 
@@ -113,11 +113,11 @@ factor_sentence zero = factor_of_sentence zero _ _
 factor_sentence (suc depth) = factor_of_sentence (suc depth) _ _
 
 -- first ones alone
-grouped_sentence : (depth : ℕ) (signs : List Kind) {h : Rule Expression} → HasSentence h → HasSentence (g.grouped depth signs h)
+grouped_sentence : (depth : ℕ) (signs : List Kind) {h : Rule Expr} → HasSentence h → HasSentence (g.grouped depth signs h)
 unfolding g.grouped
 grouped_sentence depth signs operand = bind_sentence operand (λ first. repeat_sentence _ _)
 
-expression_of_sentence : (depth : ℕ) {h : Rule Expression} → HasSentence h → HasSentence (g.expression_of depth h)
+expression_of_sentence : (depth : ℕ) {h : Rule Expr} → HasSentence h → HasSentence (g.expression_of depth h)
 unfolding g.expression_of g.conjunct_of g.comparison_of g.sum_of
 expression_of_sentence depth factor =
     inside_sentence (grouped_sentence depth _ (grouped_sentence depth _ (bind_sentence (grouped_sentence depth _ factor) (λ left. either_sentence _ (pure_sentence _)))))

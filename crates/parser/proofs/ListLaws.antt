@@ -2,7 +2,7 @@
 use Rattle.std.proofs.Common.{◌≡◌, true, false, List, [], ◌∷◌, ◌++◌, refl}
 use Rattle.lexer.specs.declared.token.Kind.{Kind}
 use Rattle.lexer.specs.declared.token.Kind.TheVariants as kind
-use Rattle.lexer.specs.declared.token.Kind.TheVariants.{EndOfSource}
+use Rattle.lexer.specs.declared.token.Kind.TheVariants.{End}
 use Rattle.parser.specs.Input.{is_one_of, same_kind}
 use Rattle.parser.specs.Rules.{Rule}
 use Rattle.parser.specs.walking.Readers.{Reader}
@@ -21,20 +21,20 @@ module _ {A : Type 0} {i i' : Reader A} {h h' : Rule A} {start follow : List Kin
   one_more_full found = bind_full item (λ another. pure_full _) refl
 
   pub several_full :
-      (kinds : List Kind) → is_one_of kinds EndOfSource ≡ false → all_in (start ++ []) kinds ≡ true → none_in (start ++ []) follow ≡ true → (found : List A) →
+      (kinds : List Kind) → is_one_of kinds End ≡ false → all_in (start ++ []) kinds ≡ true → none_in (start ++ []) follow ≡ true → (found : List A) →
       Full (r.several kinds i found) (r.several kinds i' found) (g.several h found) (g.several h' found) (start ++ []) true (kinds ++ follow)
   unfolding r.several g.several
   several_full kinds ends inner apart found = repeat_full kinds (λ found. (one_more_full found).laws) ends inner apart found
 
   -- an item behind a sign
   pub behind_full :
-      (sign : Kind) → is_one_of (sign ∷ []) EndOfSource ≡ false → is_one_of (sign ∷ []) sign ≡ true →
+      (sign : Kind) → is_one_of (sign ∷ []) End ≡ false → is_one_of (sign ∷ []) sign ≡ true →
       Full (r.behind sign i) (r.behind sign i') (g.behind sign h) (g.behind sign h') (sign ∷ []) false (follow ++ [])
   unfolding r.behind g.behind
   behind_full sign ends is = bind_full (take_full sign [] ends is) (λ _. item) (apart_nothing start)
 
 pub separated_full :
-    {A : Type 0} {i i' : Reader A} {h h' : Rule A} {start follow : List Kind} → Full i i' h h' start false follow → (sign : Kind) → is_one_of (sign ∷ []) EndOfSource ≡ false →
+    {A : Type 0} {i i' : Reader A} {h h' : Rule A} {start follow : List Kind} → Full i i' h h' start false follow → (sign : Kind) → is_one_of (sign ∷ []) End ≡ false →
     is_one_of (sign ∷ []) sign ≡ true → all_in (sign ∷ []) (sign ∷ []) ≡ true → none_in (sign ∷ []) (follow ++ []) ≡ true → none_in (sign ∷ []) follow ≡ true →
     Full (r.separated sign i) (r.separated sign i') (g.separated sign h) (g.separated sign h') (start ++ []) false (((sign ∷ []) ++ (follow ++ [])) ++ follow)
 unfolding r.separated g.separated

@@ -2,7 +2,7 @@
 use Rattle.std.proofs.Common.{◌≡◌, inl, inr, ℕ, zero, suc, Bool, true, false, cond, List, [], ◌∷◌, ◌++◌, refl, sym, ◌∙◌, ap, subst}
 use Rattle.std.proofs.lemmas.Bool.{cases_Bool, false≢true}
 use Rattle.lexer.specs.declared.token.Kind.{Kind}
-use Rattle.lexer.specs.declared.token.Kind.TheVariants.{EndOfSource}
+use Rattle.lexer.specs.declared.token.Kind.TheVariants.{End}
 use Rattle.lexer.specs.declared.token.Token.{Token}
 use Rattle.parser.specs.Input.{Input, input, next, is_one_of}
 use Rattle.parser.specs.Rules.{Rule, bind as bind_rule, take_open as take_open_rule}
@@ -23,7 +23,7 @@ open_stops : (depth : ℕ) (kinds : List Kind) (levels : ℕ) (tokens : List Tok
 open_stops depth kinds levels [] e = refl
 open_stops depth kinds levels (token ∷ rest) e = rw e refl
 
-module _ (kinds : List Kind) (ends : is_one_of kinds EndOfSource ≡ false) where
+module _ (kinds : List Kind) (ends : is_one_of kinds End ≡ false) where
   open_halted : (depth levels : ℕ) (tokens : List Token) → is_one_of kinds (next tokens) ≡ false → Halted (take_open depth kinds) (take_open_rule depth kinds) (input levels tokens) at_unexpected tokens
   unfolding take_open
   open_halted depth levels tokens e = record {
@@ -111,7 +111,7 @@ module _ (kinds : List Kind) (ends : is_one_of kinds EndOfSource ≡ false) wher
   open_starts (suc depth) i token j s = ap (λ i. is_one_of kinds (next i.tokens)) s.1 ∙ s.0
 
 pub open_laws :
-    (depth : ℕ) (kinds : List Kind) → is_one_of kinds EndOfSource ≡ false →
+    (depth : ℕ) (kinds : List Kind) → is_one_of kinds End ≡ false →
     Laws (take_open depth kinds) (take_open (suc depth) kinds) (take_open_rule depth kinds) (take_open_rule (suc depth) kinds) kinds false []
 unfolding take_open
 open_laws depth kinds ends = record {
@@ -140,7 +140,7 @@ never_spelled : {A : Type 0} (kinds : List Kind) (h : Token → Rule A) (i : Inp
 unfolding bind_rule take_open_rule
 never_spelled kinds h i a j s = s.2
 
-module _ {A : Type 0} (kinds : List Kind) (f f' : Token → Reader A) (h h' : Token → Rule A) (ends : is_one_of kinds EndOfSource ≡ false) where
+module _ {A : Type 0} (kinds : List Kind) (f f' : Token → Reader A) (h h' : Token → Rule A) (ends : is_one_of kinds End ≡ false) where
   last_grows : Grows (bind (take_open zero kinds) f) (bind (take_open (suc zero) kinds) f') (bind_rule (take_open_rule zero kinds) h) (bind_rule (take_open_rule (suc zero) kinds) h')
   unfolding bind
   last_grows = record {
@@ -166,7 +166,7 @@ module _ {A : Type 0} (kinds : List Kind) (f f' : Token → Reader A) (h h' : To
 
 -- What stands in the level has the laws where there is a level below. With one level more it can be written in any case.
 pub opens :
-    {A : Type 0} (depth : ℕ) (kinds : List Kind) {f f' : Token → Reader A} {h h' : Token → Rule A} {start follow : List Kind} {empty : Bool} → is_one_of kinds EndOfSource ≡ false →
+    {A : Type 0} (depth : ℕ) (kinds : List Kind) {f f' : Token → Reader A} {h h' : Token → Rule A} {start follow : List Kind} {empty : Bool} → is_one_of kinds End ≡ false →
     ((token : Token) → HasSentence (h' token)) → (IsDeep depth → (token : Token) → Full (f token) (f' token) (h token) (h' token) start empty follow) →
     Laws (bind (take_open depth kinds) f) (bind (take_open (suc depth) kinds) f') (bind_rule (take_open_rule depth kinds) h) (bind_rule (take_open_rule (suc depth) kinds) h')
     (kinds ++ []) false (follow ++ cond empty [] [])

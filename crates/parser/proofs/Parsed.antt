@@ -1,7 +1,7 @@
 -- From what the first reader comes to: what `parse` promises.
 use Rattle.std.proofs.Common.{◌≡◌, ℕ, false, List, [], ◌∷◌, refl}
 use Rattle.lexer.specs.declared.token.Kind.TheVariants as kind
-use Rattle.lexer.specs.declared.token.Kind.TheVariants.{EndOfSource}
+use Rattle.lexer.specs.declared.token.Kind.TheVariants.{End}
 use Rattle.lexer.specs.declared.token.Token.{Token}
 use Rattle.syntax.specs.declared.declaration.Description.{Description}
 use Rattle.parser.specs.Accepted.{most_levels, Parses, FirstUnexpected, FirstTooDeep}
@@ -17,7 +17,7 @@ use Rattle.parser.proofs.WholeLaws.{read_sentence, sentence_read, stops_for_good
 abbrev pub outcome : List Token → Outcome Description
 outcome tokens = whole (r.description most_levels) (input most_levels tokens)
 
-no_end : is_one_of (kind.ProcedureWord ∷ []) EndOfSource ≡ false
+no_end : is_one_of (kind.ProcedureWord ∷ []) End ≡ false
 unfolding same_kind
 no_end = refl
 

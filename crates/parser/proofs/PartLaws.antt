@@ -6,7 +6,7 @@ use Rattle.std.proofs.lemmas.Bool.{false≢true}
 use Rattle.std.proofs.lemmas.List.Elements.{All-head, All-tail}
 use Rattle.lexer.specs.declared.token.Kind.{Kind}
 use Rattle.lexer.specs.declared.token.Kind.TheVariants as kind
-use Rattle.lexer.specs.declared.token.Kind.TheVariants.{EndOfSource}
+use Rattle.lexer.specs.declared.token.Kind.TheVariants.{End}
 use Rattle.lexer.specs.declared.token.Token.{Token}
 use Rattle.syntax.specs.declared.declaration.Description.{Description}
 use Rattle.syntax.specs.declared.declaration.Procedure.{Procedure}
@@ -57,10 +57,10 @@ module _ {A : Type 0} {r r' : Reader A} {g g' : Rule A} {start follow : List Kin
 
 -- Turns that are spelled are read with more tokens behind, where the next one begins another turn: then reading goes on with those.
 module _ {A : Type 0} (kinds : List Kind) {turn turn' : A → Reader A} {g g' : A → Rule A} {start : List Kind}
-    (laws : (a : A) → Laws (turn a) (turn' a) (g a) (g' a) start false []) (ends : is_one_of kinds EndOfSource ≡ false) (inner : all_in start kinds ≡ true)
+    (laws : (a : A) → Laws (turn a) (turn' a) (g a) (g' a) start false []) (ends : is_one_of kinds End ≡ false) (inner : all_in start kinds ≡ true)
     (later : List Token) (more : is_one_of kinds (next later) ≡ true) where
   shrinks : (a : A) (i : Input) (b : A) (j : Input) → turn a i ≡ read b j → length j.tokens < length i.tokens
-  shrinks a i b j e = shorter (laws a) (no_member start kinds EndOfSource inner ends) i b j e
+  shrinks a i b j e = shorter (laws a) (no_member start kinds End inner ends) i b j e
 
   begins_turn : (a : A) (i : Input) (b : A) (j : Input) → g a i b j → is_one_of kinds (next (i.tokens ++ later)) ≡ true
   begins_turn a i b j s = elim ((laws a).starts.starts i b j s) [
@@ -130,7 +130,7 @@ types_full : Full (r.several (kind.TypeWord ∷ []) r.type_declaration []) (r.se
 unfolding same_kind
 types_full = several_full type_declaration_full _ refl refl refl _
 
-no_end_begins : is_one_of (kind.ProcedureWord ∷ []) EndOfSource ≡ false
+no_end_begins : is_one_of (kind.ProcedureWord ∷ []) End ≡ false
 unfolding same_kind
 no_end_begins = refl
 
@@ -200,18 +200,18 @@ end_joined given true more j = refl
 end_joined given false more j = refl
 
 abbrev to_end : Description → Reader Description
-to_end given j = if same_kind (next j.tokens) EndOfSource then read given j else unexpected j.tokens
+to_end given j = if same_kind (next j.tokens) End then read given j else unexpected j.tokens
 
 outcome_joined : (given : Description) (o : Outcome Description) → and_then (and_then o (joining given)) to_end ≡ and_then (and_then o to_end) (joining given)
-outcome_joined given (read more j) = end_joined given (same_kind (next j.tokens) EndOfSource) more j
+outcome_joined given (read more j) = end_joined given (same_kind (next j.tokens) End) more j
 outcome_joined given (unexpected rest) = refl
 outcome_joined given (too_deep rest) = refl
 
 -- nothing is left where no token is an end
-nothing_left : (front rest : List Token) → HasNoEnd (front ++ rest) → next rest ≡ EndOfSource → rest ≡ []
+nothing_left : (front rest : List Token) → HasNoEnd (front ++ rest) → next rest ≡ End → rest ≡ []
 nothing_left [] [] none e = refl
-nothing_left [] (token ∷ rest) none e = absurd (All-head (λ (token : Token). token.kind ≢ EndOfSource) token rest none e)
-nothing_left (token ∷ front) rest none e = nothing_left front rest (All-tail (λ (token : Token). token.kind ≢ EndOfSource) token (front ++ rest) none) e
+nothing_left [] (token ∷ rest) none e = absurd (All-head (λ (token : Token). token.kind ≢ End) token rest none e)
+nothing_left (token ∷ front) rest none e = nothing_left front rest (All-tail (λ (token : Token). token.kind ≢ End) token (front ++ rest) none) e
 
 -- a description with no end in it goes to its last token, and there as many levels may be opened as at the beginning
 whole_part : (before : List Token) (given : Description) → Parses before given → HasNoEnd before → g.description most_levels (input most_levels before) given (input most_levels [])

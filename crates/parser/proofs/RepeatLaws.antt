@@ -2,7 +2,7 @@
 use Rattle.std.proofs.Common.{◌≡◌, ◌⊎◌, inl, inr, ℕ, zero, suc, ◌+◌, ◌≤◌, ◌<◌, true, false, List, [], ◌∷◌, ◌++◌, length, length-append, refl, sym, ◌∙◌, ap, subst, arith}
 use Rattle.std.proofs.lemmas.Bool.{cases_Bool, false≢true}
 use Rattle.lexer.specs.declared.token.Kind.{Kind}
-use Rattle.lexer.specs.declared.token.Kind.TheVariants.{EndOfSource}
+use Rattle.lexer.specs.declared.token.Kind.TheVariants.{End}
 use Rattle.lexer.specs.declared.token.Token.{Token}
 use Rattle.parser.specs.Input.{Input, input, next, is_one_of}
 use Rattle.parser.specs.Rules.{Rule, bind as bind_rule, pure as pure_rule, turns, repeat as repeat_rule}
@@ -27,7 +27,7 @@ some_front (token ∷ front) rest whole e some =
 
 -- What was read is not empty where no sentence of the rule is.
 taken_some :
-    {A : Type 0} (r : Reader A) (g : Rule A) (start : List Kind) (i : Input) (a : A) (j : Input) → Starts g start false → is_one_of start EndOfSource ≡ false → Taken r g i a j → length j.tokens < length i.tokens
+    {A : Type 0} (r : Reader A) (g : Rule A) (start : List Kind) (i : Input) (a : A) (j : Input) → Starts g start false → is_one_of start End ≡ false → Taken r g i a j → length j.tokens < length i.tokens
 taken_some r g start i a j starts ends t = some_front t.front j.tokens i.tokens t.is_front (λ none.
     let empty : g (input i.levels []) a (input j.levels []) = subst (λ front. g (input i.levels (front ++ [])) a (input j.levels [])) none (t.spelled []) in
     elim (starts.starts (input i.levels []) a (input j.levels []) empty) [
@@ -36,11 +36,11 @@ taken_some r g start i a j starts ends t = some_front t.front j.tokens i.tokens 
     ])
 
 pub shorter :
-    {A : Type 0} {r r' : Reader A} {g g' : Rule A} {start follow : List Kind} → Laws r r' g g' start false follow → is_one_of start EndOfSource ≡ false →
+    {A : Type 0} {r r' : Reader A} {g g' : Rule A} {start follow : List Kind} → Laws r r' g g' start false follow → is_one_of start End ≡ false →
     (i : Input) (a : A) (j : Input) → r i ≡ read a j → length j.tokens < length i.tokens
 shorter {r} {g} {g'} {start} laws ends i a j e = taken_some r g start i a j laws.starts ends (subst (λ o. Traced r g g' i o) e (laws.trace.trace i))
 
-nonempty : (kinds : List Kind) (tokens : List Token) → is_one_of kinds EndOfSource ≡ false → is_one_of kinds (next tokens) ≡ true → 0 < length tokens
+nonempty : (kinds : List Kind) (tokens : List Token) → is_one_of kinds End ≡ false → is_one_of kinds (next tokens) ≡ true → 0 < length tokens
 nonempty kinds [] ends is = absurd (false≢true (sym ends ∙ is))
 nonempty kinds (token ∷ rest) ends is = omega arith
 
@@ -58,7 +58,7 @@ module _ {A : Type 0} (kinds : List Kind) (turn : A → Reader A) where
   unfolding repeat pure
   repeat_stops a i other = from_stops (length i.tokens) a i other
 
-  module _ (ends : is_one_of kinds EndOfSource ≡ false) (shrinks : (a : A) (i : Input) (b : A) (j : Input) → turn a i ≡ read b j → length j.tokens < length i.tokens) where
+  module _ (ends : is_one_of kinds End ≡ false) (shrinks : (a : A) (i : Input) (b : A) (j : Input) → turn a i ≡ read b j → length j.tokens < length i.tokens) where
     -- so many turns as there are tokens, or more, make no difference
     enough : (n m : ℕ) (a : A) (i : Input) → length i.tokens ≤ n → length i.tokens ≤ m → repeat_from kinds turn n a i ≡ repeat_from kinds turn m a i
     enough zero m a i few few' = elim (cases_Bool (is_one_of kinds (next i.tokens))) [
@@ -102,10 +102,10 @@ unfolding repeat_rule pure_rule
 repeat_sentence g a = record { sentence = λ levels. record { tail = []; value = a; unclosed = levels; spelled = λ rest. (0, (refl, refl)) } }
 
 module _ {A : Type 0} (kinds : List Kind) {turn turn' : A → Reader A} {g g' : A → Rule A} {start follow : List Kind}
-    (laws : (a : A) → Laws (turn a) (turn' a) (g a) (g' a) start false follow) (ends : is_one_of kinds EndOfSource ≡ false) (inner : all_in start kinds ≡ true) (apart : none_in start follow ≡ true) where
-  no_end : is_one_of start EndOfSource ≡ false
-  no_end = elim (cases_Bool (is_one_of start EndOfSource)) [
-    | inl is ↦ absurd (false≢true (sym ends ∙ member start kinds EndOfSource inner is))
+    (laws : (a : A) → Laws (turn a) (turn' a) (g a) (g' a) start false follow) (ends : is_one_of kinds End ≡ false) (inner : all_in start kinds ≡ true) (apart : none_in start follow ≡ true) where
+  no_end : is_one_of start End ≡ false
+  no_end = elim (cases_Bool (is_one_of start End)) [
+    | inl is ↦ absurd (false≢true (sym ends ∙ member start kinds End inner is))
     | inr other ↦ other
   ]
 

@@ -2,7 +2,7 @@
 use Rattle.std.proofs.Common.{◌≡◌, inl, inr, ℕ, suc, true, false, List, [], ◌∷◌, refl, sym, ◌∙◌, ap, subst}
 use Rattle.std.proofs.lemmas.Bool.{cases_Bool}
 use Rattle.lexer.specs.declared.token.Kind.{Kind}
-use Rattle.lexer.specs.declared.token.Kind.TheVariants.{EndOfSource}
+use Rattle.lexer.specs.declared.token.Kind.TheVariants.{End}
 use Rattle.lexer.specs.declared.token.Token.{Token}
 use Rattle.parser.specs.Input.{Input, input, next, is_one_of}
 use Rattle.parser.specs.Rules.{pure as pure_rule, take as take_rule}
@@ -44,7 +44,7 @@ take_stops : (kinds : List Kind) (levels : ℕ) (tokens : List Token) → is_one
 take_stops kinds levels [] e = refl
 take_stops kinds levels (token ∷ rest) e = rw e refl
 
-module _ (kinds : List Kind) (ends : is_one_of kinds EndOfSource ≡ false) where
+module _ (kinds : List Kind) (ends : is_one_of kinds End ≡ false) where
   take_taken : (levels : ℕ) (token : Token) (rest : List Token) → is_one_of kinds token.kind ≡ true → Taken (take kinds) (take_rule kinds) (input levels (token ∷ rest)) token (input levels rest)
   unfolding take take_rule
   take_taken levels token rest e = record {
@@ -77,7 +77,7 @@ module _ (kinds : List Kind) (ends : is_one_of kinds EndOfSource ≡ false) wher
     | inr other ↦ rw other refl
   ]
 
-pub take_laws : (kinds : List Kind) → is_one_of kinds EndOfSource ≡ false → Laws (take kinds) (take kinds) (take_rule kinds) (take_rule kinds) kinds false []
+pub take_laws : (kinds : List Kind) → is_one_of kinds End ≡ false → Laws (take kinds) (take kinds) (take_rule kinds) (take_rule kinds) kinds false []
 unfolding take take_rule
 take_laws kinds ends = record {
   trace = record { trace = λ i. take_traced kinds ends i.levels i.tokens };
@@ -91,6 +91,6 @@ unfolding take_rule
 take_sentence kind kinds is = record { sentence = λ levels. record { tail = a_token kind ∷ []; value = a_token kind; unclosed = levels; spelled = λ rest. (is, refl) } }
 
 pub take_full :
-    (kind : Kind) (kinds : List Kind) → is_one_of (kind ∷ kinds) EndOfSource ≡ false → is_one_of (kind ∷ kinds) kind ≡ true →
+    (kind : Kind) (kinds : List Kind) → is_one_of (kind ∷ kinds) End ≡ false → is_one_of (kind ∷ kinds) kind ≡ true →
     Full (take (kind ∷ kinds)) (take (kind ∷ kinds)) (take_rule (kind ∷ kinds)) (take_rule (kind ∷ kinds)) (kind ∷ kinds) false []
 take_full kind kinds ends is = record { laws = take_laws (kind ∷ kinds) ends; here = take_sentence kind kinds is; deeper = take_sentence kind kinds is }

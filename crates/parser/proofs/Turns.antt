@@ -2,7 +2,7 @@
 use Rattle.std.proofs.Common.{◌≡◌, ℕ, suc, ◌+◌, ◌-◌, ◌<◌, ◌≤◌, true, false, if◌then◌else◌, List, length, ap, ◌∙◌, arith}
 use Rattle.lexer.specs.declared.token.Kind.{Kind}
 use Rattle.lexer.specs.declared.token.Token.{Token}
-use Rattle.syntax.specs.declared.expression.Expression.{Expression}
+use Rattle.syntax.specs.declared.expression.Expr.{Expr}
 use Rattle.parser.specs.declared.halt.Halt.{Halt}
 use Rattle.parser.specs.declared.halt.Halt.TheVariants.{Memory, Unexpected, TooDeep}
 use Rattle.parser.specs.Input.{Input, next, is_one_of}
@@ -72,6 +72,6 @@ halted_turn kinds turn n at a i halt rest so_far below sees halts =
     halts_along halt rest _ _ e (halts_there halt rest (turn a i) (repeat_from kinds turn (n - (at + 1))) halts)
 
 -- before the first turn of a repetition behind a first operand
-pub behind_first : {x : Outcome Expression} (signs : List Kind) (turn : Expression → Reader Expression) (first : Outcome Expression) (a : Expression) (i : Input) (n : ℕ)
+pub behind_first : {x : Outcome Expr} (signs : List Kind) (turn : Expr → Reader Expr) (first : Outcome Expr) (a : Expr) (i : Input) (n : ℕ)
     → x ≡ and_then first (repeat signs turn) → first ≡ read a i → n ≡ length i.tokens → x ≡ repeat_from signs turn (n - 0) a i
 behind_first signs turn first a i n whole got e = whole ∙ ap (λ o. and_then o (repeat signs turn)) got ∙ before_turns signs turn a i n e

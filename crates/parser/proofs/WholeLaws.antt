@@ -4,7 +4,7 @@ use Rattle.std.specs.Prelude.{if◌then◌else◌}
 use Rattle.std.proofs.lemmas.Bool.{cases_Bool, cases_lt}
 use Rattle.std.proofs.lemmas.List.{append-nil}
 use Rattle.lexer.specs.declared.token.Kind.{Kind}
-use Rattle.lexer.specs.declared.token.Kind.TheVariants.{EndOfSource}
+use Rattle.lexer.specs.declared.token.Kind.TheVariants.{End}
 use Rattle.lexer.specs.declared.token.Token.{Token}
 use Rattle.parser.specs.Input.{Input, input, next, is_one_of, same_kind}
 use Rattle.parser.specs.Rules.{Rule}
@@ -17,27 +17,27 @@ use Rattle.parser.proofs.ChoiceLaws.{alike_if}
 
 -- what `whole` does behind the reader
 abbrev at_end : {A : Type 0} → A → Reader A
-at_end a j = if same_kind (next j.tokens) EndOfSource then read a j else unexpected j.tokens
+at_end a j = if same_kind (next j.tokens) End then read a j else unexpected j.tokens
 
 whole_is : {A : Type 0} (r : Reader A) (i : Input) → whole r i ≡ and_then (r i) at_end
 unfolding whole
 whole_is r i = refl
 
-end_is_end : (tokens : List Token) → next tokens ≡ EndOfSource → same_kind (next tokens) EndOfSource ≡ true
+end_is_end : (tokens : List Token) → next tokens ≡ End → same_kind (next tokens) End ≡ true
 unfolding same_kind
 end_is_end tokens e = rw e refl
 
 -- ---- what reading comes to, in terms of what the reader comes to
 
 pub data Came {A : Type 0} (o : Outcome A) : Outcome A → Type 0 where
-  came_whole : (a : A) (j : Input) → o ≡ read a j → next j.tokens ≡ EndOfSource → Came o (read a j)
-  came_short : (a : A) (j : Input) → o ≡ read a j → same_kind (next j.tokens) EndOfSource ≡ false → Came o (unexpected j.tokens)
+  came_whole : (a : A) (j : Input) → o ≡ read a j → next j.tokens ≡ End → Came o (read a j)
+  came_short : (a : A) (j : Input) → o ≡ read a j → same_kind (next j.tokens) End ≡ false → Came o (unexpected j.tokens)
   came_unexpected : (rest : List Token) → o ≡ unexpected rest → Came o (unexpected rest)
   came_too_deep : (rest : List Token) → o ≡ too_deep rest → Came o (too_deep rest)
 
 came : {A : Type 0} (o : Outcome A) → Came o (and_then o at_end)
-came (read a j) = elim (cases_Bool (same_kind (next j.tokens) EndOfSource)) [
-  | inl ends ↦ subst (λ b. Came (read a j) (if b then read a j else unexpected j.tokens)) (sym ends) (came_whole a j refl (same (next j.tokens) EndOfSource ends))
+came (read a j) = elim (cases_Bool (same_kind (next j.tokens) End)) [
+  | inl ends ↦ subst (λ b. Came (read a j) (if b then read a j else unexpected j.tokens)) (sym ends) (came_whole a j refl (same (next j.tokens) End ends))
   | inr other ↦ subst (λ b. Came (read a j) (if b then read a j else unexpected j.tokens)) (sym other) (came_short a j refl other)
 ]
 came (unexpected rest) = came_unexpected rest refl
@@ -48,7 +48,7 @@ rest_of (read a j) = j.tokens
 rest_of (unexpected rest) = rest
 rest_of (too_deep rest) = rest
 
-came_read : {A : Type 0} (o p : Outcome A) (a : A) (j : Input) → Came o p → p ≡ read a j → (o ≡ read a j) × (next j.tokens ≡ EndOfSource)
+came_read : {A : Type 0} (o p : Outcome A) (a : A) (j : Input) → Came o p → p ≡ read a j → (o ≡ read a j) × (next j.tokens ≡ End)
 came_read o p a j (came_whole b k e ends) q = (e ∙ q, ap (λ o. next (rest_of o)) (sym q) ∙ ends)
 came_read o p a j (came_short b k e other) q = absurd (cc)
 came_read o p a j (came_unexpected rest e) q = absurd (cc)
@@ -57,7 +57,7 @@ came_read o p a j (came_too_deep rest e) q = absurd (cc)
 -- the reader stopped, or what it read doesn't end there
 came_stopped :
     {A : Type 0} (o p : Outcome A) (rest : List Token) → Came o p → p ≡ unexpected rest →
-    (o ≡ unexpected rest) ⊎ ((a : A) × (j : Input) × (o ≡ read a j) × (j.tokens ≡ rest) × (same_kind (next j.tokens) EndOfSource ≡ false))
+    (o ≡ unexpected rest) ⊎ ((a : A) × (j : Input) × (o ≡ read a j) × (j.tokens ≡ rest) × (same_kind (next j.tokens) End ≡ false))
 came_stopped o p rest (came_whole b k e ends) q = absurd (cc)
 came_stopped o p rest (came_short b k e other) q = inr (b, k, e, ap rest_of q, other)
 came_stopped o p rest (came_unexpected before e) q = inl (e ∙ q)
@@ -69,10 +69,10 @@ came_deep o p rest (came_short b k e other) q = absurd (cc)
 came_deep o p rest (came_unexpected before e) q = absurd (cc)
 came_deep o p rest (came_too_deep before e) q = e ∙ q
 
-end_read : {A : Type 0} (a : A) (j : Input) → next j.tokens ≡ EndOfSource → at_end a j ≡ read a j
+end_read : {A : Type 0} (a : A) (j : Input) → next j.tokens ≡ End → at_end a j ≡ read a j
 end_read a j e = rw (end_is_end j.tokens e) refl
 
-end_other : {A : Type 0} (a : A) (j : Input) → same_kind (next j.tokens) EndOfSource ≡ false → at_end a j ≡ unexpected j.tokens
+end_other : {A : Type 0} (a : A) (j : Input) → same_kind (next j.tokens) End ≡ false → at_end a j ≡ unexpected j.tokens
 end_other a j e = rw e refl
 
 -- ---- numbers of levels
@@ -135,7 +135,7 @@ module _ {A : Type 0} (rule : ℕ → Rule A) where
 -- ---- the theorem
 
 module _ {A : Type 0} (rule : ℕ → Rule A) (reader : ℕ → Reader A) {start follow : List Kind} {empty : Bool}
-    (laws : (n : ℕ) → Full (reader n) (reader (suc n)) (rule n) (rule (suc n)) start empty follow) (ends : is_one_of follow EndOfSource ≡ false) where
+    (laws : (n : ℕ) → Full (reader n) (reader (suc n)) (rule n) (rule (suc n)) start empty follow) (ends : is_one_of follow End ≡ false) where
   abbrev reading : ℕ → List Token → Outcome A
   reading n tokens = whole (reader n) (input n tokens)
 
@@ -172,7 +172,7 @@ module _ {A : Type 0} (rule : ℕ → Rule A) (reader : ℕ → Reader A) {start
   unfolding whole
   one_more n tokens =
       alike_second at_end at_end (reader n (input n tokens)) (reader (suc n) (input (suc n) tokens)) ((laws n).laws.grows.reads (input n tokens))
-      (λ a j e. alike_if (same_kind (next j.tokens) EndOfSource) (read a j) (unexpected j.tokens) (read a (up j)) (unexpected j.tokens) refl refl)
+      (λ a j e. alike_if (same_kind (next j.tokens) End) (read a j) (unexpected j.tokens) (read a (up j)) (unexpected j.tokens) refl refl)
 
   read_beyond : (k n : ℕ) (tokens : List Token) (a : A) (j : Input) → reading n tokens ≡ read a j → (l : Input) × (reading (beyond k n) tokens ≡ read a l)
   read_beyond zero n tokens a j e = (j, e)
@@ -223,7 +223,7 @@ module _ {A : Type 0} (rule : ℕ → Rule A) (reader : ℕ → Reader A) {start
           unexpected_from n tokens rest t.front (t.is_front ∙ ap (λ r. t.front ++ r) short.3)
               (record { tail = []; whole = short.0; spells = record { rest = []; at_end = refl; unclosed = (short.1).levels; spelled = t.spelled [] } })
               (λ other same. goes_so n (t.front ++ other) (read short.0 (input (short.1).levels other)) (t.local other (same ∙ ap next (sym short.3)))
-              ∙ end_other short.0 (input (short.1).levels other) (ap (λ k. same_kind k EndOfSource) (same ∙ ap next (sym short.3)) ∙ short.4)),
+              ∙ end_other short.0 (input (short.1).levels other) (ap (λ k. same_kind k End) (same ∙ ap next (sym short.3)) ∙ short.4)),
         ))
   ]
 

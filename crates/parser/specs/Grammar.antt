@@ -7,7 +7,7 @@ use Rattle.syntax.specs.declared.name.Identifier.{Identifier}
 use Rattle.syntax.specs.declared.expression.Width.{Width}
 use Rattle.syntax.specs.declared.expression.TypeName.{TypeName}
 use Rattle.syntax.specs.declared.expression.TypeName.TheVariants as type_name
-use Rattle.syntax.specs.declared.expression.Expression.{Expression}
+use Rattle.syntax.specs.declared.expression.Expr.{Expr}
 use Rattle.syntax.specs.declared.expression.Shape.TheVariants as shape
 use Rattle.syntax.specs.declared.command.Label.{Label}
 use Rattle.syntax.specs.declared.command.Command.{Command}
@@ -116,51 +116,51 @@ conjunct_words = kind.AndWord ∷ []
 abbrev pub expression_words : List Kind
 expression_words = kind.OrWord ∷ kind.XorWord ∷ []
 
-unfoldable pub number : Rule Expression
+unfoldable pub number : Rule Expr
 number = do
   token ← take (kind.Number ∷ [])
   pure (expression_at token.span (shape.Number token.number))
 
-unfoldable pub variable_name : Rule Expression
+unfoldable pub variable_name : Rule Expr
 variable_name = do
   name ← identifier
   pure (expression_at name.span (shape.Name name.name))
 
 -- an operator behind its left operand, and the right one. It opens a level.
-unfoldable pub operation : ℕ → List Kind → Rule Expression → Expression → Rule Expression
+unfoldable pub operation : ℕ → List Kind → Rule Expr → Expr → Rule Expr
 operation depth signs operand left = do
   sign ← take_open depth signs
   right ← operand
   pure (binary sign left right)
 
 -- operand { sign operand }, grouped to the left
-unfoldable pub grouped : ℕ → List Kind → Rule Expression → Rule Expression
+unfoldable pub grouped : ℕ → List Kind → Rule Expr → Rule Expr
 grouped depth signs operand = do
   first ← operand
   repeat (operation depth signs operand) first
 
 -- What is written inside a level of this depth, over what a factor is there.
-module _ (depth : ℕ) (factor : Rule Expression) where
+module _ (depth : ℕ) (factor : Rule Expr) where
   -- factor { ( "+" | "-" ) factor }
-  unfoldable pub sum_of : Rule Expression
+  unfoldable pub sum_of : Rule Expr
   sum_of = grouped depth sum_signs factor
 
   -- sum [ ( "=" | "/=" | "<" | ">" | "<=" | ">=" ) sum ]
-  unfoldable pub comparison_of : Rule Expression
+  unfoldable pub comparison_of : Rule Expr
   comparison_of = do
     left ← sum_of
     either (operation depth comparison_signs sum_of left) (pure left)
 
   -- comparison { "and" comparison }
-  unfoldable pub conjunct_of : Rule Expression
+  unfoldable pub conjunct_of : Rule Expr
   conjunct_of = grouped depth conjunct_words comparison_of
 
   -- conjunct { ( "or" | "xor" ) conjunct }
-  unfoldable pub expression_of : Rule Expression
+  unfoldable pub expression_of : Rule Expr
   expression_of = inside (grouped depth expression_words conjunct_of)
 
 -- "as" type ")"
-unfoldable pub cast : Span → Expression → Rule Expression
+unfoldable pub cast : Span → Expr → Rule Expr
 cast start operand = do
   take (kind.AsWord ∷ [])
   to ← type_name_of
@@ -168,39 +168,39 @@ cast start operand = do
   pure (expression_at (through start stop.span) (shape.Cast operand to))
 
 -- ")"
-unfoldable pub closing : Span → Expression → Rule Expression
+unfoldable pub closing : Span → Expr → Rule Expr
 closing start operand = do
   stop ← take (kind.RightParenthesis ∷ [])
   pure (in_parentheses (through start stop.span) operand)
 
 -- What opens a level of this depth, over what stands in that level.
-module _ (depth : ℕ) (inner_factor inner_expression : Rule Expression) where
+module _ (depth : ℕ) (inner_factor inner_expression : Rule Expr) where
   -- "not" factor
-  unfoldable pub negation : Rule Expression
+  unfoldable pub negation : Rule Expr
   negation = do
     start ← take_open depth (kind.NotWord ∷ [])
     operand ← inner_factor
     pure (expression_at (through start.span (span_of operand)) (shape.Not operand))
 
   -- "(" expression [ "as" type ] ")"
-  unfoldable pub parenthesised : Rule Expression
+  unfoldable pub parenthesised : Rule Expr
   parenthesised = do
     start ← take_open depth (kind.LeftParenthesis ∷ [])
     operand ← inner_expression
     either (cast start.span operand) (closing start.span operand)
 
   -- "not" factor | "(" expression [ "as" type ] ")" | number | name
-  unfoldable pub any_factor : Rule Expression
+  unfoldable pub any_factor : Rule Expr
   any_factor = either negation (either parenthesised (either number variable_name))
 
-  unfoldable pub factor_of : Rule Expression
+  unfoldable pub factor_of : Rule Expr
   factor_of = inside any_factor
 
-abbrev pub factor : ℕ → Rule Expression
+abbrev pub factor : ℕ → Rule Expr
 factor zero = factor_of zero nothing nothing
 factor (suc depth) = factor_of (suc depth) (factor depth) (expression_of (suc depth) (factor depth))
 
-unfoldable pub expression : ℕ → Rule Expression
+unfoldable pub expression : ℕ → Rule Expr
 expression depth = expression_of (suc depth) (factor depth)
 
 -- ---- commands
@@ -219,14 +219,14 @@ synchronisation = do
   pure (command_at (through start.span channel.span) (action.Sync channel))
 
 -- ":=" expression, behind the name of a variable
-unfoldable pub assignment : Rule Expression → Identifier → Rule Command
+unfoldable pub assignment : Rule Expr → Identifier → Rule Command
 assignment expression variable = do
   take (kind.AssignSign ∷ [])
   value ← expression
   pure (command_at (through variable.span (span_of value)) (action.Assign variable value))
 
 -- "<-" expression, behind the name of a channel
-unfoldable pub sending : Rule Expression → Identifier → Rule Command
+unfoldable pub sending : Rule Expr → Identifier → Rule Command
 sending expression channel = do
   take (kind.SendSign ∷ [])
   value ← expression
@@ -272,7 +272,7 @@ unfoldable pub command_of : Rule Command → Rule Command
 command_of simple = alone_or_joined kind.Semicolon action.Sequence (parallel_of simple)
 
 -- The parts of what opens a level, over what is a command and an expression there.
-module _ (command : Rule Command) (expression : Rule Expression) where
+module _ (command : Rule Command) (expression : Rule Expr) where
   -- "then" command
   unfoldable pub body : Rule Command
   body = take (kind.ThenWord ∷ []) >> command
@@ -326,7 +326,7 @@ module _ (command : Rule Command) (expression : Rule Expression) where
     pure (roll-Arm (record { channel = channel; body = chosen }))
 
 -- What a command begins with, over what an expression is beside it, and a command and an expression in the level that it opens.
-module _ (depth : ℕ) (expression : Rule Expression) (inner_command : Rule Command) (inner_expression : Rule Expression) where
+module _ (depth : ℕ) (expression : Rule Expr) (inner_command : Rule Command) (inner_expression : Rule Expr) where
   -- "[" command "]"
   unfoldable pub bracketed : Rule Command
   bracketed = do

@@ -3,7 +3,7 @@ use Rattle.std.specs.Prelude.{ℕ, Bool, false, ◌||◌, List, [], ◌∷◌}
 use denote.Enum.Bare.{sameb}
 use Rattle.lexer.specs.contracts.token.Kind.{the_type}
 use Rattle.lexer.specs.declared.token.Kind.{Kind}
-use Rattle.lexer.specs.declared.token.Kind.TheVariants.{EndOfSource}
+use Rattle.lexer.specs.declared.token.Kind.TheVariants.{End}
 use Rattle.lexer.specs.declared.token.Token.{Token}
 
 pub record Input : Type 0 where
@@ -17,7 +17,7 @@ input levels tokens = record { levels = levels; tokens = tokens }
 
 -- the kind of the next token; behind the last one stands the end of the source
 abbrev pub next : List Token → Kind
-next [] = EndOfSource
+next [] = End
 next (token ∷ rest) = token.kind
 
 -- `==` on kinds

@@ -1,6 +1,6 @@
 -- Whole sentences of a grammar whose first rule is given for each number of levels, and the tokens that begin one.
 use Rattle.std.specs.Prelude.{◌≡◌, ℕ, suc, List, [], ◌∷◌, ◌++◌}
-use Rattle.lexer.specs.declared.token.Kind.TheVariants.{EndOfSource}
+use Rattle.lexer.specs.declared.token.Kind.TheVariants.{End}
 use Rattle.lexer.specs.declared.token.Token.{Token}
 use Rattle.parser.specs.Input.{input, next}
 use Rattle.parser.specs.Rules.{Rule}
@@ -9,7 +9,7 @@ use Rattle.parser.specs.Rules.{Rule}
 pub record Spells {A : Type 0} (rule : ℕ → Rule A) (levels : ℕ) (tokens : List Token) (a : A) : Type 0 where
   -- behind it stands the end, or no token
   pub rest : List Token
-  pub at_end : next rest ≡ EndOfSource
+  pub at_end : next rest ≡ End
   -- the levels that are not closed again
   pub unclosed : ℕ
   pub spelled : rule levels (input levels tokens) a (input unclosed rest)

@@ -8,7 +8,7 @@ use Rattle.syntax.specs.declared.name.Identifier.{Identifier}
 use Rattle.syntax.specs.declared.expression.Width.{Width}
 use Rattle.syntax.specs.declared.expression.Operator.{Operator}
 use Rattle.syntax.specs.declared.expression.Operator.TheVariants as operator
-use Rattle.syntax.specs.declared.expression.Expression.{Expression, roll-Expression, out-Expression}
+use Rattle.syntax.specs.declared.expression.Expr.{Expr, roll-Expr, out-Expr}
 use Rattle.syntax.specs.declared.expression.Shape.{Shape}
 use Rattle.syntax.specs.declared.expression.Shape.TheVariants as shape
 use Rattle.syntax.specs.declared.command.Label.{Label}
@@ -34,17 +34,17 @@ number_label token = record { span = token.span; value = label.Number token.numb
 abbrev pub name_label : Identifier → Label
 name_label name = record { span = name.span; value = label.Name name.name }
 
-abbrev pub span_of : Expression → Span
-span_of expression = (out-Expression expression).span
+abbrev pub span_of : Expr → Span
+span_of expression = (out-Expr expression).span
 
 -- an expression with no parentheses around it
-abbrev pub expression_at : Span → Shape → Expression
-expression_at span shape = roll-Expression (record { span = span; own_start = span.start; shape = shape })
+abbrev pub expression_at : Span → Shape → Expr
+expression_at span shape = roll-Expr (record { span = span; own_start = span.start; shape = shape })
 
 -- the same expression in parentheses, which take up the span
-abbrev pub in_parentheses : Span → Expression → Expression
+abbrev pub in_parentheses : Span → Expr → Expr
 in_parentheses span expression =
-    roll-Expression (record { span = span; own_start = (out-Expression expression).own_start; shape = (out-Expression expression).shape })
+    roll-Expr (record { span = span; own_start = (out-Expr expression).own_start; shape = (out-Expr expression).shape })
 
 -- the operator that a token between operands stands for
 abbrev pub operator_of : Kind → Operator
@@ -60,7 +60,7 @@ operator_of kind.GreaterSign = operator.Greater
 operator_of kind.LessOrEqualSign = operator.LessOrEqual
 operator_of _ = operator.GreaterOrEqual
 
-abbrev pub binary : Token → Expression → Expression → Expression
+abbrev pub binary : Token → Expr → Expr → Expr
 binary sign left right = expression_at (through (span_of left) (span_of right)) (shape.Binary (operator_of sign.kind) left right)
 
 abbrev pub command_span : Command → Span

@@ -17,7 +17,7 @@ use crate::list::{Behind, next, one, separated, several};
 use crate::name::{labels, names};
 use crate::rule::Rule;
 use lexer::Kind;
-use syntax::{Action, Arm, CaseArm, Command, Expression, Guarded, Identifier, Items, Span};
+use syntax::{Action, Arm, CaseArm, Command, Expr, Guarded, Identifier, Items, Span};
 
 /// A command, unless memory is out. It reads no token.
 fn new_command(cursor: &Cursor<'_>, span: Span, action: Action) -> Result<Command, Halt>
@@ -68,7 +68,7 @@ fn sync(cursor: &mut Cursor<'_>) -> Result<Command, Halt>
 }
 
 /// What an expression behind `sign` does with the name before it.
-fn given_by(sign: Kind, name: Identifier, value: Expression) -> Action
+fn given_by(sign: Kind, name: Identifier, value: Expr) -> Action
     ensures { result ≡ by_sign.given_by sign name value }
 {
     match sign {
@@ -309,12 +309,7 @@ impl<R: Rule<Tree = Command>> Parts<R> {
 
     /// `of .. end`, behind the `case` at `start` and `value`.
     #[tactic(auto, unfolding(crate::specs::walking::Readers::bind, crate::specs::walking::Readers::pure))]
-    fn cases(
-        &self,
-        cursor: &mut Cursor<'_>,
-        start: Span,
-        value: Expression,
-    ) -> Result<Command, Halt>
+    fn cases(&self, cursor: &mut Cursor<'_>, start: Span, value: Expr) -> Result<Command, Halt>
         requires { R.can_read self.now.simple }
         ensures { Reads (reading.cases (command_of (R.reader self.now.simple)) (expression_in self.now.depth) start value (place cursor.old)) result (place cursor.new) }
     {

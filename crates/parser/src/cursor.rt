@@ -74,13 +74,13 @@ impl<'a> Cursor<'a> {
         self.rest
     }
 
-    /// The kind of the next token, which is `EndOfSource` behind the last one.
+    /// The kind of the next token, which is `End` behind the last one.
     fn next(&self) -> Kind
         ensures { result ≡ next self.now.rest.now }
     {
         match self.rest.first() {
             Some(token) => token.kind,
-            None => Kind::EndOfSource,
+            None => Kind::End,
         }
     }
 

@@ -282,7 +282,7 @@ pub fn whole(cursor: &mut Cursor<'_>) -> Result<Description, Halt>
     ensures { Reads (readers.whole (reading.description most_levels) (place cursor.old)) result (place cursor.new) }
 {
     let description = description(cursor)?;
-    if cursor.sees(Kind::EndOfSource) {
+    if cursor.sees(Kind::End) {
         Ok(description)
     } else {
         Err(Halt::Unexpected)

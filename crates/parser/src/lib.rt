@@ -64,7 +64,7 @@ fn answer(alloc: Global, tokens: &[Token]) -> Result<Description, Fault>
     }
 }
 
-/// The description that `tokens` are, up to the first of the kind `EndOfSource`. Where there is
+/// The description that `tokens` are, up to the first of the kind `End`. Where there is
 /// none, one is taken to stand behind the last token, or at 0.
 ///
 /// Other tokens are refused at the first with which no description goes on, or which would open

@@ -1,6 +1,6 @@
 ghost use Rattle.std.specs.Prelude.{◌≡◌, IfOk};
 
-use crate::{Boxed, Expression, Identifier, Items, Name, Span};
+use crate::{Boxed, Expr, Identifier, Items, Name, Span};
 use std::alloc::{AllocError, Global};
 
 /// A command. Brackets round it make no node.
@@ -23,19 +23,19 @@ pub enum Action {
     /// `loop body end`
     Loop(Command),
     /// `loop while guard then body end`
-    While(Expression, Command),
+    While(Expr, Command),
     /// `if` with one guarded command or more, and what stands after `else`.
     If(Items<Guarded>, Option<Command>),
     /// `case` with its expression, one arm or more, and what stands after `else`.
-    Case(Expression, Items<CaseArm>, Option<Command>),
+    Case(Expr, Items<CaseArm>, Option<Command>),
     /// `select` with one arm or more.
     Select(Items<Arm>),
     /// `arbitrate` with its two arms.
     Arbitrate(Arm, Arm),
     /// `variable := value`
-    Assign(Identifier, Expression),
+    Assign(Identifier, Expr),
     /// `channel <- value`
-    Send(Identifier, Expression),
+    Send(Identifier, Expr),
     /// `channel -> variable`
     Receive(Identifier, Identifier),
     /// `channel -> then body end`, which holds the value open while the body runs.
@@ -64,7 +64,7 @@ impl Command {
 #[cycle(command)]
 #[derive(Drop)]
 pub struct Guarded {
-    pub guard: Expression,
+    pub guard: Expr,
     pub body: Command,
 }
 

@@ -48,7 +48,7 @@ pub enum Operator {
 /// An expression. Parentheses round it make no node: they only widen its `span`.
 #[cycle(expression)]
 #[derive(Drop)]
-pub struct Expression {
+pub struct Expr {
     /// The whole of it, the outermost parentheses included.
     pub span: Span,
     /// The offset of its first byte within the parentheses around it; `span.start` where there are none.
@@ -63,19 +63,19 @@ pub enum Shape {
     Number(u64),
     Name(Name),
     /// `left operator right`
-    Binary(Operator, Expression, Expression),
+    Binary(Operator, Expr, Expr),
     /// `not operand`
-    Not(Expression),
+    Not(Expr),
     /// `(operand as type)`
-    Cast(Expression, TypeName),
+    Cast(Expr, TypeName),
 }
 
-impl Expression {
+impl Expr {
     /// An expression with no parentheses around it. Without memory the shape is dropped.
-    pub fn new(alloc: Global, span: Span, shape: Shape) -> Result<Expression, AllocError>
+    pub fn new(alloc: Global, span: Span, shape: Shape) -> Result<Expr, AllocError>
         ensures { IfOk result (λ made. made ≡ record { span = span; own_start = span.start; shape = shape }) }
     {
-        Ok(Expression {
+        Ok(Expr {
             span,
             own_start: span.start,
             shape: Boxed::new(alloc, shape)?,
@@ -83,10 +83,10 @@ impl Expression {
     }
 
     /// The same expression in parentheses, which take up `span`.
-    pub fn parenthesised(self, span: Span) -> Expression
+    pub fn parenthesised(self, span: Span) -> Expr
         ensures { result ≡ record { span = span; own_start = self.own_start; shape = self.shape } }
     {
-        Expression {
+        Expr {
             span,
             own_start: self.own_start,
             shape: self.shape,

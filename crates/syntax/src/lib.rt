@@ -18,7 +18,7 @@ pub use command::{Action, Arm, CaseArm, Command, Guarded, Label, LabelValue};
 pub use declaration::{
     Description, Local, LocalKind, Port, PortKind, Procedure, TypeDeclaration, TypeDefinition,
 };
-pub use expression::{Expression, Operator, Shape, TypeName, Width};
+pub use expression::{Expr, Operator, Shape, TypeName, Width};
 pub use items::Items;
 pub use name::{Identifier, Name};
 pub use shared::Shared;

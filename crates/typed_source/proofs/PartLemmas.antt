@@ -5,8 +5,8 @@ use Rattle.lexer.specs.Tokens.{AreTokens}
 use Rattle.lexer.specs.declared.lexing.Lexing.{Lexing}
 use Rattle.lexer.specs.declared.token.Token.{Token}
 use Rattle.lexer.specs.declared.lexing.Stop.{Stop}
-use Rattle.lexer.specs.declared.lexing.Stop.TheVariants.{Full, Procedure, End}
-use Rattle.lexer.specs.declared.token.Kind.TheVariants.{EndOfSource}
+use Rattle.lexer.specs.declared.lexing.Stop.TheVariants.{Full, Procedure, EndOfSource}
+use Rattle.lexer.specs.declared.token.Kind.TheVariants.{End}
 use Rattle.lexer.specs.walking.Parts.{HasNoEnd, Goes, Ends, Refuses, IsRest, IsPart, TakesBytes}
 use Rattle.lexer.proofs.PartLemmas.{goes_on, goes_to_end}
 use Rattle.parser.specs.Accepted as parser
@@ -104,20 +104,20 @@ goes_far : (old mid new : Lexing) (first second : List Token) → ReadsPart fals
     → ReadsPart false old (first ++ second) new
 goes_far old mid new first second reads goes none bytes =
     let taken = reads.2 in
-    (goes_on old mid new first second reads.0 goes, All-append (λ (token : Token). token.kind ≢ EndOfSource) first second reads.1 none, omega (arith, taken, bytes, length-append first second))
+    (goes_on old mid new first second reads.0 goes, All-append (λ (token : Token). token.kind ≢ End) first second reads.1 none, omega (arith, taken, bytes, length-append first second))
 
 -- a part that was cut short, with what was missing
 pub reads_on : (old mid new : Lexing) (first second part : List Token) (stop : Stop) (most : ℕ) → ReadsPart false old first mid → part ≡ first ++ second
     → IsPart stop most mid second new → ReadsOn (is_end stop) old first part new
 reads_on old mid new first second part Full most reads same h = ((second, same), subst (λ tokens. ReadsPart false old tokens new) (sym same) (goes_far old mid new first second reads h.0 h.1 h.3))
 reads_on old mid new first second part Procedure most reads same h = ((second, same), subst (λ tokens. ReadsPart false old tokens new) (sym same) (goes_far old mid new first second reads h.0 h.1 h.3))
-reads_on old mid new first second part End most reads same h = ((second, same), subst (λ tokens. ReadsPart true old tokens new) (sym same) (goes_to_end old mid first second reads.0 h.0))
+reads_on old mid new first second part EndOfSource most reads same h = ((second, same), subst (λ tokens. ReadsPart true old tokens new) (sym same) (goes_to_end old mid first second reads.0 h.0))
 
 -- where reading did not stop at the end
-pub not_end : (stop : Stop) → (stop ≡ End → ⊥) → false ≡ is_end stop
+pub not_end : (stop : Stop) → (stop ≡ EndOfSource → ⊥) → false ≡ is_end stop
 not_end Full other = refl
 not_end Procedure other = refl
-not_end End other = absurd (other refl)
+not_end EndOfSource other = absurd (other refl)
 
 -- tokens are refused with more behind them, so they are
 refuses_front : (old : Lexing) (part more tokens : List Token) (fault : Fault) → tokens ≡ part ++ more → RefusesPart old tokens fault → RefusesPart old part fault
@@ -144,7 +144,7 @@ refuses_ahead is_last stop most old mid new part more tokens which reads same h 
 pub reads_first : (old new : Lexing) (added part : List Token) (stop : Stop) (most : ℕ) → part ≡ [] ++ added → IsPart stop most old added new → ReadsPart (is_end stop) old part new
 reads_first old new added part Full most same h = subst (λ tokens. ReadsPart false old tokens new) (sym same) (h.0, h.1, h.3)
 reads_first old new added part Procedure most same h = subst (λ tokens. ReadsPart false old tokens new) (sym same) (h.0, h.1, h.3)
-reads_first old new added part End most same h = subst (λ tokens. ReadsPart true old tokens new) (sym same) h.0
+reads_first old new added part EndOfSource most same h = subst (λ tokens. ReadsPart true old tokens new) (sym same) h.0
 
 -- the lexer refuses what comes next
 pub refuses_cut : (is_first : Bool) (old : Lexing) (fault : lexer_fault.Fault) → (fault ≡ no_tokens.Memory) ⊎ Refuses old fault → RefusesNext is_first old (of_lexer fault)

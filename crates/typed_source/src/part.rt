@@ -59,7 +59,7 @@ fn read_on(alloc: Global, lexing: &mut Lexing<'_>, tokens: &mut Vec<Token>) -> R
     // A fault of words behind is found before the tokens are made.
     lexing.finish()?;
     let stop = lexing.add_part(alloc, tokens, usize::MAX)?;
-    Ok(matches!(stop, Stop::End))
+    Ok(matches!(stop, Stop::EndOfSource))
 }
 
 /// Adds what is missing of the part that begins with these tokens, if reading stopped before its end, and tells whether
@@ -77,7 +77,7 @@ fn read_whole(
     match stop {
         Stop::Full => read_on(alloc, lexing, tokens),
         Stop::Procedure => Ok(false),
-        Stop::End => Ok(true),
+        Stop::EndOfSource => Ok(true),
     }
 }
 
@@ -93,7 +93,12 @@ fn refuse_with_next(
     let mut next = Vec::new(alloc);
     let stop = lexing.add_part(alloc, &mut next, 1)?;
     tokens.append(&mut next)?;
-    refuse(alloc, lexing, matches!(stop, Stop::End), tokens.as_slice())
+    refuse(
+        alloc,
+        lexing,
+        matches!(stop, Stop::EndOfSource),
+        tokens.as_slice(),
+    )
 }
 
 /// The part that these tokens are, behind which `lexing` stands. None: they and the token that follows do not tell.

@@ -16,13 +16,13 @@ use Rattle.types.specs.declared.scope.Meaning.TheVariants as meaning
 use Rattle.typed.specs.declared.tree.Binding.{Binding}
 use Rattle.typed.specs.declared.tree.Binding.TheVariants as binding
 use Rattle.syntax.specs.Lists.{Every}
-use Rattle.syntax.specs.declared.expression.Expression.{Expression}
+use Rattle.syntax.specs.declared.expression.Expr.{Expr}
 use Rattle.syntax.specs.declared.expression.Operator.{Operator}
 use Rattle.syntax.specs.declared.expression.Operator.TheVariants.{Add, Subtract, And, Or, Xor, Equal, NotEqual, Less, Greater, LessOrEqual, GreaterOrEqual}
 use Rattle.syntax.specs.declared.expression.Shape.{Shape}
-use Rattle.syntax.specs.declared.expression.Shape.TheFolds.{map-Shape, fold-Shape, fold-roll-Shape, fold-roll-Expression, ind-Expression}
+use Rattle.syntax.specs.declared.expression.Shape.TheFolds.{map-Shape, fold-Shape, fold-roll-Shape, fold-roll-Expr, ind-Expr}
 use Rattle.syntax.specs.declared.expression.Shape.TheOpen.{Shape-F}
-use Rattle.syntax.specs.declared.expression.Shape.TheViews.{roll-Expression, roll-Shape}
+use Rattle.syntax.specs.declared.expression.Shape.TheViews.{roll-Expr, roll-Shape}
 use Rattle.syntax.specs.declared.expression.TypeName.{TypeName}
 use Rattle.syntax.specs.declared.expression.TypeName.TheVariants.{Named, Bits}
 use Rattle.syntax.specs.declared.expression.Width.{Width}
@@ -215,21 +215,21 @@ abbrev ShapeIsOnce : Shape → Type 0
 ShapeIsOnce s = (start : ℕ) (es : VisibleNames) (opened : List Binding) → Once es
     → RightValue es (judged_shape s start es opened) (widths_in_shape (map shown es) s) (names_in_shape s)
 
-abbrev ExpressionIsOnce : Expression → Type 0
+abbrev ExpressionIsOnce : Expr → Type 0
 ExpressionIsOnce e = (es : VisibleNames) (opened : List Binding) → Once es
     → RightValue es (judged_expression every e es opened) (widths_of (map shown es) e) (names_of_expression e)
 
 abbrev Open : Type 0
 Open = Shape-F (With ShapeIsOnce) (With ExpressionIsOnce)
 
-abbrev plain : Open → Shape-F Shape Expression
-plain y = map-Shape (With ShapeIsOnce) (With ExpressionIsOnce) Shape Expression (λ x. x.0) (λ x. x.0) y
+abbrev plain : Open → Shape-F Shape Expr
+plain y = map-Shape (With ShapeIsOnce) (With ExpressionIsOnce) Shape Expr (λ x. x.0) (λ x. x.0) y
 
 open_is : (y : Open) (start : ℕ) (es : VisibleNames) (opened : List Binding) → Once es
     → RightValue es
-    (shape_layer every (map-Shape Shape Expression (ℕ → JudgedValue every) (JudgedValue every) judged_shape (judged_expression every) (plain y)) start es opened)
-    (shape_widths (map shown es) (map-Shape Shape Expression (List ℕ) (List ℕ) (widths_in_shape (map shown es)) (widths_of (map shown es)) (plain y)))
-    (names_of_shape (map-Shape Shape Expression (List Name) (List Name) names_in_shape names_of_expression (plain y)))
+    (shape_layer every (map-Shape Shape Expr (ℕ → JudgedValue every) (JudgedValue every) judged_shape (judged_expression every) (plain y)) start es opened)
+    (shape_widths (map shown es) (map-Shape Shape Expr (List ℕ) (List ℕ) (widths_in_shape (map shown es)) (widths_of (map shown es)) (plain y)))
+    (names_of_shape (map-Shape Shape Expr (List Name) (List Name) names_in_shape names_of_expression (plain y)))
 open_is (Shape-F.Number n) start es opened once = (refl, tt)
 open_is (Shape-F.Name name) start es opened once = name_right es once opened name start
 open_is (Shape-F.Binary op a b) start es opened once = binary_right es op start _ _ _ _ _ _ (a.1 es opened once) (b.1 es opened once)
@@ -241,18 +241,18 @@ moved : (es : VisibleNames) (j j' : Findings every Valued) (w w' : List ℕ) (n 
 moved es j j' w w' n n' a b c right =
     subst (λ x. RightValue es x w n) (sym a) (subst (λ x. RightValue es j' x n) (sym b) (subst (λ x. RightValue es j' w' x) (sym c) right))
 
-pub expression_once : (e : Expression) → ExpressionIsOnce e
+pub expression_once : (e : Expr) → ExpressionIsOnce e
 expression_once =
-    ind-Expression ShapeIsOnce ExpressionIsOnce
+    ind-Expr ShapeIsOnce ExpressionIsOnce
     (λ x y is. subst (λ z. ShapeIsOnce (roll-Shape z)) is (λ start es opened once.
     moved es _ _ _ _ _ _
     (ap (λ f. f start es opened) (fold-roll-Shape (ℕ → JudgedValue every) (JudgedValue every) (shape_layer every) (expression_layer every) _))
     (fold-roll-Shape (List ℕ) (List ℕ) (shape_widths (map shown es)) expression_widths _)
     (fold-roll-Shape (List Name) (List Name) names_of_shape names_of_layer _)
     (open_is y start es opened once)))
-    (λ x y is. subst (λ z. ExpressionIsOnce (roll-Expression z)) is (λ es opened once.
+    (λ x y is. subst (λ z. ExpressionIsOnce (roll-Expr z)) is (λ es opened once.
     moved es _ _ _ _ _ _
-    (ap (λ f. f es opened) (fold-roll-Expression (ℕ → JudgedValue every) (JudgedValue every) (shape_layer every) (expression_layer every) _))
-    (fold-roll-Expression (List ℕ) (List ℕ) (shape_widths (map shown es)) expression_widths _)
-    (fold-roll-Expression (List Name) (List Name) names_of_shape names_of_layer _)
+    (ap (λ f. f es opened) (fold-roll-Expr (ℕ → JudgedValue every) (JudgedValue every) (shape_layer every) (expression_layer every) _))
+    (fold-roll-Expr (List ℕ) (List ℕ) (shape_widths (map shown es)) expression_widths _)
+    (fold-roll-Expr (List Name) (List Name) names_of_shape names_of_layer _)
     (y.shape.1 y.own_start es opened once)))

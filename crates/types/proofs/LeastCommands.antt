@@ -24,11 +24,11 @@ use Rattle.syntax.specs.declared.command.Label.{Label}
 use Rattle.syntax.specs.declared.command.Action.TheFolds.{map-Action, fold-roll-Action, fold-roll-Arm, fold-roll-CaseArm, fold-roll-Command, fold-roll-Guarded, ind-Command}
 use Rattle.syntax.specs.declared.command.Action.TheOpen.{Action-F, Arm-F}
 use Rattle.syntax.specs.declared.command.Action.TheViews.{roll-Action, roll-Arm, roll-CaseArm, roll-Command, roll-Guarded}
-use Rattle.syntax.specs.declared.expression.Expression.{Expression}
+use Rattle.syntax.specs.declared.expression.Expr.{Expr}
 use Rattle.syntax.specs.declared.expression.Shape.{Shape}
-use Rattle.syntax.specs.declared.expression.Shape.TheFolds.{map-Shape, fold-Shape, fold-roll-Shape, fold-roll-Expression, ind-Expression}
+use Rattle.syntax.specs.declared.expression.Shape.TheFolds.{map-Shape, fold-Shape, fold-roll-Shape, fold-roll-Expr, ind-Expr}
 use Rattle.syntax.specs.declared.expression.Shape.TheOpen.{Shape-F}
-use Rattle.syntax.specs.declared.expression.Shape.TheViews.{roll-Expression, roll-Shape}
+use Rattle.syntax.specs.declared.expression.Shape.TheViews.{roll-Expr, roll-Shape}
 use Rattle.types.proofs.Least.{answer, answer-one_fault, both_is, becomes_is, joined_is, if_right_is, asked_is, all_is, demands_are, one_fault-each, each_is, With}
 
 -- ---- expressions
@@ -39,12 +39,12 @@ judged_shape k = fold-Shape (ℕ → JudgedValue k) (JudgedValue k) (shape_layer
 abbrev ShapeAgrees : Shape → Type 0
 ShapeAgrees s = (start : ℕ) (names : VisibleNames) (opened : List Binding) → answer (judged_shape every s start names opened) ≡ judged_shape least s start names opened
 
-abbrev ExpressionAgrees : Expression → Type 0
+abbrev ExpressionAgrees : Expr → Type 0
 ExpressionAgrees x = (names : VisibleNames) (opened : List Binding) → answer (judged_expression every x names opened) ≡ judged_expression least x names opened
 
 abbrev open_shape : (k : Keeping) → Shape-F (With ShapeAgrees) (With ExpressionAgrees) → ℕ → JudgedValue k
-open_shape k y = shape_layer k (map-Shape Shape Expression (ℕ → JudgedValue k) (JudgedValue k) (judged_shape k) (judged_expression k)
-    (map-Shape (With ShapeAgrees) (With ExpressionAgrees) Shape Expression (λ x. x.0) (λ x. x.0) y))
+open_shape k y = shape_layer k (map-Shape Shape Expr (ℕ → JudgedValue k) (JudgedValue k) (judged_shape k) (judged_expression k)
+    (map-Shape (With ShapeAgrees) (With ExpressionAgrees) Shape Expr (λ x. x.0) (λ x. x.0) y))
 
 shape_agrees : (y : Shape-F (With ShapeAgrees) (With ExpressionAgrees)) (start : ℕ) (names : VisibleNames) (opened : List Binding)
     → answer (open_shape every y start names opened) ≡ open_shape least y start names opened
@@ -57,17 +57,17 @@ shape_agrees (Shape-F.Not a) start names opened = becomes_is complement (judged_
 shape_agrees (Shape-F.Cast a type) start names opened =
     joined_is (λ p. cast p.0 p.1) (judged_expression every a.0 names opened) (one_fault (type_width names opened type)) _ _ (a.1 names opened) (answer-one_fault _)
 
-pub expression_agrees : (x : Expression) → ExpressionAgrees x
+pub expression_agrees : (x : Expr) → ExpressionAgrees x
 expression_agrees =
-    ind-Expression ShapeAgrees ExpressionAgrees
+    ind-Expr ShapeAgrees ExpressionAgrees
     (λ x y is. subst (λ z. ShapeAgrees (roll-Shape z)) is (λ start names opened.
     ap (λ f. answer (f start names opened)) (fold-roll-Shape (ℕ → JudgedValue every) (JudgedValue every) (shape_layer every) (expression_layer every) _)
     ∙ (shape_agrees y start names opened
     ∙ ap (λ f. f start names opened) (sym (fold-roll-Shape (ℕ → JudgedValue least) (JudgedValue least) (shape_layer least) (expression_layer least) _)))))
-    (λ x y is. subst (λ z. ExpressionAgrees (roll-Expression z)) is (λ names opened.
-    ap (λ f. answer (f names opened)) (fold-roll-Expression (ℕ → JudgedValue every) (JudgedValue every) (shape_layer every) (expression_layer every) _)
+    (λ x y is. subst (λ z. ExpressionAgrees (roll-Expr z)) is (λ names opened.
+    ap (λ f. answer (f names opened)) (fold-roll-Expr (ℕ → JudgedValue every) (JudgedValue every) (shape_layer every) (expression_layer every) _)
     ∙ (y.shape.1 y.own_start names opened
-    ∙ ap (λ f. f names opened) (sym (fold-roll-Expression (ℕ → JudgedValue least) (JudgedValue least) (shape_layer least) (expression_layer least) _)))))
+    ∙ ap (λ f. f names opened) (sym (fold-roll-Expr (ℕ → JudgedValue least) (JudgedValue least) (shape_layer least) (expression_layer least) _)))))
 
 -- ---- what arms owe as a whole
 
@@ -190,7 +190,7 @@ arm_agrees a scope opened =
     joined_is opened_arm (one_fault channel) (judged_command every a.body.0 scope (opened_by opened channel)) channel _ (answer-one_fault channel)
     (a.body.1 scope (opened_by opened channel))
 
-guarded_agrees : (guard : Expression) (body : With CommandAgrees) (scope : Scope) (opened : List Binding)
+guarded_agrees : (guard : Expr) (body : With CommandAgrees) (scope : Scope) (opened : List Binding)
     → answer (guarded every (value every guard scope opened) (start_of guard) (judged_command every body.0 scope opened))
     ≡ guarded least (value least guard scope opened) (start_of guard) (judged_command least body.0 scope opened)
 unfolding guarded

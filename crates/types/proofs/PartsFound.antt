@@ -30,7 +30,7 @@ use Rattle.syntax.specs.declared.command.LabelValue.TheVariants as label
 use Rattle.syntax.specs.declared.command.Action.TheFolds.{map-Action, fold-Action, fold-Arm, fold-CaseArm, fold-Guarded, fold-roll-Action, fold-roll-Arm, fold-roll-CaseArm, fold-roll-Command, fold-roll-Guarded, ind-Command}
 use Rattle.syntax.specs.declared.command.Action.TheOpen.{Action-F, Arm-F}
 use Rattle.syntax.specs.declared.command.Action.TheViews.{roll-Action, roll-Arm, roll-CaseArm, roll-Command, roll-Guarded}
-use Rattle.syntax.specs.declared.expression.Expression.{Expression}
+use Rattle.syntax.specs.declared.expression.Expr.{Expr}
 use Rattle.syntax.specs.declared.name.Identifier.{Identifier}
 use Rattle.types.proofs.Least.{With}
 use Rattle.types.proofs.Lookups.{IsFound, every-append, every-back}
@@ -129,7 +129,7 @@ label_gives es opened l = by l.value
         gives-more (one_fault (judged_label es opened (record { span = l.span; value = label.Name n }))) (λ g. (g, tt))
         (use_gives es opened n (λ f. becomes (λ v. record { offset = l.span.start; value = v }) (label_use f l.span.start)) tt)
 
-value_gives : (e : Expression) (scope : Scope) (opened : List Binding) → Gives (value every e scope opened) (IsRight scope.names (valued e))
+value_gives : (e : Expr) (scope : Scope) (opened : List Binding) → Gives (value every e scope opened) (IsRight scope.names (valued e))
 value_gives e scope opened = by (judged_expression every e scope.names opened) refl
   where
     by : (r : Findings every Valued) → judged_expression every e scope.names opened ≡ r → Gives r (IsRight scope.names (valued e))
@@ -345,7 +345,7 @@ arm_is a scope opened =
     joined_gives scope.names _ (one_fault channel) (judged_command every a.body.0 scope (opened_by opened channel)) (part_of a.channel) (parts_of_command a.body.0) (arm_gives a.channel scope opened)
     (a.body.1 scope (opened_by opened channel))
 
-guarded_is : (guard : Expression) (body : With CommandGives) (scope : Scope) (opened : List Binding)
+guarded_is : (guard : Expr) (body : With CommandGives) (scope : Scope) (opened : List Binding)
     → Gives (guarded every (value every guard scope opened) (start_of guard) (judged_command every body.0 scope opened))
     (AreRight scope.names (valued guard ∷ parts_of_command body.0))
 unfolding guarded

@@ -40,12 +40,12 @@ use Rattle.syntax.specs.declared.command.LabelValue.TheVariants as label
 use Rattle.syntax.specs.declared.command.Action.TheFolds.{map-Action, fold-roll-Action, fold-roll-Arm, fold-roll-CaseArm, fold-roll-Command, fold-roll-Guarded, ind-Command}
 use Rattle.syntax.specs.declared.command.Action.TheOpen.{Action-F, Arm-F}
 use Rattle.syntax.specs.declared.command.Action.TheViews.{roll-Action, roll-Arm, roll-CaseArm, roll-Command, roll-Guarded}
-use Rattle.syntax.specs.declared.expression.Expression.{Expression}
+use Rattle.syntax.specs.declared.expression.Expr.{Expr}
 use Rattle.syntax.specs.declared.expression.Operator.{Operator}
 use Rattle.syntax.specs.declared.expression.Shape.{Shape}
-use Rattle.syntax.specs.declared.expression.Shape.TheFolds.{map-Shape, fold-roll-Shape, fold-roll-Expression, ind-Expression}
+use Rattle.syntax.specs.declared.expression.Shape.TheFolds.{map-Shape, fold-roll-Shape, fold-roll-Expr, ind-Expr}
 use Rattle.syntax.specs.declared.expression.Shape.TheOpen.{Shape-F}
-use Rattle.syntax.specs.declared.expression.Shape.TheViews.{roll-Expression, roll-Shape}
+use Rattle.syntax.specs.declared.expression.Shape.TheViews.{roll-Expr, roll-Shape}
 use Rattle.syntax.specs.declared.expression.TypeName.{TypeName}
 use Rattle.syntax.specs.declared.expression.TypeName.TheVariants.{Named, Bits}
 use Rattle.syntax.specs.declared.name.Identifier.{Identifier}
@@ -405,18 +405,18 @@ module _ (local procedure : ℕ → ℕ) (K : ℕ → Type 0) (apart : (a b : �
   ShapeStays s = (start : ℕ) (opened : List Binding) → Every (IsKept K) opened → Every Kept (names_in_shape s)
       → Stays AsWide (judged_shape s start old.names opened) (judged_shape s start new.names (map (rebound local) opened))
 
-  abbrev ExpressionStays : Expression → Type 0
+  abbrev ExpressionStays : Expr → Type 0
   ExpressionStays e = (opened : List Binding) → Every (IsKept K) opened → Every Kept (names_of_expression e)
       → Stays AsWide (judged_expression every e old.names opened) (judged_expression every e new.names (map (rebound local) opened))
 
-  abbrev plain_shape : Shape-F (With ShapeStays) (With ExpressionStays) → Shape-F Shape Expression
-  plain_shape y = map-Shape (With ShapeStays) (With ExpressionStays) Shape Expression (λ x. x.0) (λ x. x.0) y
+  abbrev plain_shape : Shape-F (With ShapeStays) (With ExpressionStays) → Shape-F Shape Expr
+  plain_shape y = map-Shape (With ShapeStays) (With ExpressionStays) Shape Expr (λ x. x.0) (λ x. x.0) y
 
-  abbrev open_shape : Shape-F Shape Expression → ℕ → JudgedValue every
-  open_shape y = shape_layer every (map-Shape Shape Expression (ℕ → JudgedValue every) (JudgedValue every) judged_shape (judged_expression every) y)
+  abbrev open_shape : Shape-F Shape Expr → ℕ → JudgedValue every
+  open_shape y = shape_layer every (map-Shape Shape Expr (ℕ → JudgedValue every) (JudgedValue every) judged_shape (judged_expression every) y)
 
-  abbrev open_names : Shape-F Shape Expression → List Name
-  open_names y = names_of_shape (map-Shape Shape Expression (List Name) (List Name) names_in_shape names_of_expression y)
+  abbrev open_names : Shape-F Shape Expr → List Name
+  open_names y = names_of_shape (map-Shape Shape Expr (List Name) (List Name) names_in_shape names_of_expression y)
 
   shape_stays : (y : Shape-F (With ShapeStays) (With ExpressionStays)) (start : ℕ) (opened : List Binding) → Every (IsKept K) opened
       → Every Kept (open_names (plain_shape y)) → Stays AsWide (open_shape (plain_shape y) start old.names opened) (open_shape (plain_shape y) start new.names (map (rebound local) opened))
@@ -435,20 +435,20 @@ module _ (local procedure : ℕ → ℕ) (K : ℕ → Type 0) (apart : (a b : �
   moved_value x x' y y' ns ns' a b c f are =
       subst (λ z. Stays AsWide z y) (sym a) (subst (λ z. Stays AsWide x' z) (sym b) (f (subst (Every Kept) c are)))
 
-  pub expression_stays : (e : Expression) → ExpressionStays e
+  pub expression_stays : (e : Expr) → ExpressionStays e
   expression_stays =
-      ind-Expression ShapeStays ExpressionStays
+      ind-Expr ShapeStays ExpressionStays
       (λ x y is. subst (λ z. ShapeStays (roll-Shape z)) is (λ start opened kept.
       moved_value _ _ _ _ _ _
       (ap (λ f. f start old.names opened) (fold-roll-Shape (ℕ → JudgedValue every) (JudgedValue every) (shape_layer every) (expression_layer every) _))
       (ap (λ f. f start new.names (map (rebound local) opened)) (fold-roll-Shape (ℕ → JudgedValue every) (JudgedValue every) (shape_layer every) (expression_layer every) _))
       (fold-roll-Shape (List Name) (List Name) names_of_shape names_of_layer _)
       (shape_stays y start opened kept)))
-      (λ x y is. subst (λ z. ExpressionStays (roll-Expression z)) is (λ opened kept.
+      (λ x y is. subst (λ z. ExpressionStays (roll-Expr z)) is (λ opened kept.
       moved_value _ _ _ _ _ _
-      (ap (λ f. f old.names opened) (fold-roll-Expression (ℕ → JudgedValue every) (JudgedValue every) (shape_layer every) (expression_layer every) _))
-      (ap (λ f. f new.names (map (rebound local) opened)) (fold-roll-Expression (ℕ → JudgedValue every) (JudgedValue every) (shape_layer every) (expression_layer every) _))
-      (fold-roll-Expression (List Name) (List Name) names_of_shape names_of_layer _)
+      (ap (λ f. f old.names opened) (fold-roll-Expr (ℕ → JudgedValue every) (JudgedValue every) (shape_layer every) (expression_layer every) _))
+      (ap (λ f. f new.names (map (rebound local) opened)) (fold-roll-Expr (ℕ → JudgedValue every) (JudgedValue every) (shape_layer every) (expression_layer every) _))
+      (fold-roll-Expr (List Name) (List Name) names_of_shape names_of_layer _)
       (y.shape.1 y.own_start opened kept)))
 
   -- ---- lists of parts
@@ -632,7 +632,7 @@ module _ (local procedure : ℕ → ℕ) (K : ℕ → Type 0) (apart : (a b : �
       stays-if_right (Both R Q) Always _ _ (both every x y) (both every x' y')
       (λ p p' h. stays-if (test p) (test' p') (make p) (make' p') (fault p) (fault' p') (f p p' h)) (stays-both R Q x x' y y' r q)
 
-  value_stays : (e : Expression) (opened : List Binding) → Every (IsKept K) opened → KeptPart (valued e)
+  value_stays : (e : Expr) (opened : List Binding) → Every (IsKept K) opened → KeptPart (valued e)
       → Stays AsWide (value every e old opened) (value every e new (map (rebound local) opened))
   value_stays e opened kept are = expression_stays e opened kept are
 
@@ -733,7 +733,7 @@ module _ (local procedure : ℕ → ℕ) (K : ℕ → Type 0) (apart : (a b : �
       (both every (one_fault channel') (judged_command every a.body.0 new (opened_by (map (rebound local) opened) c)))) (own channel')
       (enclosed_stays Anew opened kept channel channel' (λ u. u) (λ a b h. h) (arm_anew a.channel opened kept are.0) a.body are.1)))
 
-  guarded_stays : (guard : Expression) (body : With CommandStays) (opened : List Binding) → Every (IsKept K) opened → Every KeptPart (valued guard ∷ parts_of_command body.0)
+  guarded_stays : (guard : Expr) (body : With CommandStays) (opened : List Binding) → Every (IsKept K) opened → Every KeptPart (valued guard ∷ parts_of_command body.0)
       → Stays SameGuard (guarded every (value every guard old opened) (start_of guard) (judged_command every body.0 old opened))
       (guarded every (value every guard new (map (rebound local) opened)) (start_of guard) (judged_command every body.0 new (map (rebound local) opened)))
   unfolding guarded

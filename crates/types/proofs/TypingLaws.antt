@@ -20,7 +20,7 @@ use Rattle.syntax.specs.declared.declaration.PortKind as tree_port_kind
 use Rattle.syntax.specs.declared.declaration.PortKind.TheVariants as port_of
 use Rattle.syntax.specs.declared.declaration.Procedure.{Procedure}
 use Rattle.syntax.specs.declared.declaration.TypeDeclaration.{TypeDeclaration}
-use Rattle.syntax.specs.declared.expression.Expression.{Expression}
+use Rattle.syntax.specs.declared.expression.Expr.{Expr}
 use Rattle.syntax.specs.declared.expression.TypeName.{TypeName}
 use Rattle.types.proofs.DeclaredOnce.{InAccepted, in_accepted, Sound, sound, demanded-ok}
 use Rattle.types.proofs.ExpressionWays.{type_once, expression_once, RightValue}
@@ -62,7 +62,7 @@ module _ (es : VisibleNames) (once : Once es) where
       (right_by es (judged_expression every e es opened) (widths_of (map shown es) e) (names_of_expression e) v is (expression_once e es opened once)).1
 
   -- the expression has one width
-  abbrev HasOneWidth : Expression → Type 0
+  abbrev HasOneWidth : Expr → Type 0
   HasOneWidth e = (width : ℕ) × (widths_of (map shown es) e ≡ width ∷ [])
 
   part_widths : (p : Part) → IsRight es p → Every HasOneWidth (expressions_of_part p)

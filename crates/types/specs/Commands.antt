@@ -19,7 +19,7 @@ use Rattle.typed.specs.declared.tree.VariableUse.{VariableUse}
 use Rattle.syntax.specs.declared.command.Action.TheFolds.{fold-Command}
 use Rattle.syntax.specs.declared.command.Action.TheOpen.{Action-F, Arm-F, CaseArm-F, Command-F, Guarded-F}
 use Rattle.syntax.specs.declared.command.Command as syntax
-use Rattle.syntax.specs.declared.expression.Expression.{Expression, out-Expression}
+use Rattle.syntax.specs.declared.expression.Expr.{Expr, out-Expr}
 use Rattle.syntax.specs.declared.name.Identifier.{Identifier}
 
 -- the visible names, and the ports of the visible procedures
@@ -28,8 +28,8 @@ pub record Scope : Type 0 where
   pub procedures : List (List PortKind)
 
 -- the first byte of an expression
-abbrev pub start_of : Expression → ℕ
-start_of e = (out-Expression e).span.start
+abbrev pub start_of : Expr → ℕ
+start_of e = (out-Expr e).span.start
 
 -- ---- names
 
@@ -61,7 +61,7 @@ module _ (k : Keeping) where
   abbrev pub Judged : Type 0 → Type 0
   Judged A = Scope → List Binding → Findings k A
 
-  abbrev pub value : Expression → Judged Valued
+  abbrev pub value : Expr → Judged Valued
   value e scope opened = judged_expression k e scope.names opened
 
   -- a value is no wider than the variable that it is assigned to

@@ -10,9 +10,9 @@ use Rattle.typed.specs.declared.tree.Expression.TheVariants as typed
 use Rattle.typed.specs.declared.tree.Binding.{Binding}
 use Rattle.types.specs.declared.uses.Named.{Named}
 use Rattle.types.specs.declared.uses.Named.TheVariants as named
-use Rattle.syntax.specs.declared.expression.Expression.{Expression}
-use Rattle.syntax.specs.declared.expression.Shape.TheFolds.{fold-Expression}
-use Rattle.syntax.specs.declared.expression.Shape.TheOpen.{Expression-F, Shape-F}
+use Rattle.syntax.specs.declared.expression.Expr.{Expr}
+use Rattle.syntax.specs.declared.expression.Shape.TheFolds.{fold-Expr}
+use Rattle.syntax.specs.declared.expression.Shape.TheOpen.{Expr-F, Shape-F}
 use Rattle.syntax.specs.declared.expression.Operator.{Operator}
 use Rattle.syntax.specs.declared.expression.Operator.TheVariants.{Add, Subtract, And, Or, Xor, Equal, NotEqual, Less, Greater, LessOrEqual, GreaterOrEqual}
 use Rattle.syntax.specs.declared.expression.TypeName.{TypeName}
@@ -94,8 +94,8 @@ module _ (k : Keeping) where
   shape_layer (Shape-F.Cast operand type) start names opened =
       becomes (λ p. cast p.0 p.1) (both k (operand names opened) (k.alone (type_width names opened type)))
 
-  abbrev pub expression_layer : Expression-F (ℕ → JudgedValue) JudgedValue → JudgedValue
+  abbrev pub expression_layer : Expr-F (ℕ → JudgedValue) JudgedValue → JudgedValue
   expression_layer e = e.shape e.own_start
 
-  abbrev pub judged_expression : Expression → JudgedValue
-  judged_expression = fold-Expression (ℕ → JudgedValue) JudgedValue shape_layer expression_layer
+  abbrev pub judged_expression : Expr → JudgedValue
+  judged_expression = fold-Expr (ℕ → JudgedValue) JudgedValue shape_layer expression_layer

@@ -14,9 +14,9 @@ use Rattle.syntax.specs.declared.declaration.Port.{Port}
 use Rattle.syntax.specs.declared.declaration.PortKind.{PortKind}
 use Rattle.syntax.specs.declared.declaration.PortKind.TheVariants as port_of
 use Rattle.syntax.specs.declared.declaration.Procedure.{Procedure}
-use Rattle.syntax.specs.declared.expression.Expression.{Expression}
-use Rattle.syntax.specs.declared.expression.Shape.TheFolds.{fold-Expression}
-use Rattle.syntax.specs.declared.expression.Shape.TheOpen.{Expression-F, Shape-F}
+use Rattle.syntax.specs.declared.expression.Expr.{Expr}
+use Rattle.syntax.specs.declared.expression.Shape.TheFolds.{fold-Expr}
+use Rattle.syntax.specs.declared.expression.Shape.TheOpen.{Expr-F, Shape-F}
 use Rattle.syntax.specs.declared.expression.TypeName.{TypeName}
 use Rattle.syntax.specs.declared.expression.TypeName.TheVariants.{Named, Bits}
 use Rattle.syntax.specs.declared.name.Identifier.{Identifier}
@@ -39,19 +39,19 @@ names_of_shape (Shape-F.Binary op left right) = left ++ right
 names_of_shape (Shape-F.Not operand) = operand
 names_of_shape (Shape-F.Cast operand type) = operand ++ names_of_type type
 
-abbrev pub names_of_layer : Expression-F (List Name) (List Name) → List Name
+abbrev pub names_of_layer : Expr-F (List Name) (List Name) → List Name
 names_of_layer e = e.shape
 
 -- the names in an expression
-abbrev pub names_of_expression : Expression → List Name
-names_of_expression = fold-Expression (List Name) (List Name) names_of_shape names_of_layer
+abbrev pub names_of_expression : Expr → List Name
+names_of_expression = fold-Expr (List Name) (List Name) names_of_shape names_of_layer
 
 -- ---- commands
 
 -- a name or an expression of a command
 pub data Part : Type 0 where
   named : Name → Part
-  valued : Expression → Part
+  valued : Expr → Part
 
 abbrev pub part_of : Identifier → Part
 part_of identifier = named identifier.name
@@ -113,7 +113,7 @@ abbrev pub names_of_part : Part → List Name
 names_of_part (named name) = name ∷ []
 names_of_part (valued e) = names_of_expression e
 
-abbrev pub expressions_of_part : Part → List Expression
+abbrev pub expressions_of_part : Part → List Expr
 expressions_of_part (named name) = []
 expressions_of_part (valued e) = e ∷ []
 
@@ -136,5 +136,5 @@ names_used p =
     ++ flat_map names_of_part (parts_of_command p.body))
 
 -- the expressions in the body of a procedure, each with its operands in it
-abbrev pub expressions_in : Procedure → List Expression
+abbrev pub expressions_in : Procedure → List Expr
 expressions_in p = flat_map expressions_of_part (parts_of_command p.body)

@@ -15,9 +15,9 @@ use Rattle.syntax.specs.declared.declaration.Procedure.{Procedure}
 use Rattle.syntax.specs.declared.declaration.TypeDeclaration.{TypeDeclaration}
 use Rattle.syntax.specs.declared.declaration.TypeDefinition.{TypeDefinition}
 use Rattle.syntax.specs.declared.declaration.TypeDefinition.TheVariants as type_of
-use Rattle.syntax.specs.declared.expression.Expression.{Expression}
-use Rattle.syntax.specs.declared.expression.Shape.TheFolds.{fold-Expression}
-use Rattle.syntax.specs.declared.expression.Shape.TheOpen.{Expression-F, Shape-F}
+use Rattle.syntax.specs.declared.expression.Expr.{Expr}
+use Rattle.syntax.specs.declared.expression.Shape.TheFolds.{fold-Expr}
+use Rattle.syntax.specs.declared.expression.Shape.TheOpen.{Expr-F, Shape-F}
 use Rattle.syntax.specs.declared.expression.Operator.{Operator}
 use Rattle.syntax.specs.declared.expression.Operator.TheVariants.{Add, Subtract, And, Or, Xor, Equal, NotEqual, Less, Greater, LessOrEqual, GreaterOrEqual}
 use Rattle.syntax.specs.declared.expression.TypeName.{TypeName}
@@ -110,9 +110,9 @@ shape_widths declarations (Shape-F.Binary op left right) = flat_map (λ a. flat_
 shape_widths declarations (Shape-F.Not operand) = operand
 shape_widths declarations (Shape-F.Cast operand type) = flat_map (λ _. type_widths declarations type) operand
 
-abbrev pub expression_widths : Expression-F (List ℕ) (List ℕ) → List ℕ
+abbrev pub expression_widths : Expr-F (List ℕ) (List ℕ) → List ℕ
 expression_widths e = e.shape
 
 -- the widths that an expression can have: one for each way to give each of its operands a width
-abbrev pub widths_of : List Declaration → Expression → List ℕ
-widths_of declarations = fold-Expression (List ℕ) (List ℕ) (shape_widths declarations) expression_widths
+abbrev pub widths_of : List Declaration → Expr → List ℕ
+widths_of declarations = fold-Expr (List ℕ) (List ℕ) (shape_widths declarations) expression_widths

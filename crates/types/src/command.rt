@@ -26,7 +26,7 @@ use crate::uses;
 use crate::verdict::{Settled, Verdict, and, with_next};
 use indexmap::IndexSet;
 use std::alloc::{AllocError, Global};
-use syntax::{Expression, Identifier, Items};
+use syntax::{Expr, Identifier, Items};
 use typed::{Action, Arm, Binding, Command, Guarded, Labelled};
 
 /// The command with its names settled, at a place around which these channels are open.
@@ -109,7 +109,7 @@ fn settled_assign(
     scope: &Scope,
     opened: &[Binding],
     variable: &Identifier,
-    value: &Expression,
+    value: &Expr,
 ) -> Settled<Action>
     ensures { IfOk result (λ made. made ≡ spec.assignment least (spec.target variable.now (scope_of scope.now) opened.now) (spec.value least value.now (scope_of scope.now) opened.now) (spec.start_of value.now)) }
 {
@@ -123,7 +123,7 @@ fn settled_send(
     scope: &Scope,
     opened: &[Binding],
     channel: &Identifier,
-    value: &Expression,
+    value: &Expr,
 ) -> Settled<Action>
     ensures { IfOk result (λ made. made ≡ spec.sending least (spec.sender channel.now (scope_of scope.now) opened.now) (spec.value least value.now (scope_of scope.now) opened.now) (spec.start_of value.now)) }
 {
@@ -150,7 +150,7 @@ fn settled_while(
     scope: &Scope,
     opened: &[Binding],
     body: &syntax::Command,
-    guard: &Expression,
+    guard: &Expr,
 ) -> Settled<Action>
     ensures { IfOk result (λ made. made ≡ judged_action least (form.While guard.now body.now) (scope_of scope.now) opened.now) }
 {
@@ -181,7 +181,7 @@ fn settled_case(
     opened: &[Binding],
     arms: &[syntax::CaseArm],
     last: Verdict<Option<Command>>,
-    subject: &Expression,
+    subject: &Expr,
 ) -> Settled<Action>
     ensures { IfOk result (λ made. made ≡ arms_of.cased least (spec.value least subject.now (scope_of scope.now) opened.now) (spec.each least (map (judged_labelled least) arms.now) (scope_of scope.now) opened.now) last) }
 {

@@ -54,7 +54,7 @@ pub(crate) fn settled_expression(
     alloc: Global,
     names: &Names,
     opened: &[Binding],
-    expression: &syntax::Expression,
+    expression: &syntax::Expr,
 ) -> Settled<Valued>
     ensures { IfOk result (λ made. made ≡ expressions.judged_expression least expression.now (entries names.now) opened.now) }
 {

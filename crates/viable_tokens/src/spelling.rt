@@ -54,7 +54,7 @@ pub static KINDS: [Kind; 52] = [
     Kind::GreaterSign,
     Kind::LessOrEqualSign,
     Kind::GreaterOrEqualSign,
-    Kind::EndOfSource,
+    Kind::End,
 ];
 
 /// How a token of this kind is told: in backquotes, as it is spelled, or in words.
@@ -111,6 +111,6 @@ pub fn spelled(kind: Kind) -> &'static str {
         Kind::GreaterSign => "`>`",
         Kind::LessOrEqualSign => "`<=`",
         Kind::GreaterOrEqualSign => "`>=`",
-        Kind::EndOfSource => "the end of the source",
+        Kind::End => "the end of the source",
     }
 }

@@ -49,7 +49,7 @@ fn is_viable(
         line: span.line,
     };
     tokens.push(token(alloc, kind, span)?)?;
-    tokens.push(token(alloc, Kind::EndOfSource, behind)?)?;
+    tokens.push(token(alloc, Kind::End, behind)?)?;
     let counted = tokens.as_slice().get(first..).unwrap_or(&[]);
     let is_taken = is_taken(alloc, counted, span.start)?;
     tokens.pop();

@@ -4,8 +4,8 @@ use crate::places::{Role, Site};
 use crate::widths::{Known, width_of};
 use std::alloc::{AllocError, Global};
 use syntax::{
-    Action, Arm, CaseArm, Command, Expression, Guarded, Identifier, Label, LabelValue, Procedure,
-    Shape, Span, TypeName,
+    Action, Arm, CaseArm, Command, Expr, Guarded, Identifier, Label, LabelValue, Procedure, Shape,
+    Span, TypeName,
 };
 
 /// What sites are found by, and those that are found.
@@ -44,7 +44,7 @@ fn add_cast(walk: &mut Walk<'_>, name: &TypeName) -> Result<(), AllocError> {
 }
 
 /// Adds the names that an expression reads, and the types of its casts.
-fn add_reads(expression: &Expression, walk: &mut Walk<'_>) -> Result<(), AllocError> {
+fn add_reads(expression: &Expr, walk: &mut Walk<'_>) -> Result<(), AllocError> {
     match expression.shape.get() {
         Shape::Number(_) => Ok(()),
         Shape::Name(name) => {
@@ -78,7 +78,7 @@ fn is_asked(walk: &Walk<'_>, span: Span) -> bool {
 fn add_expression(
     walk: &mut Walk<'_>,
     role: Role,
-    expression: &Expression,
+    expression: &Expr,
     within: Span,
     choice: u64,
 ) -> Result<(), AllocError> {

@@ -1,5 +1,5 @@
 use crate::declarations::{Declared, Kind, find, type_width, width_of_number};
-use syntax::{Expression, Operator, Shape};
+use syntax::{Expr, Operator, Shape};
 
 /// What widths are found by.
 #[derive(Clone, Copy)]
@@ -37,7 +37,7 @@ fn operator_width(operator: Operator, left: u64, right: u64) -> u64 {
 }
 
 /// The width of an expression, where its names have one.
-pub fn width_of(expression: &Expression, known: Known<'_>) -> Option<u64> {
+pub fn width_of(expression: &Expr, known: Known<'_>) -> Option<u64> {
     match expression.shape.get() {
         Shape::Number(number) => Some(width_of_number(*number)),
         Shape::Name(name) => name_width(known, name.text()),

@@ -25,7 +25,7 @@ fn is_end(token: Option<&Token>, offset: u64) -> bool {
     let Some(token) = token else {
         return false;
     };
-    token.kind == Kind::EndOfSource
+    token.kind == Kind::End
         && token.text.text().is_empty()
         && token.span.start == offset
         && token.span.stop == offset

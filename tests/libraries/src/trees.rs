@@ -2,7 +2,7 @@
 
 use std::alloc::{AllocError, Global};
 use std::test::Fail;
-use syntax::{Action, Boxed, Command, Expression, Identifier, Items, Name, Operator, Shape, Span};
+use syntax::{Action, Boxed, Command, Expr, Identifier, Items, Name, Operator, Shape, Span};
 
 fn span(start: u64, stop: u64) -> Span {
     Span {
@@ -19,9 +19,9 @@ fn identifier(alloc: Global, start: u64, text: &[u8]) -> Result<Identifier, Allo
     })
 }
 
-fn number(alloc: Global, start: u64, value: u64) -> Result<Expression, AllocError> {
+fn number(alloc: Global, start: u64, value: u64) -> Result<Expr, AllocError> {
     let place = span(start, start.saturating_add(1));
-    Expression::new(alloc, place, Shape::Number(value))
+    Expr::new(alloc, place, Shape::Number(value))
 }
 
 #[test]
@@ -71,7 +71,7 @@ fn parentheses_widen_the_span_alone(rt: HostRuntime) -> Result<(), Fail> {
     let one = number(rt.alloc(), 2, 1)?.parenthesised(span(1, 4));
     let two = number(rt.alloc(), 5, 2)?;
     let whole = one.span.through(two.span);
-    let sum = Expression::new(rt.alloc(), whole, Shape::Binary(Operator::Add, one, two))?;
+    let sum = Expr::new(rt.alloc(), whole, Shape::Binary(Operator::Add, one, two))?;
     let sum = sum.parenthesised(span(0, 7));
     assert_eq!(rt; sum.span, span(0, 7));
     assert_eq!(rt; sum.own_start, 1);

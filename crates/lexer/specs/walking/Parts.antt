@@ -13,8 +13,8 @@ use Rattle.lexer.specs.declared.class.Class.TheVariants.{Word}
 use Rattle.lexer.specs.declared.lexing.Found.{Found}
 use Rattle.lexer.specs.declared.lexing.Lexing.{Lexing}
 use Rattle.lexer.specs.declared.lexing.Stop.{Stop}
-use Rattle.lexer.specs.declared.lexing.Stop.TheVariants.{Full, Procedure, End}
-use Rattle.lexer.specs.declared.token.Kind.TheVariants.{EndOfSource, ProcedureWord}
+use Rattle.lexer.specs.declared.lexing.Stop.TheVariants.{Full, Procedure, EndOfSource}
+use Rattle.lexer.specs.declared.token.Kind.TheVariants.{End, ProcedureWord}
 use Rattle.lexer.specs.declared.token.Token.{Token}
 use Rattle.refusals.specs.declared.lexer.Fault.{Fault}
 
@@ -40,7 +40,7 @@ IsRest lexing = (source : Text) (before : List Token) → HasRead source before 
 
 -- none of the tokens is the end of the source
 abbrev pub HasNoEnd : List Token → Type 0
-HasNoEnd tokens = All (λ (token : Token). token.kind ≢ EndOfSource) tokens
+HasNoEnd tokens = All (λ (token : Token). token.kind ≢ End) tokens
 
 -- the piece was cut off the one, and the other is left
 pub record IsCutOff (old : Lexing) (found : Found) (new : Lexing) : Type 0 where
@@ -70,4 +70,4 @@ TakesBytes old added new = length added + length new.rest.now ≤ length old.res
 abbrev pub IsPart : Stop → ℕ → Lexing → List Token → Lexing → Type 0
 IsPart Full most old added new = Goes old added new × HasNoEnd added × (length added ≡ most) × TakesBytes old added new
 IsPart Procedure most old added new = Goes old added new × HasNoEnd added × (length added ≤ most) × TakesBytes old added new × IsAtProcedure new
-IsPart End most old added new = Ends old added × (length added ≤ most)
+IsPart EndOfSource most old added new = Ends old added × (length added ≤ most)

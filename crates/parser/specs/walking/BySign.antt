@@ -6,7 +6,7 @@ use Rattle.lexer.specs.declared.token.Kind.{Kind}
 use Rattle.lexer.specs.declared.token.Kind.TheVariants as kind
 use Rattle.syntax.specs.declared.name.Identifier.{Identifier}
 use Rattle.syntax.specs.declared.expression.TypeName.{TypeName}
-use Rattle.syntax.specs.declared.expression.Expression.{Expression}
+use Rattle.syntax.specs.declared.expression.Expr.{Expr}
 use Rattle.syntax.specs.declared.command.Command.{Command}
 use Rattle.syntax.specs.declared.command.Action.{Action}
 use Rattle.syntax.specs.declared.command.Action.TheVariants as action
@@ -21,7 +21,7 @@ made_of kind.DoubleBar = action.Parallel
 made_of _ = action.Sequence
 
 -- what an expression behind this sign does with the name before it
-abbrev pub given_by : Kind → Identifier → Expression → Action
+abbrev pub given_by : Kind → Identifier → Expr → Action
 given_by kind.AssignSign = action.Assign
 given_by _ = action.Send
 

@@ -2,7 +2,7 @@
 -- No reader has to believe it: `proofs/Levels.antt` ties these readers to those of `Reading.antt`, and `proofs/Parsed.antt` those to the grammar.
 use Rattle.std.specs.Prelude.{ℕ, zero, suc, Result}
 use denote.Ref.{MutBor}
-use Rattle.syntax.specs.declared.expression.Expression.{Expression}
+use Rattle.syntax.specs.declared.expression.Expr.{Expr}
 use Rattle.syntax.specs.declared.command.Command.{Command}
 use Rattle.parser.specs.declared.cursor.Cursor.{Cursor}
 use Rattle.parser.specs.declared.halt.Halt.{Halt}
@@ -15,10 +15,10 @@ abbrev pub inner : {A : Type 0} → (ℕ → Reader A) → ℕ → Reader A
 inner reader zero = nothing
 inner reader (suc depth) = reader depth
 
-abbrev pub factor_in : ℕ → Reader Expression
+abbrev pub factor_in : ℕ → Reader Expr
 factor_in depth = inner factor depth
 
-abbrev pub expression_in : ℕ → Reader Expression
+abbrev pub expression_in : ℕ → Reader Expr
 expression_in depth = expression_of depth (factor_in depth)
 
 abbrev pub simple_in : ℕ → Reader Command

@@ -3,7 +3,7 @@
 -- come to for a whole description to the clauses of `parse`.
 use Rattle.std.specs.Prelude.{ℕ, zero, suc, if◌then◌else◌, List, [], ◌∷◌, length}
 use Rattle.lexer.specs.declared.token.Kind.{Kind}
-use Rattle.lexer.specs.declared.token.Kind.TheVariants.{EndOfSource}
+use Rattle.lexer.specs.declared.token.Kind.TheVariants.{End}
 use Rattle.lexer.specs.declared.token.Token.{Token}
 use Rattle.parser.specs.Input.{Input, input, next, same_kind, is_one_of}
 
@@ -87,4 +87,4 @@ nothing = λ i. unexpected i.tokens
 
 -- the reader, behind which the tokens are to end
 unfoldable pub whole : {A : Type 0} → Reader A → Reader A
-whole reader = λ i. and_then (reader i) (λ a j. if same_kind (next j.tokens) EndOfSource then read a j else unexpected j.tokens)
+whole reader = λ i. and_then (reader i) (λ a j. if same_kind (next j.tokens) End then read a j else unexpected j.tokens)

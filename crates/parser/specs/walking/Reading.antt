@@ -8,7 +8,7 @@ use Rattle.syntax.specs.declared.name.Identifier.{Identifier}
 use Rattle.syntax.specs.declared.expression.Width.{Width}
 use Rattle.syntax.specs.declared.expression.TypeName.{TypeName}
 use Rattle.syntax.specs.declared.expression.TypeName.TheVariants as type_name
-use Rattle.syntax.specs.declared.expression.Expression.{Expression}
+use Rattle.syntax.specs.declared.expression.Expr.{Expr}
 use Rattle.syntax.specs.declared.expression.Shape.TheVariants as shape
 use Rattle.syntax.specs.declared.command.Label.{Label}
 use Rattle.syntax.specs.declared.command.Command.{Command}
@@ -109,55 +109,55 @@ labels = separated kind.Comma label_of
 
 -- ---- expressions
 
-unfoldable pub number : Reader Expression
+unfoldable pub number : Reader Expr
 number = do
   token ← take (kind.Number ∷ [])
   pure (expression_at token.span (shape.Number token.number))
 
-unfoldable pub variable_name : Reader Expression
+unfoldable pub variable_name : Reader Expr
 variable_name = do
   name ← identifier
   pure (expression_at name.span (shape.Name name.name))
 
 -- an operator behind its left operand, and the right one. It opens a level.
-unfoldable pub operation : ℕ → List Kind → Reader Expression → Expression → Reader Expression
+unfoldable pub operation : ℕ → List Kind → Reader Expr → Expr → Reader Expr
 operation depth signs operand left = do
   sign ← take_open depth signs
   right ← operand
   pure (binary sign left right)
 
 -- operand { sign operand }, grouped to the left
-unfoldable pub grouped : ℕ → List Kind → Reader Expression → Reader Expression
+unfoldable pub grouped : ℕ → List Kind → Reader Expr → Reader Expr
 grouped depth signs operand = do
   first ← operand
   repeat signs (operation depth signs operand) first
 
 -- operand [ sign operand ], with a sign that compares
-unfoldable pub compared : ℕ → Reader Expression → Reader Expression
+unfoldable pub compared : ℕ → Reader Expr → Reader Expr
 compared depth operand = do
   left ← operand
   branch comparison_signs (operation depth comparison_signs operand left) (pure left)
 
 -- What is written inside a level of this depth, over what a factor is there.
-module _ (depth : ℕ) (factor : Reader Expression) where
+module _ (depth : ℕ) (factor : Reader Expr) where
   -- factor { ( "+" | "-" ) factor }
-  unfoldable pub sum_of : Reader Expression
+  unfoldable pub sum_of : Reader Expr
   sum_of = grouped depth sum_signs factor
 
   -- sum [ ( "=" | "/=" | "<" | ">" | "<=" | ">=" ) sum ]
-  unfoldable pub comparison_of : Reader Expression
+  unfoldable pub comparison_of : Reader Expr
   comparison_of = compared depth sum_of
 
   -- comparison { "and" comparison }
-  unfoldable pub conjunct_of : Reader Expression
+  unfoldable pub conjunct_of : Reader Expr
   conjunct_of = grouped depth conjunct_words comparison_of
 
   -- conjunct { ( "or" | "xor" ) conjunct }
-  unfoldable pub expression_of : Reader Expression
+  unfoldable pub expression_of : Reader Expr
   expression_of = inside (grouped depth expression_words conjunct_of)
 
 -- "as" type ")"
-unfoldable pub cast : Span → Expression → Reader Expression
+unfoldable pub cast : Span → Expr → Reader Expr
 cast start operand = do
   take (kind.AsWord ∷ [])
   to ← type_name_of
@@ -165,39 +165,39 @@ cast start operand = do
   pure (expression_at (through start stop.span) (shape.Cast operand to))
 
 -- ")"
-unfoldable pub closing : Span → Expression → Reader Expression
+unfoldable pub closing : Span → Expr → Reader Expr
 closing start operand = do
   stop ← take (kind.RightParenthesis ∷ [])
   pure (in_parentheses (through start stop.span) operand)
 
 -- What opens a level of this depth, over what stands in that level.
-module _ (depth : ℕ) (inner_factor inner_expression : Reader Expression) where
+module _ (depth : ℕ) (inner_factor inner_expression : Reader Expr) where
   -- "not" factor
-  unfoldable pub negation : Reader Expression
+  unfoldable pub negation : Reader Expr
   negation = do
     start ← take_open depth (kind.NotWord ∷ [])
     operand ← inner_factor
     pure (expression_at (through start.span (span_of operand)) (shape.Not operand))
 
   -- "(" expression [ "as" type ] ")"
-  unfoldable pub parenthesised : Reader Expression
+  unfoldable pub parenthesised : Reader Expr
   parenthesised = do
     start ← take_open depth (kind.LeftParenthesis ∷ [])
     operand ← inner_expression
     branch (kind.AsWord ∷ []) (cast start.span operand) (closing start.span operand)
 
   -- "not" factor | "(" expression [ "as" type ] ")" | number | name
-  unfoldable pub any_factor : Reader Expression
+  unfoldable pub any_factor : Reader Expr
   any_factor = branch (kind.NotWord ∷ []) negation (branch (kind.LeftParenthesis ∷ []) parenthesised (branch (kind.Number ∷ []) number variable_name))
 
-  unfoldable pub factor_of : Reader Expression
+  unfoldable pub factor_of : Reader Expr
   factor_of = inside any_factor
 
-abbrev pub factor : ℕ → Reader Expression
+abbrev pub factor : ℕ → Reader Expr
 factor zero = factor_of zero nothing nothing
 factor (suc depth) = factor_of (suc depth) (factor depth) (expression_of (suc depth) (factor depth))
 
-unfoldable pub expression : ℕ → Reader Expression
+unfoldable pub expression : ℕ → Reader Expr
 expression depth = expression_of (suc depth) (factor depth)
 
 -- ---- commands
@@ -216,18 +216,18 @@ synchronisation = do
   pure (command_at (through start.span channel.span) (action.Sync channel))
 
 -- sign expression, behind a name
-abbrev pub giving : Kind → (Identifier → Expression → Action) → Reader Expression → Identifier → Reader Command
+abbrev pub giving : Kind → (Identifier → Expr → Action) → Reader Expr → Identifier → Reader Command
 giving sign make expression name = do
   take (sign ∷ [])
   value ← expression
   pure (command_at (through name.span (span_of value)) (make name value))
 
 -- ":=" expression, behind the name of a variable
-unfoldable pub assignment : Reader Expression → Identifier → Reader Command
+unfoldable pub assignment : Reader Expr → Identifier → Reader Command
 assignment = giving kind.AssignSign (given_by kind.AssignSign)
 
 -- "<-" expression, behind the name of a channel
-unfoldable pub sending : Reader Expression → Identifier → Reader Command
+unfoldable pub sending : Reader Expr → Identifier → Reader Command
 sending = giving kind.SendSign (given_by kind.SendSign)
 
 -- name, behind the name of a channel and "->"
@@ -276,7 +276,7 @@ ended start given = do
   pure (command_at (through start stop.span) given)
 
 -- The parts of what opens a level, over what is a command and an expression there.
-module _ (command : Reader Command) (expression : Reader Expression) where
+module _ (command : Reader Command) (expression : Reader Expr) where
   -- "then" command
   unfoldable pub body : Reader Command
   body = take (kind.ThenWord ∷ []) >> command
@@ -328,7 +328,7 @@ module _ (command : Reader Command) (expression : Reader Expression) where
     pure (roll-Arm (record { channel = channel; body = chosen }))
 
   -- "of" labels "then" command { "|" labels "then" command } [ "else" command ] "end", behind "case" and the value
-  abbrev pub cases : Span → Expression → Reader Command
+  abbrev pub cases : Span → Expr → Reader Command
   cases start value = do
     take (kind.OfWord ∷ [])
     arms ← separated kind.Bar case_arm
@@ -343,7 +343,7 @@ module _ (command : Reader Command) (expression : Reader Expression) where
     ended start (action.Arbitrate first second)
 
 -- What a command begins with, over what an expression is beside it, and a command and an expression in the level that it opens.
-module _ (depth : ℕ) (expression : Reader Expression) (inner_command : Reader Command) (inner_expression : Reader Expression) where
+module _ (depth : ℕ) (expression : Reader Expr) (inner_command : Reader Command) (inner_expression : Reader Expr) where
   -- "[" command "]"
   unfoldable pub bracketed : Reader Command
   bracketed = do

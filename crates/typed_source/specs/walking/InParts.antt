@@ -4,7 +4,7 @@ use Rattle.std.specs.Prelude.{◌≡◌, ℕ, Bool, true, false, List, ◌++◌}
 use Rattle.lexer.specs.Tokens.{AreTokens}
 use Rattle.lexer.specs.declared.lexing.Lexing.{Lexing}
 use Rattle.lexer.specs.declared.lexing.Stop.{Stop}
-use Rattle.lexer.specs.declared.lexing.Stop.TheVariants.{Full, Procedure, End}
+use Rattle.lexer.specs.declared.lexing.Stop.TheVariants.{Full, Procedure, EndOfSource}
 use Rattle.lexer.specs.declared.token.Token.{Token}
 use Rattle.lexer.specs.walking.Parts.{HasRead, HasNoEnd, Goes, Ends, Refuses, TakesBytes}
 use Rattle.parser.specs.Accepted as parser
@@ -25,7 +25,7 @@ ReadsPart false old part new = Goes old part new × HasNoEnd part × TakesBytes 
 abbrev pub is_end : Stop → Bool
 is_end Full = false
 is_end Procedure = false
-is_end End = true
+is_end EndOfSource = true
 
 -- the part is read, and it begins with these tokens
 abbrev pub ReadsOn : Bool → Lexing → List Token → List Token → Lexing → Type 0

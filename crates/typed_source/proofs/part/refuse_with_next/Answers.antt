@@ -3,15 +3,15 @@ use Rattle.lexer.specs.declared.token.Token.{Token}
 use Rattle.typed_source.specs.walking.InParts.{is_end}
 use Rattle.typed_source.proofs.PartLemmas.{not_end, refuses_ahead}
 use Rattle.typed_source.proofs.part.refuse_with_next.Goals as goal
-use Rattle.typed_source.proofs.part.refuse_with_next.Goals.{in-End, in_default}
+use Rattle.typed_source.proofs.part.refuse_with_next.Goals.{in-EndOfSource, in_default}
 
 pub returns : goal.returns
 returns c = λ old reads.
     let part = c.in_ok-stop.ensures.part in
     let before = c.args.tokens.items in
     let which : c.match-matches.matches ≡ is_end c.in_ok-stop.stop = elim c.match-matches.branch [
-      | in-End w ↦ w.matches-is ∙ rw w.in-End.is refl
-      | in_default w ↦ w.matches-is ∙ not_end c.in_ok-stop.stop w.in_default.not-End
+      | in-EndOfSource w ↦ w.matches-is ∙ rw w.in-EndOfSource.is refl
+      | in_default w ↦ w.matches-is ∙ not_end c.in_ok-stop.stop w.in_default.not-EndOfSource
     ] in
     let same : c.append.new.self.items ≡ before ++ part.0 =
     c.in_ok-append.ensures.items ∙ ap (λ (more : List Token). before ++ more) (rw c.new-next.ensures.items at part.1) in

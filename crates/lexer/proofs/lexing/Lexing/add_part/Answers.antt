@@ -2,7 +2,7 @@ use Rattle.std.proofs.Common.{◌≡◌, ◌++◌, [], ◌∷◌, Err, Some, Non
 use Rattle.std.proofs.lemmas.Bool.{false≢true}
 use Rattle.lexer.specs.Tokens.{IsReadable, token_at, token_of}
 use Rattle.lexer.specs.walking.Parts.{IsAtProcedure, IsCutOff}
-use Rattle.lexer.specs.declared.token.Kind.TheVariants.{EndOfSource, ProcedureWord}
+use Rattle.lexer.specs.declared.token.Kind.TheVariants.{End, ProcedureWord}
 use Rattle.lexer.proofs.PartLemmas.{at_procedure, bad_piece, end_begins, goes_to_fault, less_left, part_at_end, part_at_procedure, part_on_blank, part_on_token}
 use Rattle.lexer.proofs.lexing.Lexing.add_part.Goals as goal
 use Rattle.lexer.proofs.lexing.Lexing.add_part.Goals.{In-Some, In-Some-2, in-ProcedureWord, in_default-matches}
@@ -16,7 +16,7 @@ returns-in_default-clause-part c =
     let here = c.loop-left.self in
     let part = c.loop-left.part.items in
     let stands = rw c.in_default.is at c.in_ok-found.ensures.ok in
-    let more : c.push.new.self.items ≡ part ++ token_at here.position EndOfSource [] 0 ∷ [] = rw c.in_ok-end.ensures at c.in_ok-push.ensures.items in
+    let more : c.push.new.self.items ≡ part ++ token_at here.position End [] 0 ∷ [] = rw c.in_ok-end.ensures at c.in_ok-push.ensures.items in
     part_at_end c.args.self.now c.args.part.now.items c.args.most here here part c.push.new.self.items c.loop-left.left c.loop-left.invariant.so stands.0 more (omega arith)
 
 pub returns-in_err-token-clause-fault : goal.returns-in_err-token-clause-fault

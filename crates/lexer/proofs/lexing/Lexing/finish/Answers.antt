@@ -2,7 +2,7 @@ use Rattle.std.proofs.Common.{◌≡◌, ◌++◌, [], ◌∷◌, Err, rules}
 use Rattle.std.specs.Option.{option_to_list}
 use Rattle.lexer.specs.Tokens.{token_at, token_of}
 use Rattle.lexer.specs.walking.Parts.{IsCutOff}
-use Rattle.lexer.specs.declared.token.Kind.TheVariants.{EndOfSource}
+use Rattle.lexer.specs.declared.token.Kind.TheVariants.{End}
 use Rattle.lexer.proofs.PartLemmas.{at_end, bad_piece, goes_on, goes_to_end, goes_to_fault, less_left, over_piece}
 use Rattle.lexer.proofs.lexing.Lexing.finish.Goals as goal
 use Rattle.lexer.proofs.lexing.Lexing.finish.Goals.{In-Some}
@@ -33,5 +33,5 @@ pub returns-clause-read : goal.returns-clause-read
 returns-clause-read c source before read =
     let here = c.loop-found.self in
     let stands = rw c.in_default.is at c.in_ok-found.ensures.ok in
-    let last = token_at here.position EndOfSource [] 0 ∷ [] in
+    let last = token_at here.position End [] 0 ∷ [] in
     (c.loop-found.invariant.0 ++ last, goes_to_end c.args.self here c.loop-found.invariant.0 last c.loop-found.invariant.1 (at_end here stands.0) source before read)
