@@ -22,3 +22,4 @@ pub use laws::{environment_law, itself_law, name_law, node_law, place_law};
 pub use pass::elaborate;
 pub use refusals::elaborate::Fault;
 pub use stimulus::{Entry, Front, Given, Stimulus};
+pub use system::System;
