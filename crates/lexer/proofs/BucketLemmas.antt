@@ -1,10 +1,10 @@
 -- A text that begins with no first byte of a table is not in it.
-use Rattle.std.proofs.Common.{◌≡◌, ◌≢◌, ℕ, Bool, true, false, ◌||◌, List, [], ◌∷◌, inl, inr, refl, sym, ◌∙◌, Option, Some, None}
+use Rattle.std.proofs.Common.{◌≡◌, ◌≢◌, ℕ, Bool, true, false, ◌||◌, List, [], ◌∷◌, length, inl, inr, refl, sym, ◌∙◌, Option, Some, None}
 use Rattle.std.specs.Prelude.{nat_eq, slice_index, IsSome}
 use Rattle.std.specs.List.{list_all}
 use Rattle.std.proofs.lemmas.Bool.{false≢true, cases_Bool, eqb-true}
 use Rattle.syntax.specs.Texts.{Text}
-use Rattle.lexer.specs.Table.{lookup}
+use Rattle.lexer.specs.Table.{lookup, symbol, symbols}
 use Rattle.lexer.specs.declared.token.Kind.{Kind}
 use Rattle.lexer.proofs.SymbolLemmas.{lookup_passes}
 
@@ -28,10 +28,21 @@ differs (first ∷ firsts) byte other = elim (cases_Bool (nat_eq first byte)) [
 abbrev pub begins_among : List ℕ → Text → Bool
 begins_among firsts text = among firsts (slice_index text 0)
 
-not_found : (found : Option Kind) → ¬ IsSome found → None ≡ found
+pub not_found : (found : Option Kind) → ¬ IsSome found → None ≡ found
 not_found None none = refl
 not_found (Some kind) none = absurd (none refl)
 
 pub not_in : (table : List (Text × Kind)) (firsts : List ℕ) (byte : ℕ) (rest : Text) → list_all (λ entry. begins_among firsts entry.0) table ≡ true → Differs firsts byte → None ≡ lookup table (byte ∷ rest)
 not_in table firsts byte rest all other =
     not_found (lookup table (byte ∷ rest)) (λ found. false≢true (sym (differs firsts byte other) ∙ lookup_passes (begins_among firsts) table (byte ∷ rest) all found))
+
+-- whether a text has so many bytes, or begins with one of these
+abbrev pub is_sized_or_begins : ℕ → List ℕ → Text → Bool
+is_sized_or_begins size firsts text = nat_eq (length text) size || begins_among firsts text
+
+-- a text that is not so long and begins with none of these bytes is no symbol, where each symbol is or does
+pub no_symbol : (size : ℕ) (firsts : List ℕ) (text : Text) → list_all (λ entry. is_sized_or_begins size firsts entry.0) symbols ≡ true → nat_eq (length text) size ≡ false → Differs firsts (slice_index text 0) → None ≡ symbol text
+unfolding symbol
+no_symbol size firsts text all other differ =
+    let fails : is_sized_or_begins size firsts text ≡ false = rw (other, differs firsts (slice_index text 0) differ) refl in
+    not_found (symbol text) (λ found. false≢true (sym fails ∙ lookup_passes (is_sized_or_begins size firsts) symbols text all found))

@@ -7,7 +7,6 @@ use crate::piece::longest_piece;
 use crate::position::Position;
 use crate::token::{refuse_piece, token_of};
 use crate::{Fault, Kind, Token};
-use std::alloc::{AllocError, Global};
 
 /// A source of which a part is cut into tokens.
 #[derive(Clone, Copy)]
@@ -81,10 +80,10 @@ impl<'a> Lexing<'a> {
     }
 
     /// The token that stands where nothing is left.
-    pub(crate) fn end(&self, alloc: Global) -> Result<Token, AllocError>
-        ensures { IfOk result (λ token. token ≡ token_at self.now.position End [] 0) }
+    pub(crate) fn end(&self) -> Token<'a>
+        ensures { result ≡ token_at self.now.position End [] 0 }
     {
-        Token::new(alloc, self.position, Kind::End, b"", 0)
+        Token::new(self.position, Kind::End, b"", 0)
     }
 
     /// Adds the tokens that follow to `part`: `most` of them, or those up to a `procedure` where one stands in `part`
@@ -92,12 +91,7 @@ impl<'a> Lexing<'a> {
     ///
     /// A `procedure` that `part` held before counts too; other tokens that it held do not count against `most`.
     /// `Memory` may come at any token. At an error nothing is known of `part` and of what is left.
-    pub fn add_part(
-        &mut self,
-        alloc: Global,
-        part: &mut Vec<Token>,
-        most: usize,
-    ) -> Result<Stop, Fault>
+    pub fn add_part(&mut self, part: &mut Vec<Token<'a>>, most: usize) -> Result<Stop, Fault>
         ensures part { IfOk result (λ stop. (added : List Token) × (part.new.items ≡ part.old.items ++ added) × IsPart stop most self.old added self.new) }
         // A part that is begun where the one before it stopped at a `procedure` begins with that word.
         ensures begins { IfOk result (λ _. IsAtProcedure self.old → part.old.items ≡ [] → 1 ≤ most → BeginsProcedure part.new.items) }
@@ -110,10 +104,10 @@ impl<'a> Lexing<'a> {
         while left > 0 {
             let mut next = *self;
             let Some(found) = next.cut()? else {
-                part.push(self.end(alloc)?)?;
+                part.push(self.end())?;
                 return Ok(Stop::EndOfSource);
             };
-            if let Some(token) = token_of(alloc, found.position, found.class, found.text)? {
+            if let Some(token) = token_of(found.position, found.class, found.text)? {
                 if matches!(token.kind, Kind::ProcedureWord) {
                     if has_procedure {
                         return Ok(Stop::Procedure);

@@ -11,7 +11,7 @@ use lexer::Token;
 use std::alloc::Global;
 
 /// Whether the fault is at one of the tokens, and not where they end.
-fn is_inside(tokens: &[Token], fault: Fault) -> bool
+fn is_inside(tokens: &[Token<'_>], fault: Fault) -> bool
     ensures { IsTrue result → IsInside tokens.now fault }
 {
     match fault {
@@ -21,7 +21,7 @@ fn is_inside(tokens: &[Token], fault: Fault) -> bool
 }
 
 /// Why these tokens begin no description, whatever stands behind them; `Memory` is told too. `None` says nothing.
-pub fn refusal_within(alloc: Global, tokens: &[Token]) -> Option<Fault>
+pub fn refusal_within(alloc: Global, tokens: &[Token<'_>]) -> Option<Fault>
     ensures { IfSome result (λ fault. (fault ≡ Memory) ⊎ ((later : List Token) → IsRefused (tokens.now ++ later) fault)) }
 {
     match parse(alloc, tokens) {

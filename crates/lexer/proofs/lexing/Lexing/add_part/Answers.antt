@@ -16,20 +16,16 @@ returns-in_default-clause-part c =
     let here = c.loop-left.self in
     let part = c.loop-left.part.items in
     let stands = rw c.in_default.is at c.in_ok-found.ensures.ok in
-    let more : c.push.new.self.items ≡ part ++ token_at here.position End [] 0 ∷ [] = rw c.in_ok-end.ensures at c.in_ok-push.ensures.items in
+    let more : c.push.new.self.items ≡ part ++ token_at here.position End [] 0 ∷ [] = rw c.end.ensures at c.in_ok-push.ensures.items in
     part_at_end c.args.self.now c.args.part.now.items c.args.most here here part c.push.new.self.items c.loop-left.left c.loop-left.invariant.so stands.0 more (omega arith)
 
 pub returns-in_err-token-clause-fault : goal.returns-in_err-token-clause-fault
 returns-in_err-token-clause-fault c =
     let fault = c.in_err-token.field-0.0 in
     let is : c.from_residual-in_err-token.result ≡ Err fault = search rules in
-    rw is (elim c.in_err-token.ensures.err [
-      | inl memory ↦ inl memory
-      | inr bad ↦
-          let here = c.loop-left.self in
-          let refused = bad_piece here c.cut.new.self c.in-Some.found fault (cut_off (goal.at.returns-in_err-token-clause-fault c).In-Some) bad in
-          inr (goes_to_fault c.args.self.now here c.loop-left.invariant.so.added fault c.loop-left.invariant.so.goes refused)
-    ])
+    let here = c.loop-left.self in
+    let refused = bad_piece here c.cut.new.self c.in-Some.found fault (cut_off (goal.at.returns-in_err-token-clause-fault c).In-Some) c.in_err-token.ensures.err in
+    rw is (inr (goes_to_fault c.args.self.now here c.loop-left.invariant.so.added fault c.loop-left.invariant.so.goes refused))
 
 pub loop-left-smaller-in_ok-push-2 : goal.loop-left-smaller-in_ok-push-2
 loop-left-smaller-in_ok-push-2 c =
@@ -63,7 +59,7 @@ pub returns-in_default-clause-begins : goal.returns-in_default-clause-begins
 returns-in_default-clause-begins c word none room =
     let here = c.loop-left.self in
     let stands = rw c.in_default.is at c.in_ok-found.ensures.ok in
-    end_begins c.args.self.now c.args.part.now.items c.args.most here c.loop-left.part.items c.push.new.self.items (c.in_ok-end.field-0 ∷ []) c.loop-left.left c.loop-left.invariant.so stands.0 c.in_ok-push.ensures.items word none
+    end_begins c.args.self.now c.args.part.now.items c.args.most here c.loop-left.part.items c.push.new.self.items (c.end.result ∷ []) c.loop-left.left c.loop-left.invariant.so stands.0 c.in_ok-push.ensures.items word none
 
 -- the word at which the part ends
 at_word : (c : In-Some-2) → c.in-Some-2.token.kind ≡ ProcedureWord → IsAtProcedure c.loop-left.self
