@@ -1,8 +1,9 @@
 -- A text that begins with no first byte of a table is not in it.
-use Rattle.std.proofs.Common.{◌≡◌, ◌≢◌, ℕ, Bool, true, false, ◌||◌, List, [], ◌∷◌, length, inl, inr, refl, sym, ◌∙◌, Option, Some, None}
+use Rattle.std.proofs.Common.{◌≡◌, ◌≢◌, ℕ, Bool, true, false, ◌||◌, List, [], ◌∷◌, length, inl, inr, refl, ap, sym, ◌∙◌, Option, Some, None}
 use Rattle.std.specs.Prelude.{nat_eq, slice_index, IsSome}
 use Rattle.std.specs.List.{list_all}
-use Rattle.std.proofs.lemmas.Bool.{false≢true, cases_Bool, eqb-true}
+use Rattle.std.specs.Cmp.Lexicographic.{pointwise, same_text}
+use Rattle.std.proofs.lemmas.Bool.{false≢true, cases_Bool, eqb-true, false_from_ne_true}
 use Rattle.syntax.specs.Texts.{Text}
 use Rattle.lexer.specs.Table.{lookup, symbol, symbols}
 use Rattle.lexer.specs.declared.token.Kind.{Kind}
@@ -46,3 +47,7 @@ unfolding symbol
 no_symbol size firsts text all other differ =
     let fails : is_sized_or_begins size firsts text ≡ false = rw (other, differs firsts (slice_index text 0) differ) refl in
     not_found (symbol text) (λ found. false≢true (sym fails ∙ lookup_passes (is_sized_or_begins size firsts) symbols text all found))
+
+-- texts of two lengths are two
+pub apart : (entry text : Text) → length entry ≢ length text → false ≡ pointwise nat_eq entry text
+apart entry text other = sym (false_from_ne_true _ (λ e. other (ap length (same_text entry text (sym e)))))

@@ -40,7 +40,7 @@ pub(crate) struct Found<'a> {
 impl<'a> Lexing<'a> {
     ghost use Rattle.std.specs.Prelude.{◌≡◌, ◌≤◌, ◌++◌, ◌⊎◌, [], List, IfOk, IfErr, OnOk, MatchOption};
     ghost use Rattle.lexer.specs.Tokens.{token_at};
-    ghost use Rattle.lexer.specs.walking.Parts.{BeginsProcedure, HasRead, IsAtProcedure, IsCutOff, IsPart, IsRest, Refuses};
+    ghost use Rattle.lexer.specs.walking.Parts.{BeginsProcedure, HasRead, IsAtProcedure, IsCutOff, IsKept, IsPart, IsRest, Refuses};
     ghost use Rattle.lexer.specs.declared.token.Kind.TheVariants.{End};
     ghost use Rattle.lexer.specs.declared.token.Token.{Token};
     ghost use Rattle.refusals.specs.declared.lexer.Fault.TheVariants.{Memory};
@@ -56,6 +56,7 @@ impl<'a> Lexing<'a> {
     }
 
     /// Cuts off the longest piece at the front. None: nothing is left.
+    #[inline(always)]
     pub(crate) fn cut(&mut self) -> Result<Option<Found<'a>>, Fault>
         ensures ok { IfOk result (λ found. MatchOption found ((self.old.rest.now ≡ []) × (self.new ≡ self.old)) (λ found. IsCutOff self.old found self.new)) }
         ensures err { IfErr result (λ fault. Refuses self.old fault) }
@@ -73,7 +74,7 @@ impl<'a> Lexing<'a> {
             text,
         };
         *self = Lexing {
-            position: self.position.behind(text),
+            position: self.position.behind_piece(piece.class, text),
             rest,
         };
         Ok(Some(found))
@@ -90,12 +91,14 @@ impl<'a> Lexing<'a> {
     /// already, or all up to the end of the source with one of the kind `End`.
     ///
     /// A `procedure` that `part` held before counts too; other tokens that it held do not count against `most`.
-    /// `Memory` may come at any token. At an error nothing is known of `part` and of what is left.
+    /// `Memory` may come at any token. At an error `part` has the tokens before the fault, and this source stands behind
+    /// the last of them.
     pub fn add_part(&mut self, part: &mut Vec<Token<'a>>, most: usize) -> Result<Stop, Fault>
         ensures part { IfOk result (λ stop. (added : List Token) × (part.new.items ≡ part.old.items ++ added) × IsPart stop most self.old added self.new) }
         // A part that is begun where the one before it stopped at a `procedure` begins with that word.
         ensures begins { IfOk result (λ _. IsAtProcedure self.old → part.old.items ≡ [] → 1 ≤ most → BeginsProcedure part.new.items) }
         ensures fault { IfErr result (λ fault. (fault ≡ Memory) ⊎ Refuses self.old fault) }
+        ensures kept { IfErr result (λ _. IsKept self.old part.old.items self.new part.new.items) }
     {
         let mut has_procedure = part
             .iter()
@@ -114,7 +117,8 @@ impl<'a> Lexing<'a> {
                     }
                     has_procedure = true;
                 }
-                part.push(token)?;
+                part.reserve(1)?;
+                part.push_reserved(token);
                 left -= 1;
             }
             *self = next;

@@ -1,4 +1,5 @@
 ghost use Rattle.std.specs.Prelude.{◌≡◌, [], ◌∷◌, ℕ, List, map, nat_eq, if◌then◌else◌, Some, None};
+ghost use Rattle.std.specs.Cmp.Lexicographic.{pointwise};
 ghost use Rattle.lexer.specs.Table as spec;
 
 use crate::Kind;
@@ -82,13 +83,25 @@ fn words_of(first: u8) -> &'static [(&'static [u8], Kind)]
     }
 }
 
+/// Whether the two are one text.
+#[tactic(auto, using(crate::proofs::BucketLemmas::apart))]
+fn is_text(entry: &[u8], text: &[u8]) -> bool
+    ensures { result ≡ pointwise nat_eq entry.now text.now }
+{
+    // Most are told apart by their lengths.
+    if entry.len() != text.len() {
+        return false;
+    }
+    *entry == *text
+}
+
 /// The kind that stands beside `text` in `table`, if it stands there.
 pub fn lookup(table: &[(&[u8], Kind)], text: &[u8]) -> Option<Kind>
     ensures { result ≡ spec.lookup (map (λ entry. (entry.0.now, entry.1)) table.now) text.now }
 {
     let mut rest = table;
     while let [entry, others @ ..] = rest {
-        if *entry.0 == *text {
+        if is_text(entry.0, text) {
             return Some(entry.1);
         }
         rest = others;
@@ -97,6 +110,7 @@ pub fn lookup(table: &[(&[u8], Kind)], text: &[u8]) -> Option<Kind>
 }
 
 /// The symbol of this byte alone.
+#[inline(always)]
 fn one_byte_symbol(only: u8) -> Option<Kind>
     ensures { result ≡ spec.symbol (only ∷ []) }
 {
@@ -119,6 +133,7 @@ fn one_byte_symbol(only: u8) -> Option<Kind>
 }
 
 /// `kind`, where `second` is the byte that is wanted.
+#[inline(always)]
 fn where_it_follows(second: u8, wanted: u8, kind: Kind) -> Option<Kind>
     ensures { result ≡ (if nat_eq wanted second then Some kind else None) }
 {
@@ -126,6 +141,7 @@ fn where_it_follows(second: u8, wanted: u8, kind: Kind) -> Option<Kind>
 }
 
 /// The symbol of these two bytes.
+#[inline(always)]
 fn two_byte_symbol(first: u8, second: u8) -> Option<Kind>
     ensures { result ≡ spec.symbol (first ∷ second ∷ []) }
 {
@@ -145,6 +161,7 @@ fn two_byte_symbol(first: u8, second: u8) -> Option<Kind>
 }
 
 /// The symbol that `text` is.
+#[inline(always)]
 pub fn symbol(text: &[u8]) -> Option<Kind>
     ensures { result ≡ spec.symbol text.now }
 {

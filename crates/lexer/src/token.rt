@@ -132,6 +132,7 @@ pub struct Token<'a> {
 
 impl<'a> Token<'a> {
     /// The token of this kind whose text begins at `position`.
+    #[inline(always)]
     pub(crate) fn new(position: Position, kind: Kind, text: &'a [u8], number: u64) -> Token<'a>
         requires { position.offset + length text.now < 2 ^ 64 }
         ensures { result ≡ token_at position kind text.now number }
@@ -146,6 +147,7 @@ impl<'a> Token<'a> {
 }
 
 /// The token of a piece that begins at `position`. None: it is blank or a comment.
+#[inline(always)]
 pub(crate) fn token_of<'a>(
     position: Position,
     class: Class,

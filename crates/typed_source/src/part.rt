@@ -95,9 +95,9 @@ fn read_whole<'a>(
 fn refuse_with_next<'a>(
     alloc: Global,
     mut lexing: Lexing<'a>,
-    mut tokens: Vec<Token<'a>>,
+    tokens: &mut Vec<Token<'a>>,
 ) -> Result<(), Fault>
-    ensures { (old : Lexing) → ReadsPart false old tokens.items lexing.entry → IfErr result (λ fault. RefusesPart old tokens.items fault) }
+    ensures { (old : Lexing) → ReadsPart false old tokens.old.items lexing.entry → IfErr result (λ fault. RefusesPart old tokens.old.items fault) }
 {
     let mut next = Vec::new(alloc);
     let stop = lexing.add_part(&mut next, 1)?;
@@ -115,10 +115,10 @@ fn tree_of<'a>(
     alloc: Global,
     lexing: Lexing<'a>,
     is_last: bool,
-    tokens: Vec<Token<'a>>,
+    tokens: &mut Vec<Token<'a>>,
 ) -> Result<Option<Part>, Fault>
-    ensures read { IfOk result (λ read. IfSome read (λ part. (part.is_last ≡ is_last) × Parses tokens.items part.description)) }
-    ensures fault { (old : Lexing) → ReadsPart is_last old tokens.items lexing.entry → IfErr result (λ fault. RefusesPart old tokens.items fault) }
+    ensures read { IfOk result (λ read. IfSome read (λ part. (part.is_last ≡ is_last) × Parses tokens.old.items part.description)) }
+    ensures fault { (old : Lexing) → ReadsPart is_last old tokens.old.items lexing.entry → IfErr result (λ fault. RefusesPart old tokens.old.items fault) }
 {
     match parse(alloc, tokens.as_slice()) {
         Ok(description) => Ok(Some(Part {
@@ -135,22 +135,23 @@ fn tree_of<'a>(
 }
 
 /// The next part of the source, up to where a further procedure begins, or to the end. But for the first it begins with a
-/// procedure itself.
+/// procedure itself. Its tokens are made in `tokens`, whose room serves part after part.
 ///
 /// None: this part and the token behind it do not tell.
-pub(crate) fn next_part(
+pub(crate) fn next_part<'a>(
     alloc: Global,
-    lexing: &mut Lexing<'_>,
+    lexing: &mut Lexing<'a>,
+    tokens: &mut Vec<Token<'a>>,
     is_first: bool,
 ) -> Result<Option<Part>, Fault>
     ensures read { IfOk result (λ read. IfSome read (λ part. IsNext is_first lexing.old part lexing.new)) }
     ensures fault { IfErr result (λ fault. RefusesNext is_first lexing.old fault) }
 {
-    let mut tokens = Vec::new(alloc);
-    let stop = lexing.add_part(&mut tokens, FIRST_TOKENS)?;
+    tokens.clear();
+    let stop = lexing.add_part(tokens, FIRST_TOKENS)?;
     if !is_first && !begins_procedure(tokens.as_slice()) {
         return Ok(None);
     }
-    let is_last = read_whole(alloc, lexing, &mut tokens, stop)?;
+    let is_last = read_whole(alloc, lexing, tokens, stop)?;
     tree_of(alloc, *lexing, is_last, tokens)
 }

@@ -67,8 +67,8 @@ pub fn viable_kinds(
     let span = match tokens.as_slice().get(place) {
         Some(token) => token.span,
         None => Span {
-            start: u64::MAX,
-            stop: u64::MAX,
+            start: u64::MAX - 1,
+            stop: u64::MAX - 1,
             line: 1,
         },
     };
