@@ -52,7 +52,7 @@ struct Seen {
 }
 
 /// Which of the tokens begins at the offset or behind it.
-fn place_at(tokens: &[Token<'_>], offset: u64) -> usize {
+fn place_at(tokens: &[Token], offset: u64) -> usize {
     let mut place = 0_usize;
     for token in tokens {
         if token.span.start >= offset {
@@ -64,13 +64,13 @@ fn place_at(tokens: &[Token<'_>], offset: u64) -> usize {
 }
 
 /// The kind of the token before a place.
-fn kind_before(tokens: &[Token<'_>], place: usize) -> Option<Kind> {
+fn kind_before(tokens: &[Token], place: usize) -> Option<Kind> {
     let before = tokens.get(place.checked_sub(1)?)?;
     Some(before.kind)
 }
 
 /// Whether the token at a place touches a number before it.
-fn touches_number(tokens: &[Token<'_>], place: usize) -> bool {
+fn touches_number(tokens: &[Token], place: usize) -> bool {
     let Some(before) = place.checked_sub(1) else {
         return false;
     };
@@ -83,11 +83,7 @@ fn touches_number(tokens: &[Token<'_>], place: usize) -> bool {
 }
 
 /// Marks the last word of a source that ends too early.
-fn add_last_word(
-    tokens: &[Token<'_>],
-    place: usize,
-    finding: &mut Finding,
-) -> Result<(), AllocError> {
+fn add_last_word(tokens: &[Token], place: usize, finding: &mut Finding) -> Result<(), AllocError> {
     let Some(last) = place.checked_sub(1) else {
         return Ok(());
     };

@@ -9,7 +9,7 @@ use written_names::{Declared, Kind, find as declaration_of, procedure_at, types,
 /// What was found about a fault of the rule on sharing at the finding's place, in the description that the tokens are.
 pub fn find(
     source: &[u8],
-    tokens: &[Token<'_>],
+    tokens: &[Token],
     description: &Description,
     number: u32,
     finding: &mut Finding,
@@ -22,7 +22,7 @@ pub fn find(
 }
 
 /// The span of the token that begins at the offset, or an empty one there.
-fn token_at(tokens: &[Token<'_>], offset: u64) -> Span {
+fn token_at(tokens: &[Token], offset: u64) -> Span {
     for token in tokens {
         if token.span.start == offset {
             return token.span;
@@ -38,7 +38,7 @@ fn token_at(tokens: &[Token<'_>], offset: u64) -> Span {
 /// A variable that is written in one branch and used in another.
 fn find_variable(
     source: &[u8],
-    tokens: &[Token<'_>],
+    tokens: &[Token],
     description: &Description,
     finding: &mut Finding,
 ) -> Result<(), AllocError> {

@@ -5,7 +5,7 @@ ghost use Rattle.std.specs.Prelude.{◌<◌, ◌+◌, ◌^◌, length};
 use crate::class::Class;
 use crate::piece::longest_piece;
 use crate::position::Position;
-use crate::token::{refuse_piece, token_of};
+use crate::token::{add_token, refuse_piece, token_of};
 use crate::{Fault, Kind, Token};
 
 /// A source of which a part is cut into tokens.
@@ -117,8 +117,7 @@ impl<'a> Lexing<'a> {
                     }
                     has_procedure = true;
                 }
-                part.reserve(1)?;
-                part.push_reserved(token);
+                add_token(part, token)?;
                 left -= 1;
             }
             *self = next;

@@ -84,7 +84,6 @@ fn words_of(first: u8) -> &'static [(&'static [u8], Kind)]
 }
 
 /// Whether the two are one text.
-#[tactic(auto, using(crate::proofs::BucketLemmas::apart))]
 fn is_text(entry: &[u8], text: &[u8]) -> bool
     ensures { result ≡ pointwise nat_eq entry.now text.now }
 {
@@ -92,7 +91,12 @@ fn is_text(entry: &[u8], text: &[u8]) -> bool
     if entry.len() != text.len() {
         return false;
     }
-    *entry == *text
+    for place in 0..entry.len() {
+        if entry[place] != text[place] {
+            return false;
+        }
+    }
+    true
 }
 
 /// The kind that stands beside `text` in `table`, if it stands there.

@@ -1,4 +1,4 @@
-ghost use Rattle.std.specs.Prelude.{◌≡◌, ◌≤◌, ◌<◌, ◌+◌, ◌^◌, length, ◌++◌, ◌⊎◌, IfOk, IfErr, OnOk};
+ghost use Rattle.std.specs.Prelude.{◌≡◌, ◌≤◌, ◌<◌, ◌+◌, ◌^◌, length, ◌++◌, ◌∷◌, [], ◌⊎◌, if◌then◌else◌, is_ok, IfOk, IfErr, OnOk};
 ghost use Rattle.std.specs.Option.{option_to_list};
 ghost use Rattle.lexer.specs.Tokens.{IsReadable, token_at, token_of};
 ghost use Rattle.lexer.specs.walking.Fronts.{IsPieceFault};
@@ -10,6 +10,7 @@ use crate::excerpt::Excerpt;
 use crate::number::value;
 use crate::position::Position;
 use crate::table::{reserved_word, symbol};
+use std::alloc::AllocError;
 use syntax::Span;
 
 /// What a token is, without its text.
@@ -146,6 +147,18 @@ impl<'a> Token<'a> {
     }
 }
 
+/// Adds the token, for which there is mostly room.
+#[inline(always)]
+pub(crate) fn add_token<'a>(tokens: &mut Vec<Token<'a>>, token: Token<'a>) -> Result<(), AllocError>
+    ensures { tokens.new.items ≡ (if is_ok result then tokens.old.items ++ token.entry ∷ [] else tokens.old.items) }
+{
+    if tokens.len() >= tokens.capacity() {
+        tokens.reserve(1)?;
+    }
+    tokens.push_reserved(token);
+    Ok(())
+}
+
 /// The token of a piece that begins at `position`. None: it is blank or a comment.
 #[inline(always)]
 pub(crate) fn token_of<'a>(
@@ -186,7 +199,7 @@ pub(crate) fn push_token<'a>(
     ensures err { IfErr result (λ fault. (fault ≡ Memory) ⊎ IsPieceFault position.offset class text.now fault) }
 {
     if let Some(token) = token_of(position, class, text)? {
-        tokens.push(token)?;
+        add_token(tokens, token)?;
     }
     Ok(())
 }

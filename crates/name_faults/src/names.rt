@@ -31,7 +31,7 @@ pub struct Around<'a> {
 /// What was found about a fault of typing at the finding's place, in the description that the tokens of the source are.
 pub fn find(
     source: &[u8],
-    tokens: &[Token<'_>],
+    tokens: &[Token],
     description: &Description,
     number: u32,
     finding: &mut Finding,
@@ -60,7 +60,7 @@ pub fn find(
 /// What was found about a fault with this number.
 fn find_by_number(
     around: Around<'_>,
-    tokens: &[Token<'_>],
+    tokens: &[Token],
     number: u32,
     finding: &mut Finding,
 ) -> Result<(), AllocError> {
@@ -77,7 +77,7 @@ fn find_by_number(
 }
 
 /// Where the token that begins at the offset ends.
-fn token_stop(tokens: &[Token<'_>], offset: u64) -> u64 {
+fn token_stop(tokens: &[Token], offset: u64) -> u64 {
     for token in tokens {
         if token.span.start == offset {
             return token.span.stop;

@@ -9,11 +9,7 @@ use written_names::{Declared, Role, Site, find as declaration_of};
 const MOST: u64 = 64;
 
 /// What is too wide at the fault.
-pub fn find(
-    around: Around<'_>,
-    tokens: &[Token<'_>],
-    finding: &mut Finding,
-) -> Result<(), AllocError> {
+pub fn find(around: Around<'_>, tokens: &[Token], finding: &mut Finding) -> Result<(), AllocError> {
     if let Some(bits) = declared_width(tokens, around.offset) {
         write!(
             finding.what,
@@ -36,7 +32,7 @@ pub fn find(
 }
 
 /// The number of a width that is declared at the offset.
-fn declared_width(tokens: &[Token<'_>], offset: u64) -> Option<u64> {
+fn declared_width(tokens: &[Token], offset: u64) -> Option<u64> {
     let mut number = None;
     for token in tokens {
         if token.kind == TokenKind::BitsWord && number.is_some() {

@@ -1,16 +1,17 @@
 -- What is refused at a token is refused there with whatever stands behind; else the tokens begin a description.
-use Rattle.std.proofs.Common.{◌≡◌, ◌≢◌, ◌++◌, List, [], ◌∷◌, refl, ap, subst, sym, ◌∙◌, append_assoc}
+use Rattle.std.proofs.Common.{◌≡◌, ◌⊎◌, ◌++◌, List, [], ◌∷◌, inl, inr, refl, ap, subst, sym, ◌∙◌, append_assoc}
+use Rattle.std.specs.Prelude.{MatchOption}
 use Rattle.std.proofs.lemmas.List.{append-nil}
 use Rattle.lexer.specs.declared.token.Token.{Token}
 use Rattle.syntax.specs.declared.declaration.Description.{Description}
-use Rattle.refusals.specs.declared.parser.Fault.TheVariants.{Unexpected, TooDeep}
+use Rattle.refusals.specs.declared.parser.Fault.TheVariants.{Memory, Unexpected, TooDeep}
 use Rattle.parser.specs.Accepted.{Begins, IsRefused, Parses, most_levels}
 use Rattle.parser.specs.Grammar.{description}
 use Rattle.parser.specs.Input.{Input}
 use Rattle.parser.specs.Sentences.{StopsAt, StopsForGood, StopsForLevels}
 use Rattle.parser.specs.declared.halt.Halt.{Halt}
-use Rattle.parser.specs.declared.halt.Halt.TheVariants as halt
-use Rattle.parser.specs.walking.Answer.{fault_at}
+use Rattle.parser.specs.declared.halt.Halt.TheVariants as stop
+use Rattle.parser.specs.walking.Answer.{fault_before}
 use Rattle.parser.specs.walking.Readers.{read}
 use Rattle.parser.specs.walking.Reads.{Halts}
 use Rattle.parser.proofs.Parsed.{outcome, parsed, unexpected_stop, too_deep_stop}
@@ -34,24 +35,20 @@ too_deep_on : (tokens later front : List Token) (token : Token) (rest : List Tok
 too_deep_on tokens later front token rest stops =
     (front, token ∷ rest ++ later, record { stops = stops_on tokens front token rest later stops.stops; with_one_more = stops.with_one_more }, refl)
 
--- reading stopped at a token, and not for want of memory
-pub refused_on : (tokens : List Token) (token : Token) (rest : List Token) (halt : Halt) → halt ≢ halt.Memory → Halts halt (token ∷ rest) (outcome tokens)
-    → (later : List Token) → IsRefused (tokens ++ later) (fault_at halt token.span.start)
-refused_on tokens token rest halt.Memory other halts later = absurd (other refl)
-refused_on tokens token rest halt.Unexpected other halts later =
-    let found = unexpected_stop tokens (token ∷ rest) halts in unexpected_on tokens later found.0 token rest found.1
-refused_on tokens token rest halt.TooDeep other halts later =
-    let found = too_deep_stop tokens (token ∷ rest) halts in too_deep_on tokens later found.0 token rest found.1
-
 -- what is read so far is all, and can be gone on with
 begins : (tokens front : List Token) → StopsAt description most_levels tokens front [] → Begins tokens
 begins tokens front stops = subst (λ (t : List Token). Begins t) (sym (append-nil front) ∙ sym stops.whole) stops.goes_on
 
--- reading stopped where the tokens end
-pub begins_at_end : (tokens : List Token) (halt : Halt) → halt ≢ halt.Memory → Halts halt [] (outcome tokens) → Begins tokens
-begins_at_end tokens halt.Memory other halts = absurd (other refl)
-begins_at_end tokens halt.Unexpected other halts = let found = unexpected_stop tokens [] halts in begins tokens found.0 (found.1).stops
-begins_at_end tokens halt.TooDeep other halts = let found = too_deep_stop tokens [] halts in begins tokens found.0 (found.1).stops
+-- what a reading that stopped tells
+pub told : (tokens rest : List Token) (halt : Halt) → Halts halt rest (outcome tokens)
+    → MatchOption (fault_before halt rest) (Begins tokens) (λ fault. (fault ≡ Memory) ⊎ ((later : List Token) → IsRefused (tokens ++ later) fault))
+told tokens rest stop.Memory halts = inl refl
+told tokens [] stop.Unexpected halts = let found = unexpected_stop tokens [] halts in begins tokens found.0 (found.1).stops
+told tokens [] stop.TooDeep halts = let found = too_deep_stop tokens [] halts in begins tokens found.0 (found.1).stops
+told tokens (token ∷ rest) stop.Unexpected halts =
+    inr (λ later. let found = unexpected_stop tokens (token ∷ rest) halts in unexpected_on tokens later found.0 token rest found.1)
+told tokens (token ∷ rest) stop.TooDeep halts =
+    inr (λ later. let found = too_deep_stop tokens (token ∷ rest) halts in too_deep_on tokens later found.0 token rest found.1)
 
 -- a whole description begins with itself
 pub begins_whole : (tokens : List Token) (given : Description) (left : Input) → outcome tokens ≡ read given left → Begins tokens

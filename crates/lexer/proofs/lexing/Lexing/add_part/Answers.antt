@@ -30,20 +30,20 @@ returns-in_err-token-clause-fault c =
     let refused = bad_piece here c.cut.new.self c.in-Some.found fault (cut_off (goal.at.returns-in_err-token-clause-fault c).In-Some) c.in_err-token.ensures.err in
     rw is (inr (goes_to_fault c.args.self.now here c.loop-left.invariant.so.added fault c.loop-left.invariant.so.goes refused))
 
-pub loop-left-smaller-in_ok-reserve : goal.loop-left-smaller-in_ok-reserve
-loop-left-smaller-in_ok-reserve c =
-    less_left c.loop-left.self c.cut.new.self c.in-Some.found (cut_off (goal.at.loop-left-smaller-in_ok-reserve c).In-Some)
+pub loop-left-smaller-in_ok-add_token : goal.loop-left-smaller-in_ok-add_token
+loop-left-smaller-in_ok-add_token c =
+    less_left c.loop-left.self c.cut.new.self c.in-Some.found (cut_off (goal.at.loop-left-smaller-in_ok-add_token c).In-Some)
 
-pub loop-left-preserved-in_ok-reserve : goal.loop-left-preserved-in_ok-reserve
-loop-left-preserved-in_ok-reserve c =
+pub loop-left-preserved-in_ok-add_token : goal.loop-left-preserved-in_ok-add_token
+loop-left-preserved-in_ok-add_token c =
     let found = c.in-Some.found in
     let readable : IsReadable found.class found.text.now = c.in_ok-token.ensures.ok.0 in
     let some : token_of found.position found.class found.text.now ≡ Some c.in-Some-2.token = sym c.in_ok-token.ensures.ok.1 ∙ c.in-Some-2.is in
     let part = c.loop-left.part.items in
-    let items : c.push_reserved.new.self.items ≡ part ++ c.in-Some-2.token ∷ [] = rw c.reserve.ensures.items at c.push_reserved.ensures.items in
+    let items : c.add_token.new.tokens.items ≡ part ++ c.in-Some-2.token ∷ [] = search rules in
     record {
-      so = part_on_token c.args.self.now c.args.part.now.items c.args.most c.loop-left.self c.cut.new.self part c.push_reserved.new.self.items c.in-Some-2.token c.loop-left.left found c.loop-left.invariant.so
-          (cut_off (goal.at.loop-left-preserved-in_ok-reserve c).In-Some) readable some items (omega arith);
+      so = part_on_token c.args.self.now c.args.part.now.items c.args.most c.loop-left.self c.cut.new.self part c.add_token.new.tokens.items c.in-Some-2.token c.loop-left.left found c.loop-left.invariant.so
+          (cut_off (goal.at.loop-left-preserved-in_ok-add_token c).In-Some) readable some items (omega arith);
       some = λ _. omega (arith, ap length items, length-append part (c.in-Some-2.token ∷ []));
     }
 
@@ -100,7 +100,8 @@ returns-in_err-push-clause-kept c =
     let same : c.push.new.self.items ≡ c.loop-left.part.items = search rules in
     rw is (kept c.args.self.now c.loop-left.self c.args.part.now.items c.loop-left.part.items c.push.new.self.items c.args.most c.loop-left.left c.loop-left.invariant.so same)
 
-pub returns-in_err-reserve-clause-kept : goal.returns-in_err-reserve-clause-kept
-returns-in_err-reserve-clause-kept c =
-    let is : c.from_residual-in_err-reserve.result ≡ Err Memory = search rules in
-    rw is (kept c.args.self.now c.loop-left.self c.args.part.now.items c.loop-left.part.items c.reserve.new.self.items c.args.most c.loop-left.left c.loop-left.invariant.so c.reserve.ensures.items)
+pub returns-in_err-add_token-clause-kept : goal.returns-in_err-add_token-clause-kept
+returns-in_err-add_token-clause-kept c =
+    let is : c.from_residual-in_err-add_token.result ≡ Err Memory = search rules in
+    let same : c.add_token.new.tokens.items ≡ c.loop-left.part.items = search rules in
+    rw is (kept c.args.self.now c.loop-left.self c.args.part.now.items c.loop-left.part.items c.add_token.new.tokens.items c.args.most c.loop-left.left c.loop-left.invariant.so same)
