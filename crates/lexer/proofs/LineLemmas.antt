@@ -1,6 +1,6 @@
 -- Pieces in which no line ends.
-use Rattle.std.proofs.Common.{◌≡◌, ℕ, ◌+◌, length, ap, Bool, true, false, not, ◌&&◌, List, [], ◌∷◌, refl, arith}
-use Rattle.std.specs.Prelude.{nat_eq, IsSome}
+use Rattle.std.proofs.Common.{◌≡◌, ℕ, ◌+◌, length, ap, Bool, true, false, not, [], ◌∷◌, refl, arith}
+use Rattle.std.specs.Prelude.{nat_eq}
 use Rattle.std.specs.Char.{is_ascii_digit}
 use Rattle.std.specs.List.{count_by, list_all}
 use Rattle.std.proofs.lemmas.Bool.{and_parts, eqb-true}

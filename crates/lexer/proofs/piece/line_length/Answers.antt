@@ -1,4 +1,4 @@
-use Rattle.std.proofs.Common.{◌≡◌, ◌<◌, Bool, true, false, not, length, get_or, refl, sym, arith}
+use Rattle.std.proofs.Common.{◌≡◌, Bool, true, false, not, length, refl, sym, arith}
 use Rattle.std.proofs.lemmas.Bool.{false≢true}
 use Rattle.std.proofs.lemmas.List.Sums.{prefix_len_is}
 use Rattle.lexer.specs.Spelling.{may_hold}

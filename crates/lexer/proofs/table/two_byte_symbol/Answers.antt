@@ -1,4 +1,4 @@
-use Rattle.std.proofs.Common.{◌≡◌, Bool, true, false, if◌then◌else◌, ◌&&◌, Some, None, [], ◌∷◌, refl, rules, ◌∙◌, arith}
+use Rattle.std.proofs.Common.{◌≡◌, Bool, true, false, if◌then◌else◌, ◌&&◌, Some, None, [], ◌∷◌, refl, rules, arith}
 use Rattle.std.specs.Option.{option_or}
 use Rattle.lexer.specs.Table.{symbol}
 use Rattle.lexer.specs.declared.token.Kind.{Kind}

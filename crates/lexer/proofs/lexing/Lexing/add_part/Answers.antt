@@ -1,4 +1,4 @@
-use Rattle.std.proofs.Common.{◌≡◌, ℕ, List, refl, ◌++◌, [], ◌∷◌, Err, Some, None, inl, inr, length, sym, ◌∙◌, ap, length-append, arith, rules}
+use Rattle.std.proofs.Common.{◌≡◌, ℕ, List, refl, ◌++◌, [], ◌∷◌, Err, Some, None, inr, length, sym, ◌∙◌, ap, length-append, arith, rules}
 use Rattle.std.proofs.lemmas.Bool.{false≢true}
 use Rattle.lexer.specs.Tokens.{IsReadable, token_at, token_of}
 use Rattle.lexer.specs.walking.Parts.{IsAtProcedure, IsCutOff, IsKept}

@@ -1,4 +1,4 @@
-use Rattle.std.proofs.Common.{◌≡◌, ◌+◌, inl, inr, arith}
+use Rattle.std.proofs.Common.{◌≡◌, inl, inr, arith}
 use Rattle.std.specs.List.{count_by}
 use Rattle.syntax.specs.Texts.{is_end}
 use Rattle.lexer.proofs.LineLemmas.{at_line, comment_ends, number_ends, symbol_ends, word_ends}
