@@ -152,23 +152,13 @@ fn a_part_ends_before_the_next_procedure(rt: HostRuntime) -> Result<(), Fail> {
     let source: &[u8] = b"type t procedure p end -- x\n procedure q procedure ";
     let mut reader = Lexing::new(source);
     let mut part = Vec::new(rt.alloc());
-    assert!(rt;
-        matches!(
-            reader.add_part(&mut part, 100)?,
-            Stop::Procedure
-        )
-    );
+    assert!(rt; matches!(reader.add_part(&mut part, 100)?, Stop::Procedure));
     assert_eq!(rt; part.len(), 5);
     let mut part = Vec::new(rt.alloc());
     assert!(rt; matches!(reader.add_part(&mut part, 1)?, Stop::Full));
     assert_eq!(rt; part.len(), 1);
     // The `procedure` that the part held before counts.
-    assert!(rt;
-        matches!(
-            reader.add_part(&mut part, 100)?,
-            Stop::Procedure
-        )
-    );
+    assert!(rt; matches!(reader.add_part(&mut part, 100)?, Stop::Procedure));
     assert_eq!(rt; part.len(), 2);
     assert!(rt; reader.finish().is_ok());
     let mut part = Vec::new(rt.alloc());
