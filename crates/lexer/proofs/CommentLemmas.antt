@@ -1,10 +1,11 @@
 -- What is read of a nested comment up to a position decides about what stands behind it.
-use Rattle.std.proofs.Common.{◌≡◌, ◌≢◌, ℕ, zero, suc, ◌+◌, ◌-◌, ◌≤◌, ◌<◌, true, false, [], ◌∷◌, ◌++◌, length, take, drop, inl, inr, refl, ◌∙◌, arith}
+use Rattle.std.proofs.Common.{◌≡◌, ◌≢◌, ℕ, zero, suc, ◌+◌, ◌-◌, ◌≤◌, ◌<◌, true, false, [], ◌∷◌, ◌++◌, length, take, drop, get_or, inl, inr, refl, ap, ◌∙◌, arith}
 use Rattle.std.proofs.lemmas.Bool.{false≢true, both_ways, and_left, and_right, and_parts, cases_Bool, cases_lt}
-use Rattle.std.proofs.lemmas.List.{drop-drop, drop_all, length-drop}
+use Rattle.std.specs.Prelude.{slice_index}
+use Rattle.std.proofs.lemmas.List.{drop-drop, drop_all, get_or-drop, length-drop}
 use Rattle.syntax.specs.Texts.{Text}
 use Rattle.lexer.specs.Comment.{is_opening, is_closing, closes, is_nested_comment}
-use Rattle.lexer.proofs.MarkLemmas.{mark_fits, short_of_mark}
+use Rattle.lexer.proofs.MarkLemmas.{mark_fits, other_mark, short_of_mark}
 
 -- With `before` open comments no front of fewer than `k` bytes closes them, and after these `k` bytes
 -- `after` are open.
@@ -135,6 +136,15 @@ after_byte text at depth inside some more still other =
     let shallow = inside.shallow in
     let left : 1 ≤ length (drop at text) = omega (arith, length-drop at text) in
     proceed text at depth 1 depth inside (byte_from depth (drop at text) some left still other) (omega arith) (omega (arith, shallow))
+
+-- the same of a byte with which no mark begins
+pub after_other : (text : Text) (at depth : ℕ) → IsInside text at depth → 1 ≤ depth → at < length text → get_or text at 0 ≢ 40 → get_or text at 0 ≢ 45 → IsInside text (at + 1) depth
+after_other text at depth inside some more opens closes =
+    let same : at + 0 ≡ at = omega arith in
+    let first : slice_index (drop at text) 0 ≡ get_or text at 0 = get_or-drop at text 0 0 ∙ ap (λ n. get_or text n 0) same in
+    let still = other_mark 40 (45 ∷ 45 ∷ []) (drop at text) (rw first opens) in
+    let other = other_mark 45 (45 ∷ 41 ∷ []) (drop at text) (rw first closes) in
+    after_byte text at depth inside some more still other
 
 -- where none is open, the comment is whole
 pub whole : (text : Text) (read : ℕ) → IsInside text read 0 → is_nested_comment (take read text) ≡ true

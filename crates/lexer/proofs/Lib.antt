@@ -2,6 +2,7 @@ pub mod BucketLemmas
 pub mod CommentLemmas
 pub mod FrontLemmas
 pub mod KindLemmas
+pub mod LineLemmas
 pub mod MarkLemmas
 pub mod PartLemmas
 pub mod PieceLemmas

@@ -21,6 +21,7 @@ pub enum Class {
 }
 
 /// Whether `byte` separates words and begins nothing.
+#[inline(always)]
 pub fn is_blank(byte: u8) -> bool
     ensures { result ≡ bytes.is_blank byte }
 {
@@ -28,6 +29,7 @@ pub fn is_blank(byte: u8) -> bool
 }
 
 /// Whether `byte` may stand in a name behind its first letter.
+#[inline(always)]
 pub fn is_name_byte(byte: u8) -> bool
     ensures { result ≡ bytes.is_name_byte byte }
 {
@@ -36,6 +38,7 @@ pub fn is_name_byte(byte: u8) -> bool
 
 impl Class {
     /// Whether a run of this class may hold `byte`.
+    #[inline(always)]
     pub fn may_hold(self, byte: u8) -> bool
         ensures { result ≡ may_hold self byte }
     {

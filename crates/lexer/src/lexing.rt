@@ -5,9 +5,8 @@ ghost use Rattle.std.specs.Prelude.{◌<◌, ◌+◌, ◌^◌, length};
 use crate::class::Class;
 use crate::piece::longest_piece;
 use crate::position::Position;
-use crate::token::{refuse_piece, token_of};
+use crate::token::{add_token, refuse_piece, token_of};
 use crate::{Fault, Kind, Token};
-use std::alloc::{AllocError, Global};
 
 /// A source of which a part is cut into tokens.
 #[derive(Clone, Copy)]
@@ -41,7 +40,7 @@ pub(crate) struct Found<'a> {
 impl<'a> Lexing<'a> {
     ghost use Rattle.std.specs.Prelude.{◌≡◌, ◌≤◌, ◌++◌, ◌⊎◌, [], List, IfOk, IfErr, OnOk, MatchOption};
     ghost use Rattle.lexer.specs.Tokens.{token_at};
-    ghost use Rattle.lexer.specs.walking.Parts.{BeginsProcedure, HasRead, IsAtProcedure, IsCutOff, IsPart, IsRest, Refuses};
+    ghost use Rattle.lexer.specs.walking.Parts.{BeginsProcedure, HasRead, IsAtProcedure, IsCutOff, IsKept, IsPart, IsRest, Refuses};
     ghost use Rattle.lexer.specs.declared.token.Kind.TheVariants.{End};
     ghost use Rattle.lexer.specs.declared.token.Token.{Token};
     ghost use Rattle.refusals.specs.declared.lexer.Fault.TheVariants.{Memory};
@@ -57,6 +56,7 @@ impl<'a> Lexing<'a> {
     }
 
     /// Cuts off the longest piece at the front. None: nothing is left.
+    #[inline(always)]
     pub(crate) fn cut(&mut self) -> Result<Option<Found<'a>>, Fault>
         ensures ok { IfOk result (λ found. MatchOption found ((self.old.rest.now ≡ []) × (self.new ≡ self.old)) (λ found. IsCutOff self.old found self.new)) }
         ensures err { IfErr result (λ fault. Refuses self.old fault) }
@@ -74,34 +74,31 @@ impl<'a> Lexing<'a> {
             text,
         };
         *self = Lexing {
-            position: self.position.behind(text),
+            position: self.position.behind_piece(piece.class, text),
             rest,
         };
         Ok(Some(found))
     }
 
     /// The token that stands where nothing is left.
-    pub(crate) fn end(&self, alloc: Global) -> Result<Token, AllocError>
-        ensures { IfOk result (λ token. token ≡ token_at self.now.position End [] 0) }
+    pub(crate) fn end(&self) -> Token<'a>
+        ensures { result ≡ token_at self.now.position End [] 0 }
     {
-        Token::new(alloc, self.position, Kind::End, b"", 0)
+        Token::new(self.position, Kind::End, b"", 0)
     }
 
     /// Adds the tokens that follow to `part`: `most` of them, or those up to a `procedure` where one stands in `part`
     /// already, or all up to the end of the source with one of the kind `End`.
     ///
     /// A `procedure` that `part` held before counts too; other tokens that it held do not count against `most`.
-    /// `Memory` may come at any token. At an error nothing is known of `part` and of what is left.
-    pub fn add_part(
-        &mut self,
-        alloc: Global,
-        part: &mut Vec<Token>,
-        most: usize,
-    ) -> Result<Stop, Fault>
+    /// `Memory` may come at any token. At an error `part` has the tokens before the fault, and this source stands behind
+    /// the last of them.
+    pub fn add_part(&mut self, part: &mut Vec<Token<'a>>, most: usize) -> Result<Stop, Fault>
         ensures part { IfOk result (λ stop. (added : List Token) × (part.new.items ≡ part.old.items ++ added) × IsPart stop most self.old added self.new) }
         // A part that is begun where the one before it stopped at a `procedure` begins with that word.
         ensures begins { IfOk result (λ _. IsAtProcedure self.old → part.old.items ≡ [] → 1 ≤ most → BeginsProcedure part.new.items) }
         ensures fault { IfErr result (λ fault. (fault ≡ Memory) ⊎ Refuses self.old fault) }
+        ensures kept { IfErr result (λ _. IsKept self.old part.old.items self.new part.new.items) }
     {
         let mut has_procedure = part
             .iter()
@@ -110,17 +107,17 @@ impl<'a> Lexing<'a> {
         while left > 0 {
             let mut next = *self;
             let Some(found) = next.cut()? else {
-                part.push(self.end(alloc)?)?;
+                part.push(self.end())?;
                 return Ok(Stop::EndOfSource);
             };
-            if let Some(token) = token_of(alloc, found.position, found.class, found.text)? {
+            if let Some(token) = token_of(found.position, found.class, found.text)? {
                 if matches!(token.kind, Kind::ProcedureWord) {
                     if has_procedure {
                         return Ok(Stop::Procedure);
                     }
                     has_procedure = true;
                 }
-                part.push(token)?;
+                add_token(part, token)?;
                 left -= 1;
             }
             *self = next;

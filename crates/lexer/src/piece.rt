@@ -1,12 +1,14 @@
 ghost use Rattle.std.specs.Prelude.{◌≡◌, ◌+◌, ◌≤◌, length, take, drop, MatchOption, IsSome, IsTrue, is_some, nat_le, ◌&&◌};
 ghost use Rattle.std.specs.List.{prefix_len};
 ghost use Rattle.lexer.specs.Comment.{IsOpenComment, is_nested_comment, is_opening};
-ghost use Rattle.lexer.specs.Spelling.{NothingSpelled, may_hold};
+ghost use Rattle.lexer.specs.Spelling.{NothingSpelled, begins, may_hold};
 ghost use Rattle.lexer.specs.Table.{symbol};
+ghost use Rattle.lexer.specs.declared.class.Class.TheVariants.{LineComment};
 ghost use Rattle.lexer.specs.walking.Fronts.{IsFront, NoSymbolBeyond, class_at};
 
 use crate::class::{Class, is_blank};
 use crate::table::symbol;
+use memchr::memchr;
 
 /// A class, and how many bytes at the front of a text spell it.
 #[derive(Clone, Copy)]
@@ -16,6 +18,7 @@ pub struct Piece {
 }
 
 /// How many bytes at the front a run of the class may hold.
+#[inline(always)]
 fn run_length(class: Class, rest: &[u8]) -> usize
     ensures value { result ≡ prefix_len (may_hold class) rest.now }
     ensures within { result ≤ length rest.now }
@@ -27,6 +30,17 @@ fn run_length(class: Class, rest: &[u8]) -> usize
     length
 }
 
+/// How many bytes at the front stand on the first line.
+fn line_length(rest: &[u8]) -> usize
+    ensures value { result ≡ prefix_len (may_hold LineComment) rest.now }
+    ensures within { result ≤ length rest.now }
+{
+    match memchr(b'\n', rest) {
+        Some(end) => end,
+        None => rest.len(),
+    }
+}
+
 /// The length of the nested comment that begins at the front. None: it is open at the end.
 fn nested_length(rest: &[u8]) -> Option<usize>
     requires { IsTrue (is_opening rest.now) }
@@ -36,6 +50,11 @@ fn nested_length(rest: &[u8]) -> Option<usize>
     let mut depth: usize = 1;
     let mut length = 3;
     while length < rest.len() {
+        // Most bytes begin no mark.
+        if rest[length] != b'(' && rest[length] != b'-' {
+            length += 1;
+            continue;
+        }
         let inside = &rest[length..];
         if inside.starts_with(b"(--") {
             depth += 1;
@@ -71,6 +90,7 @@ fn comment(rest: &[u8]) -> Piece
 }
 
 /// Whether the first `count` bytes are there and are a symbol.
+#[inline(always)]
 fn has_symbol(rest: &[u8], count: usize) -> bool
     ensures { result ≡ (nat_le count (length rest.now) && is_some (symbol (take count rest.now))) }
 {
@@ -78,6 +98,7 @@ fn has_symbol(rest: &[u8], count: usize) -> bool
 }
 
 /// The length of the longest symbol at the front.
+#[inline(always)]
 fn symbol_length(rest: &[u8]) -> Option<usize>
     ensures { MatchOption result (NoSymbolBeyond 0 rest.now)
         (λ n. (n ≤ length rest.now) × IsSome (symbol (take n rest.now)) × NoSymbolBeyond n rest.now) }
@@ -92,6 +113,7 @@ fn symbol_length(rest: &[u8]) -> Option<usize>
 }
 
 /// The class of the piece at the front, where both kinds of nested comments count as one.
+#[inline(always)]
 fn class_at(rest: &[u8]) -> Class
     ensures { result ≡ class_at rest.now }
 {
@@ -111,20 +133,47 @@ fn class_at(rest: &[u8]) -> Class
     }
 }
 
+/// The piece that is a run of the class, which the front has to begin.
+#[inline(always)]
+fn run(class: Class, rest: &[u8]) -> Piece
+    requires { IsTrue (begins class rest.now) }
+    ensures { IsFront result.class result.length rest.now }
+{
+    Piece {
+        class,
+        length: run_length(class, rest),
+    }
+}
+
+/// The comment of a line, which begins at the front.
+fn line_comment(rest: &[u8]) -> Piece
+    requires { IsTrue (begins LineComment rest.now) }
+    ensures { IsFront result.class result.length rest.now }
+{
+    Piece {
+        class: Class::LineComment,
+        length: line_length(rest),
+    }
+}
+
 /// The longest piece at the front. None: nothing is spelled there.
+#[inline(always)]
 pub fn longest_piece(rest: &[u8]) -> Option<Piece>
     ensures { MatchOption result (NothingSpelled rest.now) (λ piece. IsFront piece.class piece.length rest.now) }
 {
-    let class = class_at(rest);
-    match class {
-        Class::Blank | Class::LineComment | Class::Word | Class::Number => Some(Piece {
-            class,
-            length: run_length(class, rest),
-        }),
+    // Each class by its name, so that the loop of each is made for it alone.
+    match class_at(rest) {
+        Class::Blank => Some(run(Class::Blank, rest)),
+        Class::LineComment => Some(line_comment(rest)),
+        Class::Word => Some(run(Class::Word, rest)),
+        Class::Number => Some(run(Class::Number, rest)),
         Class::NestedComment | Class::OpenComment => Some(comment(rest)),
         Class::Symbol => {
             let length = symbol_length(rest)?;
-            Some(Piece { class, length })
+            Some(Piece {
+                class: Class::Symbol,
+                length,
+            })
         }
     }
 }

@@ -1,6 +1,8 @@
 ghost use Rattle.std.specs.Prelude.{◌≡◌, ◌+◌, ◌<◌, ◌^◌, length};
+ghost use Rattle.lexer.specs.Spelling.{Spells};
 ghost use Rattle.lexer.specs.Tokens.{behind};
 
+use crate::class::Class;
 use syntax::Span;
 
 /// Where a piece begins.
@@ -26,7 +28,26 @@ impl Position {
         }
     }
 
+    /// The position behind a piece of this class, which begins here.
+    #[inline(always)]
+    pub fn behind_piece(self, class: Class, text: &[u8]) -> Position
+        requires offset { self.offset + length text.now < 2 ^ 64 }
+        requires line { self.line + length text.now < 2 ^ 64 }
+        requires spelled { Spells class text.now }
+        ensures { result ≡ behind self text.now }
+    {
+        match class {
+            Class::Blank | Class::NestedComment | Class::OpenComment => self.behind(text),
+            // No line ends in these.
+            Class::LineComment | Class::Word | Class::Number | Class::Symbol => Position {
+                offset: self.offset + text.len() as u64,
+                line: self.line,
+            },
+        }
+    }
+
     /// The span of so many bytes that begin here.
+    #[inline(always)]
     pub fn span(self, length: usize) -> Span
         requires { self.offset + length < 2 ^ 64 }
         ensures { result ≡ record { start = self.offset; stop = self.offset + length; line = self.line } }

@@ -1,4 +1,5 @@
-ghost use Rattle.std.specs.Prelude.{◌≡◌, ◌∷◌, ℕ, List, map};
+ghost use Rattle.std.specs.Prelude.{◌≡◌, [], ◌∷◌, ℕ, List, map, nat_eq, if◌then◌else◌, Some, None};
+ghost use Rattle.std.specs.Cmp.Lexicographic.{pointwise};
 ghost use Rattle.lexer.specs.Table as spec;
 
 use crate::Kind;
@@ -58,42 +59,6 @@ const WORDS_OF_W: [(&[u8], Kind); 1] = [(b"while", Kind::WhileWord)];
 
 const WORDS_OF_X: [(&[u8], Kind); 1] = [(b"xor", Kind::XorWord)];
 
-/// The symbols by their first byte.
-const SYMBOLS_OF_COLON: [(&[u8], Kind); 2] = [(b":=", Kind::AssignSign), (b":", Kind::Colon)];
-
-const SYMBOLS_OF_LESS: [(&[u8], Kind); 3] = [
-    (b"<-", Kind::SendSign),
-    (b"<", Kind::LessSign),
-    (b"<=", Kind::LessOrEqualSign),
-];
-
-const SYMBOLS_OF_MINUS: [(&[u8], Kind); 2] = [(b"->", Kind::ReceiveSign), (b"-", Kind::MinusSign)];
-
-const SYMBOLS_OF_BAR: [(&[u8], Kind); 2] = [(b"||", Kind::DoubleBar), (b"|", Kind::Bar)];
-
-const SYMBOLS_OF_SEMICOLON: [(&[u8], Kind); 1] = [(b";", Kind::Semicolon)];
-
-const SYMBOLS_OF_COMMA: [(&[u8], Kind); 1] = [(b",", Kind::Comma)];
-
-const SYMBOLS_OF_LEFT_PARENTHESIS: [(&[u8], Kind); 1] = [(b"(", Kind::LeftParenthesis)];
-
-const SYMBOLS_OF_RIGHT_PARENTHESIS: [(&[u8], Kind); 1] = [(b")", Kind::RightParenthesis)];
-
-const SYMBOLS_OF_LEFT_BRACKET: [(&[u8], Kind); 1] = [(b"[", Kind::LeftBracket)];
-
-const SYMBOLS_OF_RIGHT_BRACKET: [(&[u8], Kind); 1] = [(b"]", Kind::RightBracket)];
-
-const SYMBOLS_OF_PLUS: [(&[u8], Kind); 1] = [(b"+", Kind::PlusSign)];
-
-const SYMBOLS_OF_EQUAL: [(&[u8], Kind); 1] = [(b"=", Kind::EqualSign)];
-
-const SYMBOLS_OF_SLASH: [(&[u8], Kind); 1] = [(b"/=", Kind::NotEqualSign)];
-
-const SYMBOLS_OF_GREATER: [(&[u8], Kind); 2] = [
-    (b">", Kind::GreaterSign),
-    (b">=", Kind::GreaterOrEqualSign),
-];
-
 /// Among which of the reserved words a text that begins with `first` is to be looked up.
 fn words_of(first: u8) -> &'static [(&'static [u8], Kind)]
     ensures { (rest : List ℕ) → spec.lookup (map (λ entry. (entry.0.now, entry.1)) result.now) (first ∷ rest) ≡ spec.reserved_word (first ∷ rest) }
@@ -118,27 +83,20 @@ fn words_of(first: u8) -> &'static [(&'static [u8], Kind)]
     }
 }
 
-/// Among which of the symbols a text that begins with `first` is to be looked up.
-fn symbols_of(first: u8) -> &'static [(&'static [u8], Kind)]
-    ensures { (rest : List ℕ) → spec.lookup (map (λ entry. (entry.0.now, entry.1)) result.now) (first ∷ rest) ≡ spec.symbol (first ∷ rest) }
+/// Whether the two are one text.
+fn is_text(entry: &[u8], text: &[u8]) -> bool
+    ensures { result ≡ pointwise nat_eq entry.now text.now }
 {
-    match first {
-        b':' => &SYMBOLS_OF_COLON,
-        b'<' => &SYMBOLS_OF_LESS,
-        b'-' => &SYMBOLS_OF_MINUS,
-        b'|' => &SYMBOLS_OF_BAR,
-        b';' => &SYMBOLS_OF_SEMICOLON,
-        b',' => &SYMBOLS_OF_COMMA,
-        b'(' => &SYMBOLS_OF_LEFT_PARENTHESIS,
-        b')' => &SYMBOLS_OF_RIGHT_PARENTHESIS,
-        b'[' => &SYMBOLS_OF_LEFT_BRACKET,
-        b']' => &SYMBOLS_OF_RIGHT_BRACKET,
-        b'+' => &SYMBOLS_OF_PLUS,
-        b'=' => &SYMBOLS_OF_EQUAL,
-        b'/' => &SYMBOLS_OF_SLASH,
-        b'>' => &SYMBOLS_OF_GREATER,
-        _ => &[],
+    // Most are told apart by their lengths.
+    if entry.len() != text.len() {
+        return false;
     }
+    for place in 0..entry.len() {
+        if entry[place] != text[place] {
+            return false;
+        }
+    }
+    true
 }
 
 /// The kind that stands beside `text` in `table`, if it stands there.
@@ -147,7 +105,7 @@ pub fn lookup(table: &[(&[u8], Kind)], text: &[u8]) -> Option<Kind>
 {
     let mut rest = table;
     while let [entry, others @ ..] = rest {
-        if *entry.0 == *text {
+        if is_text(entry.0, text) {
             return Some(entry.1);
         }
         rest = others;
@@ -155,13 +113,66 @@ pub fn lookup(table: &[(&[u8], Kind)], text: &[u8]) -> Option<Kind>
     None
 }
 
+/// The symbol of this byte alone.
+#[inline(always)]
+fn one_byte_symbol(only: u8) -> Option<Kind>
+    ensures { result ≡ spec.symbol (only ∷ []) }
+{
+    match only {
+        b':' => Some(Kind::Colon),
+        b'<' => Some(Kind::LessSign),
+        b'-' => Some(Kind::MinusSign),
+        b'|' => Some(Kind::Bar),
+        b';' => Some(Kind::Semicolon),
+        b',' => Some(Kind::Comma),
+        b'(' => Some(Kind::LeftParenthesis),
+        b')' => Some(Kind::RightParenthesis),
+        b'[' => Some(Kind::LeftBracket),
+        b']' => Some(Kind::RightBracket),
+        b'+' => Some(Kind::PlusSign),
+        b'=' => Some(Kind::EqualSign),
+        b'>' => Some(Kind::GreaterSign),
+        _ => None,
+    }
+}
+
+/// `kind`, where `second` is the byte that is wanted.
+#[inline(always)]
+fn where_it_follows(second: u8, wanted: u8, kind: Kind) -> Option<Kind>
+    ensures { result ≡ (if nat_eq wanted second then Some kind else None) }
+{
+    if second == wanted { Some(kind) } else { None }
+}
+
+/// The symbol of these two bytes.
+#[inline(always)]
+fn two_byte_symbol(first: u8, second: u8) -> Option<Kind>
+    ensures { result ≡ spec.symbol (first ∷ second ∷ []) }
+{
+    match first {
+        b':' => where_it_follows(second, b'=', Kind::AssignSign),
+        b'<' => where_it_follows(second, b'-', Kind::SendSign).or(where_it_follows(
+            second,
+            b'=',
+            Kind::LessOrEqualSign,
+        )),
+        b'-' => where_it_follows(second, b'>', Kind::ReceiveSign),
+        b'|' => where_it_follows(second, b'|', Kind::DoubleBar),
+        b'/' => where_it_follows(second, b'=', Kind::NotEqualSign),
+        b'>' => where_it_follows(second, b'=', Kind::GreaterOrEqualSign),
+        _ => None,
+    }
+}
+
 /// The symbol that `text` is.
+#[inline(always)]
 pub fn symbol(text: &[u8]) -> Option<Kind>
     ensures { result ≡ spec.symbol text.now }
 {
     match text {
-        [first, _rest @ ..] => lookup(symbols_of(*first), text),
-        [] => None,
+        [only] => one_byte_symbol(*only),
+        [first, second] => two_byte_symbol(*first, *second),
+        _ => None,
     }
 }
 

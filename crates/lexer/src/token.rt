@@ -1,4 +1,4 @@
-ghost use Rattle.std.specs.Prelude.{◌≡◌, ◌≤◌, ◌<◌, ◌+◌, ◌^◌, length, ◌++◌, ◌⊎◌, IfOk, IfErr, OnOk};
+ghost use Rattle.std.specs.Prelude.{◌≡◌, ◌≤◌, ◌<◌, ◌+◌, ◌^◌, length, ◌++◌, ◌∷◌, [], ◌⊎◌, if◌then◌else◌, is_ok, IfOk, IfErr, OnOk};
 ghost use Rattle.std.specs.Option.{option_to_list};
 ghost use Rattle.lexer.specs.Tokens.{IsReadable, token_at, token_of};
 ghost use Rattle.lexer.specs.walking.Fronts.{IsPieceFault};
@@ -6,11 +6,12 @@ ghost use Rattle.refusals.specs.declared.lexer.Fault.TheVariants.{Memory};
 
 use crate::Fault;
 use crate::class::Class;
+use crate::excerpt::Excerpt;
 use crate::number::value;
 use crate::position::Position;
 use crate::table::{reserved_word, symbol};
-use std::alloc::{AllocError, Global};
-use syntax::{Name, Span};
+use std::alloc::AllocError;
+use syntax::Span;
 
 /// What a token is, without its text.
 #[derive(Clone, Copy, Debug, PartialEq, Eq)]
@@ -121,46 +122,53 @@ pub enum Kind {
 
 /// A part of the source that is neither blank nor comment.
 #[derive(Debug, Drop)]
-pub struct Token {
+pub struct Token<'a> {
     pub kind: Kind,
     /// Its bytes, as they stand in the source.
-    pub text: Name,
+    pub text: Excerpt<'a>,
     /// The value of a `Kind::Number`, and 0 for every other kind.
     pub number: u64,
     pub span: Span,
 }
 
-impl Token {
+impl<'a> Token<'a> {
     /// The token of this kind whose text begins at `position`.
-    pub(crate) fn new(
-        alloc: Global,
-        position: Position,
-        kind: Kind,
-        text: &[u8],
-        number: u64,
-    ) -> Result<Token, AllocError>
+    #[inline(always)]
+    pub(crate) fn new(position: Position, kind: Kind, text: &'a [u8], number: u64) -> Token<'a>
         requires { position.offset + length text.now < 2 ^ 64 }
-        ensures { IfOk result (λ token. token ≡ token_at position kind text.now number) }
+        ensures { result ≡ token_at position kind text.now number }
     {
-        Ok(Token {
+        Token {
             kind,
-            text: Name::new(alloc, text)?,
+            text: Excerpt::new(text),
             number,
             span: position.span(text.len()),
-        })
+        }
     }
 }
 
+/// Adds the token, for which there is mostly room.
+#[inline(always)]
+pub(crate) fn add_token<'a>(tokens: &mut Vec<Token<'a>>, token: Token<'a>) -> Result<(), AllocError>
+    ensures { tokens.new.items ≡ (if is_ok result then tokens.old.items ++ token.entry ∷ [] else tokens.old.items) }
+{
+    if tokens.len() >= tokens.capacity() {
+        tokens.reserve(1)?;
+    }
+    tokens.push_reserved(token);
+    Ok(())
+}
+
 /// The token of a piece that begins at `position`. None: it is blank or a comment.
-pub(crate) fn token_of(
-    alloc: Global,
+#[inline(always)]
+pub(crate) fn token_of<'a>(
     position: Position,
     class: Class,
-    text: &[u8],
-) -> Result<Option<Token>, Fault>
+    text: &'a [u8],
+) -> Result<Option<Token<'a>>, Fault>
     requires { position.offset + length text.now < 2 ^ 64 }
     ensures ok { IfOk result (λ token. IsReadable class text.now × (token ≡ token_of position class text.now)) }
-    ensures err { IfErr result (λ fault. (fault ≡ Memory) ⊎ IsPieceFault position.offset class text.now fault) }
+    ensures err { IfErr result (λ fault. IsPieceFault position.offset class text.now fault) }
 {
     let (kind, number) = match class {
         Class::Blank | Class::LineComment | Class::NestedComment => return Ok(None),
@@ -175,24 +183,23 @@ pub(crate) fn token_of(
             None => return Ok(None),
         },
     };
-    Ok(Some(Token::new(alloc, position, kind, text, number)?))
+    Ok(Some(Token::new(position, kind, text, number)))
 }
 
 /// Adds the token of a piece that begins at `position`, unless it is blank or a comment.
-pub(crate) fn push_token(
-    alloc: Global,
-    tokens: &mut Vec<Token>,
+pub(crate) fn push_token<'a>(
+    tokens: &mut Vec<Token<'a>>,
     position: Position,
     class: Class,
-    text: &[u8],
+    text: &'a [u8],
 ) -> Result<(), Fault>
     requires { position.offset + length text.now < 2 ^ 64 }
     ensures readable { OnOk result (IsReadable class text.now) }
     ensures tokens { OnOk result (tokens.new.items ≡ tokens.old.items ++ option_to_list (token_of position class text.now)) }
     ensures err { IfErr result (λ fault. (fault ≡ Memory) ⊎ IsPieceFault position.offset class text.now fault) }
 {
-    if let Some(token) = token_of(alloc, position, class, text)? {
-        tokens.push(token)?;
+    if let Some(token) = token_of(position, class, text)? {
+        add_token(tokens, token)?;
     }
     Ok(())
 }

@@ -6,6 +6,7 @@ use Rattle.lexer.specs.declared.token.Token.{Token}
 use Rattle.syntax.specs.declared.declaration.Description.{Description}
 use Rattle.parser.specs.Accepted.{most_levels, Parses, FirstUnexpected, FirstTooDeep}
 use Rattle.parser.specs.Offsets.{offset_at}
+use Rattle.parser.specs.Sentences.{StopsForGood, StopsForLevels}
 use Rattle.parser.specs.Input.{Input, input, is_one_of, same_kind}
 use Rattle.parser.specs.walking.Readers.{Outcome, read, unexpected, too_deep, whole}
 use Rattle.parser.specs.Grammar as g
@@ -24,11 +25,17 @@ no_end = refl
 pub parsed : (tokens : List Token) (given : Description) (j : Input) → outcome tokens ≡ read given j → Parses tokens given
 parsed tokens given j e = read_sentence g.description r.description description_full no_end most_levels tokens given j e
 
+pub unexpected_stop : (tokens rest : List Token) → outcome tokens ≡ unexpected rest → (front : List Token) × StopsForGood g.description most_levels tokens front rest
+unexpected_stop tokens rest e = stops_for_good g.description r.description description_full no_end most_levels tokens rest e
+
+pub too_deep_stop : (tokens rest : List Token) → outcome tokens ≡ too_deep rest → (front : List Token) × StopsForLevels g.description most_levels tokens front rest
+too_deep_stop tokens rest e = stops_for_levels g.description r.description description_full no_end most_levels tokens rest e
+
 pub unexpected_first : (tokens rest : List Token) → outcome tokens ≡ unexpected rest → FirstUnexpected tokens (offset_at tokens rest)
-unexpected_first tokens rest e = let found = stops_for_good g.description r.description description_full no_end most_levels tokens rest e in (found.0, rest, found.1, refl)
+unexpected_first tokens rest e = let found = unexpected_stop tokens rest e in (found.0, rest, found.1, refl)
 
 pub too_deep_first : (tokens rest : List Token) → outcome tokens ≡ too_deep rest → FirstTooDeep tokens (offset_at tokens rest)
-too_deep_first tokens rest e = let found = stops_for_levels g.description r.description description_full no_end most_levels tokens rest e in (found.0, rest, found.1, refl)
+too_deep_first tokens rest e = let found = too_deep_stop tokens rest e in (found.0, rest, found.1, refl)
 
 -- ---- the other way round
 

@@ -2,7 +2,7 @@
 use Rattle.std.specs.Prelude.{◌≡◌, ℕ, List}
 use Rattle.lexer.specs.declared.token.Token.{Token}
 use Rattle.syntax.specs.declared.declaration.Description.{Description}
-use Rattle.parser.specs.Sentences.{Spells, StopsForGood, StopsForLevels}
+use Rattle.parser.specs.Sentences.{GoesOn, Spells, StopsForGood, StopsForLevels}
 use Rattle.parser.specs.Offsets.{offset_at}
 use Rattle.parser.specs.Grammar.{description}
 use Rattle.refusals.specs.declared.parser.Fault.{Fault}
@@ -15,6 +15,10 @@ most_levels = 64
 -- the tokens up to the first end are this description
 abbrev pub Parses : List Token → Description → Type 0
 Parses tokens given = Spells description most_levels tokens given
+
+-- some description begins with the tokens
+abbrev pub Begins : List Token → Type 0
+Begins tokens = GoesOn description most_levels tokens
 
 -- At the offset stands the first token with which no description goes on, or there the tokens end too soon.
 abbrev pub FirstUnexpected : List Token → ℕ → Type 0

@@ -1,6 +1,5 @@
 pub mod Answer
 pub mod BySign
-pub mod Inside
 pub mod Nests
 pub mod Parts
 pub mod Readers

@@ -20,7 +20,7 @@ use lexer::Kind;
 use syntax::{Action, Arm, CaseArm, Command, Expr, Guarded, Identifier, Items, Span};
 
 /// A command, unless memory is out. It reads no token.
-fn new_command(cursor: &Cursor<'_>, span: Span, action: Action) -> Result<Command, Halt>
+fn new_command(cursor: &Cursor<'_, '_>, span: Span, action: Action) -> Result<Command, Halt>
     ensures { Reads (read (trees.command_at span action) (place cursor.now)) result (place cursor.now) }
 {
     Ok(Command::new(cursor.alloc(), span, action)?)
@@ -29,7 +29,7 @@ fn new_command(cursor: &Cursor<'_>, span: Span, action: Action) -> Result<Comman
 /// `end`, behind what begins at `start`. The command is made first, since an action that is dropped
 /// at the `?` would be dropped form by form.
 #[tactic(auto, unfolding(crate::specs::walking::Readers::bind, crate::specs::walking::Readers::pure))]
-fn ended(cursor: &mut Cursor<'_>, start: Span, action: Action) -> Result<Command, Halt>
+fn ended(cursor: &mut Cursor<'_, '_>, start: Span, action: Action) -> Result<Command, Halt>
     ensures { Reads (reading.ended start action (place cursor.old)) result (place cursor.new) }
 {
     let mut command = new_command(cursor, start, action)?;
@@ -40,7 +40,7 @@ fn ended(cursor: &mut Cursor<'_>, start: Span, action: Action) -> Result<Command
 
 /// `continue`
 #[tactic(auto, unfolding(crate::specs::walking::Reading::word, crate::specs::walking::Readers::bind, crate::specs::walking::Readers::pure))]
-fn nothing(cursor: &mut Cursor<'_>) -> Result<Command, Halt>
+fn nothing(cursor: &mut Cursor<'_, '_>) -> Result<Command, Halt>
     ensures { Reads (reading.word Kind.ContinueWord Action.Continue (place cursor.old)) result (place cursor.new) }
 {
     let word = cursor.take(Kind::ContinueWord)?;
@@ -49,7 +49,7 @@ fn nothing(cursor: &mut Cursor<'_>) -> Result<Command, Halt>
 
 /// `halt`
 #[tactic(auto, unfolding(crate::specs::walking::Reading::word, crate::specs::walking::Readers::bind, crate::specs::walking::Readers::pure))]
-fn halt(cursor: &mut Cursor<'_>) -> Result<Command, Halt>
+fn halt(cursor: &mut Cursor<'_, '_>) -> Result<Command, Halt>
     ensures { Reads (reading.word Kind.HaltWord Action.Halt (place cursor.old)) result (place cursor.new) }
 {
     let word = cursor.take(Kind::HaltWord)?;
@@ -58,7 +58,7 @@ fn halt(cursor: &mut Cursor<'_>) -> Result<Command, Halt>
 
 /// `sync name`
 #[tactic(auto, unfolding(crate::specs::walking::Reading::synchronisation, crate::specs::walking::Readers::bind, crate::specs::walking::Readers::pure))]
-fn sync(cursor: &mut Cursor<'_>) -> Result<Command, Halt>
+fn sync(cursor: &mut Cursor<'_, '_>) -> Result<Command, Halt>
     ensures { Reads (reading.synchronisation (place cursor.old)) result (place cursor.new) }
 {
     let start = cursor.take(Kind::SyncWord)?;
@@ -80,7 +80,7 @@ fn given_by(sign: Kind, name: Identifier, value: Expr) -> Action
 /// `:= expression` or `<- expression`, behind `name`.
 #[tactic(auto, unfolding(crate::specs::walking::Readers::bind, crate::specs::walking::Readers::pure))]
 fn give(
-    cursor: &mut Cursor<'_>,
+    cursor: &mut Cursor<'_, '_>,
     sign: Kind,
     depth: usize,
     name: Identifier,
@@ -95,7 +95,7 @@ fn give(
 
 /// A variable's name, behind `channel ->`.
 #[tactic(auto, unfolding(crate::specs::walking::Reading::receiving, crate::specs::walking::Readers::bind, crate::specs::walking::Readers::pure))]
-fn receive(cursor: &mut Cursor<'_>, channel: Identifier) -> Result<Command, Halt>
+fn receive(cursor: &mut Cursor<'_, '_>, channel: Identifier) -> Result<Command, Halt>
     ensures { Reads (reading.receiving channel (place cursor.old)) result (place cursor.new) }
 {
     let target = cursor.identifier()?;
@@ -106,7 +106,7 @@ fn receive(cursor: &mut Cursor<'_>, channel: Identifier) -> Result<Command, Halt
 
 /// The names in the parentheses of a call, none or more.
 #[tactic(auto, unfolding(crate::specs::walking::Reading::arguments, crate::specs::walking::Readers::branch, crate::specs::walking::Readers::pure))]
-fn arguments(cursor: &mut Cursor<'_>) -> Result<Items<Identifier>, Halt>
+fn arguments(cursor: &mut Cursor<'_, '_>) -> Result<Items<Identifier>, Halt>
     ensures { Reads (reading.arguments (place cursor.old)) result (place cursor.new) }
 {
     if cursor.sees(Kind::Name) {
@@ -118,7 +118,7 @@ fn arguments(cursor: &mut Cursor<'_>) -> Result<Items<Identifier>, Halt>
 
 /// `( names )`, behind `procedure`.
 #[tactic(auto, unfolding(crate::specs::walking::Reading::call, crate::specs::walking::Readers::bind, crate::specs::walking::Readers::pure))]
-fn call(cursor: &mut Cursor<'_>, procedure: Identifier) -> Result<Command, Halt>
+fn call(cursor: &mut Cursor<'_, '_>, procedure: Identifier) -> Result<Command, Halt>
     ensures { Reads (reading.call procedure (place cursor.old)) result (place cursor.new) }
 {
     cursor.take(Kind::LeftParenthesis)?;
@@ -159,7 +159,7 @@ struct Joined<'r, R> {
 impl<R: Rule<Tree = Command>> Joined<'_, R> {
     /// The command that `first` begins.
     #[tactic(auto, unfolding(crate::specs::walking::Reading::joined, crate::specs::walking::Reading::one_more, crate::specs::walking::Readers::bind, crate::specs::walking::Readers::pure))]
-    fn joined(&self, cursor: &mut Cursor<'_>, first: Command) -> Result<Command, Halt>
+    fn joined(&self, cursor: &mut Cursor<'_, '_>, first: Command) -> Result<Command, Halt>
         requires { R.can_read self.now.item.now }
         ensures { Reads (reading.joined self.now.sign (by_sign.made_of self.now.sign) (R.reader self.now.item.now) first (place cursor.old)) result (place cursor.new) }
     {
@@ -184,7 +184,7 @@ impl<R: Rule<Tree = Command>> Rule for Joined<'_, R> {
     ghost reader = { λ joined. reading.alone_or_joined joined.sign (by_sign.made_of joined.sign) (R.reader joined.item.now) };
 
     #[tactic(auto, unfolding(crate::specs::walking::Reading::alone_or_joined, crate::specs::walking::Readers::branch, crate::specs::walking::Readers::bind, crate::specs::walking::Readers::pure))]
-    fn read(&self, cursor: &mut Cursor<'_>) -> Result<Command, Halt> {
+    fn read(&self, cursor: &mut Cursor<'_, '_>) -> Result<Command, Halt> {
         let first = self.item.read(cursor)?;
         if cursor.sees(self.sign) {
             self.joined(cursor, first)
@@ -206,7 +206,7 @@ struct Parts<R> {
 impl<R: Rule<Tree = Command>> Parts<R> {
     /// Any command: parallels with `;` between them, of simple commands with `||` between them.
     #[tactic(auto, unfolding(crate::specs::walking::Reading::command_of, crate::specs::walking::Reading::parallel_of))]
-    fn command(&self, cursor: &mut Cursor<'_>) -> Result<Command, Halt>
+    fn command(&self, cursor: &mut Cursor<'_, '_>) -> Result<Command, Halt>
         requires { R.can_read self.now.simple }
         ensures { Reads (command_of (R.reader self.now.simple) (place cursor.old)) result (place cursor.new) }
     {
@@ -223,7 +223,7 @@ impl<R: Rule<Tree = Command>> Parts<R> {
 
     /// `[ command ]`
     #[tactic(auto, unfolding(crate::specs::walking::Reading::bracketed, crate::specs::walking::Readers::bind, crate::specs::walking::Readers::pure))]
-    fn bracketed(&self, cursor: &mut Cursor<'_>) -> Result<Command, Halt>
+    fn bracketed(&self, cursor: &mut Cursor<'_, '_>) -> Result<Command, Halt>
         requires { R.can_read self.now.simple }
         ensures { Reads (reading.bracketed self.now.depth (expression_in (self.now.depth + 1)) (command_of (R.reader self.now.simple)) (expression_in self.now.depth) (place cursor.old)) result (place cursor.new) }
     {
@@ -235,7 +235,7 @@ impl<R: Rule<Tree = Command>> Parts<R> {
 
     /// `then command`
     #[tactic(auto, unfolding(crate::specs::walking::Reading::body, crate::specs::walking::Readers::bind, crate::specs::walking::Readers::pure))]
-    fn body(&self, cursor: &mut Cursor<'_>) -> Result<Command, Halt>
+    fn body(&self, cursor: &mut Cursor<'_, '_>) -> Result<Command, Halt>
         requires { R.can_read self.now.simple }
         ensures { Reads (reading.body (command_of (R.reader self.now.simple)) (expression_in self.now.depth) (place cursor.old)) result (place cursor.new) }
     {
@@ -245,7 +245,7 @@ impl<R: Rule<Tree = Command>> Parts<R> {
 
     /// `while expression then command end`, behind the `loop` at `start`.
     #[tactic(auto, unfolding(crate::specs::walking::Reading::while_loop, crate::specs::walking::Readers::bind, crate::specs::walking::Readers::pure))]
-    fn while_loop(&self, cursor: &mut Cursor<'_>, start: Span) -> Result<Command, Halt>
+    fn while_loop(&self, cursor: &mut Cursor<'_, '_>, start: Span) -> Result<Command, Halt>
         requires { R.can_read self.now.simple }
         ensures { Reads (reading.while_loop (command_of (R.reader self.now.simple)) (expression_in self.now.depth) start (place cursor.old)) result (place cursor.new) }
     {
@@ -257,7 +257,7 @@ impl<R: Rule<Tree = Command>> Parts<R> {
 
     /// `command end`, behind the `loop` at `start`.
     #[tactic(auto, unfolding(crate::specs::walking::Reading::endless, crate::specs::walking::Readers::bind, crate::specs::walking::Readers::pure))]
-    fn endless(&self, cursor: &mut Cursor<'_>, start: Span) -> Result<Command, Halt>
+    fn endless(&self, cursor: &mut Cursor<'_, '_>, start: Span) -> Result<Command, Halt>
         requires { R.can_read self.now.simple }
         ensures { Reads (reading.endless (command_of (R.reader self.now.simple)) (expression_in self.now.depth) start (place cursor.old)) result (place cursor.new) }
     {
@@ -267,7 +267,7 @@ impl<R: Rule<Tree = Command>> Parts<R> {
 
     /// `loop .. end`
     #[tactic(auto, unfolding(crate::specs::walking::Reading::looping, crate::specs::walking::Readers::branch, crate::specs::walking::Readers::bind, crate::specs::walking::Readers::pure))]
-    fn repeated(&self, cursor: &mut Cursor<'_>) -> Result<Command, Halt>
+    fn repeated(&self, cursor: &mut Cursor<'_, '_>) -> Result<Command, Halt>
         requires { R.can_read self.now.simple }
         ensures { Reads (reading.looping self.now.depth (expression_in (self.now.depth + 1)) (command_of (R.reader self.now.simple)) (expression_in self.now.depth) (place cursor.old)) result (place cursor.new) }
     {
@@ -281,7 +281,7 @@ impl<R: Rule<Tree = Command>> Parts<R> {
 
     /// `else command`, or nothing.
     #[tactic(auto, unfolding(crate::specs::walking::Reading::otherwise, crate::specs::walking::Reading::last_body, crate::specs::walking::Readers::branch, crate::specs::walking::Readers::bind, crate::specs::walking::Readers::pure))]
-    fn otherwise(&self, cursor: &mut Cursor<'_>) -> Result<Option<Command>, Halt>
+    fn otherwise(&self, cursor: &mut Cursor<'_, '_>) -> Result<Option<Command>, Halt>
         requires { R.can_read self.now.simple }
         ensures { Reads (reading.otherwise (command_of (R.reader self.now.simple)) (expression_in self.now.depth) (place cursor.old)) result (place cursor.new) }
     {
@@ -296,7 +296,7 @@ impl<R: Rule<Tree = Command>> Parts<R> {
 
     /// `if .. end`
     #[tactic(auto, unfolding(crate::specs::walking::Reading::branching, crate::specs::walking::Readers::bind, crate::specs::walking::Readers::pure))]
-    fn branching(&self, cursor: &mut Cursor<'_>) -> Result<Command, Halt>
+    fn branching(&self, cursor: &mut Cursor<'_, '_>) -> Result<Command, Halt>
         requires { R.can_read self.now.simple }
         ensures { Reads (reading.branching self.now.depth (expression_in (self.now.depth + 1)) (command_of (R.reader self.now.simple)) (expression_in self.now.depth) (place cursor.old)) result (place cursor.new) }
     {
@@ -309,7 +309,7 @@ impl<R: Rule<Tree = Command>> Parts<R> {
 
     /// `of .. end`, behind the `case` at `start` and `value`.
     #[tactic(auto, unfolding(crate::specs::walking::Readers::bind, crate::specs::walking::Readers::pure))]
-    fn cases(&self, cursor: &mut Cursor<'_>, start: Span, value: Expr) -> Result<Command, Halt>
+    fn cases(&self, cursor: &mut Cursor<'_, '_>, start: Span, value: Expr) -> Result<Command, Halt>
         requires { R.can_read self.now.simple }
         ensures { Reads (reading.cases (command_of (R.reader self.now.simple)) (expression_in self.now.depth) start value (place cursor.old)) result (place cursor.new) }
     {
@@ -322,7 +322,7 @@ impl<R: Rule<Tree = Command>> Parts<R> {
 
     /// `case .. end`
     #[tactic(auto, unfolding(crate::specs::walking::Reading::casing, crate::specs::walking::Readers::bind, crate::specs::walking::Readers::pure))]
-    fn case(&self, cursor: &mut Cursor<'_>) -> Result<Command, Halt>
+    fn case(&self, cursor: &mut Cursor<'_, '_>) -> Result<Command, Halt>
         requires { R.can_read self.now.simple }
         ensures { Reads (reading.casing self.now.depth (expression_in (self.now.depth + 1)) (command_of (R.reader self.now.simple)) (expression_in self.now.depth) (place cursor.old)) result (place cursor.new) }
     {
@@ -333,7 +333,7 @@ impl<R: Rule<Tree = Command>> Parts<R> {
 
     /// `select .. end`
     #[tactic(auto, unfolding(crate::specs::walking::Reading::selecting, crate::specs::walking::Readers::bind, crate::specs::walking::Readers::pure))]
-    fn select(&self, cursor: &mut Cursor<'_>) -> Result<Command, Halt>
+    fn select(&self, cursor: &mut Cursor<'_, '_>) -> Result<Command, Halt>
         requires { R.can_read self.now.simple }
         ensures { Reads (reading.selecting self.now.depth (expression_in (self.now.depth + 1)) (command_of (R.reader self.now.simple)) (expression_in self.now.depth) (place cursor.old)) result (place cursor.new) }
     {
@@ -344,7 +344,7 @@ impl<R: Rule<Tree = Command>> Parts<R> {
 
     /// `| name then command end`, behind the `arbitrate` at `start` and its first arm.
     #[tactic(auto, unfolding(crate::specs::walking::Readers::bind, crate::specs::walking::Readers::pure))]
-    fn against(&self, cursor: &mut Cursor<'_>, start: Span, first: Arm) -> Result<Command, Halt>
+    fn against(&self, cursor: &mut Cursor<'_, '_>, start: Span, first: Arm) -> Result<Command, Halt>
         requires { R.can_read self.now.simple }
         ensures { Reads (reading.against (command_of (R.reader self.now.simple)) (expression_in self.now.depth) start first (place cursor.old)) result (place cursor.new) }
     {
@@ -355,7 +355,7 @@ impl<R: Rule<Tree = Command>> Parts<R> {
 
     /// `arbitrate .. end`
     #[tactic(auto, unfolding(crate::specs::walking::Reading::arbitrating, crate::specs::walking::Readers::bind, crate::specs::walking::Readers::pure))]
-    fn arbitrate(&self, cursor: &mut Cursor<'_>) -> Result<Command, Halt>
+    fn arbitrate(&self, cursor: &mut Cursor<'_, '_>) -> Result<Command, Halt>
         requires { R.can_read self.now.simple }
         ensures { Reads (reading.arbitrating self.now.depth (expression_in (self.now.depth + 1)) (command_of (R.reader self.now.simple)) (expression_in self.now.depth) (place cursor.old)) result (place cursor.new) }
     {
@@ -366,7 +366,7 @@ impl<R: Rule<Tree = Command>> Parts<R> {
 
     /// `then command end`, behind `channel ->`.
     #[tactic(auto, unfolding(crate::specs::walking::Reading::enclosing, crate::specs::walking::Readers::bind, crate::specs::walking::Readers::pure))]
-    fn input(&self, cursor: &mut Cursor<'_>, channel: Identifier) -> Result<Command, Halt>
+    fn input(&self, cursor: &mut Cursor<'_, '_>, channel: Identifier) -> Result<Command, Halt>
         requires { R.can_read self.now.simple }
         ensures { Reads (reading.enclosing self.now.depth (expression_in (self.now.depth + 1)) (command_of (R.reader self.now.simple)) (expression_in self.now.depth) channel (place cursor.old)) result (place cursor.new) }
     {
@@ -377,7 +377,7 @@ impl<R: Rule<Tree = Command>> Parts<R> {
 
     /// `->` and what stands behind it, behind `channel`.
     #[tactic(auto, unfolding(crate::specs::walking::Reading::incoming, crate::specs::walking::Readers::branch, crate::specs::walking::Readers::bind, crate::specs::walking::Readers::pure))]
-    fn incoming(&self, cursor: &mut Cursor<'_>, channel: Identifier) -> Result<Command, Halt>
+    fn incoming(&self, cursor: &mut Cursor<'_, '_>, channel: Identifier) -> Result<Command, Halt>
         requires { R.can_read self.now.simple }
         ensures { Reads (reading.incoming self.now.depth (expression_in (self.now.depth + 1)) (command_of (R.reader self.now.simple)) (expression_in self.now.depth) channel (place cursor.old)) result (place cursor.new) }
     {
@@ -391,7 +391,7 @@ impl<R: Rule<Tree = Command>> Parts<R> {
 
     /// What begins with a name.
     #[tactic(auto, unfolding(crate::specs::walking::Reading::named, crate::specs::walking::Reading::assignment, crate::specs::walking::Reading::sending, crate::specs::walking::Readers::branch, crate::specs::walking::Readers::bind, crate::specs::walking::Readers::pure))]
-    fn named(&self, cursor: &mut Cursor<'_>) -> Result<Command, Halt>
+    fn named(&self, cursor: &mut Cursor<'_, '_>) -> Result<Command, Halt>
         requires { R.can_read self.now.simple }
         ensures { Reads (reading.named self.now.depth (expression_in (self.now.depth + 1)) (command_of (R.reader self.now.simple)) (expression_in self.now.depth) (place cursor.old)) result (place cursor.new) }
     {
@@ -409,7 +409,7 @@ impl<R: Rule<Tree = Command>> Parts<R> {
 
     /// A command that is no sequence and no parallel, unless in brackets.
     #[tactic(auto, unfolding(crate::specs::walking::Reading::any_simple, crate::specs::walking::Readers::branch))]
-    fn choice(&self, cursor: &mut Cursor<'_>) -> Result<Command, Halt>
+    fn choice(&self, cursor: &mut Cursor<'_, '_>) -> Result<Command, Halt>
         requires { R.can_read self.now.simple }
         ensures { Reads (reading.any_simple self.now.depth (expression_in (self.now.depth + 1)) (command_of (R.reader self.now.simple)) (expression_in self.now.depth) (place cursor.old)) result (place cursor.new) }
     {
@@ -438,7 +438,7 @@ impl<R: Rule<Tree = Command>> Parts<R> {
 
     /// The same, and closes the levels that it opened.
     #[tactic(auto, using(crate::proofs::Closed::closes), unfolding(crate::specs::walking::Reading::simple_of, crate::specs::walking::Readers::inside))]
-    fn whole(&self, cursor: &mut Cursor<'_>) -> Result<Command, Halt>
+    fn whole(&self, cursor: &mut Cursor<'_, '_>) -> Result<Command, Halt>
         requires { R.can_read self.now.simple }
         ensures { Reads (reading.simple_of self.now.depth (expression_in (self.now.depth + 1)) (command_of (R.reader self.now.simple)) (expression_in self.now.depth) (place cursor.old)) result (place cursor.new) }
     {
@@ -463,7 +463,7 @@ impl<R: Rule<Tree = Command>> Rule for GuardedRule<'_, R> {
     ghost reader = { λ arm. reading.guarded (command_of (R.reader arm.parts.now.simple)) (expression_in arm.parts.now.depth) };
 
     #[tactic(auto, unfolding(crate::specs::walking::Reading::guarded, crate::specs::walking::Readers::bind, crate::specs::walking::Readers::pure))]
-    fn read(&self, cursor: &mut Cursor<'_>) -> Result<Guarded, Halt> {
+    fn read(&self, cursor: &mut Cursor<'_, '_>) -> Result<Guarded, Halt> {
         let guard = expression(cursor, self.parts.depth)?;
         let body = self.parts.body(cursor)?;
         Ok(Guarded { guard, body })
@@ -484,7 +484,7 @@ impl<R: Rule<Tree = Command>> Rule for CaseArmRule<'_, R> {
     ghost reader = { λ arm. reading.case_arm (command_of (R.reader arm.parts.now.simple)) (expression_in arm.parts.now.depth) };
 
     #[tactic(auto, unfolding(crate::specs::walking::Reading::case_arm, crate::specs::walking::Readers::bind, crate::specs::walking::Readers::pure))]
-    fn read(&self, cursor: &mut Cursor<'_>) -> Result<CaseArm, Halt> {
+    fn read(&self, cursor: &mut Cursor<'_, '_>) -> Result<CaseArm, Halt> {
         let labels = labels(cursor)?;
         let body = self.parts.body(cursor)?;
         Ok(CaseArm { labels, body })
@@ -505,7 +505,7 @@ impl<R: Rule<Tree = Command>> Rule for ArmRule<'_, R> {
     ghost reader = { λ arm. reading.arm_of (command_of (R.reader arm.parts.now.simple)) (expression_in arm.parts.now.depth) };
 
     #[tactic(auto, unfolding(crate::specs::walking::Reading::arm_of, crate::specs::walking::Readers::bind, crate::specs::walking::Readers::pure))]
-    fn read(&self, cursor: &mut Cursor<'_>) -> Result<Arm, Halt> {
+    fn read(&self, cursor: &mut Cursor<'_, '_>) -> Result<Arm, Halt> {
         let channel = cursor.identifier()?;
         let body = self.parts.body(cursor)?;
         Ok(Arm { channel, body })
@@ -519,21 +519,21 @@ struct Inside<F> {
     simple: F,
 }
 
-impl<F: Fn(&mut Cursor<'_>, usize) -> Result<Command, Halt>> Rule for Inside<F> {
+impl<F: Fn(&mut Cursor<'_, '_>, usize) -> Result<Command, Halt>> Rule for Inside<F> {
     type Tree = Command;
 
     ghost can_read = { λ inside. ReadsAt inside.depth (simple_in inside.depth) (F.pre inside.simple) (F.post inside.simple) };
 
     ghost reader = { λ inside. simple_in inside.depth };
 
-    fn read(&self, cursor: &mut Cursor<'_>) -> Result<Command, Halt> {
+    fn read(&self, cursor: &mut Cursor<'_, '_>) -> Result<Command, Halt> {
         (self.simple)(cursor, self.depth)
     }
 }
 
 /// A command that is no sequence and no parallel, unless in brackets, in a level, inside which so
 /// many may be written, this one included.
-fn simple(cursor: &mut Cursor<'_>, depth: usize) -> Result<Command, Halt>
+fn simple(cursor: &mut Cursor<'_, '_>, depth: usize) -> Result<Command, Halt>
     ensures { Reads (simple_in depth (place cursor.old)) result (place cursor.new) }
 {
     if depth == 0 {
@@ -548,7 +548,7 @@ fn simple(cursor: &mut Cursor<'_>, depth: usize) -> Result<Command, Halt>
 }
 
 /// A command in a level, inside which so many may be written, this one included.
-pub fn command(cursor: &mut Cursor<'_>, depth: usize) -> Result<Command, Halt>
+pub fn command(cursor: &mut Cursor<'_, '_>, depth: usize) -> Result<Command, Halt>
     requires { depth + 1 < 2 ^ 64 }
     ensures { Reads (command_in depth (place cursor.old)) result (place cursor.new) }
 {

@@ -8,17 +8,17 @@ ghost use Rattle.parser.specs.walking.Reads.{place, Reads, Lends};
 use crate::halt::Halt;
 use lexer::{Kind, Token};
 use std::alloc::Global;
-use syntax::Identifier;
+use syntax::{Identifier, Name};
 
 /// How many levels may be open around one another.
 pub const LEVELS: usize = 64;
 
 /// The tokens that are still to be read, and how many levels may still be opened.
 #[derive(Drop)]
-pub struct Cursor<'a> {
+pub struct Cursor<'a, 's> {
     alloc: Global,
     levels: usize,
-    rest: &'a [Token],
+    rest: &'a [Token<'s>],
 }
 
 /// Whether `kind` is among `kinds`.
@@ -36,9 +36,9 @@ fn is_one_of(kinds: &[Kind], kind: Kind) -> bool
     false
 }
 
-impl<'a> Cursor<'a> {
+impl<'a, 's> Cursor<'a, 's> {
     /// A cursor before the first of `tokens`, with so many levels to open.
-    pub fn new(alloc: Global, levels: usize, tokens: &'a [Token]) -> Cursor<'a>
+    pub fn new(alloc: Global, levels: usize, tokens: &'a [Token<'s>]) -> Cursor<'a, 's>
         ensures { place result ≡ input levels tokens.now }
     {
         Cursor {
@@ -68,7 +68,7 @@ impl<'a> Cursor<'a> {
     }
 
     /// The tokens that are still to be read.
-    pub fn rest(&self) -> &'a [Token]
+    pub fn rest(&self) -> &'a [Token<'s>]
         ensures { result.now ≡ self.now.rest.now }
     {
         self.rest
@@ -100,7 +100,7 @@ impl<'a> Cursor<'a> {
 
     /// Goes behind the next token, which has to be of one of these kinds.
     #[tactic(auto, unfolding(crate::specs::walking::Readers::take))]
-    pub fn take_any(&mut self, kinds: &[Kind]) -> Result<&'a Token, Halt>
+    pub fn take_any(&mut self, kinds: &[Kind]) -> Result<&'a Token<'s>, Halt>
         ensures { Lends (take kinds.now (place self.old)) result (place self.new) }
     {
         match self.rest {
@@ -114,7 +114,7 @@ impl<'a> Cursor<'a> {
 
     /// The same, and the token opens a level: one of `depth`, of which the cursor may open fewer.
     #[tactic(auto, unfolding(crate::specs::walking::Readers::take_open))]
-    pub fn open_any(&mut self, depth: usize, kinds: &[Kind]) -> Result<&'a Token, Halt>
+    pub fn open_any(&mut self, depth: usize, kinds: &[Kind]) -> Result<&'a Token<'s>, Halt>
         ensures { Lends (take_open depth kinds.now (place self.old)) result (place self.new) }
     {
         match self.rest {
@@ -131,14 +131,14 @@ impl<'a> Cursor<'a> {
     }
 
     /// Goes behind the next token, which has to be of this kind.
-    pub fn take(&mut self, kind: Kind) -> Result<&'a Token, Halt>
+    pub fn take(&mut self, kind: Kind) -> Result<&'a Token<'s>, Halt>
         ensures { Lends (take (kind ∷ []) (place self.old)) result (place self.new) }
     {
         self.take_any(&[kind])
     }
 
     /// The same, and the token opens a level.
-    pub fn open(&mut self, depth: usize, kind: Kind) -> Result<&'a Token, Halt>
+    pub fn open(&mut self, depth: usize, kind: Kind) -> Result<&'a Token<'s>, Halt>
         ensures { Lends (take_open depth (kind ∷ []) (place self.old)) result (place self.new) }
     {
         self.open_any(depth, &[kind])
@@ -152,7 +152,7 @@ impl<'a> Cursor<'a> {
         let token = self.take(Kind::Name)?;
         Ok(Identifier {
             span: token.span,
-            name: token.text.clone()?,
+            name: Name::new(self.alloc, token.text.text())?,
         })
     }
 }

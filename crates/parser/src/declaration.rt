@@ -24,7 +24,7 @@ use syntax::{
 
 /// `number bits` or `enumeration names end`
 #[tactic(auto, unfolding(crate::specs::walking::Reading::type_definition, crate::specs::walking::Reading::bits, crate::specs::walking::Reading::enumeration, crate::specs::walking::Readers::branch, crate::specs::walking::Readers::bind, crate::specs::walking::Readers::pure))]
-fn definition(cursor: &mut Cursor<'_>) -> Result<TypeDefinition, Halt>
+fn definition(cursor: &mut Cursor<'_, '_>) -> Result<TypeDefinition, Halt>
     ensures { Reads (reading.type_definition (place cursor.old)) result (place cursor.new) }
 {
     if cursor.sees(Kind::Number) {
@@ -50,7 +50,7 @@ impl Rule for TypeRule {
     ghost reader = { λ _. reading.type_declaration };
 
     #[tactic(auto, unfolding(crate::specs::walking::Reading::type_declaration, crate::specs::walking::Readers::bind, crate::specs::walking::Readers::pure))]
-    fn read(&self, cursor: &mut Cursor<'_>) -> Result<TypeDeclaration, Halt> {
+    fn read(&self, cursor: &mut Cursor<'_, '_>) -> Result<TypeDeclaration, Halt> {
         cursor.take(Kind::TypeWord)?;
         let name = cursor.identifier()?;
         cursor.take(Kind::IsWord)?;
@@ -76,7 +76,7 @@ trait Declared: Drop {
 
 /// `word names : type`
 #[tactic(auto, unfolding(crate::specs::walking::Readers::bind, crate::specs::walking::Readers::pure))]
-fn typed<D: Declared>(cursor: &mut Cursor<'_>, word: Kind) -> Result<D, Halt>
+fn typed<D: Declared>(cursor: &mut Cursor<'_, '_>, word: Kind) -> Result<D, Halt>
     ensures { Reads (reading.typed word (D.typed word) (place cursor.old)) result (place cursor.new) }
 {
     cursor.take(word)?;
@@ -87,7 +87,7 @@ fn typed<D: Declared>(cursor: &mut Cursor<'_>, word: Kind) -> Result<D, Halt>
 
 /// `sync names`
 #[tactic(auto, unfolding(crate::specs::walking::Readers::bind, crate::specs::walking::Readers::pure))]
-fn synced<D: Declared>(cursor: &mut Cursor<'_>) -> Result<D, Halt>
+fn synced<D: Declared>(cursor: &mut Cursor<'_, '_>) -> Result<D, Halt>
     ensures { Reads (reading.synced D.sync (place cursor.old)) result (place cursor.new) }
 {
     cursor.take(Kind::SyncWord)?;
@@ -127,7 +127,7 @@ impl Rule for PortRule {
     ghost reader = { λ _. reading.port_of };
 
     #[tactic(auto, unfolding(crate::specs::walking::Reading::port_of, crate::specs::walking::Reading::input_port, crate::specs::walking::Reading::output_port, crate::specs::walking::Reading::sync_port, crate::specs::walking::Readers::branch))]
-    fn read(&self, cursor: &mut Cursor<'_>) -> Result<Port, Halt> {
+    fn read(&self, cursor: &mut Cursor<'_, '_>) -> Result<Port, Halt> {
         if cursor.sees(Kind::InputWord) {
             typed(cursor, Kind::InputWord)
         } else if cursor.sees(Kind::OutputWord) {
@@ -140,7 +140,7 @@ impl Rule for PortRule {
 
 /// `( port ; .. ; port )`, or nothing.
 #[tactic(auto, unfolding(crate::specs::walking::Reading::ports, crate::specs::walking::Reading::port_list, crate::specs::walking::Readers::branch, crate::specs::walking::Readers::bind, crate::specs::walking::Readers::pure))]
-fn ports(cursor: &mut Cursor<'_>) -> Result<Items<Port>, Halt>
+fn ports(cursor: &mut Cursor<'_, '_>) -> Result<Items<Port>, Halt>
     ensures { Reads (reading.ports (place cursor.old)) result (place cursor.new) }
 {
     if cursor.sees(Kind::LeftParenthesis) {
@@ -177,7 +177,7 @@ impl Declared for Local {
 
 /// `shared variable names : type`
 #[tactic(auto, unfolding(crate::specs::walking::Reading::shared_variables, crate::specs::walking::Readers::bind, crate::specs::walking::Readers::pure))]
-fn shared_variables(cursor: &mut Cursor<'_>) -> Result<Local, Halt>
+fn shared_variables(cursor: &mut Cursor<'_, '_>) -> Result<Local, Halt>
     ensures { Reads (reading.shared_variables (place cursor.old)) result (place cursor.new) }
 {
     cursor.take(Kind::SharedWord)?;
@@ -198,7 +198,7 @@ impl Rule for LocalRule {
     ghost reader = { λ _. reading.local_of };
 
     #[tactic(auto, unfolding(crate::specs::walking::Reading::local_of, crate::specs::walking::Reading::variables, crate::specs::walking::Reading::channels, crate::specs::walking::Reading::syncs, crate::specs::walking::Readers::branch))]
-    fn read(&self, cursor: &mut Cursor<'_>) -> Result<Local, Halt> {
+    fn read(&self, cursor: &mut Cursor<'_, '_>) -> Result<Local, Halt> {
         if cursor.sees(Kind::VariableWord) {
             typed(cursor, Kind::VariableWord)
         } else if cursor.sees(Kind::SharedWord) {
@@ -221,7 +221,7 @@ const LOCAL_WORDS: [Kind; 4] = [
 
 /// `begin command end`
 #[tactic(auto, unfolding(crate::specs::walking::Reading::block, crate::specs::walking::Reading::command, crate::specs::walking::Readers::bind, crate::specs::walking::Readers::pure))]
-fn block(cursor: &mut Cursor<'_>) -> Result<Command, Halt>
+fn block(cursor: &mut Cursor<'_, '_>) -> Result<Command, Halt>
     ensures { Reads (reading.block most_levels (place cursor.old)) result (place cursor.new) }
 {
     cursor.take(Kind::BeginWord)?;
@@ -232,7 +232,7 @@ fn block(cursor: &mut Cursor<'_>) -> Result<Command, Halt>
 
 /// The ports, locals and body of the procedure `name`.
 #[tactic(auto, unfolding(crate::specs::walking::Reading::procedure_of, crate::specs::walking::Readers::bind, crate::specs::walking::Readers::pure))]
-fn procedure_of(cursor: &mut Cursor<'_>, name: Identifier) -> Result<Procedure, Halt>
+fn procedure_of(cursor: &mut Cursor<'_, '_>, name: Identifier) -> Result<Procedure, Halt>
     ensures { Reads (reading.procedure_of most_levels name (place cursor.old)) result (place cursor.new) }
 {
     let ports = ports(cursor)?;
@@ -258,7 +258,7 @@ impl Rule for ProcedureRule {
     ghost reader = { λ _. reading.procedure most_levels };
 
     #[tactic(auto, unfolding(crate::specs::walking::Reading::procedure, crate::specs::walking::Readers::bind, crate::specs::walking::Readers::pure))]
-    fn read(&self, cursor: &mut Cursor<'_>) -> Result<Procedure, Halt> {
+    fn read(&self, cursor: &mut Cursor<'_, '_>) -> Result<Procedure, Halt> {
         cursor.take(Kind::ProcedureWord)?;
         let name = cursor.identifier()?;
         procedure_of(cursor, name)
@@ -267,7 +267,7 @@ impl Rule for ProcedureRule {
 
 /// Declarations of types, and one procedure or more.
 #[tactic(auto, unfolding(crate::specs::walking::Reading::description, crate::specs::walking::Reading::procedures, crate::specs::walking::Readers::bind, crate::specs::walking::Readers::pure))]
-fn description(cursor: &mut Cursor<'_>) -> Result<Description, Halt>
+fn description(cursor: &mut Cursor<'_, '_>) -> Result<Description, Halt>
     ensures { Reads (reading.description most_levels (place cursor.old)) result (place cursor.new) }
 {
     let types = all(&TypeRule, cursor, &[Kind::TypeWord])?;
@@ -278,7 +278,7 @@ fn description(cursor: &mut Cursor<'_>) -> Result<Description, Halt>
 
 /// A description, and nothing behind it.
 #[tactic(auto, unfolding(crate::specs::walking::Readers::whole))]
-pub fn whole(cursor: &mut Cursor<'_>) -> Result<Description, Halt>
+pub fn whole(cursor: &mut Cursor<'_, '_>) -> Result<Description, Halt>
     ensures { Reads (readers.whole (reading.description most_levels) (place cursor.old)) result (place cursor.new) }
 {
     let description = description(cursor)?;

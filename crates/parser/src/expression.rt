@@ -52,14 +52,14 @@ fn operator_of(sign: Kind) -> Operator
 }
 
 /// An expression, unless memory is out. It reads no token.
-fn new_expression(cursor: &Cursor<'_>, span: Span, shape: Shape) -> Result<Expr, Halt>
+fn new_expression(cursor: &Cursor<'_, '_>, span: Span, shape: Shape) -> Result<Expr, Halt>
     ensures { Reads (read (trees.expression_at span shape) (place cursor.now)) result (place cursor.now) }
 {
     Ok(Expr::new(cursor.alloc(), span, shape)?)
 }
 
 #[tactic(auto, unfolding(crate::specs::walking::Reading::number, crate::specs::walking::Readers::bind, crate::specs::walking::Readers::pure))]
-fn number(cursor: &mut Cursor<'_>) -> Result<Expr, Halt>
+fn number(cursor: &mut Cursor<'_, '_>) -> Result<Expr, Halt>
     ensures { Reads (reading.number (place cursor.old)) result (place cursor.new) }
 {
     let token = cursor.take(Kind::Number)?;
@@ -68,7 +68,7 @@ fn number(cursor: &mut Cursor<'_>) -> Result<Expr, Halt>
 }
 
 #[tactic(auto, unfolding(crate::specs::walking::Reading::variable_name, crate::specs::walking::Readers::bind, crate::specs::walking::Readers::pure))]
-fn named(cursor: &mut Cursor<'_>) -> Result<Expr, Halt>
+fn named(cursor: &mut Cursor<'_, '_>) -> Result<Expr, Halt>
     ensures { Reads (reading.variable_name (place cursor.old)) result (place cursor.new) }
 {
     let name = cursor.identifier()?;
@@ -77,7 +77,7 @@ fn named(cursor: &mut Cursor<'_>) -> Result<Expr, Halt>
 }
 
 /// `left` and `right` with the operator between them that `sign` is.
-fn binary(cursor: &Cursor<'_>, sign: &Token, left: Expr, right: Expr) -> Result<Expr, Halt>
+fn binary(cursor: &Cursor<'_, '_>, sign: &Token<'_>, left: Expr, right: Expr) -> Result<Expr, Halt>
     ensures { Reads (read (trees.binary sign.now left right) (place cursor.now)) result (place cursor.now) }
 {
     let span = left.span.through(right.span);
@@ -89,7 +89,7 @@ fn binary(cursor: &Cursor<'_>, sign: &Token, left: Expr, right: Expr) -> Result<
 #[tactic(auto, unfolding(crate::specs::walking::Reading::operation, crate::specs::walking::Readers::bind, crate::specs::walking::Readers::pure))]
 fn operation<R: Rule<Tree = Expr>>(
     operand: &R,
-    cursor: &mut Cursor<'_>,
+    cursor: &mut Cursor<'_, '_>,
     depth: usize,
     signs: &[Kind],
     left: Expr,
@@ -118,7 +118,7 @@ impl<R: Rule<Tree = Expr>> Rule for Grouped<'_, R> {
     ghost reader = { λ grouped. reading.grouped grouped.depth grouped.signs.now (R.reader grouped.operand.now) };
 
     #[tactic(auto, unfolding(crate::specs::walking::Reading::grouped, crate::specs::walking::Readers::bind))]
-    fn read(&self, cursor: &mut Cursor<'_>) -> Result<Expr, Halt> {
+    fn read(&self, cursor: &mut Cursor<'_, '_>) -> Result<Expr, Halt> {
         let mut left = self.operand.read(cursor)?;
         for _turn in 0..cursor.rest().len() {
             if !cursor.sees_any(self.signs) {
@@ -145,7 +145,7 @@ impl<R: Rule<Tree = Expr>> Rule for Compared<'_, R> {
     ghost reader = { λ compared. reading.compared compared.depth (R.reader compared.operand.now) };
 
     #[tactic(auto, unfolding(crate::specs::walking::Reading::compared, crate::specs::walking::Readers::branch, crate::specs::walking::Readers::bind, crate::specs::walking::Readers::pure))]
-    fn read(&self, cursor: &mut Cursor<'_>) -> Result<Expr, Halt> {
+    fn read(&self, cursor: &mut Cursor<'_, '_>) -> Result<Expr, Halt> {
         let left = self.operand.read(cursor)?;
         if cursor.sees_any(&COMPARISON_SIGNS) {
             operation(self.operand, cursor, self.depth, &COMPARISON_SIGNS, left)
@@ -166,7 +166,7 @@ struct Operands<R> {
 impl<R: Rule<Tree = Expr>> Operands<R> {
     /// Factors with operators between them, a rule for each rank. It closes the levels of its operators.
     #[tactic(auto, using(crate::proofs::Closed::closes), unfolding(crate::specs::walking::Reading::expression_of, crate::specs::walking::Reading::sum_of, crate::specs::walking::Reading::comparison_of, crate::specs::walking::Reading::conjunct_of, crate::specs::walking::Readers::inside))]
-    fn expression(&self, cursor: &mut Cursor<'_>) -> Result<Expr, Halt>
+    fn expression(&self, cursor: &mut Cursor<'_, '_>) -> Result<Expr, Halt>
         requires { R.can_read self.now.factor }
         ensures { Reads (reading.expression_of self.now.depth (R.reader self.now.factor) (place cursor.old)) result (place cursor.new) }
     {
@@ -198,7 +198,7 @@ impl<R: Rule<Tree = Expr>> Operands<R> {
 
     /// `not factor`
     #[tactic(auto, unfolding(crate::specs::walking::Reading::negation, crate::specs::walking::Readers::bind, crate::specs::walking::Readers::pure))]
-    fn negated(&self, cursor: &mut Cursor<'_>) -> Result<Expr, Halt>
+    fn negated(&self, cursor: &mut Cursor<'_, '_>) -> Result<Expr, Halt>
         requires { R.can_read self.now.factor }
         ensures { Reads (reading.negation self.now.depth (R.reader self.now.factor) (reading.expression_of self.now.depth (R.reader self.now.factor)) (place cursor.old)) result (place cursor.new) }
     {
@@ -210,7 +210,7 @@ impl<R: Rule<Tree = Expr>> Operands<R> {
 
     /// `( expression )` or `( expression as type )`
     #[tactic(auto, unfolding(crate::specs::walking::Reading::parenthesised, crate::specs::walking::Readers::branch, crate::specs::walking::Readers::bind, crate::specs::walking::Readers::pure))]
-    fn parenthesised(&self, cursor: &mut Cursor<'_>) -> Result<Expr, Halt>
+    fn parenthesised(&self, cursor: &mut Cursor<'_, '_>) -> Result<Expr, Halt>
         requires { R.can_read self.now.factor }
         ensures { Reads (reading.parenthesised self.now.depth (R.reader self.now.factor) (reading.expression_of self.now.depth (R.reader self.now.factor)) (place cursor.old)) result (place cursor.new) }
     {
@@ -225,7 +225,7 @@ impl<R: Rule<Tree = Expr>> Operands<R> {
 
     /// What stands between operators.
     #[tactic(auto, unfolding(crate::specs::walking::Reading::any_factor, crate::specs::walking::Readers::branch))]
-    fn choice(&self, cursor: &mut Cursor<'_>) -> Result<Expr, Halt>
+    fn choice(&self, cursor: &mut Cursor<'_, '_>) -> Result<Expr, Halt>
         requires { R.can_read self.now.factor }
         ensures { Reads (reading.any_factor self.now.depth (R.reader self.now.factor) (reading.expression_of self.now.depth (R.reader self.now.factor)) (place cursor.old)) result (place cursor.new) }
     {
@@ -242,7 +242,7 @@ impl<R: Rule<Tree = Expr>> Operands<R> {
 
     /// The same, and closes the levels that it opened.
     #[tactic(auto, using(crate::proofs::Closed::closes), unfolding(crate::specs::walking::Reading::factor_of, crate::specs::walking::Readers::inside))]
-    fn whole(&self, cursor: &mut Cursor<'_>) -> Result<Expr, Halt>
+    fn whole(&self, cursor: &mut Cursor<'_, '_>) -> Result<Expr, Halt>
         requires { R.can_read self.now.factor }
         ensures { Reads (reading.factor_of self.now.depth (R.reader self.now.factor) (reading.expression_of self.now.depth (R.reader self.now.factor)) (place cursor.old)) result (place cursor.new) }
     {
@@ -255,7 +255,7 @@ impl<R: Rule<Tree = Expr>> Operands<R> {
 
 /// `as type )`, behind what begins at `start`.
 #[tactic(auto, unfolding(crate::specs::walking::Reading::cast, crate::specs::walking::Reading::closing, crate::specs::walking::Readers::bind, crate::specs::walking::Readers::pure))]
-fn cast(cursor: &mut Cursor<'_>, start: Span, operand: Expr) -> Result<Expr, Halt>
+fn cast(cursor: &mut Cursor<'_, '_>, start: Span, operand: Expr) -> Result<Expr, Halt>
     ensures { Reads (reading.cast start operand (place cursor.old)) result (place cursor.new) }
 {
     cursor.take(Kind::AsWord)?;
@@ -266,7 +266,7 @@ fn cast(cursor: &mut Cursor<'_>, start: Span, operand: Expr) -> Result<Expr, Hal
 
 /// `)`, behind what begins at `start`.
 #[tactic(auto, unfolding(crate::specs::walking::Reading::closing, crate::specs::walking::Readers::bind, crate::specs::walking::Readers::pure))]
-fn closing(cursor: &mut Cursor<'_>, start: Span, operand: Expr) -> Result<Expr, Halt>
+fn closing(cursor: &mut Cursor<'_, '_>, start: Span, operand: Expr) -> Result<Expr, Halt>
     ensures { Reads (reading.closing start operand (place cursor.old)) result (place cursor.new) }
 {
     let end = cursor.take(Kind::RightParenthesis)?;
@@ -280,20 +280,20 @@ struct Inside<F> {
     factor: F,
 }
 
-impl<F: Fn(&mut Cursor<'_>, usize) -> Result<Expr, Halt>> Rule for Inside<F> {
+impl<F: Fn(&mut Cursor<'_, '_>, usize) -> Result<Expr, Halt>> Rule for Inside<F> {
     type Tree = Expr;
 
     ghost can_read = { λ inside. ReadsAt inside.depth (factor_in inside.depth) (F.pre inside.factor) (F.post inside.factor) };
 
     ghost reader = { λ inside. factor_in inside.depth };
 
-    fn read(&self, cursor: &mut Cursor<'_>) -> Result<Expr, Halt> {
+    fn read(&self, cursor: &mut Cursor<'_, '_>) -> Result<Expr, Halt> {
         (self.factor)(cursor, self.depth)
     }
 }
 
 /// What stands between operators in a level, inside which so many may be written, this one included.
-fn factor(cursor: &mut Cursor<'_>, depth: usize) -> Result<Expr, Halt>
+fn factor(cursor: &mut Cursor<'_, '_>, depth: usize) -> Result<Expr, Halt>
     ensures { Reads (factor_in depth (place cursor.old)) result (place cursor.new) }
 {
     if depth == 0 {
@@ -308,7 +308,7 @@ fn factor(cursor: &mut Cursor<'_>, depth: usize) -> Result<Expr, Halt>
 }
 
 /// An expression in a level, inside which so many may be written, this one included.
-pub fn expression(cursor: &mut Cursor<'_>, depth: usize) -> Result<Expr, Halt>
+pub fn expression(cursor: &mut Cursor<'_, '_>, depth: usize) -> Result<Expr, Halt>
     ensures { Reads (expression_in depth (place cursor.old)) result (place cursor.new) }
 {
     Operands {

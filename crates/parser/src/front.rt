@@ -1,37 +1,37 @@
 //! Refusals that show in the first tokens of a source, whatever stands behind them.
 
-ghost use Rattle.std.specs.Prelude.{◌≡◌, ◌⊎◌, ◌++◌, List, IfSome, IsTrue};
+ghost use Rattle.std.specs.Prelude.{◌≡◌, ◌⊎◌, ◌++◌, List, MatchOption};
 ghost use Rattle.lexer.specs.declared.token.Token.{Token};
-ghost use Rattle.parser.specs.Accepted.{IsRefused};
-ghost use Rattle.parser.specs.walking.Inside.{IsInside};
+ghost use Rattle.parser.specs.Accepted.{Begins, IsRefused};
+ghost use Rattle.parser.specs.walking.Answer as answer;
 ghost use Rattle.refusals.specs.declared.parser.Fault.TheVariants.{Memory};
 
-use crate::{Fault, end_of, parse};
+use crate::Fault;
+use crate::cursor::{Cursor, LEVELS};
+use crate::declaration::whole;
+use crate::halt::Halt;
 use lexer::Token;
 use std::alloc::Global;
 
-/// Whether the fault is at one of the tokens, and not where they end.
-fn is_inside(tokens: &[Token], fault: Fault) -> bool
-    ensures { IsTrue result → IsInside tokens.now fault }
+/// The fault of a reading that stopped before `rest`. None: it stopped where the tokens end.
+fn fault_before(halt: Halt, rest: &[Token<'_>]) -> Option<Fault>
+    ensures { result ≡ answer.fault_before halt rest.now }
 {
-    match fault {
-        Fault::Memory => true,
-        Fault::Unexpected(offset) | Fault::TooDeep(offset) => offset != end_of(tokens),
+    match (halt, rest) {
+        (Halt::Memory, _) => Some(Fault::Memory),
+        (_, [token, ..]) => Some(halt.at(token.span.start)),
+        (_, []) => None,
     }
 }
 
-/// Why these tokens begin no description, whatever stands behind them; `Memory` is told too. `None` says nothing.
-pub fn refusal_within(alloc: Global, tokens: &[Token]) -> Option<Fault>
-    ensures { IfSome result (λ fault. (fault ≡ Memory) ⊎ ((later : List Token) → IsRefused (tokens.now ++ later) fault)) }
+/// Why no description begins with these tokens, and `Memory` is told too. None: one does.
+pub fn refusal_within(alloc: Global, tokens: &[Token<'_>]) -> Option<Fault>
+    ensures { MatchOption result (Begins tokens.now)
+        (λ fault. (fault ≡ Memory) ⊎ ((later : List Token) → IsRefused (tokens.now ++ later) fault)) }
 {
-    match parse(alloc, tokens) {
+    let mut cursor = Cursor::new(alloc, LEVELS, tokens);
+    match whole(&mut cursor) {
         Ok(_) => None,
-        Err(fault) => {
-            if is_inside(tokens, fault) {
-                Some(fault)
-            } else {
-                None
-            }
-        }
+        Err(halt) => fault_before(halt, cursor.rest()),
     }
 }

@@ -31,7 +31,7 @@ use std::alloc::Global;
 use syntax::Description;
 
 /// Where the last of `tokens` ends, or 0.
-fn end_of(tokens: &[Token]) -> u64
+fn end_of(tokens: &[Token<'_>]) -> u64
     ensures { result ≡ offsets.end_of tokens.now }
 {
     match tokens.last() {
@@ -41,7 +41,7 @@ fn end_of(tokens: &[Token]) -> u64
 }
 
 /// Where the first of `rest` begins, with which `tokens` end; or where nothing is left, their end.
-fn offset_at(tokens: &[Token], rest: &[Token]) -> u64
+fn offset_at(tokens: &[Token<'_>], rest: &[Token<'_>]) -> u64
     ensures { result ≡ offsets.offset_at tokens.now rest.now }
 {
     match rest {
@@ -51,7 +51,7 @@ fn offset_at(tokens: &[Token], rest: &[Token]) -> u64
 }
 
 /// What `parse` answers.
-fn answer(alloc: Global, tokens: &[Token]) -> Result<Description, Fault>
+fn answer(alloc: Global, tokens: &[Token<'_>]) -> Result<Description, Fault>
     ensures { IsAnswer tokens.now (readers.whole (reading.description most_levels) (input most_levels tokens.now)) result }
 {
     let mut cursor = Cursor::new(alloc, LEVELS, tokens);
@@ -69,7 +69,7 @@ fn answer(alloc: Global, tokens: &[Token]) -> Result<Description, Fault>
 ///
 /// Other tokens are refused at the first with which no description goes on, or which would open
 /// level 65.
-pub fn parse(alloc: Global, tokens: &[Token]) -> Result<Description, Fault>
+pub fn parse(alloc: Global, tokens: &[Token<'_>]) -> Result<Description, Fault>
     ensures description { IfOk result (λ given. Parses tokens.now given) }
     ensures fault { IfErr result (λ fault. (fault ≡ Memory) ⊎ IsRefused tokens.now fault) }
     // Whatever description the tokens are, the answer is that one, or memory is out.

@@ -39,7 +39,7 @@ impl<R: Rule> Rule for Behind<'_, R> {
     ghost reader = { λ behind. reading.behind behind.sign (R.reader behind.item.now) };
 
     #[tactic(auto, unfolding(crate::specs::walking::Reading::behind, crate::specs::walking::Readers::bind))]
-    fn read(&self, cursor: &mut Cursor<'_>) -> Result<R::Tree, Halt> {
+    fn read(&self, cursor: &mut Cursor<'_, '_>) -> Result<R::Tree, Halt> {
         cursor.take(self.sign)?;
         self.item.read(cursor)
     }
@@ -49,7 +49,7 @@ impl<R: Rule> Rule for Behind<'_, R> {
 #[tactic(auto, unfolding(crate::specs::walking::Reading::one_more, crate::specs::walking::Readers::bind, crate::specs::walking::Readers::pure))]
 pub fn next<R: Rule>(
     rule: &R,
-    cursor: &mut Cursor<'_>,
+    cursor: &mut Cursor<'_, '_>,
     items: &mut Items<R::Tree>,
 ) -> Result<(), Halt>
     requires { R.can_read rule.now }
@@ -63,7 +63,7 @@ pub fn next<R: Rule>(
 /// Each that follows, behind `items`. One begins with one of these kinds.
 pub fn several<R: Rule>(
     rule: &R,
-    cursor: &mut Cursor<'_>,
+    cursor: &mut Cursor<'_, '_>,
     kinds: &[Kind],
     items: &mut Items<R::Tree>,
 ) -> Result<(), Halt>
@@ -82,7 +82,7 @@ pub fn several<R: Rule>(
 /// None or more.
 pub fn all<R: Rule>(
     rule: &R,
-    cursor: &mut Cursor<'_>,
+    cursor: &mut Cursor<'_, '_>,
     kinds: &[Kind],
 ) -> Result<Items<R::Tree>, Halt>
     requires { R.can_read rule.now }
@@ -98,7 +98,7 @@ pub fn all<R: Rule>(
 pub fn one_or_more<A: Rule, B: Rule<Tree = A::Tree>>(
     first: &A,
     more: &B,
-    cursor: &mut Cursor<'_>,
+    cursor: &mut Cursor<'_, '_>,
     kinds: &[Kind],
 ) -> Result<Items<A::Tree>, Halt>
     requires first { A.can_read first.now }
@@ -115,7 +115,7 @@ pub fn one_or_more<A: Rule, B: Rule<Tree = A::Tree>>(
 #[tactic(auto, unfolding(crate::specs::walking::Reading::separated))]
 pub fn separated<R: Rule>(
     item: &R,
-    cursor: &mut Cursor<'_>,
+    cursor: &mut Cursor<'_, '_>,
     sign: Kind,
 ) -> Result<Items<R::Tree>, Halt>
     requires { R.can_read item.now }

@@ -18,14 +18,14 @@ impl Rule for NameRule {
 
     ghost reader = { λ _. reading.identifier };
 
-    fn read(&self, cursor: &mut Cursor<'_>) -> Result<Identifier, Halt> {
+    fn read(&self, cursor: &mut Cursor<'_, '_>) -> Result<Identifier, Halt> {
         cursor.identifier()
     }
 }
 
 /// `name, .., name`
 #[tactic(auto, unfolding(crate::specs::walking::Reading::names))]
-pub fn names(cursor: &mut Cursor<'_>) -> Result<Items<Identifier>, Halt>
+pub fn names(cursor: &mut Cursor<'_, '_>) -> Result<Items<Identifier>, Halt>
     ensures { Reads (reading.names (place cursor.old)) result (place cursor.new) }
 {
     separated(&NameRule, cursor, Kind::Comma)
@@ -33,7 +33,7 @@ pub fn names(cursor: &mut Cursor<'_>) -> Result<Items<Identifier>, Halt>
 
 /// `number bits`
 #[tactic(auto, unfolding(crate::specs::walking::Reading::width, crate::specs::walking::Readers::bind, crate::specs::walking::Readers::pure))]
-pub fn width(cursor: &mut Cursor<'_>) -> Result<Width, Halt>
+pub fn width(cursor: &mut Cursor<'_, '_>) -> Result<Width, Halt>
     ensures { Reads (reading.width (place cursor.old)) result (place cursor.new) }
 {
     let number = cursor.take(Kind::Number)?;
@@ -46,7 +46,7 @@ pub fn width(cursor: &mut Cursor<'_>) -> Result<Width, Halt>
 
 /// `number bits` or a type's name
 #[tactic(auto, unfolding(crate::specs::walking::Reading::type_name_of, crate::specs::walking::Reading::type_by_width, crate::specs::walking::Reading::type_by_name, crate::specs::walking::Readers::branch, crate::specs::walking::Readers::bind, crate::specs::walking::Readers::pure))]
-pub fn type_name(cursor: &mut Cursor<'_>) -> Result<TypeName, Halt>
+pub fn type_name(cursor: &mut Cursor<'_, '_>) -> Result<TypeName, Halt>
     ensures { Reads (reading.type_name_of (place cursor.old)) result (place cursor.new) }
 {
     if cursor.sees(Kind::Number) {
@@ -60,7 +60,7 @@ pub fn type_name(cursor: &mut Cursor<'_>) -> Result<TypeName, Halt>
 
 /// `: type`
 #[tactic(auto, unfolding(crate::specs::walking::Reading::type_behind, crate::specs::walking::Readers::bind, crate::specs::walking::Readers::pure))]
-pub fn type_behind(cursor: &mut Cursor<'_>) -> Result<TypeName, Halt>
+pub fn type_behind(cursor: &mut Cursor<'_, '_>) -> Result<TypeName, Halt>
     ensures { Reads (reading.type_behind (place cursor.old)) result (place cursor.new) }
 {
     cursor.take(Kind::Colon)?;
@@ -79,7 +79,7 @@ impl Rule for LabelRule {
     ghost reader = { λ _. reading.label_of };
 
     #[tactic(auto, unfolding(crate::specs::walking::Reading::label_of, crate::specs::walking::Reading::label_by_number, crate::specs::walking::Reading::label_by_name, crate::specs::walking::Readers::branch, crate::specs::walking::Readers::bind, crate::specs::walking::Readers::pure))]
-    fn read(&self, cursor: &mut Cursor<'_>) -> Result<Label, Halt> {
+    fn read(&self, cursor: &mut Cursor<'_, '_>) -> Result<Label, Halt> {
         if cursor.sees(Kind::Number) {
             let number = cursor.take(Kind::Number)?;
             Ok(Label {
@@ -98,7 +98,7 @@ impl Rule for LabelRule {
 
 /// `label, .., label`
 #[tactic(auto, unfolding(crate::specs::walking::Reading::labels))]
-pub fn labels(cursor: &mut Cursor<'_>) -> Result<Items<Label>, Halt>
+pub fn labels(cursor: &mut Cursor<'_, '_>) -> Result<Items<Label>, Halt>
     ensures { Reads (reading.labels (place cursor.old)) result (place cursor.new) }
 {
     separated(&LabelRule, cursor, Kind::Comma)

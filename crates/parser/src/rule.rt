@@ -16,7 +16,7 @@ pub trait Rule: Drop {
     ghost reader: { Self → Reader Self.Tree };
 
     /// The next one.
-    fn read(&self, cursor: &mut Cursor<'_>) -> Result<Self::Tree, Halt>
+    fn read(&self, cursor: &mut Cursor<'_, '_>) -> Result<Self::Tree, Halt>
         requires { can_read self.now }
         ensures { Reads (reader self.now (place cursor.old)) result (place cursor.new) };
 }

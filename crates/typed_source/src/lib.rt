@@ -31,14 +31,15 @@ fn typed_in_parts(alloc: Global, source: &[u8]) -> Result<Option<Typed>, Fault>
     ensures fault { IfErr result (λ fault. IsRefused source.now fault) }
 {
     let mut lexing = Lexing::new(source);
-    let Some(first) = next_part(alloc, &mut lexing, true)? else {
+    let mut tokens = Vec::new(alloc);
+    let Some(first) = next_part(alloc, &mut lexing, &mut tokens, true)? else {
         return Ok(None);
     };
     let mut typing = Typing::new(alloc, first.description.types.as_slice())?;
     typing.add(alloc, first.description.procedures.as_slice())?;
     let mut is_last = first.is_last;
     while !is_last {
-        let Some(next) = next_part(alloc, &mut lexing, false)? else {
+        let Some(next) = next_part(alloc, &mut lexing, &mut tokens, false)? else {
             return Ok(None);
         };
         typing.add(alloc, next.description.procedures.as_slice())?;

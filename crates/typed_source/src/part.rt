@@ -25,7 +25,7 @@ pub(crate) struct Part {
 }
 
 /// Whether the tokens begin with the word `procedure`.
-fn begins_procedure(tokens: &[Token]) -> bool
+fn begins_procedure(tokens: &[Token<'_>]) -> bool
     ensures { IsTrue result → BeginsProcedure tokens.now }
 {
     match tokens.first() {
@@ -36,7 +36,12 @@ fn begins_procedure(tokens: &[Token]) -> bool
 
 /// Refuses these tokens, behind which `lexing` stands, where no description goes on with them. A fault of words in what
 /// is left goes before.
-fn refuse(alloc: Global, lexing: Lexing<'_>, is_last: bool, tokens: &[Token]) -> Result<(), Fault>
+fn refuse(
+    alloc: Global,
+    lexing: Lexing<'_>,
+    is_last: bool,
+    tokens: &[Token<'_>],
+) -> Result<(), Fault>
     ensures { (old : Lexing) → ReadsPart is_last old tokens.now lexing.entry → IfErr result (λ fault. RefusesPart old tokens.now fault) }
 {
     let Some(fault) = refusal_within(alloc, tokens) else {
@@ -50,7 +55,11 @@ fn refuse(alloc: Global, lexing: Lexing<'_>, is_last: bool, tokens: &[Token]) ->
 
 /// Adds what is missing of a part that was cut short, and tells whether it is the last. Tokens with which no description
 /// goes on are refused before.
-fn read_on(alloc: Global, lexing: &mut Lexing<'_>, tokens: &mut Vec<Token>) -> Result<bool, Fault>
+fn read_on<'a>(
+    alloc: Global,
+    lexing: &mut Lexing<'a>,
+    tokens: &mut Vec<Token<'a>>,
+) -> Result<bool, Fault>
     ensures read { (old : Lexing) → ReadsPart false old tokens.old.items lexing.old
         → IfOk result (λ is_last. ReadsOn is_last old tokens.old.items tokens.new.items lexing.new) }
     ensures fault { (old : Lexing) → ReadsPart false old tokens.old.items lexing.old → IfErr result (λ fault. RefusesPart old tokens.old.items fault) }
@@ -58,16 +67,16 @@ fn read_on(alloc: Global, lexing: &mut Lexing<'_>, tokens: &mut Vec<Token>) -> R
     refuse(alloc, *lexing, false, tokens.as_slice())?;
     // A fault of words behind is found before the tokens are made.
     lexing.finish()?;
-    let stop = lexing.add_part(alloc, tokens, usize::MAX)?;
+    let stop = lexing.add_part(tokens, usize::MAX)?;
     Ok(matches!(stop, Stop::EndOfSource))
 }
 
 /// Adds what is missing of the part that begins with these tokens, if reading stopped before its end, and tells whether
 /// it is the last.
-fn read_whole(
+fn read_whole<'a>(
     alloc: Global,
-    lexing: &mut Lexing<'_>,
-    tokens: &mut Vec<Token>,
+    lexing: &mut Lexing<'a>,
+    tokens: &mut Vec<Token<'a>>,
     stop: Stop,
 ) -> Result<bool, Fault>
     ensures read { (old : Lexing) → ReadsPart (is_end stop) old tokens.old.items lexing.old
@@ -83,15 +92,15 @@ fn read_whole(
 
 /// Refuses these tokens, behind which `lexing` stands, where no description goes on with them and the token that follows:
 /// that a procedure lacks its last `end` shows only at the next one.
-fn refuse_with_next(
+fn refuse_with_next<'a>(
     alloc: Global,
-    mut lexing: Lexing<'_>,
-    mut tokens: Vec<Token>,
+    mut lexing: Lexing<'a>,
+    tokens: &mut Vec<Token<'a>>,
 ) -> Result<(), Fault>
-    ensures { (old : Lexing) → ReadsPart false old tokens.items lexing.entry → IfErr result (λ fault. RefusesPart old tokens.items fault) }
+    ensures { (old : Lexing) → ReadsPart false old tokens.old.items lexing.entry → IfErr result (λ fault. RefusesPart old tokens.old.items fault) }
 {
     let mut next = Vec::new(alloc);
-    let stop = lexing.add_part(alloc, &mut next, 1)?;
+    let stop = lexing.add_part(&mut next, 1)?;
     tokens.append(&mut next)?;
     refuse(
         alloc,
@@ -102,14 +111,14 @@ fn refuse_with_next(
 }
 
 /// The part that these tokens are, behind which `lexing` stands. None: they and the token that follows do not tell.
-fn tree_of(
+fn tree_of<'a>(
     alloc: Global,
-    lexing: Lexing<'_>,
+    lexing: Lexing<'a>,
     is_last: bool,
-    tokens: Vec<Token>,
+    tokens: &mut Vec<Token<'a>>,
 ) -> Result<Option<Part>, Fault>
-    ensures read { IfOk result (λ read. IfSome read (λ part. (part.is_last ≡ is_last) × Parses tokens.items part.description)) }
-    ensures fault { (old : Lexing) → ReadsPart is_last old tokens.items lexing.entry → IfErr result (λ fault. RefusesPart old tokens.items fault) }
+    ensures read { IfOk result (λ read. IfSome read (λ part. (part.is_last ≡ is_last) × Parses tokens.old.items part.description)) }
+    ensures fault { (old : Lexing) → ReadsPart is_last old tokens.old.items lexing.entry → IfErr result (λ fault. RefusesPart old tokens.old.items fault) }
 {
     match parse(alloc, tokens.as_slice()) {
         Ok(description) => Ok(Some(Part {
@@ -126,22 +135,23 @@ fn tree_of(
 }
 
 /// The next part of the source, up to where a further procedure begins, or to the end. But for the first it begins with a
-/// procedure itself.
+/// procedure itself. Its tokens are made in `tokens`, whose room serves part after part.
 ///
 /// None: this part and the token behind it do not tell.
-pub(crate) fn next_part(
+pub(crate) fn next_part<'a>(
     alloc: Global,
-    lexing: &mut Lexing<'_>,
+    lexing: &mut Lexing<'a>,
+    tokens: &mut Vec<Token<'a>>,
     is_first: bool,
 ) -> Result<Option<Part>, Fault>
     ensures read { IfOk result (λ read. IfSome read (λ part. IsNext is_first lexing.old part lexing.new)) }
     ensures fault { IfErr result (λ fault. RefusesNext is_first lexing.old fault) }
 {
-    let mut tokens = Vec::new(alloc);
-    let stop = lexing.add_part(alloc, &mut tokens, FIRST_TOKENS)?;
+    tokens.clear();
+    let stop = lexing.add_part(tokens, FIRST_TOKENS)?;
     if !is_first && !begins_procedure(tokens.as_slice()) {
         return Ok(None);
     }
-    let is_last = read_whole(alloc, lexing, &mut tokens, stop)?;
+    let is_last = read_whole(alloc, lexing, tokens, stop)?;
     tree_of(alloc, *lexing, is_last, tokens)
 }

@@ -1,22 +1,22 @@
 use crate::KINDS;
-use lexer::{Kind, Token};
+use lexer::{Excerpt, Kind, Token};
 use parser::{Fault, refusal_within};
 use std::alloc::{AllocError, Global};
-use syntax::{Name, Span};
+use syntax::Span;
 
 /// The token of a kind at a place, for a trial.
-fn token(alloc: Global, kind: Kind, span: Span) -> Result<Token, AllocError> {
-    Ok(Token {
+fn token(kind: Kind, span: Span) -> Token<'static> {
+    Token {
         kind,
-        text: Name::new(alloc, b"")?,
+        text: Excerpt::new(b""),
         number: 1,
         span,
-    })
+    }
 }
 
 /// From which of the tokens before `place` on the parser's answer at `place` hangs: from the last procedure that begins
 /// before it, since procedures stand one behind the other; else from the first.
-fn first_that_counts(tokens: &[Token], place: usize) -> usize {
+fn first_that_counts(tokens: &[Token<'_>], place: usize) -> usize {
     let mut first = 0;
     for (index, token) in tokens.iter().enumerate() {
         if index < place && token.kind == Kind::ProcedureWord {
@@ -27,7 +27,7 @@ fn first_that_counts(tokens: &[Token], place: usize) -> usize {
 }
 
 /// Whether the parser takes the last token but one of `tokens`, which begins at `offset`.
-fn is_taken(alloc: Global, tokens: &[Token], offset: u64) -> Result<bool, AllocError> {
+fn is_taken(alloc: Global, tokens: &[Token<'_>], offset: u64) -> Result<bool, AllocError> {
     match refusal_within(alloc, tokens) {
         None => Ok(true),
         Some(Fault::Memory) => Err(AllocError),
@@ -38,7 +38,7 @@ fn is_taken(alloc: Global, tokens: &[Token], offset: u64) -> Result<bool, AllocE
 /// Whether a description can go on with a token of this kind behind `tokens`, of which those from `first` on count.
 fn is_viable(
     alloc: Global,
-    tokens: &mut Vec<Token>,
+    tokens: &mut Vec<Token<'_>>,
     first: usize,
     kind: Kind,
     span: Span,
@@ -48,8 +48,8 @@ fn is_viable(
         stop: span.start.saturating_add(1),
         line: span.line,
     };
-    tokens.push(token(alloc, kind, span)?)?;
-    tokens.push(token(alloc, Kind::End, behind)?)?;
+    tokens.push(token(kind, span))?;
+    tokens.push(token(Kind::End, behind))?;
     let counted = tokens.as_slice().get(first..).unwrap_or(&[]);
     let is_taken = is_taken(alloc, counted, span.start)?;
     tokens.pop();
@@ -61,14 +61,14 @@ fn is_viable(
 /// The tokens from there on are taken off.
 pub fn viable_kinds(
     alloc: Global,
-    tokens: &mut Vec<Token>,
+    tokens: &mut Vec<Token<'_>>,
     place: usize,
 ) -> Result<Vec<Kind>, AllocError> {
     let span = match tokens.as_slice().get(place) {
         Some(token) => token.span,
         None => Span {
-            start: u64::MAX,
-            stop: u64::MAX,
+            start: u64::MAX - 1,
+            stop: u64::MAX - 1,
             line: 1,
         },
     };

@@ -1,7 +1,7 @@
 //! What only the parser itself shows: spans of commands, lists of tokens that no source has, and want of memory.
 
 use lexer::{Token, lex};
-use parser::{Fault, parse};
+use parser::{Fault, parse, refusal_within};
 use std::alloc::Global;
 use std::test::Fail;
 use syntax::{Action, Command, Description};
@@ -49,6 +49,29 @@ fn a_list_without_its_end_is_read_as_if_it_had_one(rt: HostRuntime) -> Result<()
     assert_eq!(rt; said, Some(Fault::Unexpected(25)));
     let said = refusal_of(rt.alloc(), &[])?;
     assert_eq!(rt; said, Some(Fault::Unexpected(0)));
+    Ok(())
+}
+
+#[test]
+fn what_begins_no_description_is_told(rt: HostRuntime) -> Result<(), Fail> {
+    let whole = lex(rt.alloc(), b"procedure p is begin halt end")?;
+    let [front @ .., _end] = whole.as_slice() else {
+        return Err(Fail::from("no tokens"));
+    };
+    assert_eq!(rt; refusal_within(rt.alloc(), whole.as_slice()), None);
+    assert_eq!(rt; refusal_within(rt.alloc(), front), None);
+    assert_eq!(rt; refusal_within(rt.alloc(), &[]), None);
+    let other = lex(rt.alloc(), b"procedure p is begin halt ;")?;
+    let [front @ .., _end] = other.as_slice() else {
+        return Err(Fail::from("no tokens"));
+    };
+    assert_eq!(rt; refusal_within(rt.alloc(), front), None);
+    // The end of the source is a token too.
+    let said = refusal_within(rt.alloc(), other.as_slice());
+    assert_eq!(rt; said, Some(Fault::Unexpected(27)));
+    let wrong = lex(rt.alloc(), b"procedure p is begin end")?;
+    let said = refusal_within(rt.alloc(), wrong.as_slice());
+    assert_eq!(rt; said, Some(Fault::Unexpected(21)));
     Ok(())
 }
 

@@ -152,27 +152,17 @@ fn a_part_ends_before_the_next_procedure(rt: HostRuntime) -> Result<(), Fail> {
     let source: &[u8] = b"type t procedure p end -- x\n procedure q procedure ";
     let mut reader = Lexing::new(source);
     let mut part = Vec::new(rt.alloc());
-    assert!(rt;
-        matches!(
-            reader.add_part(rt.alloc(), &mut part, 100)?,
-            Stop::Procedure
-        )
-    );
+    assert!(rt; matches!(reader.add_part(&mut part, 100)?, Stop::Procedure));
     assert_eq!(rt; part.len(), 5);
     let mut part = Vec::new(rt.alloc());
-    assert!(rt; matches!(reader.add_part(rt.alloc(), &mut part, 1)?, Stop::Full));
+    assert!(rt; matches!(reader.add_part(&mut part, 1)?, Stop::Full));
     assert_eq!(rt; part.len(), 1);
     // The `procedure` that the part held before counts.
-    assert!(rt;
-        matches!(
-            reader.add_part(rt.alloc(), &mut part, 100)?,
-            Stop::Procedure
-        )
-    );
+    assert!(rt; matches!(reader.add_part(&mut part, 100)?, Stop::Procedure));
     assert_eq!(rt; part.len(), 2);
     assert!(rt; reader.finish().is_ok());
     let mut part = Vec::new(rt.alloc());
-    assert!(rt; matches!(reader.add_part(rt.alloc(), &mut part, 2)?, Stop::End));
+    assert!(rt; matches!(reader.add_part(&mut part, 2)?, Stop::EndOfSource));
     assert_eq!(rt; part.len(), 2);
     assert!(rt; is_end(part.last(), source.len() as u64));
     Ok(())
@@ -181,7 +171,7 @@ fn a_part_ends_before_the_next_procedure(rt: HostRuntime) -> Result<(), Fail> {
 /// The fault of what stands behind the first token.
 fn fault_behind_one(alloc: Global, source: &[u8]) -> Result<Option<Fault>, Fault> {
     let mut reader = Lexing::new(source);
-    reader.add_part(alloc, &mut Vec::new(alloc), 1)?;
+    reader.add_part(&mut Vec::new(alloc), 1)?;
     Ok(reader.finish().err())
 }
 

@@ -84,7 +84,7 @@ all_read : (c : In_ok-push) → AreTokens c.args.source.now c.push.new.self.item
 all_read c =
     let here = c.loop-tokens.lexing in
     let stands = rw c.in_default.is at c.in_ok-found.ensures.ok in
-    rw (c.in_ok-push.ensures.items, c.in_ok-end.ensures, stands.1) (at_end here stands.0 c.args.source.now c.loop-tokens.tokens.items c.loop-tokens.invariant)
+    rw (c.in_ok-push.ensures.items, c.end.ensures, stands.1) (at_end here stands.0 c.args.source.now c.loop-tokens.tokens.items c.loop-tokens.invariant)
 
 pub returns-clause-tokens : goal.returns-clause-tokens
 returns-clause-tokens c = all_read c

@@ -71,3 +71,7 @@ abbrev pub IsPart : Stop → ℕ → Lexing → List Token → Lexing → Type 0
 IsPart Full most old added new = Goes old added new × HasNoEnd added × (length added ≡ most) × TakesBytes old added new
 IsPart Procedure most old added new = Goes old added new × HasNoEnd added × (length added ≤ most) × TakesBytes old added new × IsAtProcedure new
 IsPart EndOfSource most old added new = Ends old added × (length added ≤ most)
+
+-- what was read before a fault is behind what the part held
+abbrev pub IsKept : Lexing → List Token → Lexing → List Token → Type 0
+IsKept old before new part = (added : List Token) × (part ≡ before ++ added) × Goes old added new

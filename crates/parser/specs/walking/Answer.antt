@@ -1,6 +1,6 @@
 -- What `parse` answers, by how the description is read.
 -- No reader has to believe it: `proofs/Answered.antt` ties it to `Parses` and `IsRefused` of `Accepted.antt`, of which the clauses of `parse` speak.
-use Rattle.std.specs.Prelude.{◌≡◌, ℕ, List, Result, Ok, Err}
+use Rattle.std.specs.Prelude.{◌≡◌, ℕ, List, [], ◌∷◌, Option, Some, None, Result, Ok, Err}
 use Rattle.lexer.specs.declared.token.Token.{Token}
 use Rattle.refusals.specs.declared.parser.Fault.{Fault}
 use Rattle.refusals.specs.declared.parser.Fault.TheVariants.{Memory, Unexpected, TooDeep}
@@ -22,3 +22,11 @@ abbrev pub fault_at : Halt → ℕ → Fault
 fault_at halt.Memory offset = Memory
 fault_at halt.Unexpected offset = Unexpected offset
 fault_at halt.TooDeep offset = TooDeep offset
+
+-- the fault of a reading that stops before these tokens; where none is left there is none, unless memory is out
+abbrev pub fault_before : Halt → List Token → Option Fault
+fault_before halt.Memory rest = Some Memory
+fault_before halt.Unexpected [] = None
+fault_before halt.Unexpected (token ∷ rest) = Some (Unexpected token.span.start)
+fault_before halt.TooDeep [] = None
+fault_before halt.TooDeep (token ∷ rest) = Some (TooDeep token.span.start)

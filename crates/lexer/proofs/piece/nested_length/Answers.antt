@@ -1,5 +1,5 @@
 use Rattle.std.proofs.Common.{◌+◌, ◌-◌, true, false, [], ◌∷◌, arith}
-use Rattle.lexer.proofs.CommentLemmas.{IsInside, opened, after_opening, after_closing, after_byte, whole, never_closed}
+use Rattle.lexer.proofs.CommentLemmas.{IsInside, opened, after_opening, after_closing, after_byte, after_other, whole, never_closed}
 use Rattle.lexer.proofs.MarkLemmas.{mark_at}
 use Rattle.lexer.proofs.piece.nested_length.Goals as goal
 use Rattle.lexer.proofs.piece.nested_length.Goals.{Then-starts_with-2}
@@ -49,3 +49,11 @@ loop-length-preserved c =
 
 pub returns : goal.returns
 returns c = (c.requires, never_closed c.args.rest.now c.loop-length.length c.loop-length.depth c.loop-length.invariant.inside c.loop-length.invariant.is_open c.loop-length-test.false)
+
+pub loop-length-preserved-then-rest-length-ne45 : goal.loop-length-preserved-then-rest-length-ne45
+loop-length-preserved-then-rest-length-ne45 c =
+    let now = c.loop-length in
+    record {
+      inside = after_other c.args.rest.now now.length now.depth now.invariant.inside now.invariant.is_open c.loop-length-test.true c.if-rest-length-ne40.true c.if-rest-length-ne45.true;
+      is_open = now.invariant.is_open;
+    }

@@ -1,11 +1,12 @@
-use Rattle.parser.proofs.InsideLemmas.{refused_on}
+use Rattle.parser.specs.walking.Reads.{place}
+use Rattle.parser.proofs.InsideLemmas.{begins_whole, told}
 use Rattle.parser.proofs.front.refusal_within.Goals as goal
-use Rattle.parser.proofs.front.refusal_within.Goals.{in-Ok, in-Err+then-is_inside, in-Err+else-is_inside}
+use Rattle.parser.proofs.front.refusal_within.Goals.{in-Ok, in-Err}
 
 pub returns : goal.returns
-returns c = elim c.match-parse.branch [
-  | in-Ok w ↦ rw w.result-is tt
-  | in-Err+then-is_inside w ↦
-      rw w.result-is (refused_on c.args.tokens.now w.in-Err.fault w.in-Err.ensures.fault (w.is_inside.ensures w.if-is_inside.true))
-  | in-Err+else-is_inside w ↦ rw w.result-is tt
+returns c = elim c.match-whole.branch [
+  | in-Ok w ↦ rw w.result-is (begins_whole c.args.tokens.now _ (place c.whole.new.cursor) (rw c.new-cursor.ensures at w.in-Ok.ensures))
+  | in-Err w ↦
+      rw (w.result-is, w.fault_before.ensures, w.rest.ensures)
+      (told c.args.tokens.now c.whole.new.cursor.rest.now w.in-Err.halt (rw c.new-cursor.ensures at w.in-Err.ensures))
 ]

@@ -16,7 +16,7 @@ returns-in_err-is_last-clause-fault c =
     ] in
     let part = c.in_ok-stop.ensures.part in
     let reads : ReadsPart (is_end c.in_ok-stop.stop) c.args.lexing.now front c.add_part.new.self =
-    reads_first c.args.lexing.now c.add_part.new.self part.0 front c.in_ok-stop.stop _ (rw c.new-tokens.ensures.items at part.1) part.2 in
+    reads_first c.args.lexing.now c.add_part.new.self part.0 front c.in_ok-stop.stop _ (rw c.clear.ensures.items at part.1) part.2 in
     rw is (refuses_next c.args.is_first c.args.lexing.now front c.in_err-is_last.field-0.0 begins (c.in_err-is_last.ensures.fault c.args.lexing.now reads))
 
 pub returns-clause-read : goal.returns-clause-read
@@ -29,7 +29,7 @@ returns-clause-read c =
     ] in
     let part = c.in_ok-stop.ensures.part in
     let reads : ReadsPart (is_end c.in_ok-stop.stop) c.args.lexing.now front c.add_part.new.self =
-    reads_first c.args.lexing.now c.add_part.new.self part.0 front c.in_ok-stop.stop _ (rw c.new-tokens.ensures.items at part.1) part.2 in
+    reads_first c.args.lexing.now c.add_part.new.self part.0 front c.in_ok-stop.stop _ (rw c.clear.ensures.items at part.1) part.2 in
     next_read c.args.is_first c.in_ok-is_last.is_last c.args.lexing.now c.read_whole.new.lexing front c.read_whole.new.tokens.items begins
     (c.in_ok-is_last.ensures.read c.args.lexing.now reads) c.tree_of.result c.tree_of.ensures.read
 
@@ -43,7 +43,7 @@ returns-clause-fault c =
     ] in
     let part = c.in_ok-stop.ensures.part in
     let reads : ReadsPart (is_end c.in_ok-stop.stop) c.args.lexing.now front c.add_part.new.self =
-    reads_first c.args.lexing.now c.add_part.new.self part.0 front c.in_ok-stop.stop _ (rw c.new-tokens.ensures.items at part.1) part.2 in
+    reads_first c.args.lexing.now c.add_part.new.self part.0 front c.in_ok-stop.stop _ (rw c.clear.ensures.items at part.1) part.2 in
     let on = c.in_ok-is_last.ensures.read c.args.lexing.now reads in
     next_refused c.args.is_first c.in_ok-is_last.is_last c.args.lexing.now c.read_whole.new.lexing front c.read_whole.new.tokens.items begins on c.tree_of.result
     (c.tree_of.ensures.fault c.args.lexing.now on.1)

@@ -8,7 +8,7 @@ use Rattle.typed_source.proofs.part.refuse_with_next.Goals.{in-EndOfSource, in_d
 pub returns : goal.returns
 returns c = λ old reads.
     let part = c.in_ok-stop.ensures.part in
-    let before = c.args.tokens.items in
+    let before = c.args.tokens.now.items in
     let which : c.match-matches.matches ≡ is_end c.in_ok-stop.stop = elim c.match-matches.branch [
       | in-EndOfSource w ↦ w.matches-is ∙ rw w.in-EndOfSource.is refl
       | in_default w ↦ w.matches-is ∙ not_end c.in_ok-stop.stop w.in_default.not-EndOfSource
