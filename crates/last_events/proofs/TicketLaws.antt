@@ -346,6 +346,7 @@ module _ (rows : List (Vec ℕ Global)) (i : ℕ) (row : Vec ℕ Global) (less :
 
     module _ (is : row ≡ get_or rows i row) (ticket : ℕ) where
       pub use-put : ((t : ℕ) → In t after.items ↔ (In t row.items ⊎ (t ≡ ticket))) → (x t : ℕ) → Uses (rows_of (set rows i after)) x t ↔ (Uses (rows_of rows) x t ⊎ ((x ≡ i) × (t ≡ ticket)))
+      unfolding Uses
       use-put put x t = elim (cases_eq x i) [
         | inl here ↦
             let now : get_or (rows_of (set rows i after)) x [] ≡ after.items = ap (λ (y : ℕ). get_or (rows_of (set rows i after)) y []) here ∙ row-set rows i after less in
@@ -359,6 +360,7 @@ module _ (rows : List (Vec ℕ Global)) (i : ℕ) (row : Vec ℕ Global) (less :
       ]
 
       pub use-gone : ((t : ℕ) → In t after.items ↔ (In t row.items × (t ≡ ticket → ⊥))) → (x t : ℕ) → Uses (rows_of (set rows i after)) x t ↔ (Uses (rows_of rows) x t × (((x ≡ i) × (t ≡ ticket)) → ⊥))
+      unfolding Uses
       use-gone gone x t = elim (cases_eq x i) [
         | inl here ↦
             let now : get_or (rows_of (set rows i after)) x [] ≡ after.items = ap (λ (y : ℕ). get_or (rows_of (set rows i after)) y []) here ∙ row-set rows i after less in
@@ -372,6 +374,7 @@ module _ (rows : List (Vec ℕ Global)) (i : ℕ) (row : Vec ℕ Global) (less :
       ]
 
       pub use-same : after.items ≡ row.items → (x t : ℕ) → Uses (rows_of (set rows i after)) x t ↔ Uses (rows_of rows) x t
+      unfolding Uses
       use-same same x t = elim (cases_eq x i) [
         | inl here ↦
             let now : get_or (rows_of (set rows i after)) x [] ≡ get_or (rows_of rows) x [] =
@@ -383,6 +386,7 @@ module _ (rows : List (Vec ℕ Global)) (i : ℕ) (row : Vec ℕ Global) (less :
 
 -- past the rows none is taken
 pub use-past : (rows : List (Vec ℕ Global)) (i ticket x t : ℕ) → length rows ≤ i → Uses (rows_of rows) x t ↔ (Uses (rows_of rows) x t × (((x ≡ i) × (t ≡ ticket)) → ⊥))
+unfolding Uses
 use-past rows i ticket x t short = (
   λ u. (u, λ both. subst (In t) (row-past rows i short) (subst (λ (y : ℕ). In t (get_or (rows_of rows) y [])) both.0 u)),
   λ k. k.0,
@@ -399,6 +403,7 @@ same-among here ts P t is told = (λ i. told.0 (subst (In t) is i), λ k. subst 
 module _ (table : UseTable) (x : ℕ) (here : List ℕ) (is : here ≡ get_or table x []) where
   pub last-of : (r : Option ℕ) (below : ℕ) → MatchOption r ((t : ℕ) → In t here → t < below → ⊥) (LastBelow here below) →
       MatchOption r ((t : ℕ) → Uses table x t → t < below → ⊥) (LastUse table x below)
+  unfolding Uses
   last-of None below none = λ t u less. none t (subst (In t) (sym is) u) less
   last-of (Some t) below found = record {
     uses = subst (In t) is found.inside;
@@ -408,6 +413,7 @@ module _ (table : UseTable) (x : ℕ) (here : List ℕ) (is : here ≡ get_or ta
 
   pub first-of : (r : Option ℕ) (from below : ℕ) → MatchOption r ((t : ℕ) → In t here → from ≤ t → t < below → ⊥) (FirstFrom here from below) →
       MatchOption r ((t : ℕ) → Uses table x t → from ≤ t → t < below → ⊥) (FirstUse table x from below)
+  unfolding Uses
   first-of None from below none = λ t u up less. none t (subst (In t) (sym is) u) up less
   first-of (Some t) from below found = record {
     uses = subst (In t) is found.inside;
@@ -418,10 +424,12 @@ module _ (table : UseTable) (x : ℕ) (here : List ℕ) (is : here ≡ get_or ta
 
 -- the same uses, under rows that hold the same
 pub uses-alike : (old new : UseTable) → ((x : ℕ) → get_or new x [] ≡ get_or old x []) → (x t : ℕ) → Uses new x t ↔ Uses old x t
+unfolding Uses
 uses-alike old new same x t = (λ u. subst (In t) (same x) u, λ u. subst (In t) (sym (same x)) u)
 
 pub put-alike : (old mid new : UseTable) (n ticket : ℕ) → ((x : ℕ) → get_or mid x [] ≡ get_or old x []) →
     ((x t : ℕ) → Uses new x t ↔ (Uses mid x t ⊎ ((x ≡ n) × (t ≡ ticket)))) → (x t : ℕ) → Uses new x t ↔ (Uses old x t ⊎ ((x ≡ n) × (t ≡ ticket)))
+unfolding Uses
 put-alike old mid new n ticket same put x t =
     let alike = uses-alike old mid same x t in (
       λ u. elim ((put x t).0 u) [ inl was ↦ inl (alike.0 was) | inr is ↦ inr is ],
@@ -429,6 +437,7 @@ put-alike old mid new n ticket same put x t =
     )
 
 pub refused-alike : (old mid new : UseTable) → ((x : ℕ) → get_or mid x [] ≡ get_or old x []) → ((x t : ℕ) → Uses new x t ↔ Uses mid x t) → (x t : ℕ) → Uses new x t ↔ Uses old x t
+unfolding Uses
 refused-alike old mid new same put x t =
     let alike = uses-alike old mid same x t in
     (λ u. alike.0 ((put x t).0 u), λ u. (put x t).1 (alike.1 u))

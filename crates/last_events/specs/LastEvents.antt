@@ -54,7 +54,7 @@ pub record LastBefore (table : PlaceTable) (a : List Entry) (old new : List ℕ)
       (c : List Entry) × (u : ℕ) × IsAt table c u × In u new × ((b ≡ c) ⊎ Before b c)
 
 -- the event of ticket t uses the number x: the table has the tickets of each number
-abbrev pub Uses : UseTable → ℕ → ℕ → Type 0
+unfoldable pub Uses : UseTable → ℕ → ℕ → Type 0
 Uses table x t = In t (slice_index_or table x [])
 
 -- t is the greatest ticket, less than `below`, of an event that uses the number x

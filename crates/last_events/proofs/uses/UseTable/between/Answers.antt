@@ -2,10 +2,12 @@ use Rattle.std.proofs.Common.{◌≡◌, ℕ, List, [], ◌⊎◌, ◌↔◌, �
 use Rattle.std.specs.Global.{Global}
 use Rattle.std.specs.Result.{IfOk}
 use Rattle.syntax.specs.Lists.{In}
+use Rattle.last_events.specs.LastEvents.{Uses}
 use Rattle.last_events.specs.walking.Tickets.{rows_of}
 use Rattle.last_events.proofs.uses.UseTable.between.Goals as goal
 
 pub returns : goal.returns
+unfolding Uses
 returns c =
     let is : c.row_at-tickets.result.now ≡ get_or c.args.self.now c.args.number [] =
     c.row_at-tickets.ensures ∙ ap (λ (rows : List (Vec ℕ Global)). get_or (rows_of rows) c.args.number []) c.as_slice.ensures.value

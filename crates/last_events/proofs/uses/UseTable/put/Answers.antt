@@ -1,7 +1,8 @@
 use Rattle.std.proofs.Common.{◌≡◌, ℕ, List, [], get_or, ap, ◌∙◌}
 use Rattle.std.proofs.lemmas.Result.{on_ok_weaker, on_err_weaker}
 use Rattle.last_events.specs.walking.Tickets.{rows_of}
-use Rattle.last_events.proofs.TicketLaws.{put-alike, refused-alike}
+use Rattle.last_events.proofs.RowLaws.{on-err}
+use Rattle.last_events.proofs.TicketLaws.{put-alike, refused-alike, uses-alike}
 use Rattle.last_events.proofs.uses.UseTable.put.Goals as goal
 
 pub returns-clause-put : goal.returns-clause-put
@@ -19,3 +20,9 @@ returns-clause-refused c =
     on_err_weaker c.put_use.result
     (λ put. refused-alike c.args.self.now (rows_of c.make_rows.new.rows.items) (rows_of c.put_use.new.rows.items) same put)
     c.put_use.ensures.refused
+
+pub returns-in_err-make_rows-clause-refused : goal.returns-in_err-make_rows-clause-refused
+returns-in_err-make_rows-clause-refused c =
+    on-err c.from_residual.result
+    (uses-alike c.args.self.now (rows_of c.make_rows.new.rows.items)
+    (λ x. c.make_rows.ensures.same x ∙ ap (λ (table : List (List ℕ)). get_or table x []) c.self.view_is))
