@@ -4,4 +4,4 @@ pub mod PlaceLaws
 pub mod RowLaws
 pub mod SearchLaws
 pub mod StandLaws
-pub mod UseLaws
+pub mod TicketLaws

@@ -1,8 +1,7 @@
 -- What the tables of last events hold, and what they tell.
-use Rattle.std.specs.Prelude.{◌≡◌, ◌≢◌, ◌⊎◌, ℕ, ◌<◌, ◌≤◌, List, [], ◌∷◌, ◌++◌, Option, Some, None, IsTrue}
+use Rattle.std.specs.Prelude.{◌≡◌, ◌≢◌, ◌⊎◌, ℕ, ◌<◌, ◌≤◌, List, [], ◌∷◌, ◌++◌, Option, Some, None, slice_index_or}
 use Rattle.std.specs.Map.{lookup}
-use Rattle.std.specs.Ordering.{is_eq, nat_cmp, ordering_then}
-use Rattle.std.specs.BTreeSet.{contains}
+use Rattle.std.specs.Ordering.{is_eq}
 use Rattle.address.specs.Places.{Before, Apart}
 use Rattle.address.specs.Order.{order_of}
 use Rattle.address.specs.declared.Entry.{Entry}
@@ -54,9 +53,9 @@ pub record LastBefore (table : PlaceTable) (a : List Entry) (old new : List ℕ)
   pub complete : (b : List Entry) (t : ℕ) → IsAt table b t → Before b a →
       (c : List Entry) × (u : ℕ) × IsAt table c u × In u new × ((b ≡ c) ⊎ Before b c)
 
--- the event of ticket t uses the number x
-abbrev pub Uses : UseTable → ℕ → ℕ → Type 0
-Uses table x t = IsTrue (contains (λ (p q : ℕ × ℕ). ordering_then (nat_cmp p.0 q.0) (nat_cmp p.1 q.1)) table.set (x, t))
+-- the event of ticket t uses the number x: the table has the tickets of each number
+unfoldable pub Uses : UseTable → ℕ → ℕ → Type 0
+Uses table x t = In t (slice_index_or table x [])
 
 -- t is the greatest ticket, less than `below`, of an event that uses the number x
 pub record LastUse (table : UseTable) (x below t : ℕ) : Type 0 where

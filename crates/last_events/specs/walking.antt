@@ -1,4 +1,5 @@
 pub mod Forks
 pub mod Rows
 pub mod Search
+pub mod Tickets
 pub mod Walks

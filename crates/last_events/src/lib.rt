@@ -7,6 +7,7 @@ mod forks;
 mod places;
 mod rows;
 mod search;
+mod tickets;
 mod uses;
 
 pub use children::is_first_child;

@@ -20,7 +20,7 @@ use Rattle.std.proofs.rt.Memory.TheSendSync as memoryCrosses
 use Rattle.std.proofs.vec.Vec.TheSendSync as vec
 use Rattle.syntax.proofs.items.Items.TheSendSync as itemsCrosses
 
-pub ruleset trees = (optionCrosses.the_field_send, optionCrosses.the_field_sync, optionCrosses.the_send, optionCrosses.the_sync, memoryCrosses.the_field_send, memoryCrosses.the_field_sync, memoryCrosses.the_send, memoryCrosses.the_sync, useTableCrosses.the_field_send, useTableCrosses.the_field_sync, useTableCrosses.the_send, useTableCrosses.the_sync, itemsCrosses.the_send, itemsCrosses.the_sync, vec.the_send, vec.the_sync, nodeCrosses.the_send, nodeCrosses.the_sync, rootCrosses.the_field_send, rootCrosses.the_field_sync, rootCrosses.the_send, rootCrosses.the_sync, treeCrosses.the_field_send, treeCrosses.the_field_sync, treeCrosses.the_send, treeCrosses.the_sync, bTreeMapCrosses.the_send, bTreeMapCrosses.the_sync, bTreeSetCrosses.the_send, bTreeSetCrosses.the_sync, globalCrosses.the_field_send, globalCrosses.the_field_sync, globalCrosses.the_send, globalCrosses.the_sync, crossingMaps.crosses)
+pub ruleset trees = (optionCrosses.the_field_send, optionCrosses.the_field_sync, optionCrosses.the_send, optionCrosses.the_sync, memoryCrosses.the_field_send, memoryCrosses.the_field_sync, memoryCrosses.the_send, memoryCrosses.the_sync, useTableCrosses.the_send, useTableCrosses.the_sync, itemsCrosses.the_send, itemsCrosses.the_sync, vec.the_send, vec.the_sync, nodeCrosses.the_send, nodeCrosses.the_sync, rootCrosses.the_field_send, rootCrosses.the_field_sync, rootCrosses.the_send, rootCrosses.the_sync, treeCrosses.the_field_send, treeCrosses.the_field_sync, treeCrosses.the_send, treeCrosses.the_sync, bTreeMapCrosses.the_send, bTreeMapCrosses.the_sync, bTreeSetCrosses.the_send, bTreeSetCrosses.the_sync, globalCrosses.the_field_send, globalCrosses.the_field_sync, globalCrosses.the_send, globalCrosses.the_sync, crossingMaps.crosses)
 
 pub ruleset lives = (vec.the_send, vec.the_sync, globalCrosses.the_field_send, globalCrosses.the_send, globalCrosses.the_field_sync, globalCrosses.the_sync, liveSend.the_send, liveSend.the_sync, storeSend.the_send, storeSend.the_sync)
 

@@ -1,12 +1,16 @@
-use Rattle.last_events.proofs.UseLaws.{left-next, left-none}
+use Rattle.std.proofs.Common.{◌≡◌, ℕ, List, [], ◌⊎◌, ◌↔◌, ◌<◌, ◌≤◌, get_or, Vec, ap, subst, ◌∙◌}
+use Rattle.std.specs.Global.{Global}
+use Rattle.std.specs.Result.{IfOk}
+use Rattle.syntax.specs.Lists.{In}
+use Rattle.last_events.specs.LastEvents.{Uses}
+use Rattle.last_events.specs.walking.Tickets.{rows_of}
 use Rattle.last_events.proofs.uses.UseTable.between.Goals as goal
 
-pub loop-key-preserved : goal.loop-key-preserved
-loop-key-preserved c =
-    left-next c.args.found.now.items c.range-uses.result c.loop-key.found.items c.push.new.self.items c.loop-key.uses c.next.new.self c.in-Some.key.now
-    c.loop-key.invariant c.in-Some.ensures.steps c.in_ok-push.ensures.items
-
 pub returns : goal.returns
+unfolding Uses
 returns c =
-    left-none c.args.self.now c.args.number c.args.from c.args.below c.args.found.now.items c.range-uses.result c.loop-key.found.items c.loop-key.uses
-    (c.range-uses.ensures.between tt) c.loop-key.invariant c.in_default.ensures.steps.0
+    let is : c.row_at-tickets.result.now ≡ get_or c.args.self.now c.args.number [] =
+    c.row_at-tickets.ensures ∙ ap (λ (rows : List (Vec ℕ Global)). get_or (rows_of rows) c.args.number []) c.as_slice.ensures.value
+    ∙ ap (λ (table : List (List ℕ)). get_or table c.args.number []) c.self.view_is in
+    subst (λ (here : List ℕ). IfOk c.add_between.result (λ _. (t : ℕ) → In t c.add_between.new.found.items ↔ (In t c.args.found.now.items ⊎ (In t here × (c.args.from ≤ t) × (t < c.args.below)))))
+    is c.add_between.ensures

@@ -1,10 +1,12 @@
-use Rattle.last_events.proofs.UseLaws.{first-use, none-between}
+use Rattle.std.proofs.Common.{ℕ, List, [], get_or, Vec, ap, ◌∙◌}
+use Rattle.std.specs.Global.{Global}
+use Rattle.last_events.specs.walking.Tickets.{rows_of}
+use Rattle.last_events.proofs.TicketLaws.{first-of}
 use Rattle.last_events.proofs.uses.UseTable.first.Goals as goal
 
-pub returns-in-Some : goal.returns-in-Some
-returns-in-Some c =
-    first-use c.args.self.now c.args.number c.args.from c.args.below c.range-later.result c.next.new.self c.in-Some.key.now (c.range-later.ensures.in_range tt) c.in-Some.ensures.steps
-
-pub returns-in-None : goal.returns-in-None
-returns-in-None c =
-    none-between c.args.self.now c.args.number c.args.from c.args.below c.range-later.result (c.range-later.ensures.in_range tt) c.in-None.ensures.steps.0
+pub returns : goal.returns
+returns c =
+    first-of c.args.self.now c.args.number c.row_at-tickets.result.now
+    (c.row_at-tickets.ensures ∙ ap (λ (rows : List (Vec ℕ Global)). get_or (rows_of rows) c.args.number []) c.as_slice.ensures.value
+    ∙ ap (λ (table : List (List ℕ)). get_or table c.args.number []) c.self.view_is)
+    c.first_from.result c.args.from c.args.below c.first_from.ensures

@@ -1,10 +1,12 @@
-use Rattle.last_events.proofs.UseLaws.{last-use, no-use}
+use Rattle.std.proofs.Common.{ℕ, List, [], get_or, Vec, ap, ◌∙◌}
+use Rattle.std.specs.Global.{Global}
+use Rattle.last_events.specs.walking.Tickets.{rows_of}
+use Rattle.last_events.proofs.TicketLaws.{last-of}
 use Rattle.last_events.proofs.uses.UseTable.last.Goals as goal
 
-pub returns-in-Some : goal.returns-in-Some
-returns-in-Some c =
-    last-use c.args.self.now c.args.number c.args.below c.range-uses.result c.next_back.new.self c.in-Some.key.now (c.range-uses.ensures.in_range tt) c.in-Some.ensures.steps
-
-pub returns-in-None : goal.returns-in-None
-returns-in-None c =
-    no-use c.args.self.now c.args.number c.args.below c.range-uses.result (c.range-uses.ensures.in_range tt) c.in-None.ensures.steps.0
+pub returns : goal.returns
+returns c =
+    last-of c.args.self.now c.args.number c.row_at-tickets.result.now
+    (c.row_at-tickets.ensures ∙ ap (λ (rows : List (Vec ℕ Global)). get_or (rows_of rows) c.args.number []) c.as_slice.ensures.value
+    ∙ ap (λ (table : List (List ℕ)). get_or table c.args.number []) c.self.view_is)
+    c.last_below.result c.args.below c.last_below.ensures
