@@ -1,5 +1,5 @@
 // Taking an event back with all that depend on it, and the questions about them.
-ghost use Rattle.std.specs.Prelude.{◌≡◌, ℕ, length, IfOk, OnErr};
+ghost use Rattle.std.specs.Prelude.{◌≡◌, ℕ, IfOk, OnErr};
 ghost use Rattle.sharing_check.specs.declared.checked.Checked.{Checked};
 ghost use Rattle.runs.specs.Live.{IsLive, DependsOn, WithoutTickets};
 ghost use Rattle.runs.specs.Does.{Does};
@@ -40,7 +40,7 @@ impl History {
     }
 
     /// Takes the marked events back, which are a live event and all that depend on it: first on the tree and in the store, and
-    /// then out of the lists. Each list is gone through once, from the first marked event on.
+    /// then out of the live events. These are gone through once, from the first marked one on.
     fn take_marked(&mut self)
         requires holds { (system : Checked) × Holds system self.old }
         requires marked { (t : ℕ) × MarksDependents self.old.live t }
@@ -49,18 +49,16 @@ impl History {
         ensures holds { (system : Checked) → Holds system self.old → Holds system self.new }
     {
         self.revert_marked();
-        self.live.keep_unmarked(&mut self.inverses);
         self.live.take_marked();
     }
 
-    /// Takes the marked events back on the tree and in the store, the last first, on which none depends then. They stay in the
-    /// lists.
+    /// Takes the marked events back on the tree and in the store, the last first, on which none depends then. They stay among the
+    /// live events; their inverses are gone.
     fn revert_marked(&mut self)
         requires holds { (system : Checked) × Holds system self.old }
         requires marked { MarksAllDependents self.old.live }
         ensures live { self.new.live ≡ self.old.live }
         ensures next { self.new.next ≡ self.old.next }
-        ensures even { length self.new.inverses.items ≡ length self.old.inverses.items }
         ensures holds { (system : Checked) → Holds system self.old → HoldsFrom system 0 self.new }
     {
         let low = self.live.unmarked_below();
@@ -68,8 +66,8 @@ impl History {
         while index > low {
             index -= 1;
             if let Some(event) = self.live.marked_at(index) {
-                let inverse = &mut self.inverses[index];
-                invert_by(&mut self.tree, &mut self.store, event, inverse);
+                let mut inverse = self.inverses.remove(index);
+                invert_by(&mut self.tree, &mut self.store, event, &mut inverse);
             }
         }
     }

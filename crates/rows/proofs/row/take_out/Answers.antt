@@ -13,7 +13,7 @@ renumber-requires g c =
     let inside = c.requires.holds r at in
     let q : Row _ = record { start = r.start; items = c.remove-item.new.self } in
     let out = taken-out c.args.rows.now.items c.close_up.new.rows.items c.args.number c.args.offset r q c.requires.begin at inside c.remove-item.ensures.items
-        c.close_up.ensures.before c.close_up.ensures.behind in
+    c.close_up.ensures.before c.close_up.ensures.behind in
     let small = c.requires.small in
     let under : r.start + c.args.offset < length (flat c.args.rows.now.items) =
     let long = taken-long c.args.rows.now.items c.args.number r at in
@@ -29,14 +29,14 @@ returns-clause-taken g c =
     let at = read-at c.args.rows.now.items c.args.number r c.requires.inside c.index_mut-row.ensures.value in
     let q : Row _ = record { start = r.start; items = c.remove-item.new.self } in
     let out = taken-out c.args.rows.now.items c.close_up.new.rows.items c.args.number c.args.offset r q c.requires.begin at (c.requires.holds r at) c.remove-item.ensures.items
-        c.close_up.ensures.before c.close_up.ensures.behind in
+    c.close_up.ensures.before c.close_up.ensures.behind in
     λ s here. subst (λ (k : Row _). flat c.renumber.new.rows.items ≡ remove (flat c.args.rows.now.items) (k.start + c.args.offset))
-        (same-at c.args.rows.now.items c.args.number r s at here) (c.renumber.ensures.same ∙ out.taken)
+    (same-at c.args.rows.now.items c.args.number r s at here) (c.renumber.ensures.same ∙ out.taken)
 
 pub returns-clause-item : goal.returns-clause-item
 returns-clause-item g c =
     let r : Row _ = c.index_mut-row.result.now in
     let at = read-at c.args.rows.now.items c.args.number r c.requires.inside c.index_mut-row.ensures.value in
     λ s here. subst (λ (k : Row _). slice_get k.items.items c.args.offset ≡ Some c.remove-item.result)
-        (same-at c.args.rows.now.items c.args.number r s at here)
-        (read-at r.items.items c.args.offset c.remove-item.result (c.requires.holds r at) c.remove-item.ensures.value)
+    (same-at c.args.rows.now.items c.args.number r s at here)
+    (read-at r.items.items c.args.offset c.remove-item.result (c.requires.holds r at) c.remove-item.ensures.value)
