@@ -1,6 +1,6 @@
 -- Rows xs one list: what stands where, and what an edit of a row leaves.
-use Rattle.std.proofs.Common.{◌≡◌, ℕ, zero, suc, ◌+◌, ◌<◌, ◌≤◌, List, [], ◌∷◌, ◌++◌, length, take, drop, Option, Some, None, refl, sym, ap, subst, ◌∙◌, ◌-◌, arith, append_assoc, length-append, get_or, true≢false, false}
-use Rattle.std.specs.Prelude.{slice_get, slice_set, is_some, vec_len}
+use Rattle.std.proofs.Common.{◌≡◌, ℕ, zero, suc, ◌+◌, ◌<◌, ◌≤◌, List, [], ◌∷◌, ◌++◌, length, take, drop, Some, None, refl, sym, ap, subst, ◌∙◌, ◌-◌, arith, append_assoc, length-append, get_or, true≢false, false}
+use Rattle.std.specs.Prelude.{slice_get, slice_set, is_some}
 use Rattle.std.specs.List.{remove}
 use Rattle.std.proofs.lemmas.Option.{slice_get_within, slice_get_read}
 use Rattle.rows.specs.Flat.{flat, BeginFrom, HoldsIndex}

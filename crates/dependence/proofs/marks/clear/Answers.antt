@@ -1,5 +1,4 @@
-use Rattle.std.proofs.Common.{◌≡◌, ◌<◌, ◌≤◌, ◌+◌, ℕ, suc, length, Some, true, arith}
-use Rattle.std.specs.Prelude.{slice_get}
+use Rattle.std.proofs.Common.{◌≡◌, ◌<◌, ◌≤◌, ◌+◌, suc, length, true, arith}
 use Rattle.std.proofs.lemmas.Option.{slice_get_within}
 use Rattle.dependence.proofs.Markings.{cleared-next}
 use Rattle.dependence.proofs.marks.clear.Goals as goal

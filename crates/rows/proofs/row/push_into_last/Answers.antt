@@ -1,4 +1,4 @@
-use Rattle.std.proofs.Common.{◌≡◌, ◌∙◌, ◌<◌, ◌-◌, ℕ, suc, length, Some, ap, sym, refl, arith}
+use Rattle.std.proofs.Common.{◌≡◌, ◌<◌, ◌-◌, suc, length, ap, refl, arith}
 use Rattle.rows.proofs.FlatLaws.{read-at, begin-set, begin-last, flat-pushed, flat-same}
 use Rattle.rows.proofs.row.push_into_last.Goals as goal
 

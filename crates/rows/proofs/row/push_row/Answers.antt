@@ -1,4 +1,4 @@
-use Rattle.std.proofs.Common.{◌≡◌, ◌∙◌, ◌++◌, ◌∷◌, [], List, length, ap, sym, subst, arith}
+use Rattle.std.proofs.Common.{◌≡◌, ◌∙◌, ◌++◌, ◌∷◌, [], List, ap, sym, subst, arith}
 use Rattle.rows.specs.Flat.{flat, BeginFrom}
 use Rattle.rows.specs.declared.row.Row.{Row}
 use Rattle.rows.proofs.FlatLaws.{begin-more, flat-more}

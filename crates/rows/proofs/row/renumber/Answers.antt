@@ -1,4 +1,4 @@
-use Rattle.std.proofs.Common.{◌≡◌, ◌∙◌, ◌<◌, ◌≤◌, ◌+◌, ℕ, suc, length, take, Some, List, ap, sym, refl, subst, arith}
+use Rattle.std.proofs.Common.{◌≡◌, ◌∙◌, ◌<◌, ◌≤◌, ◌+◌, suc, length, take, List, ap, refl, subst, arith}
 use Rattle.rows.specs.Flat.{flat, BeginFrom}
 use Rattle.rows.specs.declared.row.Row.{Row}
 use Rattle.rows.proofs.FlatLaws.{read-at, renumbered, taken-long, length-changed, take-all}

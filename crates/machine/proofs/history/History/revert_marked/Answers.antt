@@ -1,5 +1,4 @@
-use Rattle.std.proofs.Common.{◌≡◌, ◌∙◌, ℕ, suc, ◌-◌, ◌<◌, ◌≤◌, length, List, refl, sym, ap, subst, arith}
-use Rattle.std.specs.List.{remove}
+use Rattle.std.proofs.Common.{◌≡◌, ℕ, suc, ◌-◌, ◌<◌, ◌≤◌, length, List, refl, sym, subst, arith}
 use Rattle.sharing_check.specs.declared.checked.Checked.{Checked}
 use Rattle.dependence.specs.Shown.{Shown}
 use Rattle.dependence.specs.Taking.{MarksAllDependents, NoneMarkedAt}
@@ -35,8 +34,8 @@ remove-inverse-requires c =
     inverse-within inv.some.0 q (tree_of h) h.live h.inverses h.next
     (subst (λ (k : ℕ). StandsFrom inv.some.0 k (tree_of h) h.live h.inverses h.next) back inv.some.1) inside
 
-pub invert_by-requires : goal.invert_by-requires
-invert_by-requires c =
+pub undo_by-requires : goal.undo_by-requires
+undo_by-requires c =
     let h = c.loop-index.self in
     let inv = c.loop-index.invariant in
     let q : ℕ = c.loop-index.index - 1 in
@@ -45,10 +44,7 @@ invert_by-requires c =
     let one = c.in-Some.ensures in
     let marks : MarksAllDependents h.live = subst (λ (s : Shown). MarksAllDependents s) (sym inv.same) c.requires.marked in
     let from = subst (λ (k : ℕ). StandsFrom inv.some.0 k (tree_of h) h.live h.inverses h.next) back inv.some.1 in
-    record {
-      possible = can-go inv.some.0 q (tree_of h) h.live h.inverses h.next one.0 c.in-Some.event.now from one.1 c.remove-inverse.result c.remove-inverse.ensures.item
-          marks one.2;
-    }
+    can-go inv.some.0 q (tree_of h) h.live h.inverses h.next one.0 c.in-Some.event.now from one.1 c.remove-inverse.result c.remove-inverse.ensures.item marks one.2
 
 pub loop-index-preserved-in-Some : goal.loop-index-preserved-in-Some
 loop-index-preserved-in-Some c =
@@ -61,10 +57,10 @@ loop-index-preserved-in-Some c =
     let one = c.in-Some.ensures in
     let marks : MarksAllDependents h.live = subst (λ (s : Shown). MarksAllDependents s) (sym inv.same) c.requires.marked in
     let next = λ (system : Checked) (from : StandsFrom system c.loop-index.index (tree_of h) h.live h.inverses h.next).
-    subst (λ (js : List Inverse). StandsFrom system q (both_view c.invert_by.new.tree c.invert_by.new.store) h.live js h.next) (sym c.remove-inverse.ensures.taken)
+    subst (λ (js : List Inverse). StandsFrom system q (both_view c.undo_by.new.tree c.undo_by.new.store) h.live js h.next) (sym c.remove-inverse.ensures.taken)
     (from-marked system q (tree_of h) h.live h.inverses h.next one.0 c.in-Some.event.now
     (subst (λ (k : ℕ). StandsFrom system k (tree_of h) h.live h.inverses h.next) back from) one.1 c.remove-inverse.result c.remove-inverse.ensures.item marks one.2
-    (both_view c.invert_by.new.tree c.invert_by.new.store) c.invert_by.ensures.undone) in
+    (both_view c.undo_by.new.tree c.undo_by.new.store) c.undo_by.ensures) in
     record {
       range = omega arith;
       same = inv.same;

@@ -1,5 +1,5 @@
-use Rattle.std.proofs.Common.{◌≡◌, ◌∙◌, ◌<◌, ◌≤◌, ◌-◌, ◌+◌, ℕ, suc, length, Some, List, ap, sym, refl, subst, arith}
-use Rattle.std.specs.Prelude.{slice_get, slice_set}
+use Rattle.std.proofs.Common.{◌∙◌, ◌-◌, List, ap, sym, subst}
+use Rattle.std.specs.Prelude.{slice_get}
 use Rattle.rows.specs.Flat.{HoldsIndex}
 use Rattle.rows.specs.declared.row.Row.{Row}
 use Rattle.rows.proofs.FlatLaws.{got}

@@ -1,4 +1,4 @@
-use Rattle.std.proofs.Common.{◌≡◌, ◌∙◌, ◌<◌, ◌≤◌, ◌-◌, ◌+◌, ℕ, suc, length, Some, List, ap, sym, refl, subst, arith}
+use Rattle.std.proofs.Common.{◌∙◌, ◌-◌, length, Some, List, ap, sym, refl, subst}
 use Rattle.std.specs.Prelude.{slice_get, slice_set}
 use Rattle.rows.specs.Flat.{HoldsIndex}
 use Rattle.rows.specs.declared.row.Row.{Row}
