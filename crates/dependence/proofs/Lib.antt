@@ -2,6 +2,7 @@ pub mod ActingPlaces
 pub mod AddedEvent
 pub mod Candidacy
 pub mod Counting
+pub mod Distinct
 pub mod Edges
 pub mod FollowerLaws
 pub mod Following

@@ -9,16 +9,18 @@ use Rattle.std.proofs.lemmas.List.Edits.{get_or-between, length-between}
 use Rattle.std.proofs.lemmas.Option.{slice_get_within, slice_get-get_or, get_or_from_slice_get}
 use Rattle.syntax.specs.Lists.{In}
 use Rattle.runs.specs.InOrder.{InOrder}
+use Rattle.runs.specs.Dependence.{Without, ended, stays, leaves}
 use Rattle.runs.specs.Live.{Live, Rising, DependsOn, same, ConsequencesList}
 use Rattle.runs.specs.declared.event.Event.{Event}
+use Rattle.runs.proofs.DependsOnLaw.{depends-up}
 use Rattle.runs.proofs.Lists.{every-of, in-left, in-right, in-parts}
 use Rattle.runs.proofs.Options.{none-some}
 use Rattle.runs.proofs.Tickets.{rising-in}
 use Rattle.dependence.specs.Followers.{Follower, ListsFollowers, Reached, here, along}
 use Rattle.dependence.specs.Shown.{tickets_marked, Greatest, IsSound}
 use Rattle.dependence.specs.Taking.{NoneMarkedAt, IsNearMarked}
-use Rattle.dependence.specs.walking.Tables.{IsRising}
-use Rattle.dependence.specs.walking.Marking.{MarkedAt, MarkedBelow, UnmarkedTo, SomeMarked, MarkedNear}
+use Rattle.dependence.specs.walking.Tables.{IsRising, StandsAt}
+use Rattle.dependence.specs.walking.Marking.{MarkedAt, MarkedBelow, UnmarkedTo, SomeMarked, MarkedNear, NoneLess}
 use Rattle.dependence.proofs.ListPlaces.{in-at, at-one, at-within, take-next, set-here, set-other}
 use Rattle.dependence.proofs.Linking.{one-index}
 use Rattle.dependence.proofs.Standing.{lesser-stands}
@@ -335,3 +337,46 @@ all-sound l marks r = record {
   live = λ t i. let h = (is-marked l marks t).0 i in (h.1.0, in-at l h.0 (t, h.1.0) h.1.1);
   ascending = marked-ascend 0 r.0 l marks r.1;
 }
+
+-- ---- no event of a lesser ticket is marked
+-- below the index of the event of this ticket there is no mark
+pub unmarked-before : (l : Live) (marks : List Bool) (t index : ℕ) → IsRising l → length marks ≡ length l → StandsAt l t index → NoneLess l marks t → UnmarkedTo marks index
+unmarked-before l marks t index r size at none i less on =
+    let inside : index < length l = slice_get_within l index (t, at.0) at.1 in
+    let here = at-within l i (omega arith) in
+    let u : ℕ = here.0.0 in
+    let up : t ≤ u = none u ((is-marked l marks u).1 (i, (here.0.1, here.1), on)) in
+    elim (cases_eq u t) [
+      | inl is ↦
+          let one : i ≡ index = one-index 0 r.0 l t here.0.1 at.0 i index r.1 (here.1 ∙ ap (λ (v : ℕ). Some (v, here.0.1)) is) at.1 in
+          omega arith
+      | inr differs ↦
+          let above : t < u = omega arith in
+          let later : index < i = lesser-stands 0 r.0 l index i t u at.0 here.0.1 r.1 at.1 here.1 above in
+          omega arith
+    ]
+
+-- what depends on an event has no lesser ticket
+pub dependents-above : (l : Live) (marks : List Bool) (t : ℕ) → ConsequencesList l t (tickets_marked l marks) → NoneLess l marks t
+dependents-above l marks t all u i = depends-up l t u ((all.exactly u).0 i).2
+
+-- an index more without a mark
+pub cleared-next : (marks : List Bool) (index next : ℕ) → next ≡ suc index → index < length marks → ((k : ℕ) → k < index → slice_get marks k ≡ Some true → ⊥) →
+    (k : ℕ) → k < next → slice_get (slice_set marks index false) k ≡ Some true → ⊥
+cleared-next marks index next is less none k low on = elim (cases_eq k index) [
+  | inl equal ↦
+      let off : slice_get (slice_set marks index false) k ≡ Some false =
+      ap (slice_get (slice_set marks index false)) equal ∙ set-here marks index false less in
+      let both : true ≡ false = at-one (slice_set marks index false) k true false on off in
+      cc
+  | inr differs ↦ none k (omega arith) (sym (set-other marks index k false differs) ∙ on)
+]
+
+-- tickets that were among others are not less either
+pub less-marked : (t : ℕ) (old new : List ℕ) → ((u : ℕ) → In u new → In u old) → ((u : ℕ) → In u old → t ≤ u) → (u : ℕ) → In u new → t ≤ u
+less-marked t old new kept low u i = low u (kept u i)
+
+pub without-in : {X : Type 0} (D : X → Type 0) (xs ys : List X) → Without D xs ys → (u : X) → In u ys → In u xs
+without-in D xs ys ended u i = i
+without-in D xs ys (stays {l = l} {k = k} off rest) u i = elim i [ inl is ↦ inl is | inr later ↦ inr (without-in D l k rest u later) ]
+without-in D xs ys (leaves {l = l} {k = k} on rest) u i = inr (without-in D l k rest u i)

@@ -1,9 +1,11 @@
 -- What a `Live` shows after an event more.
-use Rattle.std.proofs.Common.{◌≡◌, ℕ, List, [], ◌∷◌, ◌++◌, Bool, Result, Ok, Err, ◌∙◌, ap}
+use Rattle.std.proofs.Common.{◌≡◌, ℕ, ◌≤◌, List, [], ◌∷◌, ◌++◌, Bool, Result, Ok, Err, ◌∙◌, ap, sym, subst}
 use Rattle.std.specs.Result.{OnOk, IfErr}
+use Rattle.syntax.specs.Lists.{In}
 use Rattle.runs.specs.Live.{Live}
 use Rattle.runs.specs.declared.event.Event.{Event}
 use Rattle.dependence.specs.Shown.{Shown, with_newest, tickets_marked}
+use Rattle.dependence.specs.walking.Marking.{NoneLess}
 
 abbrev pub shown : Live → List ℕ → Shown
 shown l ts = record { live = l; marked = ts }
@@ -23,3 +25,10 @@ ok-so (Err e) P Q f p = tt
 pub err-so : {A E : Type 0} (r : Result A E) (P Q : E → Type 0) → ((e : E) → P e → Q e) → IfErr r P → IfErr r Q
 err-so (Ok x) P Q f p = tt
 err-so (Err e) P Q f p = f e p
+
+-- with or without an event more none of a lesser ticket is marked
+pub lower-kept : {A E : Type 0} (r : Result A E) (P : Type 0) (Q : E → Type 0) (l k : Live) (marks flags : List Bool) (t : ℕ) → NoneLess l marks t →
+    OnOk r (P × (tickets_marked k flags ≡ tickets_marked l marks)) → IfErr r (λ e. Q e × (k ≡ l) × (flags ≡ marks)) → NoneLess k flags t
+lower-kept (Ok x) P Q l k marks flags t low ok err = subst (λ (ts : List ℕ). (u : ℕ) → In u ts → t ≤ u) (sym ok.1) low
+lower-kept (Err e) P Q l k marks flags t low ok err =
+    subst (λ (m : Live). NoneLess m flags t) (sym err.1) (subst (λ (ms : List Bool). NoneLess l ms t) (sym err.2) low)

@@ -18,6 +18,7 @@ use crate::indexes::index_of_live;
 use crate::links::{link_all, unlink_all};
 use crate::live::LiveEvent;
 use crate::topmost::{span, topmost};
+use crate::unreached::{are_unreached, falling};
 use runs::Event;
 use std::alloc::{AllocError, Global};
 use syntax::Boxed;
@@ -40,8 +41,12 @@ pub(crate) fn leads_of(
         return Ok(found);
     }
     let sorted = ascending(found);
-    let (low, high) = span(new.live, sorted.as_slice());
-    topmost(alloc, new.live, links, sorted.as_slice(), low, high)
+    let tickets = sorted.as_slice();
+    if are_unreached(new.live, links, tickets) {
+        return falling(alloc, tickets);
+    }
+    let (low, high) = span(new.live, tickets);
+    topmost(alloc, new.live, links, tickets, low, high)
 }
 
 /// The same tickets in ascending order.

@@ -16,6 +16,7 @@ mod puts;
 mod tables;
 mod taking;
 mod topmost;
+mod unreached;
 mod whole;
 
 pub use laws::{last_comes_behind, least_is_follower, no_new_follower, reached_through_followers};

@@ -13,9 +13,7 @@ use crate::acting::acting_at_first_child;
 use crate::count::count_direct;
 use crate::held::HeldLinks;
 use crate::indexes::index_of;
-use crate::marks::{
-    copy_marked, count_marked, last_marked, mark_dependents, marked_at, unmarked_below,
-};
+use crate::marks::{copy_marked, last_marked, mark_and_count, marked_at, unmarked_below};
 use crate::tables::Tables;
 use crate::taking::{keep_unmarked, take_marked};
 use crate::whole::{add_event, followers_of, last_writer, leads_at, least_dependent, take_event};
@@ -35,6 +33,8 @@ pub struct Live {
     pairs: Vec<LiveEvent>,
     links: Vec<HeldLinks>,
     marks: Vec<bool>,
+    /// no event of a lesser ticket is marked
+    first_marked: u64,
     tables: Tables,
 }
 
@@ -43,12 +43,13 @@ impl Model for Live {
 
     ghost Value = { Shown };
 
+    ghost use Rattle.dependence.specs.walking.Marking.{NoneLess};
     ghost use Rattle.dependence.specs.walking.Tabled.{IsTabled};
     ghost use Rattle.dependence.specs.walking.Whole.{IsWhole};
 
     ghost view = { λ live. record { live = live.pairs.items; marked = tickets_marked live.pairs.items live.marks.items } };
 
-    ghost invariant = { λ live. IsWhole live.pairs.items live.links.items live.marks.items × IsTabled live.pairs.items live.tables };
+    ghost invariant = { λ live. IsWhole live.pairs.items live.links.items live.marks.items × IsTabled live.pairs.items live.tables × NoneLess live.pairs.items live.marks.items live.first_marked };
 }
 
 impl Live {
@@ -61,6 +62,7 @@ impl Live {
             pairs: Vec::new(alloc),
             links: Vec::new(alloc),
             marks: Vec::new(alloc),
+            first_marked: 0,
             tables: Tables::new(alloc),
         }
     }
@@ -161,13 +163,15 @@ impl Live {
         ensures marked { ConsequencesList self.old.live ticket self.new.marked }
         ensures counted { result ≡ length self.new.marked }
     {
-        mark_dependents(
+        let count = mark_and_count(
             self.pairs.as_slice(),
             self.links.as_slice(),
             self.marks.as_mut_slice(),
+            self.first_marked,
             ticket,
         );
-        count_marked(self.pairs.as_slice(), self.marks.as_slice()) as u64
+        self.first_marked = ticket;
+        count as u64
     }
 
     /// The greatest ticket of a live event that is marked.
@@ -198,7 +202,12 @@ impl Live {
     pub fn marked(&self) -> Result<Vec<u64>, AllocError>
         ensures { IfOk result (λ tickets. tickets.items ≡ self.now.marked) }
     {
-        copy_marked(self.alloc, self.pairs.as_slice(), self.marks.as_slice())
+        copy_marked(
+            self.alloc,
+            self.pairs.as_slice(),
+            self.marks.as_slice(),
+            self.first_marked,
+        )
     }
 
     /// Adds an event under a ticket that is greater than every live one; it has no mark. It comes behind the live events, as it

@@ -6,7 +6,7 @@ ghost use Rattle.runs.specs.Live.{ConsequencesList, IsLive};
 ghost use Rattle.dependence.specs.Shown.{tickets_marked, Greatest};
 ghost use Rattle.dependence.specs.Taking.{OneMarkedAt, NoneMarkedAt};
 ghost use Rattle.dependence.specs.walking.Tables.{IsRising, Linked};
-ghost use Rattle.dependence.specs.walking.Marking.{MarkedAt, UnmarkedTo, SomeMarked, MarkedNear};
+ghost use Rattle.dependence.specs.walking.Marking.{MarkedAt, UnmarkedTo, SomeMarked, MarkedNear, NoneLess};
 
 use crate::held::HeldLinks;
 use crate::indexes::{index_of, index_of_live};
@@ -17,20 +17,40 @@ use std::alloc::{AllocError, Global};
 /// How many marks are looked at together.
 const STRIDE: usize = 1_024;
 
-/// Marks the event of this ticket and all that depend on it, and no others.
-pub(crate) fn mark_dependents(
+/// Marks the event of this ticket and all that depend on it, and no others; how many they are. No event of a ticket less than
+/// `first` was marked.
+pub(crate) fn mark_and_count(
     live: &[LiveEvent],
     links: &[HeldLinks],
     marks: &mut [bool],
+    first: u64,
     ticket: u64,
-)
+) -> usize
     requires rising { IsRising live.now }
     requires linked { Linked live.now links.now }
     requires live { IsLive live.now ticket }
     requires size { length marks.old ≡ length live.now }
+    requires lower { NoneLess live.now marks.old first }
     ensures marked { ConsequencesList live.now ticket (tickets_marked live.now marks.new) }
+    ensures lower { NoneLess live.now marks.new ticket }
+    ensures counted { result ≡ length (tickets_marked live.now marks.new) }
 {
-    clear(marks);
+    let from = first_index(live, marks, first);
+    clear(marks, from);
+    mark_dependents(live, links, marks, ticket);
+    count_marked(live, marks, ticket)
+}
+
+/// Marks the event of this ticket and all that depend on it, where nothing is marked.
+fn mark_dependents(live: &[LiveEvent], links: &[HeldLinks], marks: &mut [bool], ticket: u64)
+    requires rising { IsRising live.now }
+    requires linked { Linked live.now links.now }
+    requires live { IsLive live.now ticket }
+    requires size { length marks.old ≡ length live.now }
+    requires none { (i : ℕ) → slice_get marks.old i ≡ Some true → ⊥ }
+    ensures marked { ConsequencesList live.now ticket (tickets_marked live.now marks.new) }
+    ensures lower { NoneLess live.now marks.new ticket }
+{
     let first = index_of_live(live, ticket);
     marks[first] = true;
     for index in first..live.len() {
@@ -40,12 +60,29 @@ pub(crate) fn mark_dependents(
     }
 }
 
-/// Takes all marks away.
-pub(crate) fn clear(marks: &mut [bool])
+/// Takes all marks away. Below this index there are none.
+pub(crate) fn clear(marks: &mut [bool], from: usize)
+    requires within { from ≤ length marks.old }
+    requires unmarked { UnmarkedTo marks.old from }
     ensures { (i : ℕ) → slice_get marks.new i ≡ Some true → ⊥ }
 {
-    for mark in marks.iter_mut() {
-        *mark = false;
+    for index in from..marks.len() {
+        marks[index] = false;
+    }
+}
+
+/// An index below which none is marked: where no event of a ticket less than `first` is, that of the event of this ticket, and
+/// where there is no such event one that is looked for.
+fn first_index(live: &[LiveEvent], marks: &[bool], first: u64) -> usize
+    requires rising { IsRising live.now }
+    requires size { length marks.now ≡ length live.now }
+    requires lower { NoneLess live.now marks.now first }
+    ensures within { result ≤ length marks.now }
+    ensures none { UnmarkedTo marks.now result }
+{
+    match index_of(live, first) {
+        Some(index) => index,
+        None => unmarked_below(marks),
     }
 }
 
@@ -114,25 +151,30 @@ pub(crate) fn marked_at<'a>(
     None
 }
 
-/// How many events are marked.
-pub(crate) fn count_marked(live: &[LiveEvent], marks: &[bool]) -> usize
-    requires { length marks.now ≡ length live.now }
+/// How many events are marked. None of a ticket less than `first` is.
+fn count_marked(live: &[LiveEvent], marks: &[bool], first: u64) -> usize
+    requires rising { IsRising live.now }
+    requires size { length marks.now ≡ length live.now }
+    requires lower { NoneLess live.now marks.now first }
     ensures { result ≡ length (tickets_marked live.now marks.now) }
 {
-    let from = unmarked_below(marks);
+    let from = first_index(live, marks, first);
     marks[from..].iter().filter(|mark| **mark).count()
 }
 
-/// The tickets of the marked events, ascending.
+/// The tickets of the marked events, ascending. None is less than `first`.
 pub(crate) fn copy_marked(
     alloc: Global,
     live: &[LiveEvent],
     marks: &[bool],
+    first: u64,
 ) -> Result<Vec<u64>, AllocError>
-    requires { length marks.now ≡ length live.now }
+    requires rising { IsRising live.now }
+    requires size { length marks.now ≡ length live.now }
+    requires lower { NoneLess live.now marks.now first }
     ensures { IfOk result (λ tickets. tickets.items ≡ tickets_marked live.now marks.now) }
 {
-    let from = unmarked_below(marks);
+    let from = first_index(live, marks, first);
     copy_each(alloc, &live[from..], &marks[from..])
 }
 

@@ -46,7 +46,7 @@ fn keep_no_marks(marks: &mut Vec<bool>, count: usize)
     ensures none { (i : ℕ) → slice_get marks.new.items i ≡ Some true → ⊥ }
 {
     marks.truncate(count);
-    clear(marks.as_mut_slice());
+    clear(marks.as_mut_slice(), 0);
 }
 
 /// Takes the marked events out of the tables.

@@ -1,5 +1,6 @@
 -- The entry at a place of a list, and what is before and after it.
-use Rattle.std.proofs.Common.{◌≡◌, ℕ, zero, suc, ◌<◌, List, [], ◌∷◌, ◌++◌, length, take, drop, get_or, Some, refl, sym, ◌∙◌, ap, arith, slice_get}
+use Rattle.std.proofs.Common.{◌≡◌, ℕ, zero, suc, ◌<◌, List, [], ◌∷◌, ◌++◌, length, take, drop, get_or, Some, refl, sym, ◌∙◌, ap, arith, slice_get, length-append}
+use Rattle.std.specs.List.{remove}
 use Rattle.runs.proofs.Options.{none-some, some-injective}
 
 pub parts-at : {X : Type 0} (l : List X) (i : ℕ) (x : X) → slice_get l i ≡ Some x → l ≡ take i l ++ x ∷ drop (suc i) l
@@ -35,3 +36,16 @@ pub drop-next : {X : Type 0} (l : List X) (i : ℕ) (x : X) → slice_get l i �
 drop-next [] i x h = none-some x h
 drop-next (y ∷ l) zero x h = ap (λ z. z ∷ l) (some-injective y x h)
 drop-next (y ∷ l) (suc i) x h = drop-next l i x h
+
+-- the last element and those before it
+pub newest-out : {X : Type 0} (xs : List X) (x : X) (k : ℕ) → suc k ≡ length (xs ++ x ∷ []) → (remove (xs ++ x ∷ []) k ≡ xs) × (slice_get (xs ++ x ∷ []) k ≡ Some x)
+newest-out [] x zero h = (refl, refl)
+newest-out [] x (suc k) h = absurd (omega arith)
+newest-out (y ∷ xs) x zero h = let long = length-append xs (x ∷ []) in absurd (omega arith)
+newest-out (y ∷ xs) x (suc k) h =
+    let less : suc k ≡ length (xs ++ x ∷ []) = omega arith in
+    let rest = newest-out xs x k less in
+    (ap (λ zs. y ∷ zs) rest.0, rest.1)
+
+pub one-here : {X : Type 0} (l : List X) (i : ℕ) (x y : X) → slice_get l i ≡ Some x → slice_get l i ≡ Some y → x ≡ y
+one-here l i x y a b = some-injective x y (sym a ∙ b)

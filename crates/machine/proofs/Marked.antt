@@ -1,7 +1,7 @@
--- The marked events are taken back on the tree, the last first, and then all out of the lists.
-use Rattle.std.proofs.Common.{◌≡◌, ◌↔◌, inl, inr, ℕ, zero, suc, ◌-◌, ◌<◌, ◌≤◌, List, [], ◌∷◌, ◌++◌, length, take, drop, Some, IsSome, refl, sym, ◌∙◌, ap, subst, arith, slice_get, append_assoc}
-use Rattle.std.specs.Prelude.{slice_set}
-use Rattle.std.proofs.lemmas.List.{take-set, drop-set-lt, take-append-drop, length-take-le, append-nil}
+-- The marked events are taken back on the tree, the last first, and then all out of the live events.
+use Rattle.std.proofs.Common.{◌≡◌, ◌↔◌, inl, inr, ℕ, zero, suc, ◌-◌, ◌<◌, ◌≤◌, List, [], ◌∷◌, ◌++◌, length, take, drop, Some, IsSome, refl, sym, ◌∙◌, ap, subst, arith, slice_get, append_assoc, length-append}
+use Rattle.std.specs.List.{remove}
+use Rattle.std.proofs.lemmas.List.{take-append-drop, length-take-le, append-nil}
 use Rattle.syntax.specs.Lists.{In}
 use Rattle.sharing_check.specs.declared.checked.Checked.{Checked}
 use Rattle.runs.specs.Dependence.{ended, stays, leaves}
@@ -14,9 +14,9 @@ use Rattle.runs.proofs.Lists.{in-right, in-parts}
 use Rattle.runs.proofs.Tickets.{rising-in, rising-parts}
 use Rattle.runs.proofs.UndoLaws.{without-live}
 use Rattle.dependence.specs.Shown.{Shown}
-use Rattle.dependence.specs.Taking.{MarksAllDependents, NoneMarkedAt, StaysBeside, done, keeps, drops}
+use Rattle.dependence.specs.Taking.{MarksAllDependents, NoneMarkedAt}
 use Rattle.dependence.proofs.Following.{follows-on, follows-in}
-use Rattle.dependence.proofs.ListPlaces.{at-within, in-at, in-take, take-all, drop-all, set-here}
+use Rattle.dependence.proofs.ListPlaces.{at-within, in-at, in-take, take-all, drop-all}
 use Rattle.event_inverse.specs.Grown.{TreeAndStore}
 use Rattle.event_inverse.specs.Laws.{UndoneBy}
 use Rattle.event_inverse.specs.View.{inverse_view}
@@ -24,9 +24,9 @@ use Rattle.event_inverse.specs.declared.record.Inverse.{Inverse}
 use Rattle.event_inverse.specs.walking.Reverted.{reverted}
 use Rattle.machine.specs.walking.Histories.{Stands}
 use Rattle.machine.specs.walking.Marking.{MarksDependents, StandsFrom}
-use Rattle.machine.proofs.Entries.{take-next, drop-next, within-at}
+use Rattle.machine.proofs.Entries.{take-next, drop-next, within-at, parts-at}
 use Rattle.machine.proofs.Standing.{revert-here, less-split}
-use Rattle.machine.proofs.Withouts.{not-longer, without-entry, one-left, left-alike, one-beside}
+use Rattle.machine.proofs.Withouts.{not-longer, without-entry, one-left, left-alike}
 
 -- as they were marked
 pub marks-listed : (s : Shown) (l : Live) (t : ℕ) → s.live ≡ l → ConsequencesList l t s.marked → MarksDependents s t
@@ -43,55 +43,49 @@ in-drop {X = X} l i x j = subst (λ (k : List X). In x k) (take-append-drop i l)
 pub from-end : (checked : Checked) (place : ℕ) (T : TreeAndStore) (s : Shown) (is : List Inverse) (n : ℕ) → Stands checked T s.live is n → place ≡ length s.live →
     StandsFrom checked place T s is n
 from-end checked place T s is n h at =
-    let even : length is ≡ length s.live = h.even in
     let past : length s.live ≤ place = omega arith in
-    let over : length is ≤ place = omega arith in
     record {
       live = [];
-      others = [];
       left = subst (λ (l : Live). WithoutTickets (λ t. In t s.marked) l []) (sym (drop-all s.live place past)) ended;
-      beside =
-          subst (λ (l : Live). StaysBeside (λ t. In t s.marked) l (drop place is) []) (sym (drop-all s.live place past))
-          (subst (λ (js : List Inverse). StaysBeside (λ t. In t s.marked) [] js []) (sym (drop-all is place over)) done);
-      stands =
-          subst (λ (l : Live). Stands checked T l (take place is ++ []) n) (sym (append-nil (take place s.live) ∙ take-all s.live place past))
-          (subst (λ (js : List Inverse). Stands checked T s.live js n) (sym (append-nil (take place is) ∙ take-all is place over)) h);
+      stands = subst (λ (l : Live). Stands checked T l is n) (sym (append-nil (take place s.live) ∙ take-all s.live place past)) h;
     }
 
--- one place less
-module _ (checked : Checked) (place : ℕ) (T : TreeAndStore) (s : Shown) (is : List Inverse) (n t : ℕ) (e : Event) (x : Inverse)
-    (h : StandsFrom checked (suc place) T s is n) (at : slice_get s.live place ≡ Some (t, e)) (beside : slice_get is place ≡ Some x) where
-  regrouped : {X : Type 0} (l : List X) (y : X) (k : List X) → slice_get l place ≡ Some y → take (suc place) l ++ k ≡ take place l ++ y ∷ k
-  regrouped {X = X} l y k there = ap (λ (m : List X). m ++ k) (take-next l place y there) ∙ append_assoc (take place l) (y ∷ []) k
+-- the event at the place before has an inverse
+pub inverse-within : (checked : Checked) (place : ℕ) (T : TreeAndStore) (s : Shown) (is : List Inverse) (n : ℕ) → StandsFrom checked (suc place) T s is n →
+    place < length s.live → place < length is
+inverse-within checked place T s is n h inside =
+    let even : length is ≡ length (take (suc place) s.live ++ h.live) = h.stands.even in
+    let both = length-append (take (suc place) s.live) h.live in
+    let near : suc place ≤ length s.live = omega arith in
+    let front = length-take-le (suc place) s.live near in
+    omega arith
 
-  -- the event and its inverse stand between those before them and those that are left behind them
-  parted : Stands checked T (take place s.live ++ (t, e) ∷ h.live) (take place is ++ x ∷ h.others) n
+-- one place less
+module _ (checked : Checked) (place : ℕ) (T : TreeAndStore) (s : Shown) (is : List Inverse) (n t : ℕ) (e : Event)
+    (h : StandsFrom checked (suc place) T s is n) (at : slice_get s.live place ≡ Some (t, e)) where
+  -- the event stands between those before it and those that are left behind it
+  parted : Stands checked T (take place s.live ++ (t, e) ∷ h.live) is n
   parted =
-      subst (λ (l : Live). Stands checked T l (take place is ++ x ∷ h.others) n) (regrouped s.live (t, e) h.live at)
-      (subst (λ (js : List Inverse). Stands checked T (take (suc place) s.live ++ h.live) js n) (regrouped is x h.others beside) h.stands)
+      subst (λ (l : Live). Stands checked T l is n)
+      (ap (λ (m : Live). m ++ h.live) (take-next s.live place (t, e) at) ∙ append_assoc (take place s.live) ((t, e) ∷ []) h.live) h.stands
 
   -- an event without a mark stays
   pub from-unmarked : NoneMarkedAt s.live s.marked place → StandsFrom checked place T s is n
   from-unmarked none = record {
     live = (t, e) ∷ h.live;
-    others = x ∷ h.others;
     left =
         subst (λ (l : Live). WithoutTickets (λ u. In u s.marked) l ((t, e) ∷ h.live)) (sym (drop-next s.live place (t, e) at))
         (stays (λ (i : In t s.marked). none e (t, at, i)) h.left);
-    beside =
-        subst (λ (l : Live). StaysBeside (λ u. In u s.marked) l (drop place is) (x ∷ h.others)) (sym (drop-next s.live place (t, e) at))
-        (subst (λ (js : List Inverse). StaysBeside (λ u. In u s.marked) ((t, e) ∷ drop (suc place) s.live) js (x ∷ h.others)) (sym (drop-next is place x beside))
-        (keeps (λ (i : In t s.marked). none e (t, at, i)) h.beside));
     stands = parted;
   }
 
-  even-before : length (take place is) ≡ length (take place s.live)
-  even-before =
-      let inside : place < length s.live = within-at s.live place (t, e) at in
-      let within : place < length is = within-at is place x beside in
-      length-take-le place is (omega arith) ∙ sym (length-take-le place s.live (omega arith))
+  module _ (x : Inverse) (beside : slice_get is place ≡ Some x) (marks : MarksAllDependents s) (marked : In t s.marked) where
+    even-before : length (take place is) ≡ length (take place s.live)
+    even-before =
+        let inside : place < length s.live = within-at s.live place (t, e) at in
+        let within : place < length is = within-at is place x beside in
+        length-take-le place is (omega arith) ∙ sym (length-take-le place s.live (omega arith))
 
-  module _ (marks : MarksAllDependents s) (marked : In t s.marked) where
     inside : (v : ℕ) (g : Event) → LiveAt (take place s.live ++ (t, e) ∷ h.live) v g → LiveAt s.live v g
     inside v g i = elim (in-parts (v, g) (take place s.live) ((t, e) ∷ h.live) i) [
       | inl a ↦ in-take s.live place (v, g) a
@@ -118,58 +112,46 @@ module _ (checked : Checked) (place : ℕ) (T : TreeAndStore) (s : Shown) (is : 
 
     -- so its inverse takes it back
     pub can-go : IsSome (reverted T e (inverse_view x))
-    can-go = revert-here checked T n t e x (take place s.live) h.live (take place is) h.others parted even-before alone
+    can-go =
+        revert-here checked T n t e x (take place s.live) h.live (take place is) (drop (suc place) is)
+        (subst (λ (js : List Inverse). Stands checked T (take place s.live ++ (t, e) ∷ h.live) js n) (parts-at is place x beside) parted) even-before alone
 
-    -- a marked event is gone
-    pub from-marked : (U : TreeAndStore) (y : Inverse) → UndoneBy T (e, inverse_view x) U → StandsFrom checked place U s (slice_set is place y) n
-    from-marked U y undone =
-        let within : place < length is = within-at is place x beside in
-        let more : place < suc place = omega arith in
-        let rest : drop place (slice_set is place y) ≡ y ∷ drop (suc place) is =
-        drop-next (slice_set is place y) place y (set-here is place y within) ∙ ap (λ (js : List Inverse). y ∷ js) (drop-set-lt (suc place) is place y more) in
-        record {
-          live = h.live;
-          others = h.others;
-          left = subst (λ (l : Live). WithoutTickets (λ u. In u s.marked) l h.live) (sym (drop-next s.live place (t, e) at)) (leaves marked h.left);
-          beside =
-              subst (λ (l : Live). StaysBeside (λ u. In u s.marked) l (drop place (slice_set is place y)) h.others) (sym (drop-next s.live place (t, e) at))
-              (subst (λ (js : List Inverse). StaysBeside (λ u. In u s.marked) ((t, e) ∷ drop (suc place) s.live) js h.others) (sym rest) (drops marked h.beside));
-          stands =
-              subst (λ (js : List Inverse). Stands checked U (take place s.live ++ h.live) (js ++ h.others) n) (sym (take-set is place y))
-              (less-split checked T U (take place s.live ++ (t, e) ∷ h.live) (take place s.live ++ h.live) (take place is ++ x ∷ h.others) (take place is ++ h.others) n t e x parted
-              (record {
-                before = take place s.live;
-                after = h.live;
-                earlier = take place is;
-                behind = h.others;
-                live = refl;
-                left = refl;
-                inverses = refl;
-                others = refl;
-                even = even-before;
-              }) alone
-              (without-entry 1 n (take place s.live) h.live t e parted.sound.rising)
-              (in-right (t, e) (take place s.live) ((t, e) ∷ h.live) (inl refl)) undone);
-        }
+    -- a marked event is gone, and its inverse
+    pub from-marked : (U : TreeAndStore) → UndoneBy T (e, inverse_view x) U → StandsFrom checked place U s (remove is place) n
+    from-marked U undone = record {
+      live = h.live;
+      left = subst (λ (l : Live). WithoutTickets (λ u. In u s.marked) l h.live) (sym (drop-next s.live place (t, e) at)) (leaves marked h.left);
+      stands =
+          less-split checked T U (take place s.live ++ (t, e) ∷ h.live) (take place s.live ++ h.live) is (remove is place) n t e x parted
+          (record {
+            before = take place s.live;
+            after = h.live;
+            earlier = take place is;
+            behind = drop (suc place) is;
+            live = refl;
+            left = refl;
+            inverses = parts-at is place x beside;
+            others = refl;
+            even = even-before;
+          }) alone
+          (without-entry 1 n (take place s.live) h.live t e parted.sound.rising)
+          (in-right (t, e) (take place s.live) ((t, e) ∷ h.live) (inl refl)) undone;
+    }
 
 -- none of the events below the place is marked
-pub from-below : (checked : Checked) (place : ℕ) (T : TreeAndStore) (s : Shown) (is : List Inverse) (n : ℕ) → place ≤ length s.live → length is ≡ length s.live →
+pub from-below : (checked : Checked) (place : ℕ) (T : TreeAndStore) (s : Shown) (is : List Inverse) (n : ℕ) → place ≤ length s.live →
     ((i : ℕ) → i < place → NoneMarkedAt s.live s.marked i) → StandsFrom checked place T s is n → StandsFrom checked 0 T s is n
-from-below checked zero T s is n inside even none h = h
-from-below checked (suc place) T s is n inside even none h =
+from-below checked zero T s is n inside none h = h
+from-below checked (suc place) T s is n inside none h =
     let less : place < length s.live = omega arith in
-    let beside : place < length is = omega arith in
     let at = at-within s.live place less in
-    let x = at-within is place beside in
-    from-below checked place T s is n (omega arith) even (λ i low. none i (omega arith))
-    (from-unmarked checked place T s is n at.0.0 at.0.1 x.0 h at.1 x.1 (none place (omega arith)))
+    from-below checked place T s is n (omega arith) (λ i low. none i (omega arith))
+    (from-unmarked checked place T s is n at.0.0 at.0.1 h at.1 (none place (omega arith)))
 
--- then the lists are those of the others
-pub all-taken : (checked : Checked) (T : TreeAndStore) (s : Shown) (is js : List Inverse) (n : ℕ) (k : Live) → StandsFrom checked 0 T s is n →
-    StaysBeside (λ t. In t s.marked) s.live is js → WithoutTickets (λ t. In t s.marked) s.live k → Stands checked T k js n
-all-taken checked T s is js n k h beside left =
-    subst (λ (l : Live). Stands checked T l js n) (one-left (λ t. In t s.marked) s.live h.live k h.left left)
-    (subst (λ (os : List Inverse). Stands checked T h.live os n) (one-beside (λ t. In t s.marked) s.live is h.others js h.beside beside) h.stands)
+-- then the live events are the others
+pub all-taken : (checked : Checked) (T : TreeAndStore) (s : Shown) (is : List Inverse) (n : ℕ) (k : Live) → StandsFrom checked 0 T s is n →
+    WithoutTickets (λ t. In t s.marked) s.live k → Stands checked T k is n
+all-taken checked T s is n k h left = subst (λ (l : Live). Stands checked T l is n) (one-left (λ t. In t s.marked) s.live h.live k h.left left) h.stands
 
 -- they are those that do not depend on the event
 pub dependents-out : (s : Shown) (t : ℕ) (k : Live) → MarksDependents s t → WithoutTickets (λ u. In u s.marked) s.live k → WithoutTickets (DependsOn s.live t) s.live k

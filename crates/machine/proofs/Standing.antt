@@ -89,8 +89,8 @@ pub stands-searched : (checked : Checked) (h : History) (uses : ChannelUses) →
 stands-searched checked h uses s known = record {
   code = system_code checked;
   table = known;
-  stems = stands-stems checked (tree_of h) h.live.live h.inverses.items h.next s;
-  tidy = stands-tidy checked (tree_of h) h.live.live h.inverses.items h.next s;
+  stems = stands-stems checked (tree_of h) h.live.live h.inverses h.next s;
+  tidy = stands-tidy checked (tree_of h) h.live.live h.inverses h.next s;
 }
 
 -- there is a list of what is ready

@@ -5,6 +5,7 @@ ghost use Rattle.machine.specs.walking.Histories.{Holds};
 use dependence::Live;
 use event_inverse::Inverse;
 use process_tree::Tree;
+use rows::Rows;
 use sharing_check::Checked;
 use std::alloc::{AllocError, Global};
 use store::Store;
@@ -16,7 +17,7 @@ pub(crate) struct History {
     pub(crate) tree: Tree,
     pub(crate) store: Store,
     pub(crate) live: Live,
-    pub(crate) inverses: Vec<Inverse>,
+    pub(crate) inverses: Rows<Inverse>,
     pub(crate) next: u64,
 }
 
@@ -32,7 +33,7 @@ impl History {
             tree,
             store,
             live: Live::new(alloc),
-            inverses: Vec::new(alloc),
+            inverses: Rows::new(alloc),
             next: 1,
         })
     }

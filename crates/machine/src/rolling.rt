@@ -1,16 +1,21 @@
 // Taking an event back with all that depend on it, and the questions about them.
-ghost use Rattle.std.specs.Prelude.{◌≡◌, ℕ, length, IfOk, OnErr};
+ghost use Rattle.std.specs.Prelude.{◌≡◌, ℕ, IsSome, IfOk, OnErr};
 ghost use Rattle.sharing_check.specs.declared.checked.Checked.{Checked};
 ghost use Rattle.runs.specs.Live.{IsLive, DependsOn, WithoutTickets};
 ghost use Rattle.runs.specs.Does.{Does};
 ghost use Rattle.machine.specs.walking.Histories.{execution, Holds};
 ghost use Rattle.dependence.specs.Taking.{MarksAllDependents};
+ghost use Rattle.event_inverse.specs.Laws.{UndoneBy};
+ghost use Rattle.event_inverse.specs.View.{both_view, inverse_view};
+ghost use Rattle.event_inverse.specs.walking.Reverted.{reverted};
 ghost use Rattle.machine.specs.walking.Marking.{MarksDependents, HoldsFrom};
 
 use crate::history::History;
-use event_inverse::invert_by;
-use runs::{Command, Refusal, Reply};
+use event_inverse::{Inverse, invert_by};
+use process_tree::Tree;
+use runs::{Command, Event, Refusal, Reply};
 use std::alloc::AllocError;
+use store::Store;
 use syntax::Items;
 
 impl History {
@@ -40,7 +45,7 @@ impl History {
     }
 
     /// Takes the marked events back, which are a live event and all that depend on it: first on the tree and in the store, and
-    /// then out of the lists. Each list is gone through once, from the first marked event on.
+    /// then out of the live events. These are gone through once, from the first marked one on.
     fn take_marked(&mut self)
         requires holds { (system : Checked) × Holds system self.old }
         requires marked { (t : ℕ) × MarksDependents self.old.live t }
@@ -49,18 +54,16 @@ impl History {
         ensures holds { (system : Checked) → Holds system self.old → Holds system self.new }
     {
         self.revert_marked();
-        self.live.keep_unmarked(&mut self.inverses);
         self.live.take_marked();
     }
 
-    /// Takes the marked events back on the tree and in the store, the last first, on which none depends then. They stay in the
-    /// lists.
+    /// Takes the marked events back on the tree and in the store, the last first, on which none depends then. They stay among the
+    /// live events; their inverses are gone.
     fn revert_marked(&mut self)
         requires holds { (system : Checked) × Holds system self.old }
         requires marked { MarksAllDependents self.old.live }
         ensures live { self.new.live ≡ self.old.live }
         ensures next { self.new.next ≡ self.old.next }
-        ensures even { length self.new.inverses.items ≡ length self.old.inverses.items }
         ensures holds { (system : Checked) → Holds system self.old → HoldsFrom system 0 self.new }
     {
         let low = self.live.unmarked_below();
@@ -68,8 +71,8 @@ impl History {
         while index > low {
             index -= 1;
             if let Some(event) = self.live.marked_at(index) {
-                let inverse = &mut self.inverses[index];
-                invert_by(&mut self.tree, &mut self.store, event, inverse);
+                let inverse = self.inverses.remove(index);
+                undo_by(&mut self.tree, &mut self.store, event, inverse);
             }
         }
     }
@@ -120,4 +123,12 @@ impl History {
         let tickets = self.live.marked()?;
         Ok(Reply::Consequences(Items::from_vec(tickets)))
     }
+}
+
+/// Takes an event back by its inverse, which is dropped.
+fn undo_by(tree: &mut Tree, store: &mut Store, event: &Event, mut inverse: Inverse)
+    requires { IsSome (reverted (both_view tree.old store.old) event.now (inverse_view inverse)) }
+    ensures { UndoneBy (both_view tree.old store.old) (event.now, inverse_view inverse) (both_view tree.new store.new) }
+{
+    invert_by(tree, store, event, &mut inverse);
 }

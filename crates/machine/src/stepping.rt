@@ -1,5 +1,5 @@
 // Taking one event.
-ghost use Rattle.std.specs.Prelude.{◌≡◌, ◌≤◌, ◌<◌, ◌∷◌, ◌++◌, [], ℕ, suc, length, vec_len, vec_capacity, IfOk, IfErr, OnOk, OnErr};
+ghost use Rattle.std.specs.Prelude.{◌≡◌, ◌≤◌, ◌<◌, ◌∷◌, ◌++◌, [], ℕ, List, Some, suc, length, IfOk, IfErr, OnOk, OnErr};
 ghost use Rattle.sharing_check.specs.declared.checked.Checked.{Checked};
 ghost use Rattle.runs.specs.Steps.{Allowed};
 ghost use Rattle.runs.specs.Live.{LiveAt};
@@ -9,6 +9,7 @@ ghost use Rattle.runs.specs.Does.{Does};
 ghost use Rattle.dependence.specs.Behind.{ComesBehind};
 ghost use Rattle.event_inverse.specs.Grown.{TreeAndStore, state_of_tree, applied};
 ghost use Rattle.event_inverse.specs.View.{inverse_view};
+ghost use Rattle.event_inverse.specs.declared.record.Inverse.{Inverse};
 ghost use Rattle.machine.specs.walking.Choosing.{NotTaken};
 ghost use Rattle.machine.specs.walking.Histories.{execution, tree_of, Holds, KnowsUses};
 ghost use Rattle.machine.specs.walking.Entering.{Entered, NotEntered};
@@ -17,6 +18,7 @@ use crate::history::History;
 use channel_uses::ChannelUses;
 use event_inverse::{Inverse, Record, apply, invert};
 use rendezvous::{event_with, ready_events};
+use rows::Rows;
 use runs::{Choice, Command, Event, LAST_TICKET, MOST_LIVE_EVENTS, Refusal, Reply};
 use sharing_check::Checked;
 use std::alloc::{AllocError, Global};
@@ -64,7 +66,7 @@ impl History {
         Ok(event)
     }
 
-    /// Makes the event, and enters it under the next ticket. Room for its inverse, and the copy that stays, are made first.
+    /// Makes the event, and enters it under the next ticket. The copy that stays is made first.
     pub(crate) fn add(
         &mut self,
         alloc: Global,
@@ -82,7 +84,6 @@ impl History {
     {
         let ticket = self.next;
         let kept = Boxed::new(alloc, event.copy(alloc)?)?;
-        self.inverses.reserve(1)?;
         system.shares_well();
         let record = apply(alloc, &mut self.tree, &mut self.store, event)?;
         let event = self.enter(record, kept)?;
@@ -97,23 +98,37 @@ impl History {
         requires above { (t : ℕ) (e : Event) → LiveAt self.old.live.live t e → t < self.old.next }
         requires behind { ComesBehind self.old.live.live made.event }
         requires unspent { self.old.next ≤ last_ticket }
-        requires room { vec_len self.old.inverses < vec_capacity self.old.inverses }
         ensures entered { OnOk result (Entered self.old made self.new) }
         ensures event { IfOk result (λ event. event ≡ made.event) }
         ensures refused { OnErr result (NotEntered self.old made self.new) }
     {
+        let Record { event, inverse } = made;
+        if let Err(inverse) = self.inverses.push(inverse) {
+            self.unmake(event, inverse);
+            return Err(AllocError);
+        }
         match self.live.add(self.next, kept) {
             Ok(()) => {
-                let Record { event, inverse } = made;
-                keep(&mut self.inverses, inverse);
                 self.next += 1;
                 Ok(event)
             }
             Err(_) => {
-                invert(&mut self.tree, &mut self.store, made);
+                let inverse = take_newest(&mut self.inverses);
+                self.unmake(event, inverse);
                 Err(AllocError)
             }
         }
+    }
+
+    /// Takes the event that was made last back on the tree and in the store.
+    fn unmake(&mut self, event: Event, inverse: Inverse)
+        requires { (T : TreeAndStore) × (applied T event ≡ Some (tree_of self.old, inverse_view inverse)) }
+        ensures tree { (T : TreeAndStore) → applied T event ≡ Some (tree_of self.old, inverse_view inverse) → tree_of self.new ≡ T }
+        ensures live { self.new.live ≡ self.old.live }
+        ensures inverses { self.new.inverses ≡ self.old.inverses }
+        ensures next { self.new.next ≡ self.old.next }
+    {
+        invert(&mut self.tree, &mut self.store, Record { event, inverse });
     }
 
     /// The events that are allowed now, in order.
@@ -129,13 +144,11 @@ impl History {
     }
 }
 
-/// Puts the inverse behind the others, where there is room for it.
-fn keep(inverses: &mut Vec<Inverse>, inverse: Inverse)
-    requires { vec_len inverses.old < vec_capacity inverses.old }
-    ensures { inverses.new.items ≡ inverses.old.items ++ inverse ∷ [] }
+/// Takes the last of the inverses out.
+fn take_newest(inverses: &mut Rows<Inverse>) -> Inverse
+    requires { 0 < length inverses.old }
+    ensures { (older : List Inverse) (newest : Inverse) → inverses.old ≡ older ++ newest ∷ [] → (inverses.new ≡ older) × (result ≡ newest) }
 {
-    match inverses.push(inverse) {
-        Ok(()) => {}
-        Err(_) => unreachable!(),
-    }
+    let last = inverses.len() - 1;
+    inverses.remove(last)
 }

@@ -51,6 +51,8 @@ mod rollbacks;
 #[cfg(test)]
 mod rolled_forms;
 #[cfg(test)]
+mod rows_of_items;
+#[cfg(test)]
 mod runs;
 #[cfg(test)]
 mod same_runs;

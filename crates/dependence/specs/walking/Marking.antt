@@ -2,8 +2,10 @@
 -- No reader has to believe it: the proof of `mark_dependents` ties it to `ConsequencesList` of `runs`, and that of
 -- `Live::unmarked_below` to what `specs/Taking.antt` has.
 use Rattle.std.specs.Prelude.{◌≡◌, ◌⊎◌, ℕ, ◌+◌, ◌<◌, ◌≤◌, List, Bool, true, length, Some, slice_get}
+use Rattle.syntax.specs.Lists.{In}
 use Rattle.runs.specs.Live.{Live, DependsOn}
 use Rattle.dependence.specs.Followers.{Follower}
+use Rattle.dependence.specs.Shown.{tickets_marked}
 use Rattle.dependence.specs.Taking.{stride}
 use Rattle.dependence.specs.walking.Tables.{StandsAt}
 
@@ -22,6 +24,10 @@ SomeMarked marks low high = (i : ℕ) × (low ≤ i) × (i < high) × (slice_get
 -- the end is near the index, or a mark that is set is, at the index itself or behind it
 abbrev pub MarkedNear : List Bool → ℕ → Type 0
 MarkedNear marks index = (length marks < index + stride) ⊎ SomeMarked marks index (index + stride)
+
+-- no event of a lesser ticket than t is marked
+abbrev pub NoneLess : Live → List Bool → ℕ → Type 0
+NoneLess l marks t = (u : ℕ) → In u (tickets_marked l marks) → t ≤ u
 
 -- t and only what depends on it is marked, and the followers of all that is marked below the index
 pub record MarkedBelow (l : Live) (t index : ℕ) (marks : List Bool) : Type 0 where

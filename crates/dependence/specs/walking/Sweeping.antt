@@ -2,7 +2,7 @@
 -- No reader has to believe it: `proofs/AddedEvent.antt` ties what is topmost to `Follower`.
 use Rattle.std.specs.Prelude.{◌≡◌, ◌↔◌, ℕ, ◌+◌, ◌<◌, ◌≤◌, List, length, Bool, true, Some, slice_get}
 use Rattle.syntax.specs.Lists.{In}
-use Rattle.runs.specs.Live.{Live}
+use Rattle.runs.specs.Live.{Live, DependsOn, IsLive}
 use Rattle.dependence.specs.walking.Tables.{StandsAt, Falling, Topmost, LeadsBack}
 
 -- each of cs stands from the index `low` on and below `high`
@@ -12,6 +12,10 @@ StandWithin l cs low high = (t : ℕ) → In t cs → (i : ℕ) × StandsAt l t 
 -- the event of ticket t stands below `high` at an index whose flag is set; the flags go down from the last index
 abbrev pub FlagAt : Live → ℕ → List Bool → ℕ → Type 0
 FlagAt l high flags t = (i : ℕ) × (k : ℕ) × StandsAt l t i × (i + k + 1 ≡ high) × (slice_get flags k ≡ Some true)
+
+-- no live event up to the ticket `last` depends on that of ticket t
+abbrev pub IsUnreached : Live → ℕ → ℕ → Type 0
+IsUnreached l last t = (c : ℕ) → IsLive l c → c ≤ last → DependsOn l t c → c ≡ t
 
 -- from `high` down to `index`: which events reach one of cs, and which of these are topmost
 pub record Swept (l : Live) (cs : List ℕ) (high index : ℕ) (flags : List Bool) (kept : List ℕ) : Type 0 where

@@ -11,12 +11,12 @@ use Rattle.machine.specs.declared.history.History.{History}
 pub record Entered (h : History) (made : Record) (h' : History) : Type 0 where
   pub tree : tree_of h' ≡ tree_of h
   pub live : h'.live.live ≡ h.live.live ++ (h.next, made.event) ∷ []
-  pub inverses : h'.inverses.items ≡ h.inverses.items ++ made.inverse ∷ []
+  pub inverses : h'.inverses ≡ h.inverses ++ made.inverse ∷ []
   pub next : h'.next ≡ suc h.next
 
 -- tree and values are what they were before it was made
 pub record NotEntered (h : History) (made : Record) (h' : History) : Type 0 where
   pub tree : (T : TreeAndStore) → applied T made.event ≡ Some (tree_of h, inverse_view made.inverse) → tree_of h' ≡ T
   pub live : h'.live.live ≡ h.live.live
-  pub inverses : h'.inverses.items ≡ h.inverses.items
+  pub inverses : h'.inverses ≡ h.inverses
   pub next : h'.next ≡ h.next

@@ -42,7 +42,7 @@ pub record Stands (checked : Checked) (T : TreeAndStore) (l : Live) (inverses : 
 
 -- so it is in a history
 abbrev pub Holds : Checked → History → Type 0
-Holds checked h = Stands checked (tree_of h) h.live.live h.inverses.items h.next
+Holds checked h = Stands checked (tree_of h) h.live.live h.inverses h.next
 
 -- these are the uses of channels in the system
 abbrev pub KnowsUses : Checked → ChannelUses → Type 0

@@ -6,7 +6,6 @@ use Rattle.sharing_check.specs.declared.checked.Checked.{Checked}
 use Rattle.runs.specs.Live.{Live, LiveAt, DependsOn, WithoutTickets}
 use Rattle.runs.specs.declared.event.Event.{Event}
 use Rattle.dependence.specs.Shown.{Shown}
-use Rattle.dependence.specs.Taking.{StaysBeside}
 use Rattle.event_inverse.specs.Grown.{TreeAndStore}
 use Rattle.event_inverse.specs.declared.record.Inverse.{Inverse}
 use Rattle.machine.specs.walking.Histories.{tree_of, Stands}
@@ -19,11 +18,9 @@ MarksDependents s t = (u : ℕ) → In u s.marked ↔ ((f : Event) × LiveAt s.l
 -- T and the inverses stand for the live events without those that are marked at the index and behind it
 pub record StandsFrom (checked : Checked) (index : ℕ) (T : TreeAndStore) (s : Shown) (inverses : List Inverse) (next : ℕ) : Type 0 where
   pub live : Live
-  pub others : List Inverse
   pub left : WithoutTickets (λ t. In t s.marked) (drop index s.live) live
-  pub beside : StaysBeside (λ t. In t s.marked) (drop index s.live) (drop index inverses) others
-  pub stands : Stands checked T (take index s.live ++ live) (take index inverses ++ others) next
+  pub stands : Stands checked T (take index s.live ++ live) inverses next
 
 -- so it is in a history
 abbrev pub HoldsFrom : Checked → ℕ → History → Type 0
-HoldsFrom checked index h = StandsFrom checked index (tree_of h) h.live h.inverses.items h.next
+HoldsFrom checked index h = StandsFrom checked index (tree_of h) h.live h.inverses h.next

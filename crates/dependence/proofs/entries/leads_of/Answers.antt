@@ -1,8 +1,7 @@
-use Rattle.std.proofs.Common.{◌≡◌, ◌∙◌, ◌↔◌, ◌≤◌, ℕ, List, length, sym, ap, subst, arith}
+use Rattle.std.proofs.Common.{◌≡◌, ◌↔◌, ◌≤◌, ℕ, List, length, sym, ap, subst, arith}
 use Rattle.std.specs.List.Sorted.{IsNonDecreasing}
 use Rattle.std.proofs.lemmas.Result.{IfOk-weaker}
 use Rattle.syntax.specs.Lists.{In}
-use Rattle.dependence.specs.walking.Sweeping.{StandWithin}
 use Rattle.dependence.specs.walking.Tables.{Topmost}
 use Rattle.dependence.proofs.Edges.{candidates-live, candidates-alike}
 use Rattle.dependence.proofs.Sweeps.{few-falling, few-topmost}
@@ -16,18 +15,53 @@ returns-then-len-le1 c =
       topmost = (c.in_ok-found.found.items, c.in_ok-found.ensures, few-topmost c.args.new.now.live.now c.in_ok-found.found.items few);
     }
 
+pub are_unreached-requires : goal.are_unreached-requires
+are_unreached-requires c =
+    let new = c.args.new.now in
+    let sorted : List ℕ = c.ascending-sorted.result.items in
+    let same : length c.as_slice-tickets.result.now ≡ length sorted = ap length c.as_slice-tickets.ensures.value in
+    let size : length sorted ≡ length c.in_ok-found.found.items = c.ascending-sorted.ensures.length in
+    record {
+      rising = (new.ticket, c.requires.new.rising);
+      linked = c.requires.linked;
+      live = candidates-live new.live.now new.event.now c.as_slice-tickets.result.now sorted c.as_slice-tickets.ensures.value
+          (candidates-alike new.live.now new.event.now c.in_ok-found.found.items sorted c.ascending-sorted.ensures.same c.in_ok-found.ensures);
+      some = omega (arith, c.in_ok-found.found.ok);
+      ascending = subst (λ (k : List ℕ). IsNonDecreasing k) (sym c.as_slice-tickets.ensures.value) c.ascending-sorted.ensures.ascending;
+    }
+
+pub falling-requires : goal.falling-requires
+falling-requires c = subst (λ (k : List ℕ). IsNonDecreasing k) (sym c.as_slice-tickets.ensures.value) c.ascending-sorted.ensures.ascending
+
+pub returns-then-are_unreached : goal.returns-then-are_unreached
+returns-then-are_unreached c =
+    let new = c.args.new.now in
+    let sorted : List ℕ = c.ascending-sorted.result.items in
+    let tops = c.are_unreached.ensures c.if-are_unreached.true in
+    record {
+      falling = c.falling.ensures.falling;
+      topmost = IfOk-weaker c.falling.result _ _ (λ kept same. (
+        sorted,
+        candidates-alike new.live.now new.event.now c.in_ok-found.found.items sorted c.ascending-sorted.ensures.same c.in_ok-found.ensures,
+        λ t. subst (λ (k : List ℕ). In t kept.items ↔ Topmost new.live.now k t) c.as_slice-tickets.ensures.value (
+          (λ i. tops t ((same t).0 i)),
+          (λ top. (same t).1 top.0),
+        ),
+      )) c.falling.ensures.same;
+    }
+
 pub span-low-requires : goal.span-low-requires
 span-low-requires c =
     let new = c.args.new.now in
     let sorted : List ℕ = c.ascending-sorted.result.items in
-    let same : length c.as_slice.result.now ≡ length sorted = ap length c.as_slice.ensures.value in
+    let same : length c.as_slice-tickets.result.now ≡ length sorted = ap length c.as_slice-tickets.ensures.value in
     let size : length sorted ≡ length c.in_ok-found.found.items = c.ascending-sorted.ensures.length in
     record {
       rising = (new.ticket, c.requires.new.rising);
-      live = candidates-live new.live.now new.event.now c.as_slice.result.now sorted c.as_slice.ensures.value
+      live = candidates-live new.live.now new.event.now c.as_slice-tickets.result.now sorted c.as_slice-tickets.ensures.value
           (candidates-alike new.live.now new.event.now c.in_ok-found.found.items sorted c.ascending-sorted.ensures.same c.in_ok-found.ensures);
       some = omega (arith, c.in_ok-found.found.ok);
-      ascending = subst (λ (k : List ℕ). IsNonDecreasing k) (sym c.as_slice.ensures.value) c.ascending-sorted.ensures.ascending;
+      ascending = subst (λ (k : List ℕ). IsNonDecreasing k) (sym c.as_slice-tickets.ensures.value) c.ascending-sorted.ensures.ascending;
     }
 
 pub topmost-requires : goal.topmost-requires
@@ -38,9 +72,8 @@ topmost-requires c =
       linked = c.requires.linked;
       order = c.span-low.ensures.order;
       size = c.span-low.ensures.size;
-      stand = subst (λ (k : List ℕ). StandWithin new.live.now k c.span-low.result.0 c.span-low.result.1) (c.as_slice.ensures.value ∙ sym c.as_slice-2.ensures.value)
-          c.span-low.ensures.stand;
-      ascending = subst (λ (k : List ℕ). IsNonDecreasing k) (sym c.as_slice-2.ensures.value) c.ascending-sorted.ensures.ascending;
+      stand = c.span-low.ensures.stand;
+      ascending = subst (λ (k : List ℕ). IsNonDecreasing k) (sym c.as_slice-tickets.ensures.value) c.ascending-sorted.ensures.ascending;
     }
 
 pub returns : goal.returns
@@ -52,6 +85,6 @@ returns c =
       topmost = IfOk-weaker c.topmost.result _ _ (λ kept tops. (
         sorted,
         candidates-alike new.live.now new.event.now c.in_ok-found.found.items sorted c.ascending-sorted.ensures.same c.in_ok-found.ensures,
-        λ t. subst (λ (k : List ℕ). In t kept.items ↔ Topmost new.live.now k t) c.as_slice-2.ensures.value (tops t),
+        λ t. subst (λ (k : List ℕ). In t kept.items ↔ Topmost new.live.now k t) c.as_slice-tickets.ensures.value (tops t),
       )) c.topmost.ensures.topmost;
     }

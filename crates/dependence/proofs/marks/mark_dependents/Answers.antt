@@ -6,15 +6,15 @@ use Rattle.dependence.specs.declared.links.Links.{Links}
 use Rattle.dependence.specs.walking.Marking.{MarkedBelow}
 use Rattle.dependence.proofs.ListPlaces.{at-within}
 use Rattle.dependence.proofs.Linking.{linked-here}
-use Rattle.dependence.proofs.Markings.{marked-first, pass-marked, pass-unmarked, all-passed}
+use Rattle.dependence.proofs.Markings.{marked-first, pass-marked, pass-unmarked, all-passed, dependents-above}
 use Rattle.dependence.proofs.marks.mark_dependents.Goals as goal
 use Rattle.dependence.proofs.marks.mark_dependents.Goals.{then-marks-index, else-marks-index}
 
 pub loop-index-init : goal.loop-index-init
 loop-index-init c =
     let at = c.index_of_live-first.ensures in
-    let size : length c.clear.new.marks ≡ length c.args.live.now = omega arith in
-    marked-first 0 c.requires.rising.0 c.args.live.now c.clear.new.marks c.args.ticket c.index_of_live-first.result at.0 c.requires.rising.1 size at.1 c.clear.ensures
+    let size : length c.args.marks.now ≡ length c.args.live.now = c.requires.size in
+    marked-first 0 c.requires.rising.0 c.args.live.now c.args.marks.now c.args.ticket c.index_of_live-first.result at.0 c.requires.rising.1 size at.1 c.requires.none
 
 pub mark_all-requires-clause-live : goal.mark_all-requires-clause-live
 mark_all-requires-clause-live c = λ t i.
@@ -46,4 +46,6 @@ loop-index-preserved c =
 
 pub returns : goal.returns
 returns c =
-    record { marked = all-passed 0 c.requires.rising.0 c.args.live.now c.args.ticket c.loop-index.index c.loop-index.marks c.requires.rising.1 c.loop-index-test.false c.loop-index.invariant }
+    let all =
+    all-passed 0 c.requires.rising.0 c.args.live.now c.args.ticket c.loop-index.index c.loop-index.marks c.requires.rising.1 c.loop-index-test.false c.loop-index.invariant in
+    record { marked = all; lower = dependents-above c.args.live.now c.loop-index.marks c.args.ticket all }

@@ -3,7 +3,7 @@ use Rattle.runs.specs.Live.{LiveAt}
 use Rattle.runs.specs.declared.event.Event.{Event}
 use Rattle.dependence.specs.Behind.{ComesBehind}
 use Rattle.dependence.specs.Shown.{Shown}
-use Rattle.dependence.proofs.ShownStates.{shown-added, shown-same, ok-so, err-so}
+use Rattle.dependence.proofs.ShownStates.{shown-added, shown-same, ok-so, err-so, lower-kept}
 use Rattle.dependence.proofs.live.Live.add.Goals as goal
 
 pub add_event-requires : goal.add_event-requires
@@ -13,6 +13,14 @@ add_event-requires c = record {
   above = subst (λ (s : Shown). (t : ℕ) (e : Event) → LiveAt s.live t e → t < c.args.ticket) (sym c.self.view_is) c.requires.above;
   behind = subst (λ (s : Shown). ComesBehind s.live c.args.event) (sym c.self.view_is) c.requires.behind;
 }
+
+pub invariant_of-self : goal.invariant_of-self
+invariant_of-self c = (
+  c.add_event.ensures.whole,
+  c.add_event.ensures.tabled,
+  lower-kept c.add_event.result _ _ c.self.inside.pairs.items c.add_event.new.pairs.items c.self.inside.marks.items c.add_event.new.marks.items c.self.inside.first_marked
+      c.self.invariant.2 c.add_event.ensures.added c.add_event.ensures.refused,
+)
 
 pub returns : goal.returns
 returns c = record {

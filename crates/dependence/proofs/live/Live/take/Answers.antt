@@ -2,6 +2,7 @@ use Rattle.std.proofs.Common.{◌≡◌, ℕ, sym, subst}
 use Rattle.runs.specs.Dependence.{Without}
 use Rattle.runs.specs.Live.{LiveAt, NoDependent, WithoutTickets, IsLive}
 use Rattle.dependence.specs.Shown.{Shown, tickets_marked}
+use Rattle.dependence.proofs.Markings.{less-marked, without-in}
 use Rattle.dependence.proofs.live.Live.take.Goals as goal
 
 pub take_event-requires : goal.take_event-requires
@@ -19,3 +20,10 @@ returns c = record {
   marked = subst (λ (s : Shown). Without (λ (t : ℕ). t ≡ c.args.ticket) s.marked (tickets_marked c.take_event.new.pairs.items c.take_event.new.marks.items)) c.self.view_is
       c.take_event.ensures.marked;
 }
+
+pub invariant_of-self : goal.invariant_of-self
+invariant_of-self c = (
+  c.take_event.ensures.whole,
+  c.take_event.ensures.tabled,
+  less-marked c.self.inside.first_marked _ _ (without-in (λ (v : ℕ). v ≡ c.args.ticket) _ _ c.take_event.ensures.marked) c.self.invariant.2,
+)

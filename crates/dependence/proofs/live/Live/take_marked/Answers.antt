@@ -1,4 +1,4 @@
-use Rattle.std.proofs.Common.{sym, subst}
+use Rattle.std.proofs.Common.{List, ℕ, sym, subst}
 use Rattle.syntax.specs.Lists.{In}
 use Rattle.runs.specs.Live.{WithoutTickets}
 use Rattle.dependence.specs.Shown.{Shown}
@@ -17,3 +17,10 @@ returns c = record {
   live = subst (λ (s : Shown). WithoutTickets (λ t. In t s.marked) s.live c.take_marked.new.pairs.items) c.self.view_is c.take_marked.ensures.live;
   marked = c.take_marked.ensures.marked;
 }
+
+pub invariant_of-self : goal.invariant_of-self
+invariant_of-self c = (
+  c.take_marked.ensures.whole,
+  c.take_marked.ensures.tabled,
+  λ u i. absurd (subst (λ (ts : List ℕ). In u ts) c.take_marked.ensures.marked i),
+)

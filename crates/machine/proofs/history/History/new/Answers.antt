@@ -10,6 +10,6 @@ use Rattle.machine.proofs.history.History.new.Goals as goal
 
 pub returns-clause-holds : goal.returns-clause-holds
 returns-clause-holds c =
-    stands-new c.args.system.now (both_view c.in_ok-tree.tree c.in_ok-store.store) c.new-3.result.live c.new-4.result.items
+    stands-new c.args.system.now (both_view c.in_ok-tree.tree c.in_ok-store.store) c.new-3.result.live c.new-4.result
     (c.in_ok-tree.ensures ∙ ap (λ (s : System). started (system_code s)) c.system.ensures) (c.in_ok-store.ensures ∙ ap opening_store c.system-2.ensures)
-    (ap (λ (s : Shown). s.live) c.new-3.ensures) c.new-4.ensures.items
+    (ap (λ (s : Shown). s.live) c.new-3.ensures) c.new-4.ensures

@@ -9,7 +9,6 @@ invariant-loop-index l = record {
   range : l.index ≤ length l.self.live.live;
   same : l.self.live ≡ l.initial.self.live;
   next : l.self.next ≡ l.initial.self.next;
-  even : length l.self.inverses.items ≡ length l.initial.self.inverses.items;
   some : (system : Checked) × HoldsFrom system l.index l.self;
   holds : (system : Checked) → Holds system l.initial.self → HoldsFrom system l.index l.self;
 }

@@ -11,7 +11,7 @@ pub take_marked-requires-clause-holds : goal.take_marked-requires-clause-holds
 take_marked-requires-clause-holds c =
     let h = c.args.self.now in (
       c.requires.holds.0,
-      stands-same c.requires.holds.0 (tree_of h) (tree_of h) h.live.live c.mark_consequences.new.self.live h.inverses.items h.inverses.items h.next h.next
+      stands-same c.requires.holds.0 (tree_of h) (tree_of h) h.live.live c.mark_consequences.new.self.live h.inverses h.inverses h.next h.next
           c.requires.holds.1 refl c.mark_consequences.ensures.live refl refl,
     )
 

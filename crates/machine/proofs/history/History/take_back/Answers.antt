@@ -1,4 +1,5 @@
-use Rattle.std.proofs.Common.{arith}
+use Rattle.std.proofs.Common.{sym}
+use Rattle.std.proofs.lemmas.Option.{get_or_from_slice_get}
 use Rattle.event_inverse.specs.View.{both_view}
 use Rattle.machine.specs.walking.Histories.{tree_of}
 use Rattle.machine.proofs.Standing.{live-at, place-within, can-revert, stands-less}
@@ -10,22 +11,23 @@ take-event-requires-clause-live c = (c.requires.at.0, live-at c.args.self.now.li
 pub remove-inverse-requires : goal.remove-inverse-requires
 remove-inverse-requires c =
     let h = c.args.self.now in
-    let within = place-within c.requires.holds.0 (tree_of h) h.live.live h.inverses.items h.next c.args.ticket c.args.index c.requires.at.0 c.requires.holds.1 c.requires.at.1 in
-    let size = h.inverses.ok.0 in
-    omega arith
+    place-within c.requires.holds.0 (tree_of h) h.live.live h.inverses h.next c.args.ticket c.args.index c.requires.at.0 c.requires.holds.1 c.requires.at.1
 
 pub invert-requires : goal.invert-requires
 invert-requires c =
     let h = c.args.self.now in
     record {
       possible =
-          can-revert c.requires.holds.0 (tree_of h) h.live.live h.inverses.items h.next c.args.ticket c.args.index c.requires.at.0 c.take-event.result
-          c.remove-inverse.result c.requires.holds.1 c.requires.at.1 c.requires.alone c.take-event.ensures.event c.remove-inverse.ensures.value;
+          can-revert c.requires.holds.0 (tree_of h) h.live.live h.inverses h.next c.args.ticket c.args.index c.requires.at.0 c.take-event.result
+          c.remove-inverse.result c.requires.holds.1 c.requires.at.1 c.requires.alone c.take-event.ensures.event
+          (sym (get_or_from_slice_get h.inverses c.args.index c.remove-inverse.result c.remove-inverse.result c.remove-inverse.ensures.item));
     }
 
 pub returns-clause-holds : goal.returns-clause-holds
 returns-clause-holds c = λ system holds.
     let h = c.args.self.now in
-    stands-less system (tree_of h) (both_view c.invert.new.tree c.invert.new.store) h.live.live c.take-event.new.self.live h.inverses.items
-    c.remove-inverse.new.self.items h.next c.args.ticket c.args.index c.requires.at.0 c.take-event.result c.remove-inverse.result holds c.requires.at.1
-    c.requires.alone c.take-event.ensures.live c.take-event.ensures.event c.remove-inverse.ensures.value c.remove-inverse.ensures.items c.invert.ensures.undone
+    stands-less system (tree_of h) (both_view c.invert.new.tree c.invert.new.store) h.live.live c.take-event.new.self.live h.inverses
+    c.remove-inverse.new.self h.next c.args.ticket c.args.index c.requires.at.0 c.take-event.result c.remove-inverse.result holds c.requires.at.1
+    c.requires.alone c.take-event.ensures.live c.take-event.ensures.event
+    (sym (get_or_from_slice_get h.inverses c.args.index c.remove-inverse.result c.remove-inverse.result c.remove-inverse.ensures.item))
+    c.remove-inverse.ensures.taken c.invert.ensures.undone

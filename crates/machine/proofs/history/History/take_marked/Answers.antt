@@ -1,4 +1,4 @@
-use Rattle.std.proofs.Common.{◌∙◌, length, sym, ap, subst}
+use Rattle.std.proofs.Common.{sym, subst}
 use Rattle.syntax.specs.Lists.{In}
 use Rattle.runs.specs.Live.{WithoutTickets}
 use Rattle.dependence.specs.Shown.{Shown}
@@ -9,9 +9,6 @@ use Rattle.machine.proofs.history.History.take_marked.Goals as goal
 
 pub revert_marked-requires-clause-marked : goal.revert_marked-requires-clause-marked
 revert_marked-requires-clause-marked c = marks-all c.args.self.now.live c.requires.marked.0 c.requires.marked.1
-
-pub keep_unmarked-requires : goal.keep_unmarked-requires
-keep_unmarked-requires c = c.revert_marked.ensures.even ∙ c.requires.holds.1.even ∙ sym (ap (λ (s : Shown). length s.live) c.revert_marked.ensures.live)
 
 pub take_marked-requires : goal.take_marked-requires
 take_marked-requires c =
@@ -25,5 +22,4 @@ returns-clause-taken c = λ t marks.
 pub returns-clause-holds : goal.returns-clause-holds
 returns-clause-holds c = λ system holds.
     let h = c.revert_marked.new.self in
-    all-taken system (tree_of h) h.live h.inverses.items c.keep_unmarked.new.items.items h.next c.take_marked.new.self.live (c.revert_marked.ensures.holds system holds)
-    c.keep_unmarked.ensures c.take_marked.ensures.live
+    all-taken system (tree_of h) h.live h.inverses h.next c.take_marked.new.self.live (c.revert_marked.ensures.holds system holds) c.take_marked.ensures.live

@@ -1,0 +1,7 @@
+use Rattle.std.proofs.Common.{ℕ, take}
+use Rattle.syntax.specs.Lists.{In}
+use Rattle.dependence.specs.walking.Sweeping.{IsUnreached}
+use Rattle.dependence.proofs.unreached.are_unreached.Given as goal
+
+abbrev pub invariant-loop-ticket : goal.invariant-loop-ticket
+invariant-loop-ticket l = (t : ℕ) → In t (take l.ticket-index l.tickets) → IsUnreached l.live l.last t
