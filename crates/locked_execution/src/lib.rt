@@ -20,6 +20,6 @@ pub use desk::Desk;
 pub use laws::{
     breakpoint_laws, crew_laws, execution_laws, history_laws, reply_laws, rollback_laws,
 };
-pub use machine::{Breaks, Machine};
+pub use machine::{Breaks, Machine, Ticket, Var};
 pub use runs::{Choice, Event, Kind, Refusal};
 pub use shared::{Pass, Shared};

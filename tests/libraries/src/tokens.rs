@@ -172,7 +172,12 @@ fn a_part_ends_before_the_next_procedure(rt: HostRuntime) -> Result<(), Fail> {
     assert_eq!(rt; part.len(), 2);
     assert!(rt; reader.finish().is_ok());
     let mut part = Vec::new(rt.alloc());
-    assert!(rt; matches!(reader.add_part(rt.alloc(), &mut part, 2)?, Stop::End));
+    assert!(rt;
+        matches!(
+            reader.add_part(rt.alloc(), &mut part, 2)?,
+            Stop::EndOfSource
+        )
+    );
     assert_eq!(rt; part.len(), 2);
     assert!(rt; is_end(part.last(), source.len() as u64));
     Ok(())
