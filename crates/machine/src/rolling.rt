@@ -109,7 +109,10 @@ impl History {
         ensures holds { (system : Checked) → Holds system self.old → Holds system self.new }
     {
         match self.live.index_of(ticket) {
-            Some(_) => Ok(Ok(self.tell_dependents(ticket)?)),
+            Some(_) => {
+                let tickets = self.tell_dependents(ticket)?;
+                Ok(Ok(tickets))
+            }
             None => Ok(Err(Refusal::NoSuchEvent)),
         }
     }

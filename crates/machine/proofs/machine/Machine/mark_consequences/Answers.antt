@@ -1,6 +1,6 @@
-use Rattle.std.proofs.Common.{◌∙◌, refl, sym, subst}
+use Rattle.std.proofs.Common.{◌≡◌, ◌∙◌, refl, sym, subst}
 use Rattle.runs.specs.Live.{IsLive, ConsequencesList}
-use Rattle.machine.specs.AtMachine.{AtMachine}
+use Rattle.machine.specs.AtMachine.{AtMachine, at_machine}
 use Rattle.machine.specs.walking.Histories.{tree_of}
 use Rattle.machine.proofs.Standing.{stands-same}
 use Rattle.machine.proofs.machine.Machine.mark_consequences.Goals as goal
@@ -19,7 +19,9 @@ returns-clause-counted c =
 pub returns-clause-same : goal.returns-clause-same
 returns-clause-same c =
     let h = c.self.inside.history in
-    let same = λ i. record { checked = c.self.inside.system; live = c.mark_consequences.ensures.live i; next = h.next } in
+    let after : AtMachine = record { checked = c.self.inside.system; live = c.mark_consequences.new.self.live; next = h.next } in
+    let same : after ≡ at_machine c.self.inside.system h =
+    (λ i. record { checked = c.self.inside.system; live = c.mark_consequences.ensures.live i; next = h.next }) in
     same ∙ c.self.view_is
 
 pub invariant_of-self : goal.invariant_of-self
