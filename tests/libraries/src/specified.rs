@@ -92,6 +92,22 @@ fn a_machine_goes_back(rt: HostRuntime) -> Result<(), Fail> {
     Ok(())
 }
 
+#[test]
+fn a_machine_is_rolled_back(rt: HostRuntime) -> Result<(), Fail> {
+    let mut machine = written(rt.alloc())?;
+    let blamed: Result<Ticket, Refusal> = rollback::blame(&machine, 0);
+    assert_eq!(rt; blamed?, 2);
+    let consequences: Result<Items<Ticket>, Refusal> = rollback::consequences(&mut machine, 1);
+    assert_eq!(rt; consequences?.as_slice(), &[1, 2]);
+    let rolled: Result<u64, Refusal> = rollback::roll_value(&mut machine, 0);
+    assert_eq!(rt; rolled?, 1);
+    assert!(rt; machine.value(0) == Value::new(1, 8));
+    let rolled: Result<u64, Refusal> = rollback::roll(&mut machine, 1);
+    assert_eq!(rt; rolled?, 1);
+    assert!(rt; matches!(rollback::roll(&mut machine, 1), Err(Refusal::NoSuchEvent)));
+    Ok(())
+}
+
 /// The ticket, where a branch took a step.
 fn stepped_by(reply: BranchReply) -> Result<Option<Ticket>, Refusal> {
     match reply {
