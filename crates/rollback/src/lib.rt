@@ -1,5 +1,6 @@
 //! Going back to the cause of a wrong value: which event wrote it, what depends on an event, and taking just that back.
 #![tactic(auto)]
+
 ghost use Rattle.std.specs.Prelude.{◌≡◌, ◌⊎◌, ℕ, IfOk, IfErr};
 ghost use Rattle.runs.specs.Live.{IsLive, NoneAt, LastWriter, NoWriter};
 ghost use Rattle.machine.specs.AtMachine.{object};

@@ -184,7 +184,7 @@ fn a_desk_performs_each_command(rt: HostRuntime) -> Result<(), Fail> {
         let reply: Reply = desk.perform(0, command);
         assert_eq!(rt; word(&reply), *answer);
     }
-    let replies: Result<Vec<Reply>, AllocError> =
+    let replies: Result<Vec<Reply>, locked_execution::Fault> =
         run_commands(rt.alloc(), &mut desk, &[(15, Command::Live), (0, Command::Ready)]);
     assert_eq!(rt; replies?.len(), 2);
     Ok(())
@@ -193,7 +193,10 @@ fn a_desk_performs_each_command(rt: HostRuntime) -> Result<(), Fail> {
 #[test]
 fn passes_call_one_execution(rt: HostRuntime) -> Result<(), Fail> {
     let machine = Machine::new(rt.alloc(), BUFFER.checked(rt.alloc())?)?;
-    let (shared, mut passes): (Shared, Vec<Pass>) = Shared::new(rt.alloc(), machine, 2)?;
+    let made: Result<(Shared, Vec<Pass>), locked_execution::Fault> =
+        Shared::new(rt.alloc(), machine, 2);
+    let (shared, mut passes) = made?;
+    assert_eq!(rt; locked_execution::Fault::Memory.number(), 1);
     let branches: u32 = shared.branches();
     assert_eq!(rt; branches, 3);
     let [one, other] = passes.as_mut_slice() else {
