@@ -1,5 +1,5 @@
 -- Calls that take no memory are not refused for want of it.
-use Rattle.std.proofs.Common.{◌≡◌, ◌≢◌, inl, inr, ℕ, Result, Ok, Err, subst}
+use Rattle.std.proofs.Common.{◌≢◌, inl, inr, ℕ, Result, Ok, Err, subst}
 use Rattle.std.specs.Prelude.{IfErr}
 use Rattle.runs.specs.Does.{Answers, RefusesUndo, RefusesTicket, RefusesVariable}
 use Rattle.runs.specs.Object.{Object}
