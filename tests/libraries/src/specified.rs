@@ -55,7 +55,7 @@ fn a_machine_is_asked(rt: HostRuntime) -> Result<(), Fail> {
     let last: Option<Ticket> = machine.last_marked();
     assert_eq!(rt; last, Some(2));
     let consequences: Result<Items<Ticket>, Refusal> = machine.consequences(2);
-    assert_eq!(rt; consequences?.as_slice(), &[2]);
+    assert!(rt; consequences?.as_slice() == [2].as_slice());
     assert_eq!(rt; machine.last_marked(), Some(2));
     Ok(())
 }
@@ -98,7 +98,7 @@ fn a_machine_is_rolled_back(rt: HostRuntime) -> Result<(), Fail> {
     let blamed: Result<Ticket, Refusal> = rollback::blame(&machine, 0);
     assert_eq!(rt; blamed?, 2);
     let consequences: Result<Items<Ticket>, Refusal> = rollback::consequences(&mut machine, 1);
-    assert_eq!(rt; consequences?.as_slice(), &[1, 2]);
+    assert!(rt; consequences?.as_slice() == [1, 2].as_slice());
     let rolled: Result<u64, Refusal> = rollback::roll_value(&mut machine, 0);
     assert_eq!(rt; rolled?, 1);
     assert!(rt; machine.value(0) == Value::new(1, 8));
@@ -180,12 +180,16 @@ fn commands(alloc: Global) -> Result<[(Command, &'static str); 12], Fail> {
 fn a_desk_performs_each_command(rt: HostRuntime) -> Result<(), Fail> {
     let machine = Machine::new(rt.alloc(), TWO_WRITES.checked(rt.alloc())?)?;
     let mut desk = Desk::new(machine);
-    for (command, answer) in &commands(rt.alloc())? {
+    let asked = commands(rt.alloc())?;
+    for (command, answer) in &asked {
         let reply: Reply = desk.perform(0, command);
         assert_eq!(rt; word(&reply), *answer);
     }
-    let replies: Result<Vec<Reply>, locked_execution::Fault> =
-        run_commands(rt.alloc(), &mut desk, &[(15, Command::Live), (0, Command::Ready)]);
+    let replies: Result<Vec<Reply>, locked_execution::Fault> = run_commands(
+        rt.alloc(),
+        &mut desk,
+        &[(15, Command::Live), (0, Command::Ready)],
+    );
     assert_eq!(rt; replies?.len(), 2);
     Ok(())
 }
@@ -193,22 +197,28 @@ fn a_desk_performs_each_command(rt: HostRuntime) -> Result<(), Fail> {
 #[test]
 fn passes_call_one_execution(rt: HostRuntime) -> Result<(), Fail> {
     let machine = Machine::new(rt.alloc(), BUFFER.checked(rt.alloc())?)?;
-    let made: Result<(Shared, Vec<Pass>), locked_execution::Fault> =
-        Shared::new(rt.alloc(), machine, 2);
+    let made: Result<(Shared, Vec<Pass>), locked_execution::Fault> = Shared::new(
+        rt.alloc(),
+        machine,
+        2,
+    );
     let (shared, mut passes) = made?;
     assert_eq!(rt; locked_execution::Fault::Memory.number(), 1);
     let branches: u32 = shared.branches();
     assert_eq!(rt; branches, 3);
-    let [one, other] = passes.as_mut_slice() else {
+    let (Some(mut other), Some(mut one)) = (passes.pop(), passes.pop()) else {
         return Err(Fail::from("two passes"));
     };
-    let reply: Reply = shared.call(&rt, one, &Command::Step(choice(rt.alloc(), b"/0.0")?));
+    let reply: Reply = shared.call(&rt, &mut one, &Command::Step(choice(rt.alloc(), b"/0.0")?));
     assert_eq!(rt; word(&reply), "stepped");
-    let length: u64 = shared.length(one);
+    let length: u64 = shared.length(&mut one);
     assert_eq!(rt; length, 1);
-    let met: u64 = shared.meet(other, one);
+    let met: u64 = shared.meet(&mut other, &mut one);
     assert_eq!(rt; met, 1);
-    assert_eq!(rt; word(&shared.call(&rt, other, &Command::Undo(1))), "undone");
+    assert_eq!(rt;
+        word(&shared.call(&rt, &mut other, &Command::Undo(1))),
+        "undone"
+    );
     let machine: Machine = shared.finish();
     assert!(rt; machine.live_at(0).is_none());
     Ok(())
@@ -217,16 +227,26 @@ fn passes_call_one_execution(rt: HostRuntime) -> Result<(), Fail> {
 #[test]
 fn a_machine_is_shown_saved_and_loaded(rt: HostRuntime) -> Result<(), Fail> {
     let machine = written(rt.alloc())?;
-    let shown: Result<Vec<u8>, AllocError> =
-        view(rt.alloc(), &machine, &Breaks::new(), b"one line");
+    let shown: Result<Vec<u8>, AllocError> = view(
+        rt.alloc(),
+        &machine,
+        &Breaks::new(),
+        b"one line",
+    );
     assert!(rt; !shown?.is_empty());
     let mut text: Vec<u8> = Vec::new(rt.alloc());
-    let saved: Result<(), trace_file::Fault> =
-        save(rt.alloc(), &machine, &mut Counted::new(&mut text));
+    let saved: Result<(), trace_file::Fault> = save(
+        rt.alloc(),
+        &machine,
+        &mut Counted::new(&mut text),
+    );
     saved?;
     let checked = TWO_WRITES.checked(rt.alloc())?;
-    let loaded: Result<Machine, trace_file::Fault> =
-        load(rt.alloc(), checked, &mut Counted::new(text.as_slice()));
+    let loaded: Result<Machine, trace_file::Fault> = load(
+        rt.alloc(),
+        checked,
+        &mut Counted::new(text.as_slice()),
+    );
     assert!(rt; loaded?.live_at(1).is_some());
     Ok(())
 }
