@@ -84,6 +84,22 @@ impl From<trace_file::Fault> for Fault {
     }
 }
 
+impl From<machine::Fault> for Fault {
+    ghost from_gives = { λ _ fault. fault ≡ Memory };
+
+    fn from(_fault: machine::Fault) -> Fault {
+        Fault::Memory
+    }
+}
+
+impl From<locked_execution::Fault> for Fault {
+    ghost from_gives = { λ _ fault. fault ≡ Memory };
+
+    fn from(_fault: locked_execution::Fault) -> Fault {
+        Fault::Memory
+    }
+}
+
 impl From<AllocError> for Fault {
     ghost from_gives = { λ _ fault. fault ≡ Memory };
 

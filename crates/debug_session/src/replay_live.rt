@@ -1,6 +1,4 @@
 ghost use Rattle.std.specs.Prelude.{◌≡◌, MatchResult};
-ghost use Rattle.runs.specs.Live.{Live};
-ghost use Rattle.runs.specs.declared.command.Reply.{Reply};
 ghost use Rattle.locked_execution.specs.declared.command.Command as asked;
 ghost use Rattle.locked_execution.specs.declared.command.Reply as told;
 ghost use Rattle.debug_session.specs.ReplyText.{answer_text};
@@ -9,8 +7,7 @@ ghost use Rattle.debug_session.specs.declared.fault.Fault.TheVariants.{Memory};
 
 use crate::Fault;
 use line_text::add_live;
-use locked_execution::Machine;
-use runs::Reply;
+use locked_execution::{Event, Machine, Ticket};
 use sharing_check::Checked;
 use std::alloc::Global;
 use trace_file::load_text;
@@ -33,24 +30,24 @@ fn live_on(alloc: Global, machine: &Machine) -> Result<Vec<u8>, Fault>
         answer.items ≡ answer_text machine.now.checked asked.Command.Live (told.Reply.Live machine.now.live))
         (λ fault. fault ≡ Memory) }
 {
-    let reply = machine.live();
-    live_answer(alloc, machine.checked(), &reply)
+    match machine.live() {
+        Ok(entries) => live_answer(alloc, machine.checked(), entries.as_slice()),
+        // There was no memory for the list.
+        Err(_) => Err(Fault::Memory),
+    }
 }
 
-/// The answer of the line `live` where this is the reply to it.
-fn live_answer(alloc: Global, checked: &Checked, reply: &Reply) -> Result<Vec<u8>, Fault>
+/// The answer of the line `live` where these events are live.
+fn live_answer(
+    alloc: Global,
+    checked: &Checked,
+    live: &[(Ticket, Event)],
+) -> Result<Vec<u8>, Fault>
     ensures { MatchResult result
-        (λ answer. (l : Live) × (reply.now ≡ Reply.Live l)
-        × (answer.items ≡ answer_text checked.now asked.Command.Live (told.Reply.Live l)))
+        (λ answer. answer.items ≡ answer_text checked.now asked.Command.Live (told.Reply.Live live.now))
         (λ fault. fault ≡ Memory) }
 {
-    match reply {
-        Reply::Live(pairs) => {
-            let mut out = Vec::new(alloc);
-            add_live(&mut out, checked.system(), pairs.as_slice())?;
-            Ok(out)
-        }
-        // There was no memory for the list.
-        _ => Err(Fault::Memory),
-    }
+    let mut out = Vec::new(alloc);
+    add_live(&mut out, checked.system(), live)?;
+    Ok(out)
 }

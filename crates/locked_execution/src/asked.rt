@@ -7,16 +7,19 @@ ghost use Rattle.locked_execution.specs.AtDesk.{execution};
 ghost use Rattle.locked_execution.specs.Answered.{Answered};
 ghost use Rattle.locked_execution.specs.GoingBack.{DependentsGoAlong, AmountsToBackAndForth};
 
-use crate::{Command, Desk, Reply};
-use std::alloc::{AllocError, Global};
+use crate::{Command, Desk, Fault, Reply};
+use std::alloc::Global;
 
-/// Answers the commands of sessions, each 0 to 15, in their order. It is an error if there is no memory for the replies,
-/// and then nothing was performed.
+/// Answers the commands of sessions, each 0 to 15, in their order.
+///
+/// # Errors
+///
+/// `Memory` without memory for the replies, and then nothing was performed.
 pub fn run_commands(
     alloc: Global,
     desk: &mut Desk,
     commands: &[(u32, Command)],
-) -> Result<Vec<Reply>, AllocError>
+) -> Result<Vec<Reply>, Fault>
     requires { Every (λ entry. entry.0 < 16) commands.now }
     ensures answered { IfOk result (λ replies. Answered desk.old commands.now replies.items desk.new) }
     ensures refused { OnErr result (desk.new ≡ desk.old) }

@@ -13,24 +13,22 @@ ghost use Rattle.locked_execution.specs.Calls.{IsPassOf, ArePassesOf, Answered, 
 ghost use Rattle.locked_execution.specs.declared.command.Command as any;
 ghost use Rattle.system_places.specs.SystemBranches.{branch_count};
 
-use crate::{Command, Desk, Pass, Reply, Shared};
+use crate::{Board, Command, Desk, Fault, Keeper, Pass, Reply, Shared};
 use branch_workers::{Gate, Ran, run_workers};
-use locked_object::{Keeper, NotRecorded, Replies};
+use locked_object::NotRecorded;
 use machine::Machine;
-use recorded_calls::Board;
 use runs::Refusal;
-use std::alloc::{AllocError, Global};
+use std::alloc::Global;
 use std::sync::Wait;
 use std::thread::Threads;
 
 impl Shared {
     /// The execution under a lock, without breakpoints, and so many passes, 16 at most, numbered from 0.
-    /// It is an error if there is no memory; the execution is dropped then.
-    pub fn new(
-        alloc: Global,
-        machine: Machine,
-        count: u32,
-    ) -> Result<(Shared, Vec<Pass>), AllocError>
+    ///
+    /// # Errors
+    ///
+    /// `Memory` without memory; the execution is dropped then.
+    pub fn new(alloc: Global, machine: Machine, count: u32) -> Result<(Shared, Vec<Pass>), Fault>
         requires { count ≤ 16 }
         ensures opening { IfOk result (λ made. opening made.0 ≡ new_desk machine) }
         ensures sound { Headline (execution (new_desk machine)) }
@@ -102,7 +100,7 @@ impl Shared {
         passes: Vec<Pass>,
         gate: &G,
         turns: u64,
-    ) -> Result<Ran<Desk, Command, Reply>, (Vec<Pass>, AllocError)>
+    ) -> Result<Ran<Desk, Command, Reply>, (Vec<Pass>, Fault)>
         requires passes { ArePassesOf self.now passes.items }
         requires few { length passes.items ≤ 16 }
         requires turns { turns ≤ 2 ^ 57 }
@@ -110,7 +108,10 @@ impl Shared {
         ensures legal { IfOk result (λ ran. AllSawLegal Keeps (opening self.now) passes.items ran.passes.items) }
         ensures refused { IfErr result (λ back. back.0.items ≡ passes.items) }
     {
-        run_workers(rt, alloc, &self.object, self.branches, passes, gate, turns)
+        match run_workers(rt, alloc, &self.object, self.branches, passes, gate, turns) {
+            Ok(ran) => Ok(ran),
+            Err((passes, _)) => Err((passes, Fault::Memory)),
+        }
     }
 
     /// The execution, once no pass calls it any more. It waits for nobody, so that no clause says which machine it is.
@@ -133,13 +134,7 @@ impl Shared {
     }
 
     /// The word of recorded calls and the keeper, once no pass calls it any more.
-    pub(crate) fn close<W: Wait>(
-        self,
-        rt: &W,
-    ) -> (
-        Board<Desk, Command, Reply, Replies<Desk>>,
-        Keeper<Desk, Command, Reply>,
-    )
+    pub(crate) fn close<W: Wait>(self, rt: &W) -> (Board, Keeper)
         ensures board { result.0 ≡ self.object.board }
         ensures keeper { IsKeeperOf Keeps result.0.table.shared.table_id result.0.table.shared.key result.1 }
         ensures passes { passes_made result.1 ≡ passes_of self }

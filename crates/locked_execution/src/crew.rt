@@ -5,11 +5,9 @@ ghost use Rattle.locked_object.specs.Keepers.{IsKeeperOf, passes_made};
 ghost use Rattle.locked_execution.specs.Sharing.{Keeps};
 ghost use Rattle.locked_execution.specs.Working.{Worked, CountsLive};
 
-use crate::{Command, Desk, Pass, Reply, Shared};
+use crate::{Board, Keeper, Pass, Shared};
 use branch_workers::Gate;
-use locked_object::{Keeper, Replies};
 use machine::Machine;
-use recorded_calls::Board;
 use runs::MOST_LIVE_EVENTS;
 use sharing_check::Checked;
 use std::alloc::{AllocError, Global};
@@ -81,17 +79,13 @@ impl Crew {
                     live: live_behind(&board, keeper, ran.passes),
                 })
             }
-            Err((_, want)) => Err(want),
+            Err(_) => Err(AllocError),
         }
     }
 }
 
 /// How many events are live on the desk behind the calls of these passes, which are all there are.
-fn live_behind(
-    board: &Board<Desk, Command, Reply, Replies<Desk>>,
-    mut keeper: Keeper<Desk, Command, Reply>,
-    passes: Vec<Pass>,
-) -> u64
+fn live_behind(board: &Board, mut keeper: Keeper, passes: Vec<Pass>) -> u64
     requires keeper { IsKeeperOf Keeps board.now.table.shared.table_id board.now.table.shared.key keeper }
     requires count { passes_made keeper ≡ length passes.items }
     requires passes { PassesFit board.now.table.shared.table_id board.now.table.shared.key passes.items }

@@ -7,6 +7,7 @@ mod calls;
 mod command;
 mod crew;
 mod desk;
+mod fault;
 mod laws;
 mod object;
 mod performing;
@@ -17,9 +18,10 @@ pub use branch_workers::{Gate, Ran};
 pub use command::{Command, Reply};
 pub use crew::{Crew, MOST_TURNS, MOST_WORKERS, Tally};
 pub use desk::Desk;
+pub use fault::Fault;
 pub use laws::{
     breakpoint_laws, crew_laws, execution_laws, history_laws, reply_laws, rollback_laws,
 };
-pub use machine::{Breaks, Machine};
+pub use machine::{Breaks, Machine, Ticket, Var};
 pub use runs::{Choice, Event, Kind, Refusal};
-pub use shared::{Pass, Shared};
+pub use shared::{Board, Keeper, Pass, Shared};

@@ -1,13 +1,16 @@
 // One command of a session.
 ghost use Rattle.std.specs.Prelude.{◌≡◌, ◌<◌, [], slice_index_or};
 ghost use Rattle.machine.specs.Branching.{AnswersBranch};
+ghost use Rattle.machine.specs.Results as results;
 ghost use Rattle.machine.specs.declared.branching.BranchReply.{BranchReply};
 ghost use Rattle.locked_execution.specs.Performs as performs;
 ghost use Rattle.locked_execution.specs.Performs.{Answers};
 
 use crate::{Command, Desk, Reply};
-use machine::{BranchReply, Breaks, Machine};
-use runs::Refusal;
+use machine::{BranchReply, Breaks, Machine, Ticket};
+use runs::{Event, Refusal};
+use syntax::Items;
+use value::Value;
 
 impl Desk {
     /// Answers the command of a session, 0 to 15. Where there is no memory for it, it is refused and nothing changes.
@@ -17,15 +20,15 @@ impl Desk {
         ensures system { self.new.machine.checked ≡ self.old.machine.checked }
     {
         match command {
-            Command::Step(choice) => session_reply(self.machine.step(choice)),
-            Command::Undo(ticket) => session_reply(self.machine.undo(*ticket)),
-            Command::Roll(ticket) => session_reply(self.machine.roll(*ticket)),
-            Command::RollValue(variable) => session_reply(self.machine.roll_value(*variable)),
-            Command::Blame(variable) => session_reply(self.machine.blame(*variable)),
-            Command::Ready => session_reply(self.machine.tell_ready()),
-            Command::Consequences(ticket) => session_reply(self.machine.consequences(*ticket)),
-            Command::Live => session_reply(self.machine.live()),
-            Command::Value(variable) => session_reply(self.machine.value(*variable)),
+            Command::Step(choice) => step_reply(self.machine.step(choice)),
+            Command::Undo(ticket) => undo_reply(*ticket, self.machine.undo(*ticket)),
+            Command::Roll(ticket) => roll_reply(self.machine.roll(*ticket)),
+            Command::RollValue(variable) => roll_reply(self.machine.roll_value(*variable)),
+            Command::Blame(variable) => blame_reply(self.machine.blame(*variable)),
+            Command::Ready => ready_reply(self.machine.ready()),
+            Command::Consequences(ticket) => consequences_reply(self.machine.consequences(*ticket)),
+            Command::Live => live_reply(self.machine.live()),
+            Command::Value(variable) => value_reply(self.machine.value(*variable)),
             Command::Branch(branch) => self.step_branch(session, *branch),
             Command::Break(line) => self.set_break(session, *line),
             Command::Clear(line) => self.clear_break(session, *line),
@@ -79,20 +82,83 @@ fn step_past(machine: &mut Machine, sessions: &[Breaks; 16], session: u32, branc
     branch_reply(machine.branch_step(branch, &sessions[session as usize]))
 }
 
-/// What a session is told where the execution answers so.
-fn session_reply(reply: runs::Reply) -> Reply
-    ensures { result ≡ performs.session_reply reply }
+/// What a session is told of a step.
+fn step_reply(told: Result<(Ticket, Event), Refusal>) -> Reply
+    ensures { result ≡ performs.session_reply (results.step_reply told) }
 {
-    match reply {
-        runs::Reply::Stepped(ticket, event) => Reply::Stepped(ticket, event),
-        runs::Reply::Undone(ticket, event) => Reply::Undone(ticket, event),
-        runs::Reply::Rolled(count) => Reply::Rolled(count),
-        runs::Reply::Blamed(ticket) => Reply::Blamed(ticket),
-        runs::Reply::Ready(events) => Reply::Ready(events),
-        runs::Reply::Consequences(tickets) => Reply::Consequences(tickets),
-        runs::Reply::Live(entries) => Reply::Live(entries),
-        runs::Reply::Value(value) => Reply::Value(value),
-        runs::Reply::Refused(why) => Reply::Refused(why),
+    match told {
+        Ok((ticket, event)) => Reply::Stepped(ticket, event),
+        Err(why) => Reply::Refused(why),
+    }
+}
+
+/// What a session is told of the undo of this ticket.
+fn undo_reply(ticket: Ticket, told: Result<Event, Refusal>) -> Reply
+    ensures { result ≡ performs.session_reply (results.undo_reply ticket told) }
+{
+    match told {
+        Ok(event) => Reply::Undone(ticket, event),
+        Err(why) => Reply::Refused(why),
+    }
+}
+
+/// What a session is told of a rollback.
+fn roll_reply(told: Result<u64, Refusal>) -> Reply
+    ensures { result ≡ performs.session_reply (results.roll_reply told) }
+{
+    match told {
+        Ok(count) => Reply::Rolled(count),
+        Err(why) => Reply::Refused(why),
+    }
+}
+
+/// What a session is told of the last writer of a variable.
+fn blame_reply(told: Result<Ticket, Refusal>) -> Reply
+    ensures { result ≡ performs.session_reply (results.blame_reply told) }
+{
+    match told {
+        Ok(ticket) => Reply::Blamed(ticket),
+        Err(why) => Reply::Refused(why),
+    }
+}
+
+/// What a session is told of the events that may be taken.
+fn ready_reply(told: Result<Items<Event>, Refusal>) -> Reply
+    ensures { result ≡ performs.session_reply (results.ready_reply told) }
+{
+    match told {
+        Ok(events) => Reply::Ready(events),
+        Err(why) => Reply::Refused(why),
+    }
+}
+
+/// What a session is told of what depends on an event.
+fn consequences_reply(told: Result<Items<Ticket>, Refusal>) -> Reply
+    ensures { result ≡ performs.session_reply (results.consequences_reply told) }
+{
+    match told {
+        Ok(tickets) => Reply::Consequences(tickets),
+        Err(why) => Reply::Refused(why),
+    }
+}
+
+/// What a session is told of the live events.
+fn live_reply(told: Result<Items<(Ticket, Event)>, Refusal>) -> Reply
+    ensures { result ≡ performs.session_reply (results.live_reply told) }
+{
+    match told {
+        Ok(entries) => Reply::Live(entries),
+        Err(why) => Reply::Refused(why),
+    }
+}
+
+/// What a session is told of the value of a variable, where there is such a variable.
+fn value_reply(told: Option<Value>) -> Reply
+    ensures { result ≡ performs.session_reply (results.value_reply told) }
+{
+    match told {
+        Some(value) => Reply::Value(value),
+        None => Reply::Refused(Refusal::NeverWritten),
     }
 }
 

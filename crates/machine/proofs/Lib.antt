@@ -3,6 +3,7 @@ pub mod Entries
 pub mod Gathering
 pub mod HeadlineLaws
 pub mod Marked
+pub mod NeverMemory
 pub mod SetLines
 pub mod Sites
 pub mod Standing

@@ -1,5 +1,5 @@
 -- What a step answers, from the state and the ready list.
-use Rattle.std.proofs.Common.{◌≡◌, inl, inr, ℕ, suc, ◌<◌, ◌≤◌, List, length, take, drop, Option, Some, None, Result, Ok, Err, refl, sym, subst, slice_get}
+use Rattle.std.proofs.Common.{◌≡◌, inl, inr, ℕ, suc, ◌<◌, ◌≤◌, List, length, take, drop, Option, Some, None, Result, Ok, Err, refl, sym, ◌∙◌, ap, subst, slice_get}
 use Rattle.std.specs.Prelude.{IfOk, OnErr, MatchOption, MatchResult}
 use Rattle.syntax.specs.Lists.{In}
 use Rattle.runs.specs.Steps.{State}
@@ -46,11 +46,25 @@ pub step-done : (o o' : Object) (c : Choice) (e : Event) (T : State) (entry : �
 step-done o o' c e T entry reaches chosen room left is after =
     subst (λ (x : ℕ × Event). Does o (Command.Step c) (Reply.Stepped x.0 x.1) o') (sym is) (refl, room, left, (T, reaches, chosen), after)
 
--- what is answered where a call may want memory
-pub answers-of : {E : Type 0} (o o' : Object) (c : Command) (r : Result Reply E) (reply : Reply) → IfOk r (λ told. Does o c told o') →
-    OnErr r (MayWantMemory o c) → OnErr r (o' ≡ o) → MatchResult r (λ told. reply ≡ told) (λ _. reply ≡ Reply.Refused Memory) → Answers o c reply o'
-answers-of o o' c (Ok told) reply does wants same is = inl (subst (λ (x : Reply). Does o c x o') (sym is) does)
-answers-of o o' c (Err x) reply does wants same is = inr (wants, is, same)
+-- what is answered where a call may want memory, and may be refused for another reason
+pub answers-of : {A E : Type 0} (o o' : Object) (c : Command) (shown : Result A Refusal → Reply) (r : Result (Result A Refusal) E) (told : Result A Refusal) →
+    shown (Err Memory) ≡ Reply.Refused Memory → IfOk r (λ answer. Does o c (shown answer) o') → OnErr r (MayWantMemory o c) → OnErr r (o' ≡ o) →
+    MatchResult r (λ answer. told ≡ answer) (λ _. told ≡ Err Memory) → Answers o c (shown told) o'
+answers-of o o' c shown (Ok answer) told refused does wants same is = inl (subst (λ t. Does o c (shown t) o') (sym is) does)
+answers-of o o' c shown (Err x) told refused does wants same is = inr (wants, ap shown is ∙ refused, same)
+
+-- what is answered where it may want memory alone
+pub told-of : {A E : Type 0} (o : Object) (c : Command) (shown : Result A Refusal → Reply) (r : Result A E) (told : Result A Refusal) →
+    shown (Err Memory) ≡ Reply.Refused Memory → IfOk r (λ value. Does o c (shown (Ok value)) o) → MayWantMemory o c →
+    MatchResult r (λ value. told ≡ Ok value) (λ _. told ≡ Err Memory) → Answers o c (shown told) o
+told-of o c shown (Ok value) told refused does wants is = inl (subst (λ t. Does o c (shown t) o) (sym is) does)
+told-of o c shown (Err x) told refused does wants is = inr (wants, ap shown is ∙ refused, refl)
+
+-- what holds of a value that was told
+pub ok-told : {A E F : Type 0} (P : A → Type 0) (why : F) (r : Result A E) (told : Result A F) → IfOk r P →
+    MatchResult r (λ value. told ≡ Ok value) (λ _. told ≡ Err why) → IfOk told P
+ok-told P why (Ok value) told holds is = subst (λ t. IfOk t P) (sym is) holds
+ok-told P why (Err x) told holds is = subst (λ t. IfOk t P) (sym is) tt
 
 -- a fact that holds holds on an error
 pub on-error : {X E : Type 0} {P : Type 0} (r : Result X E) → P → OnErr r P

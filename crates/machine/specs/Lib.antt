@@ -2,4 +2,5 @@ pub mod AtMachine
 pub mod Branching
 pub mod Breakpoints
 pub mod Headline
+pub mod Results
 pub mod walking

@@ -237,7 +237,7 @@ fn acts_in(system: &Checked, event: &Event, branch: u32) -> bool
 }
 
 /// The reply, or that there was no memory for it.
-pub(crate) fn or_refused(told: Result<BranchReply, AllocError>) -> BranchReply
+pub(crate) fn or_branch_refused(told: Result<BranchReply, AllocError>) -> BranchReply
     ensures { MatchResult told (λ reply. result ≡ reply) (λ _. result ≡ BranchReply.Refused Refusal.Memory) }
 {
     match told {

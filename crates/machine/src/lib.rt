@@ -5,6 +5,7 @@ mod among;
 mod asking;
 mod branching;
 mod breaks;
+mod fault;
 mod history;
 mod laws;
 mod machine;
@@ -15,5 +16,6 @@ mod undoing;
 
 pub use branching::BranchReply;
 pub use breaks::Breaks;
+pub use fault::Fault;
 pub use laws::{answered_laws, branch_laws};
-pub use machine::Machine;
+pub use machine::{Machine, Ticket, Var};

@@ -1,6 +1,6 @@
-ghost use Rattle.std.specs.Prelude.{◌≡◌, [], IfOk, MatchOption, slice_get, Some, None};
+ghost use Rattle.std.specs.Prelude.{◌≡◌, ◌≢◌, ℕ, List, [], length, IfOk, IfErr, IfSome, MatchOption, slice_get, Some, None};
 ghost use Rattle.runs.specs.Steps.{State};
-ghost use Rattle.runs.specs.Live.{events};
+ghost use Rattle.runs.specs.Live.{events, IsLive, ConsequencesList};
 ghost use Rattle.runs.specs.Object.{Reaches};
 ghost use Rattle.runs.specs.Ready.{ReadyList};
 ghost use Rattle.runs.specs.Does.{Answers};
@@ -9,22 +9,30 @@ ghost use Rattle.event_places.specs.EventPlaces.{line_after, is_open_after};
 ghost use Rattle.machine.specs.Branching.{AnswersBranch};
 ghost use Rattle.machine.specs.AtMachine.{object};
 ghost use Rattle.machine.specs.Headline.{Headline};
+ghost use Rattle.machine.specs.Results.{step_reply, undo_reply, roll_reply, blame_reply, consequences_reply, ready_reply, live_reply, value_reply};
 ghost use Rattle.machine.specs.walking.Histories.{KnowsUses};
 
-use crate::Breaks;
-use crate::branching::{BranchReply, or_refused};
+use crate::branching::{BranchReply, or_branch_refused};
 use crate::history::History;
-use crate::replying::or_no_memory;
+use crate::replying::{or_no_memory, or_refused};
+use crate::{Breaks, Fault};
 use address::Address;
 use channel_uses::ChannelUses;
 use dependence::Live;
 use event_places::{line_after, select_after};
 use process_tree::system_code;
-use runs::{Choice, Event, Reply};
+use runs::{Choice, Event, Refusal};
 use sharing_check::Checked;
 use std::alloc::{AllocError, Global};
 use std::marker::Model;
 use syntax::Items;
+use value::Value;
+
+/// The number of a step, counted from 1. None is used again.
+pub type Ticket = u64;
+
+/// The number of a variable, counted from 0.
+pub type Var = u32;
 
 /// One execution of a system: its live events with their tickets, and the ticket of the next step. The tree and the values to
 /// which they lead are changed in place, by a step and by its undo; no event is ever replayed.
@@ -54,8 +62,12 @@ impl Model for Machine {
 }
 
 impl Machine {
-    /// The execution before its first event. It is an error if there is no memory for it.
-    pub fn new(alloc: Global, checked: Checked) -> Result<Machine, AllocError>
+    /// The execution before its first event.
+    ///
+    /// # Errors
+    ///
+    /// `Memory` without memory.
+    pub fn new(alloc: Global, checked: Checked) -> Result<Machine, Fault>
         ensures { IfOk result (λ made. made ≡ record { checked = checked; live = []; next = 1 }) }
     {
         let history = History::new(alloc, &checked)?;
@@ -83,14 +95,14 @@ impl Machine {
     }
 
     /// The ticket and the event at an index of the live events, counted from 0 in order of tickets; `None` past the last.
-    pub fn live_at(&self, index: u64) -> Option<(u64, &Event)>
+    pub fn live_at(&self, index: u64) -> Option<(Ticket, &Event)>
         ensures { MatchOption result (slice_get self.now.live index ≡ None) (λ entry. slice_get self.now.live index ≡ Some (entry.0, entry.1.now)) }
     {
         self.history.live.pair_at(index)
     }
 
     /// The ticket of the next step.
-    pub fn next_ticket(&self) -> u64
+    pub fn next_ticket(&self) -> Ticket
         ensures { result ≡ self.now.next }
     {
         self.history.next
@@ -103,12 +115,17 @@ impl Machine {
         let _history = &self.history;
     }
 
-    /// Takes the event that the choice means.
-    pub fn step(&mut self, choice: &Choice) -> Reply
-        ensures answers { Answers (object self.old) (Command.Step choice.now) result (object self.new) }
+    /// Takes the event that the choice means, under the next ticket.
+    ///
+    /// # Errors
+    ///
+    /// The first of `NotReady`, where no event with this choice is allowed, `HistoryFull`, where 65,536 events are live, and `Spent`,
+    /// where the next ticket would pass 2^63. `Memory` without memory. Nothing has changed then.
+    pub fn step(&mut self, choice: &Choice) -> Result<(Ticket, Event), Refusal>
+        ensures answers { Answers (object self.old) (Command.Step choice.now) (step_reply result) (object self.new) }
         ensures system { self.new.checked ≡ self.old.checked }
     {
-        or_no_memory(
+        or_refused(
             self.history
                 .step(self.alloc, &self.system, &self.uses, choice),
         )
@@ -119,76 +136,122 @@ impl Machine {
         ensures answers { AnswersBranch self.old branch breaks.now result self.new }
         ensures system { self.new.checked ≡ self.old.checked }
     {
-        or_refused(
+        or_branch_refused(
             self.history.branch_step(self.alloc, &self.system, &self.uses, branch, breaks.lines()),
         )
     }
 
     /// Takes the event of this ticket back where no other live event depends on it. It takes no memory.
-    pub fn undo(&mut self, ticket: u64) -> Reply
-        ensures answers { Answers (object self.old) (Command.Undo ticket) result (object self.new) }
+    ///
+    /// # Errors
+    ///
+    /// `NoSuchEvent` where no live event has the ticket, else `NeededBy` the least ticket of another live event that depends on it.
+    /// Nothing has changed then.
+    pub fn undo(&mut self, ticket: Ticket) -> Result<Event, Refusal>
+        ensures answers { Answers (object self.old) (Command.Undo ticket) (undo_reply ticket result) (object self.new) }
+        ensures never_memory { IfErr result (λ why. why ≢ Refusal.Memory) }
         ensures system { self.new.checked ≡ self.old.checked }
     {
         self.history.undo(ticket)
     }
 
-    /// Takes the event of this ticket back, and all live events that depend on it. It takes no memory.
-    pub fn roll(&mut self, ticket: u64) -> Reply
-        ensures answers { Answers (object self.old) (Command.Roll ticket) result (object self.new) }
+    /// Takes the event of this ticket back, and all live events that depend on it; how many they were. It takes no memory.
+    ///
+    /// # Errors
+    ///
+    /// `NoSuchEvent` where no live event has the ticket. Nothing has changed then.
+    pub fn roll(&mut self, ticket: Ticket) -> Result<u64, Refusal>
+        ensures answers { Answers (object self.old) (Command.Roll ticket) (roll_reply result) (object self.new) }
+        ensures never_memory { IfErr result (λ why. why ≢ Refusal.Memory) }
         ensures system { self.new.checked ≡ self.old.checked }
     {
         self.history.roll(ticket)
     }
 
-    /// Takes the last event that wrote the variable back, and all live events that depend on it. It takes no memory.
-    pub fn roll_value(&mut self, variable: u32) -> Reply
-        ensures answers { Answers (object self.old) (Command.RollValue variable) result (object self.new) }
+    /// Takes the last event that wrote the variable back, and all live events that depend on it; how many they were. It takes no
+    /// memory.
+    ///
+    /// # Errors
+    ///
+    /// `NeverWritten` where no live event wrote the variable, or there is no such variable. Nothing has changed then.
+    pub fn roll_value(&mut self, variable: Var) -> Result<u64, Refusal>
+        ensures answers { Answers (object self.old) (Command.RollValue variable) (roll_reply result) (object self.new) }
+        ensures never_memory { IfErr result (λ why. why ≢ Refusal.Memory) }
         ensures system { self.new.checked ≡ self.old.checked }
     {
         self.history.roll_value(variable)
     }
 
-    /// Tells the last live event that wrote the variable. It takes no memory.
-    pub fn blame(&self, variable: u32) -> Reply
-        ensures { Answers (object self.now) (Command.Blame variable) result (object self.now) }
+    /// The ticket of the last live event that wrote the variable. It takes no memory.
+    ///
+    /// # Errors
+    ///
+    /// `NeverWritten` where no live event wrote the variable, or there is no such variable.
+    pub fn blame(&self, variable: Var) -> Result<Ticket, Refusal>
+        ensures answers { Answers (object self.now) (Command.Blame variable) (blame_reply result) (object self.now) }
+        ensures never_memory { IfErr result (λ why. why ≢ Refusal.Memory) }
     {
         self.history.tell_blame(variable)
     }
 
-    /// Tells the live events that depend on the one of this ticket.
-    pub fn consequences(&mut self, ticket: u64) -> Reply
-        ensures answers { Answers (object self.old) (Command.Consequences ticket) result (object self.new) }
+    /// The tickets of the event of this ticket and of all live events that depend on it, ascending. It marks them.
+    ///
+    /// # Errors
+    ///
+    /// `NoSuchEvent` where no live event has the ticket. `Memory` without memory, but never in its place.
+    pub fn consequences(&mut self, ticket: Ticket) -> Result<Items<Ticket>, Refusal>
+        ensures answers { Answers (object self.old) (Command.Consequences ticket) (consequences_reply result) (object self.new) }
         ensures same { self.new ≡ self.old }
     {
-        or_no_memory(self.history.tell_consequences(ticket))
+        or_refused(self.history.tell_consequences(ticket))
     }
 
-    /// Tells the live events.
-    pub fn live(&self) -> Reply
-        ensures { Answers (object self.now) Command.Live result (object self.now) }
+    /// Marks the live event of this ticket and all live events that depend on it, and no others; how many they are. It takes no
+    /// memory. The marks stay until the next marking, and a further event has none.
+    pub fn mark_consequences(&mut self, ticket: Ticket) -> u64
+        requires { IsLive self.old.live ticket }
+        ensures counted { (tickets : List ℕ) × ConsequencesList self.old.live ticket tickets × (result ≡ length tickets) }
+        ensures same { self.new ≡ self.old }
+    {
+        self.history.live.mark_consequences(ticket)
+    }
+
+    /// The greatest ticket of a live event that is marked. It takes no memory. No clause says which events are marked.
+    pub fn last_marked(&self) -> Option<Ticket>
+        ensures { IfSome result (λ ticket. IsLive self.now.live ticket) }
+    {
+        self.history.live.is_sound();
+        self.history.live.last_marked()
+    }
+
+    /// The live events with their tickets, in order of tickets.
+    ///
+    /// # Errors
+    ///
+    /// `Memory` without memory.
+    pub fn live(&self) -> Result<Items<(Ticket, Event)>, Refusal>
+        ensures { Answers (object self.now) Command.Live (live_reply result) (object self.now) }
     {
         or_no_memory(self.history.tell_live(self.alloc))
     }
 
-    /// Tells the value of the variable now. It takes no memory.
-    pub fn value(&self, variable: u32) -> Reply
-        ensures { Answers (object self.now) (Command.Value variable) result (object self.now) }
+    /// The value of the variable now, `None` where there is no such variable. It takes no memory.
+    pub fn value(&self, variable: Var) -> Option<Value>
+        ensures { Answers (object self.now) (Command.Value variable) (value_reply result) (object self.now) }
     {
         self.history.tell_value(variable)
     }
 
-    /// Tells the events that may be taken now.
-    pub fn tell_ready(&self) -> Reply
-        ensures { Answers (object self.now) Command.Ready result (object self.now) }
+    /// The events that may be taken now, in order of acting address, then arm.
+    ///
+    /// # Errors
+    ///
+    /// `Memory` without memory.
+    pub fn ready(&self) -> Result<Items<Event>, Refusal>
+        ensures answers { Answers (object self.now) Command.Ready (ready_reply result) (object self.now) }
+        ensures events { IfOk result (λ events. (T : State) × Reaches (object self.now) T × ReadyList T events) }
     {
-        or_no_memory(self.history.tell_ready(self.alloc, &self.uses))
-    }
-
-    /// The events that may be taken now, in order of acting address, then arm. It is an error if there is no memory.
-    pub fn ready(&self) -> Result<Items<Event>, AllocError>
-        ensures { IfOk result (λ events. (T : State) × Reaches (object self.now) T × ReadyList T events) }
-    {
-        self.history.ready(self.alloc, &self.uses)
+        or_no_memory(self.history.ready(self.alloc, &self.uses))
     }
 
     /// The line, from 1, of the command that has this place after the live events. None where no command has it.

@@ -3,6 +3,8 @@ ghost use Rattle.std.specs.Prelude.{◌≡◌, ℕ, IsSome, IfOk, OnErr};
 ghost use Rattle.sharing_check.specs.declared.checked.Checked.{Checked};
 ghost use Rattle.runs.specs.Live.{IsLive, DependsOn, WithoutTickets};
 ghost use Rattle.runs.specs.Does.{Does};
+ghost use Rattle.runs.specs.declared.command.Reply.{Reply};
+ghost use Rattle.machine.specs.Results.{roll_reply, blame_reply, consequences_reply};
 ghost use Rattle.machine.specs.walking.Histories.{execution, Holds};
 ghost use Rattle.dependence.specs.Taking.{MarksAllDependents};
 ghost use Rattle.event_inverse.specs.Laws.{UndoneBy};
@@ -13,35 +15,35 @@ ghost use Rattle.machine.specs.walking.Marking.{MarksDependents, HoldsFrom};
 use crate::history::History;
 use event_inverse::{Inverse, invert_by};
 use process_tree::Tree;
-use runs::{Command, Event, Refusal, Reply};
+use runs::{Command, Event, Refusal};
 use std::alloc::AllocError;
 use store::Store;
 use syntax::Items;
 
 impl History {
     /// Takes the event of this ticket back, and all live events that depend on it.
-    pub(crate) fn roll(&mut self, ticket: u64) -> Reply
+    pub(crate) fn roll(&mut self, ticket: u64) -> Result<u64, Refusal>
         requires { (system : Checked) × Holds system self.old }
-        ensures answers { (system : Checked) → Does (execution system self.old) (Command.Roll ticket) result (execution system self.new) }
+        ensures answers { (system : Checked) → Does (execution system self.old) (Command.Roll ticket) (roll_reply result) (execution system self.new) }
         ensures holds { (system : Checked) → Holds system self.old → Holds system self.new }
     {
         match self.live.index_of(ticket) {
-            Some(_) => self.roll_live(ticket),
-            None => Reply::Refused(Refusal::NoSuchEvent),
+            Some(_) => Ok(self.roll_live(ticket)),
+            None => Err(Refusal::NoSuchEvent),
         }
     }
 
-    /// Takes the live event of this ticket back, and all live events that depend on it.
-    fn roll_live(&mut self, ticket: u64) -> Reply
+    /// Takes the live event of this ticket back, and all live events that depend on it; how many they were.
+    fn roll_live(&mut self, ticket: u64) -> u64
         requires holds { (system : Checked) × Holds system self.old }
         requires live { IsLive self.old.live.live ticket }
-        ensures answers { (system : Checked) → Does (execution system self.old) (Command.Roll ticket) result (execution system self.new) }
+        ensures answers { (system : Checked) → Does (execution system self.old) (Command.Roll ticket) (Reply.Rolled result) (execution system self.new) }
         ensures holds { (system : Checked) → Holds system self.old → Holds system self.new }
     {
         let before = self.live.len();
         self.live.mark_consequences(ticket);
         self.take_marked();
-        Reply::Rolled((before - self.live.len()) as u64)
+        (before - self.live.len()) as u64
     }
 
     /// Takes the marked events back, which are a live event and all that depend on it: first on the tree and in the store, and
@@ -78,50 +80,56 @@ impl History {
     }
 
     /// Takes the last event that wrote the variable back, and all live events that depend on it.
-    pub(crate) fn roll_value(&mut self, variable: u32) -> Reply
+    pub(crate) fn roll_value(&mut self, variable: u32) -> Result<u64, Refusal>
         requires { (system : Checked) × Holds system self.old }
-        ensures answers { (system : Checked) → Does (execution system self.old) (Command.RollValue variable) result (execution system self.new) }
+        ensures answers { (system : Checked) → Does (execution system self.old) (Command.RollValue variable) (roll_reply result) (execution system self.new) }
         ensures holds { (system : Checked) → Holds system self.old → Holds system self.new }
     {
         match self.live.last_writer(variable) {
             Some(ticket) => self.roll(ticket),
-            None => Reply::Refused(Refusal::NeverWritten),
+            None => Err(Refusal::NeverWritten),
         }
     }
 
     /// The last live event that wrote the variable.
-    pub(crate) fn tell_blame(&self, variable: u32) -> Reply
-        ensures { (system : Checked) → Holds system self.now → Does (execution system self.now) (Command.Blame variable) result (execution system self.now) }
+    pub(crate) fn tell_blame(&self, variable: u32) -> Result<u64, Refusal>
+        ensures { (system : Checked) → Holds system self.now → Does (execution system self.now) (Command.Blame variable) (blame_reply result) (execution system self.now) }
     {
         match self.live.last_writer(variable) {
-            Some(ticket) => Reply::Blamed(ticket),
-            None => Reply::Refused(Refusal::NeverWritten),
+            Some(ticket) => Ok(ticket),
+            None => Err(Refusal::NeverWritten),
         }
     }
 
     /// Tells the tickets of the live events that depend on the one of this ticket, which it marks.
-    pub(crate) fn tell_consequences(&mut self, ticket: u64) -> Result<Reply, AllocError>
-        ensures done { (system : Checked) → Holds system self.old → IfOk result (λ reply. Does (execution system self.old) (Command.Consequences ticket) reply (execution system self.old)) }
+    pub(crate) fn tell_consequences(
+        &mut self,
+        ticket: u64,
+    ) -> Result<Result<Items<u64>, Refusal>, AllocError>
+        ensures done { (system : Checked) → Holds system self.old → IfOk result (λ told. Does (execution system self.old) (Command.Consequences ticket) (consequences_reply told) (execution system self.old)) }
         ensures wanted { OnErr result (IsLive self.old.live.live ticket) }
         ensures same { (system : Checked) → execution system self.new ≡ execution system self.old }
         ensures holds { (system : Checked) → Holds system self.old → Holds system self.new }
     {
         match self.live.index_of(ticket) {
-            Some(_) => self.tell_dependents(ticket),
-            None => Ok(Reply::Refused(Refusal::NoSuchEvent)),
+            Some(_) => {
+                let tickets = self.tell_dependents(ticket)?;
+                Ok(Ok(tickets))
+            }
+            None => Ok(Err(Refusal::NoSuchEvent)),
         }
     }
 
     /// Tells the tickets of the live events that depend on the live event of this ticket, which it marks.
-    fn tell_dependents(&mut self, ticket: u64) -> Result<Reply, AllocError>
+    fn tell_dependents(&mut self, ticket: u64) -> Result<Items<u64>, AllocError>
         requires { IsLive self.old.live.live ticket }
-        ensures done { (system : Checked) → Holds system self.old → IfOk result (λ reply. Does (execution system self.old) (Command.Consequences ticket) reply (execution system self.old)) }
+        ensures done { (system : Checked) → Holds system self.old → IfOk result (λ tickets. Does (execution system self.old) (Command.Consequences ticket) (Reply.Consequences tickets) (execution system self.old)) }
         ensures same { (system : Checked) → execution system self.new ≡ execution system self.old }
         ensures holds { (system : Checked) → Holds system self.old → Holds system self.new }
     {
         self.live.mark_consequences(ticket);
         let tickets = self.live.marked()?;
-        Ok(Reply::Consequences(Items::from_vec(tickets)))
+        Ok(Items::from_vec(tickets))
     }
 }
 

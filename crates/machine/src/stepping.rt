@@ -6,6 +6,7 @@ ghost use Rattle.runs.specs.Live.{LiveAt};
 ghost use Rattle.runs.specs.Object.{Reaches, most_live, last_ticket, with_event};
 ghost use Rattle.runs.specs.Ready.{ReadyList};
 ghost use Rattle.runs.specs.Does.{Does};
+ghost use Rattle.machine.specs.Results.{step_reply};
 ghost use Rattle.dependence.specs.Behind.{ComesBehind};
 ghost use Rattle.event_inverse.specs.Grown.{TreeAndStore, state_of_tree, applied};
 ghost use Rattle.event_inverse.specs.View.{inverse_view};
@@ -19,7 +20,7 @@ use channel_uses::ChannelUses;
 use event_inverse::{Inverse, Record, apply, invert};
 use rendezvous::{event_with, ready_events};
 use rows::Rows;
-use runs::{Choice, Command, Event, LAST_TICKET, MOST_LIVE_EVENTS, Refusal, Reply};
+use runs::{Choice, Command, Event, LAST_TICKET, MOST_LIVE_EVENTS, Refusal};
 use sharing_check::Checked;
 use std::alloc::{AllocError, Global};
 use syntax::{Boxed, Items};
@@ -32,10 +33,10 @@ impl History {
         system: &Checked,
         uses: &ChannelUses,
         choice: &Choice,
-    ) -> Result<Reply, AllocError>
+    ) -> Result<Result<(u64, Event), Refusal>, AllocError>
         requires holds { Holds system.now self.old }
         requires uses { KnowsUses system.now uses.now }
-        ensures done { IfOk result (λ reply. Does (execution system.now self.old) (Command.Step choice.now) reply (execution system.now self.new)) }
+        ensures done { IfOk result (λ told. Does (execution system.now self.old) (Command.Step choice.now) (step_reply told) (execution system.now self.new)) }
         ensures unchanged { OnErr result (execution system.now self.new ≡ execution system.now self.old) }
         ensures holds { Holds system.now self.new }
     {
@@ -43,9 +44,9 @@ impl History {
         match self.admitted(found) {
             Ok(event) => {
                 let entry = self.add(alloc, system, event)?;
-                Ok(Reply::Stepped(entry.0, entry.1))
+                Ok(Ok(entry))
             }
-            Err(why) => Ok(Reply::Refused(why)),
+            Err(why) => Ok(Err(why)),
         }
     }
 

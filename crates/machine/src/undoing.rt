@@ -4,35 +4,36 @@ ghost use Rattle.sharing_check.specs.declared.checked.Checked.{Checked};
 ghost use Rattle.runs.specs.Dependence.{Without};
 ghost use Rattle.runs.specs.Live.{LiveAt, IsLive, NoDependent, WithoutTickets};
 ghost use Rattle.runs.specs.Does.{Undoes};
+ghost use Rattle.machine.specs.Results.{undo_reply};
 ghost use Rattle.machine.specs.walking.Histories.{execution, Holds};
 
 use crate::history::History;
 use event_inverse::{Record, invert};
-use runs::{Event, Refusal, Reply};
+use runs::{Event, Refusal};
 
 impl History {
     /// Takes the event of this ticket back where no other live event depends on it.
-    pub(crate) fn undo(&mut self, ticket: u64) -> Reply
+    pub(crate) fn undo(&mut self, ticket: u64) -> Result<Event, Refusal>
         requires { (system : Checked) × Holds system self.old }
-        ensures answers { (system : Checked) → Undoes (execution system self.old) ticket result (execution system self.new) }
+        ensures answers { (system : Checked) → Undoes (execution system self.old) ticket (undo_reply ticket result) (execution system self.new) }
         ensures holds { (system : Checked) → Holds system self.old → Holds system self.new }
     {
         match self.live.index_of(ticket) {
             Some(index) => self.undo_at(ticket, index),
-            None => Reply::Refused(Refusal::NoSuchEvent),
+            None => Err(Refusal::NoSuchEvent),
         }
     }
 
     /// Takes the event of this ticket, which stands at this index, back where no other live event depends on it.
-    fn undo_at(&mut self, ticket: u64, index: usize) -> Reply
+    fn undo_at(&mut self, ticket: u64, index: usize) -> Result<Event, Refusal>
         requires holds { (system : Checked) × Holds system self.old }
         requires at { (e : Event) × (slice_get self.old.live.live index ≡ Some (ticket, e)) }
-        ensures answers { (system : Checked) → Undoes (execution system self.old) ticket result (execution system self.new) }
+        ensures answers { (system : Checked) → Undoes (execution system self.old) ticket (undo_reply ticket result) (execution system self.new) }
         ensures holds { (system : Checked) → Holds system self.old → Holds system self.new }
     {
         match self.live.first_dependent(ticket) {
-            Some(dependent) => Reply::Refused(Refusal::NeededBy(dependent)),
-            None => Reply::Undone(ticket, self.take_back(ticket, index)),
+            Some(dependent) => Err(Refusal::NeededBy(dependent)),
+            None => Ok(self.take_back(ticket, index)),
         }
     }
 

@@ -8,7 +8,7 @@ use decimal::read_number;
 use dependence::Live;
 use machine::Machine;
 use past::{PastEvent, past_of_event, past_of_variable, write_past};
-use runs::{Refusal, Reply};
+use runs::Refusal;
 use sharing_check::Checked;
 use std::alloc::{AllocError, Global};
 use std::io::Write;
@@ -104,7 +104,7 @@ fn write_value(
     variable: u32,
 ) -> Result<(), AllocError> {
     out.extend_from_slice(name.as_bytes())?;
-    if let Reply::Value(value) = machine.value(variable) {
+    if let Some(value) = machine.value(variable) {
         let bits = value.bits();
         write!(out, " is {bits}").map_err(|_| AllocError)?;
     }

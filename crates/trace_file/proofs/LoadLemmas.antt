@@ -1,5 +1,5 @@
 -- A trace that is taken line by line.
-use Rattle.std.proofs.Common.{◌≡◌, inl, inr, ℕ, suc, ◌+◌, ◌≤◌, ◌<◌, List, [], ◌∷◌, ◌++◌, length, refl, sym, ap, ◌∙◌, subst, arith, append_assoc, Result, Err, MatchResult}
+use Rattle.std.proofs.Common.{◌≡◌, inl, inr, ℕ, suc, ◌+◌, ◌≤◌, ◌<◌, List, [], ◌∷◌, ◌++◌, length, refl, sym, ap, ◌∙◌, subst, arith, append_assoc, Result, Ok, Err, MatchResult}
 use Rattle.std.specs.List.{flat_map}
 use Rattle.system.specs.declared.system.System.{System}
 use Rattle.runs.specs.Choices.{choice_of}
@@ -9,7 +9,6 @@ use Rattle.runs.specs.Object.{Object, most_live, last_ticket}
 use Rattle.runs.specs.Ready.{Chosen}
 use Rattle.runs.specs.Steps.{State, Run, opening}
 use Rattle.runs.specs.declared.command.Command.{Command}
-use Rattle.runs.specs.declared.command.Reply.{Reply}
 use Rattle.runs.specs.declared.command.Refusal.{Refusal}
 use Rattle.runs.specs.declared.command.Refusal.TheVariants.{NotReady, HistoryFull, Spent}
 use Rattle.runs.specs.declared.event.Choice.{Choice}
@@ -17,6 +16,7 @@ use Rattle.runs.specs.declared.event.Event.{Event}
 use Rattle.runs.proofs.Orders.{run-join}
 use Rattle.runs.proofs.Tickets.{events-join}
 use Rattle.machine.specs.AtMachine.{AtMachine, object}
+use Rattle.machine.specs.Results.{step_reply}
 use Rattle.trace_file.specs.declared.fault.Fault.{Fault}
 use Rattle.trace_file.specs.declared.version.Version.{Version}
 use Rattle.trace_file.specs.TraceText.{header_of, choice_line, event_line, IsWritable, HasSteps, Begins, KeepsOrder}
@@ -157,21 +157,20 @@ line-stops m c rest after number Fault.ReadFailed step stops = absurd stops
 line-stops m c rest after number Fault.WriteFailed step stops = absurd stops
 
 -- what becomes of a step
-pub stepped : (m m' : AtMachine) (c : Choice) (number : ℕ) (reply : Reply) → Answers (object m) (Command.Step c) reply (object m')
-    → MatchResult (outcome_of number reply) (λ _. Taken m c m') (λ fault. StepStops m c number fault)
-stepped m m' c number (Reply.Stepped t e) (inl d) = (t, e, d)
-stepped m m' c number (Reply.Stepped t e) (inr (_, is, _)) = cc
-stepped m m' c number (Reply.Refused Refusal.Memory) h = tt
-stepped m m' c number (Reply.Refused why) (inl d) = (refl, (m', (why, d)))
-stepped m m' c number (Reply.Refused why) (inr (_, is, _)) = cc
-stepped m m' c number _ (inl d) = absurd d
-stepped m m' c number _ (inr (_, is, _)) = cc
+pub stepped : (m m' : AtMachine) (c : Choice) (number : ℕ) (told : Result (ℕ × Event) Refusal) →
+    Answers (object m) (Command.Step c) (step_reply told) (object m')
+    → MatchResult (outcome_of number told) (λ _. Taken m c m') (λ fault. StepStops m c number fault)
+stepped m m' c number (Ok entry) (inl d) = (entry.0, entry.1, d)
+stepped m m' c number (Ok entry) (inr (_, is, _)) = cc
+stepped m m' c number (Err Refusal.Memory) h = tt
+stepped m m' c number (Err why) (inl d) = (refl, (m', (why, d)))
+stepped m m' c number (Err why) (inr (_, is, _)) = cc
 
 -- what became of it, by what is answered
-pub stepped-as : (m m' : AtMachine) (c : Choice) (number : ℕ) (reply : Reply) (r : Result (Unit {0}) Fault) → r ≡ outcome_of number reply
-    → Answers (object m) (Command.Step c) reply (object m') → MatchResult r (λ _. Taken m c m') (λ fault. StepStops m c number fault)
-stepped-as m m' c number reply r is h =
-    subst (λ (x : Result (Unit {0}) Fault). MatchResult x (λ _. Taken m c m') (λ fault. StepStops m c number fault)) (sym is) (stepped m m' c number reply h)
+pub stepped-as : (m m' : AtMachine) (c : Choice) (number : ℕ) (told : Result (ℕ × Event) Refusal) (r : Result (Unit {0}) Fault) → r ≡ outcome_of number told
+    → Answers (object m) (Command.Step c) (step_reply told) (object m') → MatchResult r (λ _. Taken m c m') (λ fault. StepStops m c number fault)
+stepped-as m m' c number told r is h =
+    subst (λ (x : Result (Unit {0}) Fault). MatchResult x (λ _. Taken m c m') (λ fault. StepStops m c number fault)) (sym is) (stepped m m' c number told h)
 
 -- the whole text has no end of a line, and is no header
 pub no-header : (text : List ℕ) → HasNone 10 text → ((v : Version) → text ≡ header_of v → ⊥) → HeaderStops text Fault.BadHeader

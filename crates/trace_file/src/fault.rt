@@ -57,6 +57,14 @@ impl Fault {
     }
 }
 
+impl From<machine::Fault> for Fault {
+    ghost from_gives = { λ _ fault. fault ≡ Memory };
+
+    fn from(_fault: machine::Fault) -> Fault {
+        Fault::Memory
+    }
+}
+
 impl From<AllocError> for Fault {
     ghost from_gives = { λ _ fault. fault ≡ Memory };
 

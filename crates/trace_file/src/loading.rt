@@ -11,8 +11,8 @@ use crate::long::refuse_long;
 use crate::order::refuse_disorder;
 use crate::version::{Version, version_of};
 use devices::{Counted, ReadFault, read_all};
-use machine::Machine;
-use runs::{Choice, Refusal, Reply};
+use machine::{Machine, Ticket};
+use runs::{Choice, Event, Refusal};
 use sharing_check::Checked;
 use std::alloc::Global;
 use std::io::Read;
@@ -122,17 +122,17 @@ fn take_step(machine: &mut Machine, choice: &Choice, number: u64) -> Result<(), 
         (λ fault. StepStops machine.old choice.now number fault) }
     ensures system { machine.new.checked ≡ machine.old.checked }
 {
-    let reply = machine.step(choice);
-    outcome(&reply, number)
+    let stepped = machine.step(choice);
+    outcome(&stepped, number)
 }
 
 /// What becomes of the line of this number whose step is answered so.
-fn outcome(reply: &Reply, number: u64) -> Result<(), Fault>
-    ensures { result ≡ outcome_of number reply.now }
+fn outcome(stepped: &Result<(Ticket, Event), Refusal>, number: u64) -> Result<(), Fault>
+    ensures { result ≡ outcome_of number stepped.now }
 {
-    match reply {
-        Reply::Stepped(_, _) => Ok(()),
-        Reply::Refused(Refusal::Memory) => Err(Fault::Memory),
-        _ => Err(Fault::NotAStep(number)),
+    match stepped {
+        Ok(_) => Ok(()),
+        Err(Refusal::Memory) => Err(Fault::Memory),
+        Err(_) => Err(Fault::NotAStep(number)),
     }
 }

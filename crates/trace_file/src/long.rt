@@ -1,9 +1,13 @@
 // A line with a long place: where no ready event acts so deep, it is refused without its place being made.
-ghost use Rattle.std.specs.Prelude.{◌≡◌, ◌↔◌, ◌<◌, List, length, false, IsTrue, IfErr};
+ghost use Rattle.std.specs.Prelude.{◌≡◌, ◌↔◌, ◌<◌, List, length, false, IsTrue, IfOk, IfErr};
 ghost use Rattle.syntax.specs.Lists.{Every};
 ghost use Rattle.address.specs.Reading.{IsTextOf};
 ghost use Rattle.address.specs.declared.Entry.{Entry};
 ghost use Rattle.runs.specs.Events.{acting};
+ghost use Rattle.runs.specs.Object.{Reaches};
+ghost use Rattle.runs.specs.Ready.{ReadyList};
+ghost use Rattle.runs.specs.Steps.{State};
+ghost use Rattle.machine.specs.AtMachine.{object};
 ghost use Rattle.trace_file.specs.walking.OneStep.{LineStops};
 
 use crate::Fault;
@@ -11,6 +15,8 @@ use crate::line::{fields, read_arm};
 use address::read_entry;
 use machine::Machine;
 use runs::Event;
+use std::alloc::AllocError;
+use syntax::Items;
 
 /// The most bytes of a place that is read without a look at how deep the ready events act.
 const LONG_PLACE: usize = 65_536;
@@ -28,7 +34,7 @@ pub(crate) fn refuse_long(machine: &Machine, rest: &[u8], number: u64) -> Result
     if place.len() <= LONG_PLACE {
         return Ok(());
     }
-    let ready = machine.ready()?;
+    let ready = ready_events(machine)?;
     if acts_so_deep(ready.as_slice(), place.len() / ENTRY_BYTES) {
         return Ok(());
     }
@@ -39,6 +45,17 @@ pub(crate) fn refuse_long(machine: &Machine, rest: &[u8], number: u64) -> Result
         return Err(Fault::BadLine(number));
     }
     Err(Fault::NotAStep(number))
+}
+
+/// The events that may be taken now, in order. It is an error if there is no memory.
+fn ready_events(machine: &Machine) -> Result<Items<Event>, AllocError>
+    ensures { IfOk result (λ events. (T : State) × Reaches (object machine.now) T × ReadyList T events) }
+{
+    match machine.ready() {
+        Ok(events) => Ok(events),
+        // No other refusal is told.
+        Err(_) => Err(AllocError),
+    }
 }
 
 /// Whether one of the events acts at a place of this many entries or more.

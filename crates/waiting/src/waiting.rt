@@ -1,6 +1,7 @@
 // The answer.
 ghost use Rattle.std.specs.Prelude.{IfOk};
 ghost use Rattle.runs.specs.Object.{Reaches};
+ghost use Rattle.runs.specs.Ready.{ReadyList};
 ghost use Rattle.runs.specs.Steps.{State};
 ghost use Rattle.machine.specs.AtMachine.{object};
 ghost use Rattle.waiting.specs.Progress.{StandsLike};
@@ -13,6 +14,7 @@ use crate::sides::left_over;
 use address::Address;
 use machine::Machine;
 use offered_sides::{OfferedSide, sides_of};
+use runs::Event;
 use std::alloc::{AllocError, Global};
 use syntax::Items;
 
@@ -36,7 +38,7 @@ pub fn who_waits(alloc: Global, machine: &Machine) -> Result<Waiting, AllocError
     machine.is_sound();
     let state = made_again(alloc, machine)?;
     let sides = sides_of(alloc, &state.tree, &state.store)?;
-    let events = machine.ready()?;
+    let events = ready_events(machine)?;
     let progress = progress_of(sides.as_slice(), events.as_slice());
     let sides = left_over(sides, events.as_slice());
     let behind = all_behind(alloc, &state.tree, sides.as_slice())?;
@@ -47,4 +49,15 @@ pub fn who_waits(alloc: Global, machine: &Machine) -> Result<Waiting, AllocError
         behind,
         ring,
     })
+}
+
+/// The events that may be taken now, in order. It is an error if there is no memory.
+fn ready_events(machine: &Machine) -> Result<Items<Event>, AllocError>
+    ensures { IfOk result (λ events. (T : State) × Reaches (object machine.now) T × ReadyList T events) }
+{
+    match machine.ready() {
+        Ok(events) => Ok(events),
+        // No other refusal is told.
+        Err(_) => Err(AllocError),
+    }
 }

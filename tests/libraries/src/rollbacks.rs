@@ -3,7 +3,7 @@
 
 use crate::examples::*;
 use crate::told::place;
-use calculus::{Choice, Refusal, Reply};
+use calculus::{Choice, Refusal};
 use machine::Machine;
 use std::alloc::Global;
 use std::process::Abort;
@@ -20,7 +20,7 @@ pub enum Asked {
 }
 
 /// An answer in short.
-#[derive(Clone, Copy)]
+#[derive(Clone, Copy, Debug, PartialEq, Eq)]
 pub enum Told {
     Undone(u64),
     Rolled(u64),
@@ -38,31 +38,27 @@ pub fn begun(alloc: Global, example: Example, steps: Steps) -> Result<Machine, F
     let mut machine = Machine::new(alloc, example.checked(alloc)?)?;
     for (at, arm) in steps {
         let place = place(alloc, at.as_bytes())?;
-        match machine.step(&Choice { place, arm: *arm }) {
-            Reply::Stepped(_, _) => {}
-            Reply::Refused(refusal) => return Err(Fail::from(refusal)),
-            _ => return Err(Fail::from("a step")),
+        if let Err(refusal) = machine.step(&Choice { place, arm: *arm }) {
+            return Err(Fail::from(refusal));
         }
     }
     Ok(machine)
 }
 
-fn ask(machine: &mut Machine, asked: Asked) -> Reply {
+fn ask(machine: &mut Machine, asked: Asked) -> Result<Told, Refusal> {
     match asked {
-        Asked::Undo(ticket) => machine.undo(ticket),
-        Asked::Roll(ticket) => machine.roll(ticket),
-        Asked::RollValue(variable) => machine.roll_value(variable),
-        Asked::Blame(variable) => machine.blame(variable),
+        Asked::Undo(ticket) => machine.undo(ticket).map(|_| Told::Undone(ticket)),
+        Asked::Roll(ticket) => machine.roll(ticket).map(Told::Rolled),
+        Asked::RollValue(variable) => machine.roll_value(variable).map(Told::Rolled),
+        Asked::Blame(variable) => machine.blame(variable).map(Told::Blamed),
     }
 }
 
-fn is_told(reply: &Reply, told: Told) -> bool {
-    match (reply, told) {
-        (Reply::Undone(ticket, _), Told::Undone(same)) => *ticket == same,
-        (Reply::Rolled(count), Told::Rolled(same)) => *count == same,
-        (Reply::Blamed(ticket), Told::Blamed(same)) => *ticket == same,
-        (Reply::Refused(refusal), Told::Refused(same)) => *refusal == same,
-        _ => false,
+/// What was answered, a refusal too.
+fn told(answer: Result<Told, Refusal>) -> Told {
+    match answer {
+        Ok(told) => told,
+        Err(refusal) => Told::Refused(refusal),
     }
 }
 
@@ -78,9 +74,8 @@ fn are_live(machine: &Machine, tickets: &[u64]) -> bool {
 
 /// Asks one call after the other.
 pub fn look(rt: &impl Abort, machine: &mut Machine, calls: Calls) {
-    for (asked, told, left) in calls {
-        let reply = ask(machine, *asked);
-        assert!(rt; is_told(&reply, *told));
+    for (asked, expected, left) in calls {
+        assert_eq!(rt; told(ask(machine, *asked)), *expected);
         assert!(rt; are_live(machine, left));
     }
 }

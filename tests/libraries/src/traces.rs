@@ -2,7 +2,7 @@
 
 use crate::examples::{BUFFER, Example, TWO_BUFFERS};
 use crate::told::place;
-use calculus::{Choice, Refusal, Reply};
+use calculus::Choice;
 use devices::Counted;
 use machine::Machine;
 use std::alloc::Global;
@@ -27,7 +27,7 @@ fn behind(alloc: Global, example: Example, places: &[&'static [u8]]) -> Result<M
     let mut machine = Machine::new(alloc, example.checked(alloc)?)?;
     for at in places {
         let place = place(alloc, at)?;
-        if let Reply::Refused(refusal) = machine.step(&Choice { place, arm: 0 }) {
+        if let Err(refusal) = machine.step(&Choice { place, arm: 0 }) {
             return Err(Fail::from(refusal));
         }
     }
@@ -36,10 +36,7 @@ fn behind(alloc: Global, example: Example, places: &[&'static [u8]]) -> Result<M
 
 /// Whether both machines have the same events under the same tickets.
 fn same_events(one: &Machine, other: &Machine) -> Result<bool, Fail> {
-    match (one.live(), other.live()) {
-        (Reply::Live(one), Reply::Live(other)) => Ok(one.as_slice() == other.as_slice()),
-        _ => Err(Fail::from(Refusal::Memory)),
-    }
+    Ok(one.live()?.as_slice() == other.live()?.as_slice())
 }
 
 /// Why the text is refused, `None` where it is loaded. Want of memory fails the test.
@@ -155,7 +152,7 @@ fn another_order_is_refused_at_its_first_line(rt: HostRuntime) -> Result<(), Fai
 fn tickets_begin_anew(rt: HostRuntime) -> Result<(), Fail> {
     let mut machine = stepped(rt.alloc(), &PLACES)?;
     for ticket in [3, 2] {
-        assert!(rt; matches!(machine.undo(ticket), Reply::Undone(_, _)));
+        assert!(rt; machine.undo(ticket).is_ok());
     }
     let text = write_trace(rt.alloc(), &machine)?;
     let loaded = load_text(rt.alloc(), BUFFER.checked(rt.alloc())?, text.as_slice())?;

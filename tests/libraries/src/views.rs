@@ -1,7 +1,7 @@
 //! What the view of a source shows, and that it shows nothing else where memory is wanting.
 
 use crate::told::place;
-use calculus::{Choice, Refusal, Reply};
+use calculus::{Choice, Refusal};
 use debug_session::accept;
 use machine::{Breaks, Machine};
 use source_view::view;
@@ -58,8 +58,8 @@ fn one_break() -> Result<Breaks, Refusal> {
 fn turn(alloc: Global, machine: &mut Machine) -> Result<(), Fail> {
     let place = place(alloc, b"/0.0")?;
     match machine.step(&Choice { place, arm: 0 }) {
-        Reply::Stepped(1, _) => Ok(()),
-        Reply::Refused(Refusal::Memory) => Err(Fail::from(Refusal::Memory)),
+        Ok((1, _)) => Ok(()),
+        Err(Refusal::Memory) => Err(Fail::from(Refusal::Memory)),
         _ => Err("no turn")?,
     }
 }

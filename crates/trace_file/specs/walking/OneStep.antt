@@ -71,7 +71,7 @@ pub record FirstMoved (indexes : List ℕ) (k : ℕ) : Type 0 where
   pub before : (i : ℕ) → i < k → get_or indexes i 0 ≡ i
 
 -- what becomes of the line of this number whose step is answered so
-abbrev pub outcome_of : ℕ → Reply → Result (Unit {0}) Fault
-outcome_of number (Reply.Stepped t e) = Ok tt
-outcome_of number (Reply.Refused Refusal.Memory) = Err Fault.Memory
-outcome_of number _ = Err (Fault.NotAStep number)
+abbrev pub outcome_of : ℕ → Result (ℕ × Event) Refusal → Result (Unit {0}) Fault
+outcome_of number (Ok entry) = Ok tt
+outcome_of number (Err Refusal.Memory) = Err Fault.Memory
+outcome_of number (Err _) = Err (Fault.NotAStep number)

@@ -3,5 +3,5 @@ use Rattle.trace_file.proofs.loading.take_step.Goals as goal
 
 pub returns-clause-step : goal.returns-clause-step
 returns-clause-step c =
-    stepped-as c.args.machine.now c.step-reply.new.self c.args.choice.now c.args.number c.step-reply.result c.outcome.result
-    c.outcome.ensures c.step-reply.ensures.answers
+    stepped-as c.args.machine.now c.step-stepped.new.self c.args.choice.now c.args.number c.step-stepped.result c.outcome.result
+    c.outcome.ensures c.step-stepped.ensures.answers

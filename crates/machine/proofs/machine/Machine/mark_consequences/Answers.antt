@@ -1,0 +1,33 @@
+use Rattle.std.proofs.Common.{◌≡◌, ◌∙◌, refl, sym, subst}
+use Rattle.runs.specs.Live.{IsLive, ConsequencesList}
+use Rattle.machine.specs.AtMachine.{AtMachine, at_machine}
+use Rattle.machine.specs.walking.Histories.{tree_of}
+use Rattle.machine.proofs.Standing.{stands-same}
+use Rattle.machine.proofs.machine.Machine.mark_consequences.Goals as goal
+
+pub mark_consequences-requires : goal.mark_consequences-requires
+mark_consequences-requires c = subst (λ (h : AtMachine). IsLive h.live c.args.ticket) (sym c.self.view_is) c.requires
+
+pub returns-clause-counted : goal.returns-clause-counted
+returns-clause-counted c =
+    let s = c.mark_consequences.new.self in (
+      s.marked,
+      subst (λ (h : AtMachine). ConsequencesList h.live c.args.ticket s.marked) c.self.view_is c.mark_consequences.ensures.marked,
+      c.mark_consequences.ensures.counted,
+    )
+
+pub returns-clause-same : goal.returns-clause-same
+returns-clause-same c =
+    let h = c.self.inside.history in
+    let after : AtMachine = record { checked = c.self.inside.system; live = c.mark_consequences.new.self.live; next = h.next } in
+    let same : after ≡ at_machine c.self.inside.system h =
+    (λ i. record { checked = c.self.inside.system; live = c.mark_consequences.ensures.live i; next = h.next }) in
+    same ∙ c.self.view_is
+
+pub invariant_of-self : goal.invariant_of-self
+invariant_of-self c =
+    let h = c.self.inside.history in (
+      stands-same c.self.inside.system (tree_of h) (tree_of h) h.live.live c.mark_consequences.new.self.live h.inverses.items h.inverses.items h.next h.next
+          c.self.invariant.0 refl c.mark_consequences.ensures.live refl refl,
+      c.self.invariant.1,
+    )

@@ -1,0 +1,70 @@
+//! Going back to the cause of a wrong value: which event wrote it, what depends on an event, and taking just that back.
+#![tactic(auto)]
+
+ghost use Rattle.std.specs.Prelude.{◌≡◌, ◌⊎◌, ℕ, IfOk, IfErr};
+ghost use Rattle.runs.specs.Live.{IsLive, NoneAt, LastWriter, NoWriter};
+ghost use Rattle.machine.specs.AtMachine.{object};
+ghost use Rattle.rollback.specs.Rollbacks.{TakesBack, ValueFromBefore, AreDependents};
+
+use machine::{Machine, Ticket, Var};
+use runs::Refusal;
+use syntax::Items;
+
+/// Takes the event of this ticket back, and all live events that depend on it, and no others; how many they were. It takes no
+/// memory.
+///
+/// # Errors
+///
+/// `NoSuchEvent` where no live event has the ticket. Nothing has changed then.
+pub fn roll(machine: &mut Machine, ticket: Ticket) -> Result<u64, Refusal>
+    ensures taken { IfOk result (λ count. TakesBack (object machine.old) ticket count (object machine.new)) }
+    ensures refused { IfErr result (λ why. (why ≡ Refusal.NoSuchEvent) × NoneAt machine.old.live ticket) }
+    ensures same { IfErr result (λ _. machine.new ≡ machine.old) }
+    ensures system { machine.new.checked ≡ machine.old.checked }
+{
+    machine.is_sound();
+    machine.roll(ticket)
+}
+
+/// The ticket of the last live event that wrote the variable. It takes no memory.
+///
+/// # Errors
+///
+/// `NeverWritten` where no live event wrote the variable, or there is no such variable.
+pub fn blame(machine: &Machine, variable: Var) -> Result<Ticket, Refusal>
+    ensures blamed { IfOk result (λ ticket. LastWriter machine.now.live variable ticket) }
+    ensures refused { IfErr result (λ why. (why ≡ Refusal.NeverWritten) × NoWriter machine.now.live variable) }
+{
+    machine.blame(variable)
+}
+
+/// Takes the last live event that wrote the variable back, and all live events that depend on it, and no others; how many they
+/// were. The variable then has the value from just before that event. It takes no memory.
+///
+/// # Errors
+///
+/// `NeverWritten` where no live event wrote the variable, or there is no such variable. Nothing has changed then.
+pub fn roll_value(machine: &mut Machine, variable: Var) -> Result<u64, Refusal>
+    ensures taken { IfOk result (λ count. (ticket : ℕ) × LastWriter machine.old.live variable ticket × TakesBack (object machine.old) ticket count (object machine.new)) }
+    ensures value { IfOk result (λ _. ValueFromBefore (object machine.old) variable (object machine.new)) }
+    ensures refused { IfErr result (λ why. (why ≡ Refusal.NeverWritten) × NoWriter machine.old.live variable) }
+    ensures same { IfErr result (λ _. machine.new ≡ machine.old) }
+    ensures system { machine.new.checked ≡ machine.old.checked }
+{
+    machine.is_sound();
+    machine.roll_value(variable)
+}
+
+/// The tickets of the event of this ticket and of all live events that depend on it, ascending: what a rollback of it would take.
+///
+/// # Errors
+///
+/// `NoSuchEvent` where no live event has the ticket. `Memory` without memory, but never in its place.
+pub fn consequences(machine: &mut Machine, ticket: Ticket) -> Result<Items<Ticket>, Refusal>
+    ensures told { IfOk result (λ tickets. AreDependents (object machine.old) ticket tickets) }
+    ensures refused { IfErr result (λ why. ((why ≡ Refusal.NoSuchEvent) × NoneAt machine.old.live ticket) ⊎ ((why ≡ Refusal.Memory) × IsLive machine.old.live ticket)) }
+    ensures same { machine.new ≡ machine.old }
+{
+    machine.is_sound();
+    machine.consequences(ticket)
+}

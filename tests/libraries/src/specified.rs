@@ -1,0 +1,252 @@
+//! The public calls of the machine and of what stands above it, as a program of one's own writes them: each answer is taken by a
+//! name of the type that the reference says, so that another signature does not compile.
+
+use crate::examples::{BUFFER, TWO_WRITES};
+use crate::told::place;
+use calculus::{Choice, Event, Refusal};
+use devices::Counted;
+use locked_execution::{Command, Desk, Pass, Reply, Shared, run_commands};
+use machine::{BranchReply, Breaks, Machine, Ticket, Var};
+use sharing_check::Checked;
+use source_view::view;
+use std::alloc::{AllocError, Global};
+use std::test::Fail;
+use syntax::Items;
+use trace_file::{load, save};
+use value::Value;
+
+/// The choice at the place of this text, with arm 0.
+fn choice(alloc: Global, at: &[u8]) -> Result<Choice, Fail> {
+    Ok(Choice {
+        place: place(alloc, at)?,
+        arm: 0,
+    })
+}
+
+/// Both writes of the example taken.
+fn written(alloc: Global) -> Result<Machine, Fail> {
+    let made: Result<Machine, machine::Fault> = Machine::new(alloc, TWO_WRITES.checked(alloc)?);
+    let mut machine = made?;
+    for at in [b"/0.0", b"/0.1"] {
+        let stepped: Result<(Ticket, Event), Refusal> = machine.step(&choice(alloc, at)?);
+        stepped?;
+    }
+    Ok(machine)
+}
+
+#[test]
+fn a_machine_is_asked(rt: HostRuntime) -> Result<(), Fail> {
+    let x: Var = 0;
+    let mut machine = written(rt.alloc())?;
+    let checked: &Checked = machine.checked();
+    assert_eq!(rt; checked.branches(), 1);
+    let ready: Result<Items<Event>, Refusal> = machine.ready();
+    assert_eq!(rt; ready?.len(), 0);
+    let value: Option<Value> = machine.value(x);
+    assert!(rt; value == Value::new(2, 8));
+    assert!(rt; machine.value(1).is_none());
+    let entry: Option<(Ticket, &Event)> = machine.live_at(1);
+    assert!(rt; matches!(entry, Some((2, _))));
+    assert!(rt; machine.live_at(2).is_none());
+    let blamed: Result<Ticket, Refusal> = machine.blame(x);
+    assert_eq!(rt; blamed?, 2);
+    let marked: u64 = machine.mark_consequences(1);
+    assert_eq!(rt; marked, 2);
+    let last: Option<Ticket> = machine.last_marked();
+    assert_eq!(rt; last, Some(2));
+    let consequences: Result<Items<Ticket>, Refusal> = machine.consequences(2);
+    assert!(rt; consequences?.as_slice() == [2].as_slice());
+    assert_eq!(rt; machine.last_marked(), Some(2));
+    Ok(())
+}
+
+#[test]
+fn marks_stay_until_the_next_marking(rt: HostRuntime) -> Result<(), Fail> {
+    let mut machine = written(rt.alloc())?;
+    assert_eq!(rt; machine.mark_consequences(1), 2);
+    machine.undo(2)?;
+    assert_eq!(rt; machine.last_marked(), Some(1));
+    machine.step(&choice(rt.alloc(), b"/0.1")?)?;
+    assert_eq!(rt; machine.last_marked(), Some(1));
+    assert_eq!(rt; machine.mark_consequences(3), 1);
+    assert_eq!(rt; machine.last_marked(), Some(3));
+    Ok(())
+}
+
+#[test]
+fn a_machine_goes_back(rt: HostRuntime) -> Result<(), Fail> {
+    let mut machine = written(rt.alloc())?;
+    let undone: Result<Event, Refusal> = machine.undo(2);
+    assert_eq!(rt; undone?.written, Some(0));
+    assert!(rt; matches!(machine.undo(2), Err(Refusal::NoSuchEvent)));
+    let rolled: Result<u64, Refusal> = machine.roll_value(0);
+    assert_eq!(rt; rolled?, 1);
+    assert!(rt; matches!(machine.roll_value(0), Err(Refusal::NeverWritten)));
+    assert!(rt; matches!(machine.blame(0), Err(Refusal::NeverWritten)));
+    assert!(rt; matches!(machine.roll(1), Err(Refusal::NoSuchEvent)));
+    assert!(rt; matches!(machine.consequences(1), Err(Refusal::NoSuchEvent)));
+    let mut machine = written(rt.alloc())?;
+    assert!(rt; matches!(machine.undo(1), Err(Refusal::NeededBy(2))));
+    let rolled: Result<u64, Refusal> = machine.roll(1);
+    assert_eq!(rt; rolled?, 2);
+    Ok(())
+}
+
+#[test]
+fn a_machine_is_rolled_back(rt: HostRuntime) -> Result<(), Fail> {
+    let mut machine = written(rt.alloc())?;
+    let blamed: Result<Ticket, Refusal> = rollback::blame(&machine, 0);
+    assert_eq!(rt; blamed?, 2);
+    let consequences: Result<Items<Ticket>, Refusal> = rollback::consequences(&mut machine, 1);
+    assert!(rt; consequences?.as_slice() == [1, 2].as_slice());
+    let rolled: Result<u64, Refusal> = rollback::roll_value(&mut machine, 0);
+    assert_eq!(rt; rolled?, 1);
+    assert!(rt; machine.value(0) == Value::new(1, 8));
+    let rolled: Result<u64, Refusal> = rollback::roll(&mut machine, 1);
+    assert_eq!(rt; rolled?, 1);
+    assert!(rt; matches!(rollback::roll(&mut machine, 1), Err(Refusal::NoSuchEvent)));
+    Ok(())
+}
+
+/// The ticket, where a branch took a step.
+fn stepped_by(reply: BranchReply) -> Result<Option<Ticket>, Refusal> {
+    match reply {
+        BranchReply::Stepped(ticket, event) => {
+            let _event: Event = event;
+            Ok(Some(ticket))
+        }
+        BranchReply::Stopped(line) => {
+            let _line: u64 = line;
+            Ok(None)
+        }
+        BranchReply::Idle => Ok(None),
+        BranchReply::Refused(why) => Err(why),
+    }
+}
+
+#[test]
+fn a_branch_steps_up_to_a_breakpoint(rt: HostRuntime) -> Result<(), Fail> {
+    let mut machine = Machine::new(rt.alloc(), TWO_WRITES.checked(rt.alloc())?)?;
+    let mut breaks = Breaks::new();
+    let set: Result<(), Refusal> = breaks.set(1);
+    set?;
+    assert!(rt; breaks.has(1));
+    assert_eq!(rt; stepped_by(machine.branch_step(0, &breaks))?, None);
+    breaks.clear(1);
+    assert_eq!(rt; stepped_by(machine.branch_step(0, &breaks))?, Some(1));
+    assert_eq!(rt; stepped_by(machine.branch_step(9, &breaks))?, None);
+    assert_eq!(rt; machine::Fault::Memory.number(), 1);
+    Ok(())
+}
+
+/// A reply in a word.
+fn word(reply: &Reply) -> &'static str {
+    match reply {
+        Reply::Stepped(_, _) => "stepped",
+        Reply::Undone(_, _) => "undone",
+        Reply::Rolled(_) => "rolled",
+        Reply::Blamed(_) => "blamed",
+        Reply::Ready(_) => "ready",
+        Reply::Consequences(_) => "consequences",
+        Reply::Live(_) => "live",
+        Reply::Value(_) => "value",
+        Reply::Stopped(_) => "stopped",
+        Reply::Idle => "idle",
+        Reply::Done => "done",
+        Reply::Refused(Refusal::Memory) => "no memory",
+        Reply::Refused(_) => "refused",
+    }
+}
+
+/// Each command once, with its answer in a word, behind one another on the two writes.
+fn commands(alloc: Global) -> Result<[(Command, &'static str); 12], Fail> {
+    Ok([
+        (Command::Step(choice(alloc, b"/0.0")?), "stepped"),
+        (Command::Branch(0), "stepped"),
+        (Command::Blame(0), "blamed"),
+        (Command::Consequences(1), "consequences"),
+        (Command::Value(0), "value"),
+        (Command::Live, "live"),
+        (Command::Ready, "ready"),
+        (Command::RollValue(0), "rolled"),
+        (Command::Undo(1), "undone"),
+        (Command::Roll(1), "refused"),
+        (Command::Break(1), "done"),
+        (Command::Clear(1), "done"),
+    ])
+}
+
+#[test]
+fn a_desk_performs_each_command(rt: HostRuntime) -> Result<(), Fail> {
+    let machine = Machine::new(rt.alloc(), TWO_WRITES.checked(rt.alloc())?)?;
+    let mut desk = Desk::new(machine);
+    let asked = commands(rt.alloc())?;
+    for (command, answer) in &asked {
+        let reply: Reply = desk.perform(0, command);
+        assert_eq!(rt; word(&reply), *answer);
+    }
+    let replies: Result<Vec<Reply>, locked_execution::Fault> = run_commands(
+        rt.alloc(),
+        &mut desk,
+        &[(15, Command::Live), (0, Command::Ready)],
+    );
+    assert_eq!(rt; replies?.len(), 2);
+    Ok(())
+}
+
+#[test]
+fn passes_call_one_execution(rt: HostRuntime) -> Result<(), Fail> {
+    let machine = Machine::new(rt.alloc(), BUFFER.checked(rt.alloc())?)?;
+    let made: Result<(Shared, Vec<Pass>), locked_execution::Fault> = Shared::new(
+        rt.alloc(),
+        machine,
+        2,
+    );
+    let (shared, mut passes) = made?;
+    assert_eq!(rt; locked_execution::Fault::Memory.number(), 1);
+    let branches: u32 = shared.branches();
+    assert_eq!(rt; branches, 3);
+    let (Some(mut other), Some(mut one)) = (passes.pop(), passes.pop()) else {
+        return Err(Fail::from("two passes"));
+    };
+    let reply: Reply = shared.call(&rt, &mut one, &Command::Step(choice(rt.alloc(), b"/0.0")?));
+    assert_eq!(rt; word(&reply), "stepped");
+    let length: u64 = shared.length(&mut one);
+    assert_eq!(rt; length, 1);
+    let met: u64 = shared.meet(&mut other, &mut one);
+    assert_eq!(rt; met, 1);
+    assert_eq!(rt;
+        word(&shared.call(&rt, &mut other, &Command::Undo(1))),
+        "undone"
+    );
+    let machine: Machine = shared.finish();
+    assert!(rt; machine.live_at(0).is_none());
+    Ok(())
+}
+
+#[test]
+fn a_machine_is_shown_saved_and_loaded(rt: HostRuntime) -> Result<(), Fail> {
+    let machine = written(rt.alloc())?;
+    let shown: Result<Vec<u8>, AllocError> = view(
+        rt.alloc(),
+        &machine,
+        &Breaks::new(),
+        b"one line",
+    );
+    assert!(rt; !shown?.is_empty());
+    let mut text: Vec<u8> = Vec::new(rt.alloc());
+    let saved: Result<(), trace_file::Fault> = save(
+        rt.alloc(),
+        &machine,
+        &mut Counted::new(&mut text),
+    );
+    saved?;
+    let checked = TWO_WRITES.checked(rt.alloc())?;
+    let loaded: Result<Machine, trace_file::Fault> = load(
+        rt.alloc(),
+        checked,
+        &mut Counted::new(text.as_slice()),
+    );
+    assert!(rt; loaded?.live_at(1).is_some());
+    Ok(())
+}
