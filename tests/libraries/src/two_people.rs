@@ -26,7 +26,7 @@ fn two_people<R: Threads + Wait + Sync>(
     // One execution, and two passes on it.
     let checked = accept(alloc, SOURCE, b"")?;
     let machine = Machine::new(alloc, checked.clone()?)?;
-    let (shared, passes) = Shared::new(alloc, machine, 2)?;
+    let (shared, passes) = Shared::new(alloc, machine, 2).map_err(|_| Fault::Memory)?;
 
     // Two people, each in a thread of their own, ask for the same step: one takes it, the other is told `refused 21`.
     let mut sessions = Vec::with_capacity(alloc, passes.len())?;
