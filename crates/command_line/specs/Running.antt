@@ -4,7 +4,7 @@ use Rattle.command_line.specs.Answering.{Holding}
 use Rattle.command_line.specs.FaultLine.{fault_line}
 use Rattle.command_line.specs.Serving.{status_of, told_text, Serves}
 use Rattle.command_line.specs.Used.{Outcome, Used, IsUntouched, Tells}
-use Rattle.command_line.specs.declared.request.Request.{Request}
+use Rattle.command_words.specs.declared.request.Request.{Request}
 use Rattle.debug_session.specs.declared.fault.Fault.{Fault}
 use Rattle.debug_session.specs.declared.fault.Fault.TheVariants.{Memory, WriteFailed}
 

@@ -7,7 +7,7 @@ use Rattle.command_line.specs.Answering.{ReplayGives, ReplayRefuses, WorkGives, 
 use Rattle.command_line.specs.FaultLine.{fault_line}
 use Rattle.command_line.specs.Used.{Outcome, Used, IsUntouched, ReaderBlamed, WriterBlamed, Tells}
 use Rattle.command_line.specs.Used.{bytes_before, bytes_behind}
-use Rattle.command_line.specs.declared.request.Request.{Request}
+use Rattle.command_words.specs.declared.request.Request.{Request}
 
 -- the status of a run that ended so
 abbrev pub status_of : Outcome → ℕ

@@ -3,8 +3,6 @@
 
 mod answering;
 mod files;
-mod help;
-mod request;
 mod running;
 mod telling;
 

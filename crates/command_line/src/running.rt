@@ -1,22 +1,20 @@
 //! One run of the program, over whatever reads and writes.
 
-ghost use Rattle.std.specs.Prelude.{◌≡◌, ◌≢◌, ◌≤◌, ◌⊎◌, [], map, IfOk};
+ghost use Rattle.std.specs.Prelude.{◌≡◌, ◌≢◌, ◌≤◌, ◌⊎◌, [], map};
 ghost use Rattle.std.specs.Io.Buffered.{reader_remaining};
-ghost use Rattle.clap.specs.Words.{kind_of};
-ghost use Rattle.clap.specs.declared.error.kind.ErrorKind.TheVariants.{OutOfMemory};
+ghost use Rattle.command_words.specs.Words.{AreMistaken, AskFor, AskForHelp, AskForSome};
 ghost use Rattle.command_line.specs.Running.{TellsSome, TellsHelp, Explains, ServesAsked};
 ghost use Rattle.command_line.specs.Serving.{status_of, told_text, DebugsFiles, Serves};
 ghost use Rattle.command_line.specs.Used.{Outcome, Tells, used};
-ghost use Rattle.command_line.specs.Words.{AreMistaken, AskFor, AskForHelp, AskForSome, IsHelp};
+ghost use Rattle.command_line.specs.walking.Unasked.{HasText, TellsUnasked};
 
 use crate::answering::{check, read_texts, replay_files, work_files};
 use crate::files::Files;
-use crate::request::{Request, requested};
 use crate::telling::{tell, write_fault};
-use clap::Error;
-use clap::error::ErrorKind;
+use command_words::{CrewSize, Request, Unasked, requested};
 use debug_session::{Counted, Fault, debug, write_out};
-use std::alloc::{AllocError, Global};
+use locked_execution::Crew;
+use std::alloc::Global;
 use std::convert::AsStr;
 use std::io::{BufReader, Read, Write};
 use std::sync::Wait;
@@ -42,6 +40,16 @@ fn debug_files<F: Files, I: Read, O: Write>(
         texts.source.as_slice(),
         texts.values.as_slice(),
     )
+}
+
+/// The crew of this size.
+fn crew_of(size: CrewSize) -> Crew
+    ensures { (result.workers ≡ size.workers) × (result.turns ≡ size.turns) }
+{
+    Crew {
+        workers: size.workers,
+        turns: size.turns,
+    }
 }
 
 /// Does what is asked for with the files that it names.
@@ -70,7 +78,10 @@ fn perform<W: AllocGlobal + Threads + Wait + Sync, F: Files, I: Read, O: Write>(
             file,
             stimulus,
             crew,
-        } => tell(work_files(rt, alloc, files, file, stimulus, crew), out),
+        } => tell(
+            work_files(rt, alloc, files, file, stimulus, crew_of(crew)),
+            out,
+        ),
     }
 }
 
@@ -124,20 +135,6 @@ pub fn serve<W: AllocGlobal + Threads + Wait + Sync, F: Files, I: Read, O: Write
     finish(done, err)
 }
 
-/// The text of an error that is no want of memory, which is not empty.
-fn text_of(alloc: Global, error: &Error) -> Result<String, AllocError>
-    ensures { IfOk result (λ text. (text.bytes.items ≢ []) × (kind_of error.now ≢ OutOfMemory)) }
-{
-    if error.kind() == ErrorKind::OutOfMemory {
-        return Err(AllocError);
-    }
-    let mut text = error.to_string(alloc)?;
-    if text.is_empty() {
-        text.push('\n')?;
-    }
-    Ok(text)
-}
-
 /// Tells a mistake in the words, with the status for it.
 fn tell_mistake<E: Write>(text: &[u8], err: &mut Counted<E>) -> u8
     requires { text.now ≢ [] }
@@ -160,26 +157,21 @@ fn tell_help<O: Write, E: Write>(text: &[u8], out: &mut Counted<O>, err: &mut Co
 }
 
 /// Says why there is nothing to do: help was asked for, or the words are mistaken.
-fn explain<O: Write, E: Write>(
-    alloc: Global,
-    error: &Error,
+fn tell_unasked<O: Write, E: Write>(
+    unasked: Unasked,
     out: &mut Counted<O>,
     err: &mut Counted<E>,
 ) -> u8
+    requires { HasText unasked }
     ensures status { result ≤ 2 }
     ensures mistake { result ≡ 2 → out.new ≡ out.old }
     ensures quiet { result ≡ 0 → err.new ≡ err.old }
-    ensures explained { Explains (kind_of error.now ≢ OutOfMemory)
-        (IsHelp (kind_of error.now) → ⊥) (IsHelp (kind_of error.now)) result
-        (used O.contents out.old out.new) (used E.contents err.old err.new) }
+    ensures told { TellsUnasked unasked result (used O.contents out.old out.new) (used E.contents err.old err.new) }
 {
-    let Ok(text) = text_of(alloc, error) else {
-        return finish(Err(Fault::Memory), err).status;
-    };
-    if error.use_stderr() {
-        tell_mistake(text.as_bytes(), err)
-    } else {
-        tell_help(text.as_bytes(), out, err)
+    match unasked {
+        Unasked::Memory => finish(Err(Fault::Memory), err).status,
+        Unasked::Help(text) => tell_help(text.as_bytes(), out, err),
+        Unasked::Mistake(text) => tell_mistake(text.as_bytes(), err),
     }
 }
 
@@ -209,6 +201,6 @@ pub fn run<R: AllocGlobal + Threads + Wait + Sync, S: AsStr, F: Files, I: Read, 
 {
     match requested(rt.alloc(), words) {
         Ok(request) => serve(rt, request, files, reader, out, err).status,
-        Err(error) => explain(rt.alloc(), &error, out, err),
+        Err(unasked) => tell_unasked(unasked, out, err),
     }
 }

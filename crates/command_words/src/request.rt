@@ -34,9 +34,14 @@ impl CrewSize {
 #[derive(Clone, Copy)]
 pub enum Request<'a> {
     /// Say whether the description in `file` is accepted.
-    Check { file: &'a str },
+    Check {
+        file: &'a str,
+    },
     /// Answer a script over the description in `file`.
-    Debug { file: &'a str, stimulus: &'a str },
+    Debug {
+        file: &'a str,
+        stimulus: &'a str,
+    },
     /// Tell the events of a trace over the description in `file`.
     Replay {
         file: &'a str,
