@@ -1,11 +1,13 @@
 -- What a parse reads of a command as it is made, and what the matches hold of a word.
-use Rattle.std.proofs.Common.{◌≡◌, ℕ, ◌<◌, ◌^◌, List, Option, Some, None, Result, Ok, Err, ◌||◌, true, ◌∙◌, sym, ap, ap₂, refl, subst, arith, codes, length, Bool, false, ◌⊎◌, inl, inr, ◌≢◌, []}
+use Rattle.std.proofs.Common.{◌≡◌, ℕ, ◌<◌, ◌^◌, List, Option, Some, None, Result, Ok, Err, ◌||◌, true, ◌∙◌, sym, ap, ap₂, refl, subst, arith, codes, length, Bool, false, ◌⊎◌, inl, inr, ◌≢◌, [], ◌∷◌, ◌==◌, nat_lt, IsTrue, ◌↔◌}
 use Rattle.std.proofs.lemmas.Bool.{false≢true}
 use Rattle.std.proofs.lemmas.Result.{IfOk-weaker}
 use Rattle.std.proofs.lemmas.Slice.Eq.{bytes_eq-Decides}
 use Rattle.std.specs.Str.{bytes_eq}
 use Rattle.std.specs.Bool.{Decides}
-use Rattle.std.specs.Prelude.{IfOk, IsErrAnd, MatchOption, MatchResult, option_map, unwrap_or}
+use Rattle.std.specs.List.{list_all}
+use Rattle.std.proofs.lemmas.Bool.Decides.{nat_tests}
+use Rattle.std.specs.Prelude.{IfSome, IsSome, IfOk, IsErrAnd, MatchOption, MatchResult, option_map, unwrap_or}
 use Rattle.std.specs.Borrow.{Bor}
 use Rattle.std.specs.Str.Parse.{IsNumeral, digits_value, without_leading_plus}
 use Rattle.clap.specs.Words.{AddsArg, AddsSubcommand, App, ReadsOne, Rule, Text, app_of, first_of, first_value, one_of, one_text, rows_of, with_rule, with_subcommand, HasMatchesOf, Row, found_of, is_simple, kind_of, subcommand_name_of, subcommand_of, subcommand_rows, subcommand_rows_of, takes, HasKind, IsAmong, fault_of, is_simple_and_free}
@@ -21,12 +23,14 @@ use Rattle.std.specs.Box.{box_value}
 use Rattle.clap.specs.declared.error.Error.{Error}
 use Rattle.clap.specs.declared.error.kind.ErrorKind.TheVariants.{MissingSubcommand, OutOfMemory}
 use Rattle.clap.proofs.OnLiterals.{clap_on_literals}
+use Rattle.refusal_pages.specs.Numbers.{among, is_refusal, of_files, of_lines, of_sources}
+use Rattle.refusal_pages.specs.declared.writing.Page.{Page}
 use Rattle.command_words.specs.declared.request.Request.{Request}
 use Rattle.command_words.specs.declared.unasked.Unasked.{Unasked}
-use Rattle.command_words.specs.Words.{AskFor, AskForSome, AskForNone, AskNothing, IsFaultOf, IsNumber, IsRequest, Named, program}
-use Rattle.command_words.specs.declared.request.CrewSize.{CrewSize}
+use Rattle.command_words.specs.Words.{AskFor, AskForSome, AskForNone, AskNothing, IsFaultOf, IsFlag, IsNumber, IsRequest, Named, TellsPage, program}
+use Rattle.command_words.specs.declared.crew_size.CrewSize.{CrewSize}
 use Rattle.command_words.specs.walking.Building.{Chooses, ChoosesNone, IsArgument, IsCommand, IsNoRequest}
-use Rattle.command_words.specs.walking.Building.{Finds, NamesNoFiles, Refuses, TellsCrew, TellsError, TellsNoCrew}
+use Rattle.command_words.specs.walking.Building.{Finds, NamesNoFiles, NamesNoTrace, Refuses, TellsCrew, TellsError, TellsNoCrew, TellsNoPage}
 
 -- one more argument
 pub with_argument : (old new : Command) (a : Arg) (app : App) (rule : Rule) → IsCommand app old → IsArgument rule a → AddsArg old a new → IsCommand (with_rule app rule) new
@@ -133,29 +137,93 @@ pub unlike : {name text : Text} → name ≡ text → bytes_eq name text ≡ fal
 unlike {name} {text} same apart =
     false≢true ((subst (λ (b : Bool). Decides b (name ≡ text)) apart (bytes_eq-Decides name text)).1 same)
 
+-- the option that was got is that of the row
+pub flag_of_row : (f : Found) (id : Text) (b : Bool) → (one_text f id ≡ None → b ≡ false)
+    → (one_text f id ≡ Some (codes "true") → b ≡ true) → (one_text f id ≡ Some (codes "false") → b ≡ false)
+    → IsFlag (one_of id (rows_of f)) b
+flag_of_row f id b none given absent =
+    subst (λ (t : Option Text). IsFlag t b) (one_text-rows f id) (none, given, absent)
+
 -- no request is that of `check` where no file is named
 pub no_check : (rows : List Row) → ((s : Text) → first_of (codes "FILE") rows ≡ Some s → ⊥)
     → IsNoRequest (codes "check") rows
-no_check rows none (Request.Check file) h = none file.now h.1
+no_check rows none (Request.Check file explain) h = none file.now h.1
 no_check rows none other h = unlike h.0 refl
+
+-- nor that of `outline`
+pub no_outline : (rows : List Row) → ((s : Text) → first_of (codes "FILE") rows ≡ Some s → ⊥)
+    → IsNoRequest (codes "outline") rows
+no_outline rows none (Request.Outline file) h = none file.now h.1
+no_outline rows none other h = unlike h.0 refl
 
 -- nor that of `debug` where no files are
 pub no_debug : (rows : List Row) → NamesNoFiles rows → IsNoRequest (codes "debug") rows
-no_debug rows none (Request.Debug file stimulus) h = none file.now stimulus.now h.1
+no_debug rows none (Request.Debug file stimulus explain) h = none file.now stimulus.now h.1
 no_debug rows none other h = unlike h.0 refl
 
--- nor that of `replay` where no files are, or no trace is
-pub no_replay : (rows : List Row) → NamesNoFiles rows ⊎ ((s : Text) → first_of (codes "TRACE") rows ≡ Some s → ⊥)
-    → IsNoRequest (codes "replay") rows
-no_replay rows (inl none) (Request.Replay file stimulus trace) h = none file.now stimulus.now h.1
-no_replay rows (inr none) (Request.Replay file stimulus trace) h = none trace.now h.2
+-- nor that of `replay`, with a trace
+pub no_replay : (rows : List Row) → NamesNoTrace rows → IsNoRequest (codes "replay") rows
+no_replay rows none (Request.Replay file stimulus trace explain) h = none file.now stimulus.now trace.now h.1
 no_replay rows none other h = unlike h.0 refl
+
+-- nor that of `waiting`
+pub no_waiting : (rows : List Row) → NamesNoTrace rows → IsNoRequest (codes "waiting") rows
+no_waiting rows none (Request.Waiting file stimulus trace) h = none file.now stimulus.now trace.now h.1
+no_waiting rows none other h = unlike h.0 refl
 
 -- nor that of `work` where no files are, or the numbers are those of no crew
 pub no_work : (rows : List Row) → NamesNoFiles rows ⊎ TellsNoCrew rows → IsNoRequest (codes "work") rows
-no_work rows (inl none) (Request.Work file stimulus crew) h = none file.now stimulus.now h.1
-no_work rows (inr none) (Request.Work file stimulus crew) h = none crew (h.2, h.3)
+no_work rows (inl none) (Request.Work file stimulus crew explain) h = none file.now stimulus.now h.1
+no_work rows (inr none) (Request.Work file stimulus crew explain) h = none crew (h.2, h.3)
 no_work rows none other h = unlike h.0 refl
+
+-- nor that of `why` where no files are, or nothing is asked about
+pub no_why : (rows : List Row) → NamesNoTrace rows ⊎ ((s : Text) → first_of (codes "X") rows ≡ Some s → ⊥)
+    → IsNoRequest (codes "why") rows
+no_why rows (inl none) (Request.Why file stimulus trace subject all) h = none file.now stimulus.now trace.now h.1
+no_why rows (inr none) (Request.Why file stimulus trace subject all) h = none subject.now h.2
+no_why rows none other h = unlike h.0 refl
+
+-- nor that of `explain` where the number is that of no refusal
+pub no_explain : (rows : List Row) → TellsNoPage rows → IsNoRequest (codes "explain") rows
+no_explain rows none (Request.Explain page) h = none page.now h.1
+no_explain rows none other h = unlike h.0 refl
+
+-- one of two tests holds
+either : (a b : Bool) → IsTrue (a || b) → IsTrue a ⊎ IsTrue b
+either true b h = inl refl
+either false b h = inr h
+
+-- a number that is among those below a bound is below it
+among_below : (n most : ℕ) (numbers : List ℕ) → list_all (λ m. nat_lt m most) numbers ≡ true → IsTrue (among n numbers)
+    → n < most
+among_below n most [] all h = absurd (false≢true h)
+among_below n most (m ∷ rest) all h = elim (either (n == m) (among n rest) h) [
+  | inl same ↦ grind (arith, nat_tests, same, all)
+  | inr later ↦ among_below n most rest (grind (arith, nat_tests, all)) later
+]
+
+-- the number of a refusal is below 62
+pub number_is_small : (n : ℕ) → IsTrue (is_refusal n) → n < 62
+number_is_small n h = elim (either (among n of_sources) (among n of_lines || among n of_files) h) [
+  | inl first ↦ among_below n 62 of_sources refl first
+  | inr later ↦ elim (either (among n of_lines) (among n of_files) later) [
+    | inl second ↦ among_below n 62 of_lines refl second
+    | inr third ↦ among_below n 62 of_files refl third
+  ]
+]
+
+-- the number that was got is that of the page, where there is one
+pub page_told : (rows : List Row) (n : ℕ) (o : Option (Bor Page)) → IsSome o ↔ IsTrue (is_refusal n)
+    → IfSome o (λ page. page.now.number ≡ n) → IsNumber (one_of (codes "N") rows) n
+    → MatchOption o (TellsNoPage rows) (λ page. TellsPage rows page.now)
+page_told rows n None each right number = λ page tells.
+    let same : page.number ≡ n = one_number (one_of (codes "N") rows) page.number n tells.0 number in
+    false≢true (each.1 (subst (λ (k : ℕ). IsTrue (is_refusal k)) same tells.1))
+page_told rows n (Some page) each right number = (
+  subst (λ (k : ℕ). IsNumber (one_of (codes "N") rows) k) (sym right) number,
+  subst (λ (k : ℕ). IsTrue (is_refusal k)) (sym right) (each.0 refl),
+)
 
 -- the subcommand that was met, with its rows
 pub named_in : (m : ArgMatches) (o : Option (Bor Text × Bor ArgMatches)) (p : Bor Text × Bor ArgMatches)

@@ -1,5 +1,5 @@
 -- What the words of the command line ask for, of which the first is the program's name.
-use Rattle.std.specs.Prelude.{◌≡◌, ◌≢◌, ◌⊎◌, [], ℕ, List, Option, Some, None, pos, codes, true}
+use Rattle.std.specs.Prelude.{◌≡◌, ◌≢◌, ◌⊎◌, [], ◌∷◌, ℕ, Bool, IsTrue, List, Option, Some, None, pos, codes, false, true}
 use Rattle.std.specs.Str.Parse.{IsNumeral, digits_value, without_leading_plus}
 use Rattle.clap.specs.Kinds.{IsAmong}
 use Rattle.clap.specs.declared.error.kind.ErrorKind.{ErrorKind}
@@ -7,9 +7,11 @@ use Rattle.clap.specs.declared.error.kind.ErrorKind.TheVariants.{DisplayHelp, Di
 use Rattle.clap.specs.Words.{App, Row, Rule, Text, first_of, one_of, new_app, new_rule, subcommand_of, fault_of}
 use Rattle.clap.specs.Words.{takes, with_rule, with_subcommand}
 use Rattle.clap.specs.Simple.{on_top}
-use Rattle.clap.specs.declared.builder.action.ArgAction.TheVariants.{Set}
+use Rattle.clap.specs.declared.builder.action.ArgAction.TheVariants.{Set, SetTrue}
 use Rattle.clap.specs.declared.builder.value_parser.ValueParser.{ValueParser}
 use Rattle.clap.specs.declared.builder.value_parser.ValueParser.TheVariants.{Signed, Unsigned}
+use Rattle.refusal_pages.specs.Numbers.{is_refusal}
+use Rattle.refusal_pages.specs.declared.writing.Page.{Page}
 use Rattle.command_words.specs.declared.request.Request.{Request}
 use Rattle.command_words.specs.declared.unasked.Unasked.{Unasked}
 
@@ -21,33 +23,71 @@ word name = record (new_rule name) { action = Some Set; required = true }
 abbrev pub number : Text → ValueParser → Rule
 number name parser = record (word name) { long = Some name; value_names = 1; parser = Some parser }
 
+-- the number of a refusal, which is none over 61
+abbrev pub refusal_number : Rule
+refusal_number = record (word (codes "N")) { parser = Some (Unsigned 1 61) }
+
+-- `--NAME`
+abbrev pub flag : Text → Rule
+flag name = record (new_rule name) { long = Some name; action = Some SetTrue }
+
+-- a command with a description behind its name, with its stimulus too, and with a trace too
+abbrev pub over_file : App → App
+over_file command = with_rule command (word (codes "FILE"))
+
+abbrev pub over_ports : App → App
+over_ports command = with_rule (over_file command) (word (codes "STIMULUS"))
+
+abbrev pub over_trace : App → App
+over_trace command = with_rule (over_ports command) (word (codes "TRACE"))
+
+-- one with `--explain`
+abbrev pub explaining : App → App
+explaining command = with_rule command (flag (codes "explain"))
+
 -- the subcommands, with what stands behind their names
 abbrev pub check : App
-check = with_rule (new_app (codes "check")) (word (codes "FILE"))
-
--- the same with a description and its stimulus behind its name
-abbrev pub over_ports : App → App
-over_ports command = with_rule (with_rule command (word (codes "FILE"))) (word (codes "STIMULUS"))
+check = explaining (over_file (new_app (codes "check")))
 
 abbrev pub debug : App
-debug = over_ports (new_app (codes "debug"))
+debug = explaining (over_ports (new_app (codes "debug")))
 
 abbrev pub replay : App
-replay = with_rule (over_ports (new_app (codes "replay"))) (word (codes "TRACE"))
+replay = explaining (over_trace (new_app (codes "replay")))
 
 abbrev pub work : App
-work = with_rule (with_rule (over_ports (new_app (codes "work")))
-    (number (codes "workers") (Signed (pos 1) (pos 16)))) (number (codes "turns") (Unsigned 0 1000000))
+work = explaining (with_rule (with_rule (over_ports (new_app (codes "work")))
+    (number (codes "workers") (Signed (pos 1) (pos 16)))) (number (codes "turns") (Unsigned 0 1000000)))
+
+abbrev pub explain : App
+explain = with_rule (new_app (codes "explain")) refusal_number
+
+abbrev pub outline : App
+outline = over_file (new_app (codes "outline"))
+
+abbrev pub waiting : App
+waiting = over_trace (new_app (codes "waiting"))
+
+abbrev pub why : App
+why = with_rule (with_rule (over_trace (new_app (codes "why"))) (word (codes "X"))) (flag (codes "all"))
 
 -- the program without its subcommands: it has a version, and wants a subcommand
 abbrev pub bare : App
 bare = on_top (λ s. record s { has_version = true; subcommand_required = true; arg_required_else_help = true })
     (new_app (codes "balsadbg"))
 
+-- a program with more subcommands
+abbrev pub with_subcommands : App → List App → App
+with_subcommands over [] = over
+with_subcommands over (command ∷ rest) = with_subcommands (with_subcommand over command.top) rest
+
+-- the program with those that run a description
+abbrev pub running : App
+running = with_subcommands bare (check ∷ debug ∷ replay ∷ work ∷ [])
+
 -- the program
 abbrev pub program : App
-program =
-    with_subcommand (with_subcommand (with_subcommand (with_subcommand bare check.top) debug.top) replay.top) work.top
+program = with_subcommands running (explain ∷ outline ∷ waiting ∷ why ∷ [])
 
 -- the name of a subcommand and its values
 abbrev pub Named : Type 0
@@ -58,22 +98,54 @@ abbrev pub IsNumber : Option Text → ℕ → Type 0
 IsNumber None n = ⊥
 IsNumber (Some text) n = IsNumeral 10 (without_leading_plus text) × (n ≡ digits_value 10 (without_leading_plus text))
 
+-- whether an option is among the words, of which the text is `true` where it is, and `false` where it is not
+abbrev pub IsFlag : Option Text → Bool → Type 0
+IsFlag text among =
+    (text ≡ None → among ≡ false) × (text ≡ Some (codes "true") → among ≡ true)
+    × (text ≡ Some (codes "false") → among ≡ false)
+
 -- the values have these names of a description and of its stimulus
 abbrev pub AreFiles : List Row → Text → Text → Type 0
 AreFiles rows file stimulus =
     (first_of (codes "FILE") rows ≡ Some file) × (first_of (codes "STIMULUS") rows ≡ Some stimulus)
 
+-- and of a trace
+abbrev pub AreTraced : List Row → Text → Text → Text → Type 0
+AreTraced rows file stimulus trace = AreFiles rows file stimulus × (first_of (codes "TRACE") rows ≡ Some trace)
+
+-- they have the number of a refusal, which is that of the page
+abbrev pub TellsPage : List Row → Page → Type 0
+TellsPage rows page = IsNumber (one_of (codes "N") rows) page.number × IsTrue (is_refusal page.number)
+
 -- the subcommand of this name with these values is this request
 abbrev pub IsRequest : Text → List Row → Request → Type 0
-IsRequest name rows (Request.Check file) = (name ≡ codes "check") × (first_of (codes "FILE") rows ≡ Some file.now)
-IsRequest name rows (Request.Debug file stimulus) =
-    (name ≡ codes "debug") × AreFiles rows file.now stimulus.now
-IsRequest name rows (Request.Replay file stimulus trace) =
-    (name ≡ codes "replay") × AreFiles rows file.now stimulus.now
-    × (first_of (codes "TRACE") rows ≡ Some trace.now)
-IsRequest name rows (Request.Work file stimulus crew) =
+IsRequest name rows (Request.Check file explain) =
+    (name ≡ codes "check") × (first_of (codes "FILE") rows ≡ Some file.now)
+    × IsFlag (one_of (codes "explain") rows) explain
+IsRequest name rows (Request.Debug file stimulus explain) =
+    (name ≡ codes "debug") × AreFiles rows file.now stimulus.now × IsFlag (one_of (codes "explain") rows) explain
+IsRequest name rows (Request.Replay file stimulus trace explain) =
+    (name ≡ codes "replay") × AreTraced rows file.now stimulus.now trace.now
+    × IsFlag (one_of (codes "explain") rows) explain
+IsRequest name rows (Request.Work file stimulus crew explain) =
     (name ≡ codes "work") × AreFiles rows file.now stimulus.now
     × IsNumber (one_of (codes "workers") rows) crew.workers × IsNumber (one_of (codes "turns") rows) crew.turns
+    × IsFlag (one_of (codes "explain") rows) explain
+IsRequest name rows (Request.Explain page) = (name ≡ codes "explain") × TellsPage rows page.now
+IsRequest name rows (Request.Outline file) = (name ≡ codes "outline") × (first_of (codes "FILE") rows ≡ Some file.now)
+IsRequest name rows (Request.Waiting file stimulus trace) =
+    (name ≡ codes "waiting") × AreTraced rows file.now stimulus.now trace.now
+IsRequest name rows (Request.Why file stimulus trace subject all) =
+    (name ≡ codes "why") × AreTraced rows file.now stimulus.now trace.now
+    × (first_of (codes "X") rows ≡ Some subject.now) × IsFlag (one_of (codes "all") rows) all
+
+-- whether a refusal of the request is told in words too
+abbrev pub explains : Request → Bool
+explains (Request.Check file explain) = explain
+explains (Request.Debug file stimulus explain) = explain
+explains (Request.Replay file stimulus trace explain) = explain
+explains (Request.Work file stimulus crew explain) = explain
+explains other = true
 
 -- `clap` finds no fault in the words, and they ask for this request
 abbrev pub AskFor : List Text → Request → Type 0
@@ -89,7 +161,7 @@ abbrev pub AskForNone : List Text → Type 0
 AskForNone words = (request : Request) → AskFor words request → ⊥
 
 -- a fault that `clap` finds in the words (of some words it says two, and either may be told); where it finds none, that
--- no subcommand is asked for
+-- they ask for no request: `explain` of a number between those of refusals is one such
 abbrev pub IsFaultOf : List Text → ErrorKind → Type 0
 IsFaultOf words kind =
     IsAmong kind (fault_of program words)

@@ -6,8 +6,8 @@ ghost use Rattle.clap.specs.declared.builder.value_parser.ValueParser.TheVariant
 ghost use Rattle.command_words.specs.Words as spec;
 ghost use Rattle.command_words.specs.walking.Building.{IsArgument, IsCommand};
 
+use crate::crew_size::{MOST_TURNS, MOST_WORKERS};
 use crate::help;
-use crate::request::{MOST_TURNS, MOST_WORKERS};
 use clap::{Arg, ArgAction, Command, value_parser};
 use std::alloc::{AllocError, Global};
 
@@ -37,6 +37,23 @@ fn turns<'a>(alloc: Global) -> Arg<'a>
         .long("turns")
         .value_name("M")
         .value_parser(value_parser!(u64).range(0..=i64::from(MOST_TURNS)))
+}
+
+/// A number of a refusal.
+fn number<'a>(alloc: Global) -> Arg<'a>
+    ensures { IsArgument spec.refusal_number result }
+{
+    word(alloc, "N", help::NUMBER).value_parser(value_parser!(u64).range(1..=61))
+}
+
+/// An option without a value.
+fn flag<'a>(alloc: Global, name: &'a str, help: &'a str) -> Arg<'a>
+    ensures { IsArgument (spec.flag name.now) result }
+{
+    Arg::new(alloc, name)
+        .long(name)
+        .action(ArgAction::SetTrue)
+        .help(help)
 }
 
 /// A command with its texts, and with nothing behind its name yet.
@@ -69,6 +86,39 @@ fn with_argument<'a>(
     }
 }
 
+/// The command with `--explain`.
+fn explaining<'a>(
+    alloc: Global,
+    command: Result<Command<'a>, AllocError>,
+) -> Result<Command<'a>, AllocError>
+    ensures { (app : App) → IfOk command.entry (IsCommand app) → IfOk result (IsCommand (spec.explaining app)) }
+{
+    with_argument(command, flag(alloc, "explain", help::EXPLAIN_REFUSAL))
+}
+
+/// The command over a description.
+fn over_file<'a>(alloc: Global, command: Command<'a>) -> Result<Command<'a>, AllocError>
+    ensures { (app : App) → IsCommand app command.entry → IfOk result (IsCommand (spec.over_file app)) }
+{
+    with_argument(Ok(command), word(alloc, "FILE", help::FILE))
+}
+
+/// The command over a description and its stimulus.
+fn over_ports<'a>(alloc: Global, command: Command<'a>) -> Result<Command<'a>, AllocError>
+    ensures { (app : App) → IsCommand app command.entry → IfOk result (IsCommand (spec.over_ports app)) }
+{
+    let described = over_file(alloc, command);
+    with_argument(described, word(alloc, "STIMULUS", help::STIMULUS))
+}
+
+/// The command over a description, its stimulus and a trace.
+fn over_trace<'a>(alloc: Global, command: Command<'a>) -> Result<Command<'a>, AllocError>
+    ensures { (app : App) → IsCommand app command.entry → IfOk result (IsCommand (spec.over_trace app)) }
+{
+    let stepped = over_ports(alloc, command);
+    with_argument(stepped, word(alloc, "TRACE", help::TRACE))
+}
+
 fn check<'a>(alloc: Global) -> Result<Command<'a>, AllocError>
     ensures { IfOk result (IsCommand spec.check) }
 {
@@ -77,17 +127,9 @@ fn check<'a>(alloc: Global) -> Result<Command<'a>, AllocError>
         "check",
         help::CHECK,
         help::CHECK_LONG,
-        help::CHECK_REFUSALS,
+        help::FILE_REFUSALS,
     );
-    with_argument(Ok(command), word(alloc, "FILE", help::FILE))
-}
-
-/// The command over a description and its stimulus.
-fn over_ports<'a>(alloc: Global, command: Command<'a>) -> Result<Command<'a>, AllocError>
-    ensures { (app : App) → IsCommand app command.entry → IfOk result (IsCommand (spec.over_ports app)) }
-{
-    let described = with_argument(Ok(command), word(alloc, "FILE", help::FILE));
-    with_argument(described, word(alloc, "STIMULUS", help::STIMULUS))
+    explaining(alloc, over_file(alloc, command))
 }
 
 fn debug<'a>(alloc: Global) -> Result<Command<'a>, AllocError>
@@ -100,7 +142,7 @@ fn debug<'a>(alloc: Global) -> Result<Command<'a>, AllocError>
         help::DEBUG_LONG,
         help::DEBUG_REFUSALS,
     );
-    over_ports(alloc, command)
+    explaining(alloc, over_ports(alloc, command))
 }
 
 fn replay<'a>(alloc: Global) -> Result<Command<'a>, AllocError>
@@ -111,12 +153,9 @@ fn replay<'a>(alloc: Global) -> Result<Command<'a>, AllocError>
         "replay",
         help::REPLAY,
         help::REPLAY_LONG,
-        help::REPLAY_REFUSALS,
+        help::TRACE_REFUSALS,
     );
-    with_argument(
-        over_ports(alloc, command),
-        word(alloc, "TRACE", help::TRACE),
-    )
+    explaining(alloc, over_trace(alloc, command))
 }
 
 fn work<'a>(alloc: Global) -> Result<Command<'a>, AllocError>
@@ -130,7 +169,54 @@ fn work<'a>(alloc: Global) -> Result<Command<'a>, AllocError>
         help::WORK_REFUSALS,
     );
     let hired = with_argument(over_ports(alloc, command), workers(alloc));
-    with_argument(hired, turns(alloc))
+    explaining(alloc, with_argument(hired, turns(alloc)))
+}
+
+fn explain<'a>(alloc: Global) -> Result<Command<'a>, AllocError>
+    ensures { IfOk result (IsCommand spec.explain) }
+{
+    let command = begun(
+        alloc,
+        "explain",
+        help::EXPLAIN,
+        help::EXPLAIN_LONG,
+        help::EXPLAIN_REFUSALS,
+    );
+    with_argument(Ok(command), number(alloc))
+}
+
+fn outline<'a>(alloc: Global) -> Result<Command<'a>, AllocError>
+    ensures { IfOk result (IsCommand spec.outline) }
+{
+    let command = begun(
+        alloc,
+        "outline",
+        help::OUTLINE,
+        help::OUTLINE_LONG,
+        help::FILE_REFUSALS,
+    );
+    over_file(alloc, command)
+}
+
+fn waiting<'a>(alloc: Global) -> Result<Command<'a>, AllocError>
+    ensures { IfOk result (IsCommand spec.waiting) }
+{
+    let command = begun(
+        alloc,
+        "waiting",
+        help::WAITING,
+        help::WAITING_LONG,
+        help::TRACE_REFUSALS,
+    );
+    over_trace(alloc, command)
+}
+
+fn why<'a>(alloc: Global) -> Result<Command<'a>, AllocError>
+    ensures { IfOk result (IsCommand spec.why) }
+{
+    let command = begun(alloc, "why", help::WHY, help::WHY_LONG, help::WHY_REFUSALS);
+    let asking = with_argument(over_trace(alloc, command), word(alloc, "X", help::SUBJECT));
+    with_argument(asking, flag(alloc, "all", help::ALL))
 }
 
 /// The program without its commands.
@@ -178,12 +264,22 @@ fn with_command<'a>(
     }
 }
 
-/// The program.
-pub fn balsadbg<'a>(alloc: Global) -> Result<Command<'a>, AllocError>
-    ensures { IfOk result (IsCommand spec.program) }
+/// The program with the words that run a description.
+fn running<'a>(alloc: Global) -> Result<Command<'a>, AllocError>
+    ensures { IfOk result (IsCommand spec.running) }
 {
     let program = with_command(bare(alloc), check(alloc));
     let program = with_command(program, debug(alloc));
     let program = with_command(program, replay(alloc));
     with_command(program, work(alloc))
+}
+
+/// The program.
+pub fn balsadbg<'a>(alloc: Global) -> Result<Command<'a>, AllocError>
+    ensures { IfOk result (IsCommand spec.program) }
+{
+    let program = with_command(running(alloc), explain(alloc));
+    let program = with_command(program, outline(alloc));
+    let program = with_command(program, waiting(alloc));
+    with_command(program, why(alloc))
 }

@@ -17,13 +17,21 @@ port o, what comes in at its ports, and a script of steps forth and back:
   balsadbg debug examples/one.balsa examples/one.stimulus < examples/one.script
 
 The lines of a script can be typed by hand just as well, with Ctrl-D behind the
-last. `balsadbg debug --help` explains them.";
+last. `balsadbg debug --help` explains them.
+
+Where a description is refused, `check --explain` shows the place and says what
+helps. Where a run stands still, `waiting` tells who waits for whom; where a value
+is wrong, `why` tells the steps that led to it.";
 
 pub const FILE: &str = "The description, a text of Balsa";
 
 pub const STIMULUS: &str = "\
 What comes in at the ports of the last procedure: a line `i = 5 7` for an input
 port, `s * 3` for a sync port, and none for an output port";
+
+pub const EXPLAIN_REFUSAL: &str = "\
+Tell a refusal in words too, behind its line: the place, the line of the text with
+a mark under it, what is wrong there, and what helps";
 
 pub const CHECK: &str = "Say whether a description is accepted";
 
@@ -33,7 +41,10 @@ standard error gets the line `balsadbg: refused N ..` with one of the numbers
 below and, where a byte of FILE is meant, that byte.
 
 Example:
-  balsadbg check examples/buffer.balsa";
+  balsadbg check examples/buffer.balsa
+
+With --explain the place is shown, and what helps:
+  balsadbg check --explain examples/refused/two_writers.balsa";
 
 pub const DEBUG: &str = "Step a description forwards and backwards, as a script says";
 
@@ -131,6 +142,99 @@ It answers:
   stepped 2
   live 2";
 
+pub const NUMBER: &str = "The number behind `refused`";
+
+pub const EXPLAIN: &str = "Tell what a refusal means";
+
+pub const EXPLAIN_LONG: &str = "\
+Tell what a refusal means: what stands behind its number, an example, and what it
+mostly comes from. N is the number behind `refused`, of the answer to a script line
+too.
+
+Example:
+  balsadbg explain 15
+
+It answers:
+  refused 15 byte: a variable in two branches
+  ..";
+
+pub const NO_REFUSAL: &str = "\
+no refusal has this number. Refusals have the numbers 1 to 17, 21 to 28, 31 to 34,
+41, 42, 51 and 61";
+
+pub const EXPLAIN_REFUSALS: &str = "\
+Refusals. The line `balsadbg: refused N` on standard error ends a run with status 1:
+
+   1  memory is used up
+  42  writing the answers failed
+
+A command line that cannot be read, also one with a number that no refusal has, ends
+with status 2. All else ends with status 0.";
+
+pub const OUTLINE: &str = "Tell which branches, variables and channels a description has";
+
+pub const OUTLINE_LONG: &str = "\
+Tell which branches, variables and channels a description has, by the numbers and
+names that lines of a script and answers use. Calls are replaced by the bodies of
+their procedures: `2:x` is the x of the second call. A line of a branch says what it
+does on a channel. A refusal is told in words too.
+
+Example:
+  balsadbg outline examples/one.balsa
+
+It answers:
+  branches 3
+    0 /0 line 6
+      receives i line 7
+      sends o line 8
+    1 /1 environment
+      sends i
+    2 /2 environment
+      receives o
+  variables 1
+    x 8 bits
+  channels 2
+    i 8 bits
+      receives, branch 0 line 7
+      sends, branch 1
+    o 8 bits
+      sends, branch 0 line 8
+      receives, branch 2";
+
+pub const WAITING: &str = "Tell who waits behind a trace, on what and for whom";
+
+pub const WAITING_LONG: &str = "\
+Take the steps of a trace again, and tell who waits behind them: `done` where nothing
+is left to do but for the environment, `stuck` where something waits and no step can
+be taken, `runs` where one can. Then comes each end of a channel that waits, with its
+place, its line, and the place behind which the end that it waits for stands. Where
+each of some waits for the next, they are told as a ring. A refusal is told in words
+too. A trace is what the script line `trace` answers.
+
+Example:
+  balsadbg waiting examples/philosophers.balsa examples/philosophers.stimulus \
+    examples/philosophers.trace";
+
+pub const SUBJECT: &str = "The name of a variable, or the number of a step of the trace";
+
+pub const ALL: &str = "Tell the steps that carried no value too";
+
+pub const WHY: &str = "Tell why a variable has its value, or why a step could be taken";
+
+pub const WHY_LONG: &str = "\
+Take the steps of a trace again, and tell the steps that led to the value of the
+variable X, or to the step with the number X: each with its number, its line, what it
+carried or wrote, what it read, and the steps just before it. Steps count from 1, as
+`replay` lists them. A refusal is told in words too. A trace is what the script line
+`trace` answers.
+
+Example:
+  balsadbg why examples/one.balsa examples/one.stimulus examples/one.trace x
+
+It answers:
+  x is 5, written by step 1
+    1 line 7: i carries 5 into x";
+
 /// What each refusal of a command means: with lines for a trace, for the files, for a stimulus and for a script.
 macro_rules! refusal_lines {
     ([$($trace:literal)*] [$($files:literal)*] [$($stimulus:literal)*] [$($script:literal)*]) => {
@@ -161,8 +265,8 @@ macro_rules! refusal_lines {
             $($stimulus,)*
             $($script,)*
             "\n",
-            "docs/reference/refusals.md has an example and the usual cause of each. A command line that\n",
-            "cannot be read ends with status 2. All else ends with status 0."
+            "`balsadbg explain N` shows an example and the usual causes of one. A command line\n",
+            "that cannot be read ends with status 2. All else ends with status 0."
         )
     };
 }
@@ -219,7 +323,7 @@ pub const REFUSALS: &str = refusal_lines_of_scripts!(
     ["  41  a file is missing, or reading it or the script failed\n"]
 );
 
-pub const CHECK_REFUSALS: &str = refusal_lines!(
+pub const FILE_REFUSALS: &str = refusal_lines!(
     []
     ["  41  FILE is missing, or reading it failed\n"]
     []
@@ -230,7 +334,7 @@ pub const DEBUG_REFUSALS: &str = refusal_lines_of_scripts!(
     []["  41  FILE or STIMULUS is missing, or reading it or the script failed\n"]
 );
 
-pub const REPLAY_REFUSALS: &str = refusal_lines_over_ports!(
+pub const TRACE_REFUSALS: &str = refusal_lines_over_ports!(
     [
         "  31  TRACE does not begin with the line `balsadbg trace 2`, or with 1 for 2\n"
         "  32  this line of TRACE, from 1, is no step, or has no end\n"
@@ -244,5 +348,18 @@ pub const REPLAY_REFUSALS: &str = refusal_lines_over_ports!(
 pub const WORK_REFUSALS: &str = refusal_lines_over_ports!(
     []
     ["  41  FILE or STIMULUS is missing, or reading it failed\n"]
+    []
+);
+
+pub const WHY_REFUSALS: &str = refusal_lines_over_ports!(
+    [
+        "  23  X is the number of no step of TRACE\n"
+        "  25  X is the name of no variable, or of one that no step of TRACE wrote\n"
+        "  31  TRACE does not begin with the line `balsadbg trace 2`, or with 1 for 2\n"
+        "  32  this line of TRACE, from 1, is no step, or has no end\n"
+        "  33  the step of this line of TRACE, from 1, cannot be taken there\n"
+        "  34  behind `balsadbg trace 2` another step comes before that of this line\n"
+    ]
+    ["  41  FILE, STIMULUS or TRACE is missing, or reading it failed\n"]
     []
 );

@@ -3,11 +3,13 @@
 
 mod asked;
 mod commands;
+mod crew_size;
 mod help;
 mod reading;
 mod request;
 mod unasked;
 
+pub use crew_size::CrewSize;
 pub use reading::requested;
-pub use request::{CrewSize, Request};
+pub use request::Request;
 pub use unasked::Unasked;

@@ -7,7 +7,7 @@ ghost use Rattle.command_words.specs.walking.Building.{Finds, IsCommand, Refuses
 use crate::asked::chosen;
 use crate::commands::balsadbg;
 use crate::unasked::why_unasked;
-use crate::{Request, Unasked};
+use crate::{Request, Unasked, help};
 use clap::error::ErrorKind;
 use clap::{Command, Error};
 use std::alloc::Global;
@@ -33,8 +33,8 @@ fn asked<'a, S: AsStr>(program: &mut Command<'a>, words: &'a [S]) -> Result<Requ
     let found = found(program, words)?;
     match found {
         Some(request) => Ok(request),
-        // Never taken: the command, its files and its numbers are required.
-        None => Err(program.error(ErrorKind::MissingSubcommand, "a command is missing")?),
+        // As of `explain 18`: the command, its files and its numbers are required.
+        None => Err(program.error(ErrorKind::MissingSubcommand, help::NO_REFUSAL)?),
     }
 }
 

@@ -1,57 +1,73 @@
-ghost use Rattle.std.specs.Prelude.{◌≡◌, ◌≤◌, ◌<◌, ◌⊎◌, MatchOption};
+ghost use Rattle.std.specs.Prelude.{◌≡◌};
+ghost use Rattle.command_words.specs.Words.{explains};
 
-/// The most workers of a crew.
-pub const MOST_WORKERS: u32 = 16;
+use crate::CrewSize;
+use refusal_pages::Page;
 
-/// The most turns of each.
-pub const MOST_TURNS: u32 = 1_000_000;
-
-/// How many workers there are, 1 to 16, and how many turns each takes, 0 to 1,000,000.
-#[derive(Clone, Copy)]
-pub struct CrewSize {
-    pub workers: u32,
-    pub turns: u64,
-    pub ghost some: { 1 ≤ workers },
-    pub ghost few: { workers ≤ 16 },
-    pub ghost short: { turns ≤ 1000000 },
-}
-
-impl CrewSize {
-    /// So many workers and turns; `None` where no crew has so many.
-    pub fn new(workers: u32, turns: u64) -> Option<CrewSize>
-        ensures { MatchOption result ((workers < 1) ⊎ (16 < workers) ⊎ (1000000 < turns))
-            (λ crew. (crew.workers ≡ workers) × (crew.turns ≡ turns)) }
-    {
-        if 1 <= workers && workers <= MOST_WORKERS && turns <= u64::from(MOST_TURNS) {
-            Some(CrewSize { workers, turns })
-        } else {
-            None
-        }
-    }
-}
-
-/// What a run is to do.
+/// What a run is to do. With `explain` a refusal is told in words too.
 #[derive(Clone, Copy)]
 pub enum Request<'a> {
     /// Say whether the description in `file` is accepted.
     Check {
         file: &'a str,
+        explain: bool,
     },
     /// Answer a script over the description in `file`.
     Debug {
         file: &'a str,
         stimulus: &'a str,
+        explain: bool,
     },
     /// Tell the events of a trace over the description in `file`.
     Replay {
         file: &'a str,
         stimulus: &'a str,
         trace: &'a str,
+        explain: bool,
     },
     /// Let workers step the description in `file`, and tell how many steps they took.
     Work {
         file: &'a str,
         stimulus: &'a str,
         crew: CrewSize,
+        explain: bool,
     },
+    /// Show the page of a refusal.
+    Explain {
+        page: &'static Page,
+    },
+    /// Tell what the description in `file` has.
+    Outline {
+        file: &'a str,
+    },
+    /// Tell who waits behind a trace.
+    Waiting {
+        file: &'a str,
+        stimulus: &'a str,
+        trace: &'a str,
+    },
+    /// Tell why a variable has its value behind a trace, or why a step of it could be taken: by the steps that carried a
+    /// value, or `all`.
+    Why {
+        file: &'a str,
+        stimulus: &'a str,
+        trace: &'a str,
+        subject: &'a str,
+        all: bool,
+    },
+}
+
+impl Request<'_> {
+    /// Whether a refusal is told in words too: where that is asked for, and always where people alone ask.
+    pub fn explains(&self) -> bool
+        ensures { result ≡ explains self.now }
+    {
+        match self {
+            Request::Check { explain, .. }
+            | Request::Debug { explain, .. }
+            | Request::Replay { explain, .. }
+            | Request::Work { explain, .. } => *explain,
+            _ => true,
+        }
+    }
 }

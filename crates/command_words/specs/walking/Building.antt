@@ -8,9 +8,10 @@ use Rattle.clap.specs.declared.builder.arg.Arg.{Arg}
 use Rattle.clap.specs.declared.builder.command.Command.{Command}
 use Rattle.clap.specs.declared.builder.command.Command.TheViews.{out-Command}
 use Rattle.clap.specs.declared.parser.matches.ArgMatches.{ArgMatches}
-use Rattle.command_words.specs.Words.{AreFiles, AskFor, AskForNone, AskForSome, IsFaultOf, IsHelp, IsNumber, IsRequest, Named}
+use Rattle.command_words.specs.Words.{AreFiles, AreTraced, AskFor, AskForNone, AskForSome, IsFaultOf, IsHelp, IsNumber, IsRequest, Named, TellsPage}
 use Rattle.command_words.specs.Words as spec
-use Rattle.command_words.specs.declared.request.CrewSize.{CrewSize}
+use Rattle.refusal_pages.specs.declared.writing.Page.{Page}
+use Rattle.command_words.specs.declared.crew_size.CrewSize.{CrewSize}
 use Rattle.command_words.specs.declared.request.Request.{Request}
 use Rattle.command_words.specs.declared.unasked.Unasked.{Unasked}
 use Rattle.clap.specs.declared.error.kind.ErrorKind.{ErrorKind}
@@ -36,6 +37,14 @@ IsNoRequest name rows = (request : Request) → IsRequest name rows request → 
 -- the values name no description with its stimulus
 abbrev pub NamesNoFiles : List Row → Type 0
 NamesNoFiles rows = (file stimulus : Text) → AreFiles rows file stimulus → ⊥
+
+-- nor with a trace
+abbrev pub NamesNoTrace : List Row → Type 0
+NamesNoTrace rows = (file stimulus trace : Text) → AreTraced rows file stimulus trace → ⊥
+
+-- they have the number of no refusal
+abbrev pub TellsNoPage : List Row → Type 0
+TellsNoPage rows = (page : Page) → TellsPage rows page → ⊥
 
 -- the values tell of this crew
 abbrev pub TellsCrew : List Row → CrewSize → Type 0

@@ -1,7 +1,7 @@
 use Rattle.std.proofs.Common.{codes, refl}
 use Rattle.clap.specs.Words.{found_of}
 use Rattle.command_words.specs.walking.Building.{rows_in}
-use Rattle.command_words.proofs.WordLemmas.{text_of_row, no_check, no_text}
+use Rattle.command_words.proofs.WordLemmas.{no_check, no_text, text_of_row}
 use Rattle.command_words.proofs.asked.check_asked.Goals as goal
 
 pub returns : goal.returns
@@ -9,6 +9,7 @@ returns c = (
   refl,
   text_of_row (found_of c.args.words.now) (codes "FILE") c.get_str.result c.in_ok-file.file c.get_str.ensures
       c.in_ok-file.was,
+  c.flag_asked-explain.ensures,
 )
 
 pub returns-in_err-file : goal.returns-in_err-file

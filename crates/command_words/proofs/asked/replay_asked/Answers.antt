@@ -1,20 +1,10 @@
-use Rattle.std.proofs.Common.{codes, inl, inr, refl}
-use Rattle.clap.specs.Words.{found_of}
+use Rattle.std.proofs.Common.{refl}
 use Rattle.command_words.specs.walking.Building.{rows_in}
-use Rattle.command_words.proofs.WordLemmas.{text_of_row, no_replay, no_text}
+use Rattle.command_words.proofs.WordLemmas.{no_replay}
 use Rattle.command_words.proofs.asked.replay_asked.Goals as goal
 
 pub returns : goal.returns
-returns c = (
-  refl,
-  c.in_ok-file.ensures,
-  text_of_row (found_of c.args.words.now) (codes "TRACE") c.get_str.result c.in_ok-trace.trace c.get_str.ensures
-      c.in_ok-trace.was,
-)
+returns c = (refl, c.in_ok-file.ensures, c.flag_asked-explain.ensures)
 
 pub returns-in_err-file : goal.returns-in_err-file
-returns-in_err-file c = rw c.from_residual.ensures (no_replay (rows_in c.args.words.now) (inl c.in_err-file.ensures))
-
-pub returns-in_err-trace : goal.returns-in_err-trace
-returns-in_err-trace c = rw c.from_residual-in_err-trace.ensures (no_replay (rows_in c.args.words.now)
-    (inr (no_text (found_of c.args.words.now) (codes "TRACE") c.get_str.result c.get_str.ensures c.in_err-trace.was)))
+returns-in_err-file c = rw c.from_residual.ensures (no_replay (rows_in c.args.words.now) c.in_err-file.ensures)

@@ -5,4 +5,5 @@ use Rattle.command_words.proofs.commands.check.Goals as goal
 
 pub returns : goal.returns
 returns c =
-    c.with_argument.ensures (new_app (codes "check")) (spec.word (codes "FILE")) c.begun-command.ensures c.word.ensures
+    c.explaining.ensures (spec.over_file (new_app (codes "check")))
+    (c.over_file.ensures (new_app (codes "check")) c.begun-command.ensures)

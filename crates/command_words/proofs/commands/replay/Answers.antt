@@ -5,5 +5,5 @@ use Rattle.command_words.proofs.commands.replay.Goals as goal
 
 pub returns : goal.returns
 returns c =
-    c.with_argument.ensures (spec.over_ports (new_app (codes "replay"))) (spec.word (codes "TRACE"))
-    (c.over_ports.ensures (new_app (codes "replay")) c.begun-command.ensures) c.word.ensures
+    c.explaining.ensures (spec.over_trace (new_app (codes "replay")))
+    (c.over_trace.ensures (new_app (codes "replay")) c.begun-command.ensures)

@@ -6,10 +6,12 @@ use Rattle.command_words.proofs.commands.work.Goals as goal
 
 pub returns : goal.returns
 returns c =
-    c.with_argument.ensures
-    (with_rule (spec.over_ports (new_app (codes "work"))) (spec.number (codes "workers") (Signed (pos 1) (pos 16))))
-    (spec.number (codes "turns") (Unsigned 0 1000000))
-    (c.with_argument-hired.ensures (spec.over_ports (new_app (codes "work")))
+    let hired = c.with_argument-hired.ensures (spec.over_ports (new_app (codes "work")))
     (spec.number (codes "workers") (Signed (pos 1) (pos 16)))
-    (c.over_ports.ensures (new_app (codes "work")) c.begun-command.ensures) c.workers.ensures)
-    c.turns.ensures
+    (c.over_ports.ensures (new_app (codes "work")) c.begun-command.ensures) c.workers.ensures in
+    c.explaining.ensures
+    (with_rule (with_rule (spec.over_ports (new_app (codes "work")))
+    (spec.number (codes "workers") (Signed (pos 1) (pos 16)))) (spec.number (codes "turns") (Unsigned 0 1000000)))
+    (c.with_argument.ensures (with_rule (spec.over_ports (new_app (codes "work")))
+    (spec.number (codes "workers") (Signed (pos 1) (pos 16)))) (spec.number (codes "turns") (Unsigned 0 1000000)) hired
+    c.turns.ensures)
