@@ -1,9 +1,10 @@
 -- How a run that serves no request ends.
 use Rattle.std.proofs.Common.{◌≡◌, inl, inr, ℕ, List, [], Ok, Err, ap, subst, refl}
+use Rattle.std.proofs.lemmas.List.{append-nil}
 use Rattle.debug_session.specs.declared.fault.Fault.{Fault}
 use Rattle.command_line.specs.FaultLine.{fault_line}
 use Rattle.command_line.specs.Running.{Explains, TellsHelp}
-use Rattle.command_line.specs.Serving.{status_of, told_text}
+use Rattle.command_line.specs.Serving.{status_of, told_text, told_with}
 use Rattle.command_line.specs.Used.{Outcome, Used, IsUntouched, Tells}
 use Rattle.command_line.specs.walking.Unasked.{HasText, TellsUnasked}
 use Rattle.command_words.specs.Words.{AreMistaken, AskForHelp, AskForSome, AskNothing}
@@ -33,3 +34,9 @@ pub nothing-has-text : (words : List (List ℕ)) (unasked : Unasked) → AskNoth
 nothing-has-text words Unasked.Memory nothing = tt
 nothing-has-text words (Unasked.Help text) nothing = nothing.2
 nothing-has-text words (Unasked.Mistake text) nothing = nothing.2
+
+-- a refusal without words is its line alone
+pub told-alone : {E : Type 0} (done : Outcome) (err : Used E) (ended : Outcome) → Tells (told_with done []) err ended
+    → Tells (told_text done) err ended
+told-alone (Ok tt) err ended told = told
+told-alone (Err fault) err ended told = subst (λ (t : List ℕ). Tells t err ended) (append-nil (fault_line fault)) told

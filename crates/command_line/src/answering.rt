@@ -37,7 +37,8 @@ pub fn read_source<F: Files>(
         (NotHad (F.holds files.now file.now)) }
 {
     texts.last = Part::Source;
-    texts.source = files.read(alloc, file)?;
+    let source = files.read(alloc, file)?;
+    texts.source = source;
     Ok(())
 }
 
@@ -55,7 +56,8 @@ pub fn read_texts<F: Files>(
 {
     read_source(alloc, files, file, texts)?;
     texts.last = Part::Stimulus;
-    texts.values = files.read(alloc, stimulus)?;
+    let values = files.read(alloc, stimulus)?;
+    texts.values = values;
     Ok(())
 }
 
@@ -70,7 +72,8 @@ pub fn read_trace<F: Files>(
         (NotHad (F.holds files.now trace.now)) }
 {
     texts.last = Part::Trace;
-    texts.trace = files.read(alloc, trace)?;
+    let steps = files.read(alloc, trace)?;
+    texts.trace = steps;
     Ok(())
 }
 

@@ -13,6 +13,16 @@ use questions::{Why, outline_text, waiting_text, why_text};
 use refusal_pages::{Page, page_text};
 use std::alloc::Global;
 
+/// A question why about the files of these names. `subject` is the name of a variable, or the ticket of a step.
+#[derive(Clone, Copy)]
+pub struct Question<'a> {
+    pub file: &'a str,
+    pub stimulus: &'a str,
+    pub trace: &'a str,
+    pub subject: &'a str,
+    pub all: bool,
+}
+
 /// The page of a refusal.
 pub fn show_page(alloc: Global, page: &Page) -> Result<Answer, Fault>
     ensures { MatchResult result (λ _. Unit {0}) PageRefuses }

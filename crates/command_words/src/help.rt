@@ -184,7 +184,7 @@ Example:
 
 It answers:
   branches 3
-    0 /0 line 6
+    0 /0 line 7
       receives i line 7
       sends o line 8
     1 /1 environment
