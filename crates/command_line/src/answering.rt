@@ -8,6 +8,7 @@ ghost use Rattle.command_line.specs.walking.Answers.{answer_text};
 
 use crate::files::Files;
 use crate::texts::{Part, Texts};
+use command_words::CrewSize;
 use debug_session::{Fault, accept, replay};
 use locked_execution::{Crew, Tally};
 use sharing_check::Checked;
@@ -126,21 +127,25 @@ pub fn replay_files<F: Files>(
     Ok(Answer::Lines(events))
 }
 
-/// What the workers of this crew do over the description in `file`.
+/// What the workers of a crew of this size do over the description in `file`.
 pub fn work_files<W: Threads + Wait + Sync, F: Files>(
     rt: &W,
     alloc: Global,
     files: &F,
     file: &str,
     stimulus: &str,
-    crew: Crew,
+    size: CrewSize,
     texts: &mut Texts,
 ) -> Result<Answer, Fault>
     ensures { MatchResult result
-        (λ answer. WorkGives (F.holds files.now) file.now stimulus.now crew.workers crew.turns (answer_text answer))
+        (λ answer. WorkGives (F.holds files.now) file.now stimulus.now size.workers size.turns (answer_text answer))
         (WorkRefuses (F.holds files.now) file.now stimulus.now) }
 {
     let checked = read_system(alloc, files, file, stimulus, texts)?;
+    let crew = Crew {
+        workers: size.workers,
+        turns: size.turns,
+    };
     let done = crew.work(rt, alloc, checked)?;
     Ok(Answer::Worked(done))
 }

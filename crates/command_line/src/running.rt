@@ -14,9 +14,8 @@ use crate::explaining::words_behind;
 use crate::files::Files;
 use crate::telling::{tell, write_refusal};
 use crate::texts::{Part, Texts};
-use command_words::{CrewSize, Request, Unasked, requested};
+use command_words::{Request, Unasked, requested};
 use debug_session::{Counted, Fault, debug_keeping, write_out};
-use locked_execution::Crew;
 use std::alloc::Global;
 use std::convert::AsStr;
 use std::io::{BufReader, Read, Write};
@@ -47,16 +46,6 @@ fn debug_files<F: Files, I: Read, O: Write>(
         texts.values.as_slice(),
         line,
     )
-}
-
-/// The crew of this size.
-fn crew_of(size: CrewSize) -> Crew
-    ensures { (result.workers ≡ size.workers) × (result.turns ≡ size.turns) }
-{
-    Crew {
-        workers: size.workers,
-        turns: size.turns,
-    }
 }
 
 /// Does what is asked for with the files that it names. What was read of them is left in `texts`, and in `said` the last line
@@ -94,7 +83,7 @@ fn perform<W: AllocGlobal + Threads + Wait + Sync, F: Files, I: Read, O: Write>(
             crew,
             ..
         } => tell(
-            work_files(rt, alloc, files, file, stimulus, crew_of(crew), texts),
+            work_files(rt, alloc, files, file, stimulus, crew, texts),
             out,
         ),
         Request::Explain { page } => tell(show_page(alloc, page), out),

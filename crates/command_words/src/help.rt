@@ -204,9 +204,9 @@ It answers:
 pub const WAITING: &str = "Tell who waits behind a trace, on what and for whom";
 
 pub const WAITING_LONG: &str = "\
-Take the steps of a trace again, and tell who waits behind them: `done` where nothing
-is left to do but for the environment, `stuck` where something waits and no step can
-be taken, `runs` where one can. Then comes each end of a channel that waits, with its
+Take the steps of a trace again, and tell who waits behind them: `goes on` where a
+step can be taken, `done` where none can and nothing waits but for the environment,
+`stuck` where something else does. Then comes each end of a channel that waits, with its
 place, its line, and the place behind which the end that it waits for stands. Where
 each of some waits for the next, they are told as a ring. A refusal is told in words
 too. A trace is what the script line `trace` answers.

@@ -1,7 +1,12 @@
-use Rattle.std.proofs.Common.{map, inr, refl}
+use Rattle.std.proofs.Common.{map, inl, inr, refl}
 use Rattle.command_line.specs.Used.{used}
 use Rattle.command_line.proofs.RunningLemmas.{nothing-has-text, tells-unasked}
 use Rattle.command_line.proofs.running.run.Goals as goal
+
+pub returns-in-Ok-clause-run : goal.returns-in-Ok-clause-run
+returns-in-Ok-clause-run g c =
+    let served = c.serve.ensures.served in
+    inl (c.in-Ok.request, c.in-Ok.ensures, served.0, c.serve.result.told, served.1, served.2, served.3, served.4, served.5)
 
 pub tell_unasked-requires-in-Err : goal.tell_unasked-requires-in-Err
 tell_unasked-requires-in-Err g c =
