@@ -20,8 +20,8 @@ The lines of a script can be typed by hand just as well, with Ctrl-D behind the
 last. `balsadbg debug --help` explains them.
 
 Where a description is refused, `check --explain` shows the place and says what
-helps. Where a run stands still, `waiting` tells who waits for whom; where a value
-is wrong, `why` tells the steps that led to it.";
+helps. Where a run stands still, `waiting` tells who waits for whom; where a
+value is wrong, `why` tells the steps that led to it.";
 
 pub const FILE: &str = "The description, a text of Balsa";
 
@@ -30,8 +30,8 @@ What comes in at the ports of the last procedure: a line `i = 5 7` for an input
 port, `s * 3` for a sync port, and none for an output port";
 
 pub const EXPLAIN_REFUSAL: &str = "\
-Tell a refusal in words too, behind its line: the place, the line of the text with
-a mark under it, what is wrong there, and what helps";
+Tell a refusal in words too, behind its line: the place, the line of
+the text with a mark under it, what is wrong there, and what helps";
 
 pub const CHECK: &str = "Say whether a description is accepted";
 
@@ -147,9 +147,9 @@ pub const NUMBER: &str = "The number behind `refused`";
 pub const EXPLAIN: &str = "Tell what a refusal means";
 
 pub const EXPLAIN_LONG: &str = "\
-Tell what a refusal means: what stands behind its number, an example, and what it
-mostly comes from. N is the number behind `refused`, of the answer to a script line
-too.
+Tell what a refusal means: what stands behind its number, an example, and what
+it mostly comes from. N is the number behind `refused`, of the answer to a
+script line too.
 
 Example:
   balsadbg explain 15
@@ -163,21 +163,22 @@ no refusal has this number. Refusals have the numbers 1 to 17, 21 to 28, 31 to 3
 41, 42, 51 and 61";
 
 pub const EXPLAIN_REFUSALS: &str = "\
-Refusals. The line `balsadbg: refused N` on standard error ends a run with status 1:
+Refusals. The line `balsadbg: refused N` on standard error ends a run with
+status 1:
 
    1  memory is used up
   42  writing the answers failed
 
-A command line that cannot be read, also one with a number that no refusal has, ends
-with status 2. All else ends with status 0.";
+A command line that cannot be read, also one with a number that no refusal has,
+ends with status 2. All else ends with status 0.";
 
 pub const OUTLINE: &str = "Tell which branches, variables and channels a description has";
 
 pub const OUTLINE_LONG: &str = "\
-Tell which branches, variables and channels a description has, by the numbers and
-names that lines of a script and answers use. Calls are replaced by the bodies of
-their procedures: `2:x` is the x of the second call. A line of a branch says what it
-does on a channel. A refusal is told in words too.
+Tell which branches, variables and channels a description has, by the numbers
+and names that lines of a script and answers use. Calls are replaced by the
+bodies of their procedures: `2:x` is the x of the second call. A line of a
+branch says what it does on a channel. A refusal is told in words too.
 
 Example:
   balsadbg outline examples/one.balsa
@@ -204,16 +205,27 @@ It answers:
 pub const WAITING: &str = "Tell who waits behind a trace, on what and for whom";
 
 pub const WAITING_LONG: &str = "\
-Take the steps of a trace again, and tell who waits behind them: `goes on` where a
-step can be taken, `done` where none can and nothing waits but for the environment,
-`stuck` where something else does. Then comes each end of a channel that waits, with its
-place, its line, and the place behind which the end that it waits for stands. Where
-each of some waits for the next, they are told as a ring. A refusal is told in words
-too. A trace is what the script line `trace` answers.
+Take the steps of a trace again, and tell who waits behind them: `goes on` where
+a step can be taken, `done` where none can and nothing waits but for the
+environment, `stuck` where something else does. Then comes each end of a channel
+that waits, with its place, its line, and the place behind which the end that it
+waits for stands. Where each of some waits for the next, they are told as a
+ring. A refusal is told in words too. A trace is what the script line `trace`
+answers.
 
 Example:
-  balsadbg waiting examples/philosophers.balsa examples/philosophers.stimulus \
-    examples/philosophers.trace";
+  balsadbg waiting examples/mutex.balsa examples/mutex.stimulus \\
+    examples/mutex.trace
+
+It answers:
+  stuck
+  waiting 3
+    /0/0.1.0.1 line 19: is held on lock_a, behind /0/2.1.1
+    /0/1.1.0.0 line 19: syncs on lock_b, behind /0/2.1
+    /0/2.1.1.0 line 9: syncs on unlock_a, behind /0/0.1.0
+  ring 2
+    /0/0.1.0.1
+    /0/2.1.1.0";
 
 pub const SUBJECT: &str = "The name of a variable, or the number of a step of the trace";
 
@@ -223,10 +235,10 @@ pub const WHY: &str = "Tell why a variable has its value, or why a step could be
 
 pub const WHY_LONG: &str = "\
 Take the steps of a trace again, and tell the steps that led to the value of the
-variable X, or to the step with the number X: each with its number, its line, what it
-carried or wrote, what it read, and the steps just before it. Steps count from 1, as
-`replay` lists them. A refusal is told in words too. A trace is what the script line
-`trace` answers.
+variable X, or to the step with the number X: each with its number, its line,
+what it carried or wrote, what it read, and the steps just before it. Steps
+count from 1, as `replay` lists them. A refusal is told in words too. A trace is
+what the script line `trace` answers.
 
 Example:
   balsadbg why examples/one.balsa examples/one.stimulus examples/one.trace x
@@ -265,8 +277,8 @@ macro_rules! refusal_lines {
             $($stimulus,)*
             $($script,)*
             "\n",
-            "`balsadbg explain N` shows an example and the usual causes of one. A command line\n",
-            "that cannot be read ends with status 2. All else ends with status 0."
+            "`balsadbg explain N` shows an example and the usual causes of one. A command\n",
+            "line that cannot be read ends with status 2. All else ends with status 0."
         )
     };
 }
