@@ -1,16 +1,23 @@
 -- How what the libraries give becomes the answer to a request, or the reason why there is none.
-use Rattle.std.proofs.Common.{◌≡◌, inl, inr, ℕ, List, Result, Ok, Err, subst}
+use Rattle.std.proofs.Common.{◌≡◌, inl, inr, ℕ, List, Option, Some, Result, Ok, Err, subst}
 use Rattle.std.specs.Prelude.{IfOk, IfErr, MatchResult}
 use Rattle.system.specs.declared.system.System.{System}
+use Rattle.trace_file.specs.Loading as trace_text
+use Rattle.trace_file.specs.declared.fault.Fault.{Fault as TraceFault}
+use Rattle.trace_file.specs.declared.fault.Fault.TheVariants as not_loaded
+use Rattle.questions.specs.Asking.{IsAnswered}
+use Rattle.questions.specs.declared.why.Why.{Why}
+use Rattle.debug_session.specs.Replaying.{RefusesTrace}
+use Rattle.debug_session.specs.Wrapping.{of_trace}
 use Rattle.debug_session.specs.Accepting.{AcceptedAs, IsRefused}
 use Rattle.debug_session.specs.Transcript.{Debugged}
 use Rattle.debug_session.specs.declared.fault.Fault.{Fault}
-use Rattle.command_line.specs.Answering.{Holding, TextsHad, FilesGive, FilesRefuse}
+use Rattle.command_line.specs.Answering.{Holding, TextsHad, FilesGive, FilesRefuse, WhyGives, WhyRefuses}
 use Rattle.command_line.specs.Serving.{Answers, DebugsFiles}
 use Rattle.command_line.specs.Used.{Outcome, Used, IsUntouched, ReaderBlamed, WriterBlamed, Tells}
 use Rattle.command_line.specs.Used.{bytes_before, bytes_behind}
 use Rattle.command_line.specs.declared.answering.Answer.{Answer}
-use Rattle.command_line.specs.walking.Answers.{answer_text}
+use Rattle.command_line.specs.walking.Answers.{AnswersWhyOf, answer_text}
 
 -- both texts were had, and make a system or are refused
 pub texts-accepted : (holds : Holding) (file stimulus source values slice text : List ℕ) (r : Result System Fault)
@@ -59,3 +66,22 @@ pub answered : {O : Type 0} (gives : List ℕ → Type 0) (refuses : Fault → T
     → Answers gives refuses out done
 answered gives refuses (Ok answer) out done given told = inr (answer_text answer, given, told)
 answered gives refuses (Err fault) out done given told = inl (fault, given, told.0, told.1)
+
+-- a trace that is refused is so for the fault that its fault becomes
+pub trace-refused : (system : System) (text : List ℕ) (fault : TraceFault) → trace_text.IsRefused system text fault
+    → RefusesTrace system text (of_trace fault)
+trace-refused system text not_loaded.Memory h = tt
+trace-refused system text other h = ((λ e. cc), h)
+
+-- the answer to the question why, or the reason why there is none
+pub why-answered : (holds : Holding) (file stimulus trace subject : List ℕ) (system : System) (text : List ℕ) (why : Why)
+    (made : Result Answer Fault) → FilesGive holds file stimulus system → holds trace (Some text)
+    → IsAnswered system text subject why → AnswersWhyOf why made
+    → MatchResult made (λ _. WhyGives holds file stimulus trace subject) (WhyRefuses holds file stimulus trace subject)
+why-answered holds file stimulus trace subject system text (Why.Told lines) (Ok answer) files held answered of =
+    (system, text, answered.0, answered.2.0, files, held, answered.1, answered.2.1)
+why-answered holds file stimulus trace subject system text (Why.Told lines) (Err fault) files held answered of = absurd of
+why-answered holds file stimulus trace subject system text (Why.Refused reason words) (Ok answer) files held answered of =
+    absurd of
+why-answered holds file stimulus trace subject system text (Why.Refused reason words) (Err fault) files held answered of =
+    inr (system, text, answered.0, reason, files, held, answered.1, answered.2, of)

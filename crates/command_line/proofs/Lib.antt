@@ -2,5 +2,3 @@ pub mod AnsweringLemmas
 pub mod Handing
 pub mod RunningLemmas
 pub mod TellingLemmas
-pub mod WordExamples
-pub mod WordLemmas

@@ -1,12 +1,17 @@
 -- What the files of a request give: an answer, or a reason why there is none.
 use Rattle.std.specs.Prelude.{◌≡◌, ◌⊎◌, ◌++◌, [], ℕ, List, Option, Some, None, codes}
 use Rattle.system.specs.declared.system.System.{System}
+use Rattle.runs.specs.declared.command.Refusal.{Refusal}
+use Rattle.runs.specs.declared.event.Event.{Event}
+use Rattle.trace_file.specs.Loading.{ticketed}
+use Rattle.trace_file.specs.TraceText.{StandsFor}
+use Rattle.questions.specs.Asking.{IsAbout, IsAboutNone, IsTraced}
 use Rattle.locked_execution.specs.Working.{Worked}
 use Rattle.debug_session.specs.Accepting.{AcceptedAs, IsRefused}
 use Rattle.debug_session.specs.Replaying.{Replays, RefusesTrace}
 use Rattle.debug_session.specs.ReplyText.{ending}
 use Rattle.debug_session.specs.declared.fault.Fault.{Fault}
-use Rattle.debug_session.specs.declared.fault.Fault.TheVariants.{Memory, ReadFailed}
+use Rattle.debug_session.specs.declared.fault.Fault.TheVariants.{Memory, ReadFailed, Refused}
 use Rattle.command_line.specs.Working.{work_text}
 
 -- what files hold: whether a name may hold these bytes, or nothing that can be read
@@ -76,3 +81,31 @@ abbrev pub WorkRefuses : Holding → List ℕ → List ℕ → Fault → Type 0
 WorkRefuses holds file stimulus fault =
     FilesRefuse holds file stimulus fault
     ⊎ ((system : System) × FilesGive holds file stimulus system × (fault ≡ Memory))
+
+-- a page of a refusal is not shown: there is no memory for it
+abbrev pub PageRefuses : Fault → Type 0
+PageRefuses fault = fault ≡ Memory
+
+-- `outline` on the file of this name gives an answer: where `check` does
+abbrev pub OutlineGives : Holding → List ℕ → Type 0
+OutlineGives holds file = (source : List ℕ) × (system : System) × holds file (Some source) × AcceptedAs source [] system
+
+-- `waiting` on the files of these names gives an answer: where `replay` does
+abbrev pub WaitingGives : Holding → List ℕ → List ℕ → List ℕ → Type 0
+WaitingGives holds file stimulus trace =
+    (system : System) × (text : List ℕ) × FilesGive holds file stimulus system × holds trace (Some text)
+    × IsTraced system text
+
+-- `why` does: the subject is the name of a variable that a step of the trace wrote, or the ticket of one
+abbrev pub WhyGives : Holding → List ℕ → List ℕ → List ℕ → List ℕ → Type 0
+WhyGives holds file stimulus trace subject =
+    (system : System) × (text : List ℕ) × (h : List Event) × (t : ℕ) × FilesGive holds file stimulus system
+    × holds trace (Some text) × StandsFor system text h × IsAbout system (ticketed 1 h) subject t
+
+-- it gives none: `replay` does not, or else the subject is not that of a step, for this reason
+abbrev pub WhyRefuses : Holding → List ℕ → List ℕ → List ℕ → List ℕ → Fault → Type 0
+WhyRefuses holds file stimulus trace subject fault =
+    ReplayRefuses holds file stimulus trace fault
+    ⊎ ((system : System) × (text : List ℕ) × (h : List Event) × (reason : Refusal)
+    × FilesGive holds file stimulus system × holds trace (Some text) × StandsFor system text h
+    × IsAboutNone system (ticketed 1 h) subject reason × (fault ≡ Refused reason))

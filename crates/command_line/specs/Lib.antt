@@ -3,6 +3,5 @@ pub mod FaultLine
 pub mod Running
 pub mod Serving
 pub mod Used
-pub mod Words
 pub mod Working
 pub mod walking

@@ -1,13 +1,14 @@
 -- What a run does for a request: what the libraries give for the bytes of the files that it names.
-use Rattle.std.specs.Prelude.{◌≡◌, ◌⊎◌, ℕ, List, [], Ok, Err}
+use Rattle.std.specs.Prelude.{◌≡◌, ◌⊎◌, ℕ, List, ◌++◌, [], Ok, Err}
 use Rattle.debug_session.specs.Transcript.{Debugged}
 use Rattle.debug_session.specs.declared.fault.Fault.{Fault}
 use Rattle.command_line.specs.Answering.{Holding, TextsHad, TextsNotHad, CheckGives, CheckRefuses}
 use Rattle.command_line.specs.Answering.{ReplayGives, ReplayRefuses, WorkGives, WorkRefuses}
+use Rattle.command_line.specs.Answering.{OutlineGives, PageRefuses, WaitingGives, WhyGives, WhyRefuses}
 use Rattle.command_line.specs.FaultLine.{fault_line}
 use Rattle.command_line.specs.Used.{Outcome, Used, IsUntouched, ReaderBlamed, WriterBlamed, Tells}
 use Rattle.command_line.specs.Used.{bytes_before, bytes_behind}
-use Rattle.command_line.specs.declared.request.Request.{Request}
+use Rattle.command_words.specs.declared.request.Request.{Request}
 
 -- the status of a run that ended so
 abbrev pub status_of : Outcome → ℕ
@@ -18,6 +19,11 @@ status_of (Err fault) = 1
 abbrev pub told_text : Outcome → List ℕ
 told_text (Ok done) = []
 told_text (Err fault) = fault_line fault
+
+-- the same with these words behind the line of a refusal
+abbrev pub told_with : Outcome → List ℕ → List ℕ
+told_with (Ok done) words = []
+told_with (Err fault) words = fault_line fault ++ words
 
 -- there is no answer and nothing is written, or there is one and it is out, or a beginning of it
 abbrev pub Answers : {O : Type 0} → (List ℕ → Type 0) → (Fault → Type 0) → Used O → Outcome → Type 0
@@ -37,14 +43,27 @@ DebugsFiles holds file stimulus reader out done =
 
 -- what the run does for the request
 abbrev pub Serves : {I O : Type 0} → Holding → Request → Used I → Used O → Outcome → Type 0
-Serves holds (Request.Check file) reader out done =
+Serves holds (Request.Check file explain) reader out done =
     IsUntouched reader × Answers (CheckGives holds file.now) (CheckRefuses holds file.now) out done
-Serves holds (Request.Debug file stimulus) reader out done = DebugsFiles holds file.now stimulus.now reader out done
-Serves holds (Request.Replay file stimulus trace) reader out done =
+Serves holds (Request.Debug file stimulus explain) reader out done =
+    DebugsFiles holds file.now stimulus.now reader out done
+Serves holds (Request.Replay file stimulus trace explain) reader out done =
     IsUntouched reader
     × Answers (ReplayGives holds file.now stimulus.now trace.now) (ReplayRefuses holds file.now stimulus.now trace.now)
     out done
-Serves holds (Request.Work file stimulus crew) reader out done =
+Serves holds (Request.Work file stimulus crew explain) reader out done =
     IsUntouched reader
     × Answers (WorkGives holds file.now stimulus.now crew.workers crew.turns) (WorkRefuses holds file.now stimulus.now)
     out done
+Serves holds (Request.Explain page) reader out done =
+    IsUntouched reader × Answers (λ text. Unit {0}) PageRefuses out done
+Serves holds (Request.Outline file) reader out done =
+    IsUntouched reader × Answers (λ text. OutlineGives holds file.now) (CheckRefuses holds file.now) out done
+Serves holds (Request.Waiting file stimulus trace) reader out done =
+    IsUntouched reader
+    × Answers (λ text. WaitingGives holds file.now stimulus.now trace.now)
+    (ReplayRefuses holds file.now stimulus.now trace.now) out done
+Serves holds (Request.Why file stimulus trace subject all) reader out done =
+    IsUntouched reader
+    × Answers (λ text. WhyGives holds file.now stimulus.now trace.now subject.now)
+    (WhyRefuses holds file.now stimulus.now trace.now subject.now) out done

@@ -1,12 +1,14 @@
 //! What the files of a request give, before anything of it is told.
 
-ghost use Rattle.std.specs.Prelude.{MatchResult};
-ghost use Rattle.command_line.specs.Answering.{CheckGives, CheckRefuses, FilesGive, FilesRefuse};
+ghost use Rattle.std.specs.Prelude.{Some, MatchResult};
+ghost use Rattle.command_line.specs.Answering.{CheckGives, CheckRefuses, FilesGive, FilesRefuse, NotHad};
 ghost use Rattle.command_line.specs.Answering.{ReplayGives, ReplayRefuses, TextsHad, TextsNotHad};
 ghost use Rattle.command_line.specs.Answering.{WorkGives, WorkRefuses};
 ghost use Rattle.command_line.specs.walking.Answers.{answer_text};
 
 use crate::files::Files;
+use crate::texts::{Part, Texts};
+use command_words::CrewSize;
 use debug_session::{Fault, accept, replay};
 use locked_execution::{Crew, Tally};
 use sharing_check::Checked;
@@ -19,56 +21,90 @@ use std::thread::Threads;
 pub enum Answer {
     /// The description is accepted.
     Accepted,
-    /// These lines tell the events of a trace.
-    Events(Vec<u8>),
+    /// These lines.
+    Lines(Vec<u8>),
     /// A crew has done so much.
     Worked(Tally),
 }
 
-/// The texts of a description and of its stimulus.
-#[derive(Drop)]
-pub struct Texts {
-    pub source: Vec<u8>,
-    pub values: Vec<u8>,
+/// Keeps what the description of this name holds.
+pub fn read_source<F: Files>(
+    alloc: Global,
+    files: &F,
+    file: &str,
+    texts: &mut Texts,
+) -> Result<(), Fault>
+    ensures { MatchResult result (λ _. F.holds files.now file.now (Some texts.new.source.items))
+        (NotHad (F.holds files.now file.now)) }
+{
+    texts.last = Part::Source;
+    let source = files.read(alloc, file)?;
+    texts.source = source;
+    Ok(())
 }
 
-/// What the files of these names hold, of which that of the stimulus is read behind that of the source.
+/// Keeps what the files of these names hold, of which that of the stimulus is read behind that of the source.
 pub fn read_texts<F: Files>(
     alloc: Global,
     files: &F,
     file: &str,
     stimulus: &str,
-) -> Result<Texts, Fault>
+    texts: &mut Texts,
+) -> Result<(), Fault>
     ensures { MatchResult result
-        (λ texts. TextsHad (F.holds files.now) file.now stimulus.now texts.source.items texts.values.items)
+        (λ _. TextsHad (F.holds files.now) file.now stimulus.now texts.new.source.items texts.new.values.items)
         (TextsNotHad (F.holds files.now) file.now stimulus.now) }
 {
-    let source = files.read(alloc, file)?;
+    read_source(alloc, files, file, texts)?;
+    texts.last = Part::Stimulus;
     let values = files.read(alloc, stimulus)?;
-    Ok(Texts { source, values })
+    texts.values = values;
+    Ok(())
+}
+
+/// Keeps what the trace of this name holds.
+pub fn read_trace<F: Files>(
+    alloc: Global,
+    files: &F,
+    trace: &str,
+    texts: &mut Texts,
+) -> Result<(), Fault>
+    ensures { MatchResult result (λ _. F.holds files.now trace.now (Some texts.new.trace.items))
+        (NotHad (F.holds files.now trace.now)) }
+{
+    texts.last = Part::Trace;
+    let steps = files.read(alloc, trace)?;
+    texts.trace = steps;
+    Ok(())
 }
 
 /// The system that the files of these names describe.
-fn read_system<F: Files>(
+pub fn read_system<F: Files>(
     alloc: Global,
     files: &F,
     file: &str,
     stimulus: &str,
+    texts: &mut Texts,
 ) -> Result<Checked, Fault>
     ensures { MatchResult result (FilesGive (F.holds files.now) file.now stimulus.now)
         (FilesRefuse (F.holds files.now) file.now stimulus.now) }
 {
-    let texts = read_texts(alloc, files, file, stimulus)?;
+    read_texts(alloc, files, file, stimulus, texts)?;
     accept(alloc, texts.source.as_slice(), texts.values.as_slice())
 }
 
 /// Says whether the description in `file` is accepted.
-pub fn check<F: Files>(alloc: Global, files: &F, file: &str) -> Result<Answer, Fault>
+pub fn check<F: Files>(
+    alloc: Global,
+    files: &F,
+    file: &str,
+    texts: &mut Texts,
+) -> Result<Answer, Fault>
     ensures { MatchResult result (λ answer. CheckGives (F.holds files.now) file.now (answer_text answer))
         (CheckRefuses (F.holds files.now) file.now) }
 {
-    let source = files.read(alloc, file)?;
-    accept(alloc, source.as_slice(), b"")?;
+    read_source(alloc, files, file, texts)?;
+    accept(alloc, texts.source.as_slice(), b"")?;
     Ok(Answer::Accepted)
 }
 
@@ -79,31 +115,37 @@ pub fn replay_files<F: Files>(
     file: &str,
     stimulus: &str,
     trace: &str,
+    texts: &mut Texts,
 ) -> Result<Answer, Fault>
     ensures { MatchResult result
         (λ answer. ReplayGives (F.holds files.now) file.now stimulus.now trace.now (answer_text answer))
         (ReplayRefuses (F.holds files.now) file.now stimulus.now trace.now) }
 {
-    let checked = read_system(alloc, files, file, stimulus)?;
-    let steps = files.read(alloc, trace)?;
-    let events = replay(alloc, checked, steps.as_slice())?;
-    Ok(Answer::Events(events))
+    let checked = read_system(alloc, files, file, stimulus, texts)?;
+    read_trace(alloc, files, trace, texts)?;
+    let events = replay(alloc, checked, texts.trace.as_slice())?;
+    Ok(Answer::Lines(events))
 }
 
-/// What the workers of this crew do over the description in `file`.
+/// What the workers of a crew of this size do over the description in `file`.
 pub fn work_files<W: Threads + Wait + Sync, F: Files>(
     rt: &W,
     alloc: Global,
     files: &F,
     file: &str,
     stimulus: &str,
-    crew: Crew,
+    size: CrewSize,
+    texts: &mut Texts,
 ) -> Result<Answer, Fault>
     ensures { MatchResult result
-        (λ answer. WorkGives (F.holds files.now) file.now stimulus.now crew.workers crew.turns (answer_text answer))
+        (λ answer. WorkGives (F.holds files.now) file.now stimulus.now size.workers size.turns (answer_text answer))
         (WorkRefuses (F.holds files.now) file.now stimulus.now) }
 {
-    let checked = read_system(alloc, files, file, stimulus)?;
+    let checked = read_system(alloc, files, file, stimulus, texts)?;
+    let crew = Crew {
+        workers: size.workers,
+        turns: size.turns,
+    };
     let done = crew.work(rt, alloc, checked)?;
     Ok(Answer::Worked(done))
 }

@@ -2,11 +2,12 @@
 #![tactic(auto)]
 
 mod answering;
+mod asking;
+mod explaining;
 mod files;
-mod help;
-mod request;
 mod running;
 mod telling;
+mod texts;
 
 use debug_session::{Counted, Fault};
 use files::Disk;

@@ -1,28 +1,28 @@
 //! One run of the program, over whatever reads and writes.
 
-ghost use Rattle.std.specs.Prelude.{◌≡◌, ◌≢◌, ◌≤◌, ◌⊎◌, [], map, IfOk};
+ghost use Rattle.std.specs.Prelude.{◌≡◌, ◌≢◌, ◌≤◌, ◌⊎◌, ℕ, List, [], map, false};
 ghost use Rattle.std.specs.Io.Buffered.{reader_remaining};
-ghost use Rattle.clap.specs.Words.{kind_of};
-ghost use Rattle.clap.specs.declared.error.kind.ErrorKind.TheVariants.{OutOfMemory};
+ghost use Rattle.command_words.specs.Words.{AreMistaken, AskFor, AskForHelp, AskForSome, explains};
 ghost use Rattle.command_line.specs.Running.{TellsSome, TellsHelp, Explains, ServesAsked};
-ghost use Rattle.command_line.specs.Serving.{status_of, told_text, DebugsFiles, Serves};
+ghost use Rattle.command_line.specs.Serving.{status_of, told_with, DebugsFiles, Serves};
 ghost use Rattle.command_line.specs.Used.{Outcome, Tells, used};
-ghost use Rattle.command_line.specs.Words.{AreMistaken, AskFor, AskForHelp, AskForSome, IsHelp};
+ghost use Rattle.command_line.specs.walking.Unasked.{HasText, TellsUnasked};
 
 use crate::answering::{check, read_texts, replay_files, work_files};
+use crate::asking::{Question, outline_file, show_page, waiting_files, why_files};
+use crate::explaining::words_behind;
 use crate::files::Files;
-use crate::request::{Request, requested};
-use crate::telling::{tell, write_fault};
-use clap::Error;
-use clap::error::ErrorKind;
-use debug_session::{Counted, Fault, debug, write_out};
-use std::alloc::{AllocError, Global};
+use crate::telling::{tell, write_refusal};
+use crate::texts::{Part, Texts};
+use command_words::{Request, Unasked, requested};
+use debug_session::{Counted, Fault, debug_keeping, write_out};
+use std::alloc::Global;
 use std::convert::AsStr;
 use std::io::{BufReader, Read, Write};
 use std::sync::Wait;
 use std::thread::Threads;
 
-/// Answers a script over the description in `file`.
+/// Answers a script over the description in `file`. `line` has the last line of it behind.
 fn debug_files<F: Files, I: Read, O: Write>(
     alloc: Global,
     files: &F,
@@ -30,47 +30,94 @@ fn debug_files<F: Files, I: Read, O: Write>(
     stimulus: &str,
     reader: &mut Counted<BufReader<I>>,
     out: &mut Counted<O>,
+    texts: &mut Texts,
+    line: &mut Vec<u8>,
 ) -> Result<(), Fault>
     ensures { DebugsFiles (F.holds files.now) file.now stimulus.now
         (used (reader_remaining I.remaining) reader.old reader.new) (used O.contents out.old out.new) result }
 {
-    let texts = read_texts(alloc, files, file, stimulus)?;
-    debug(
+    read_texts(alloc, files, file, stimulus, texts)?;
+    texts.last = Part::Script;
+    debug_keeping(
         alloc,
         reader,
         out,
         texts.source.as_slice(),
         texts.values.as_slice(),
+        line,
     )
 }
 
-/// Does what is asked for with the files that it names.
+/// Does what is asked for with the files that it names. What was read of them is left in `texts`, and in `said` the last line
+/// of a script, or the words that tell of a refusal.
 fn perform<W: AllocGlobal + Threads + Wait + Sync, F: Files, I: Read, O: Write>(
     rt: &W,
     request: Request<'_>,
     files: &F,
     reader: &mut Counted<BufReader<I>>,
     out: &mut Counted<O>,
+    texts: &mut Texts,
+    said: &mut Vec<u8>,
 ) -> Result<(), Fault>
     ensures { Serves (F.holds files.now) request.entry
         (used (reader_remaining I.remaining) reader.old reader.new) (used O.contents out.old out.new) result }
 {
     let alloc = rt.alloc();
     match request {
-        Request::Check { file } => tell(check(alloc, files, file), out),
-        Request::Debug { file, stimulus } => {
-            debug_files(alloc, files, file, stimulus, reader, out)
+        Request::Check { file, .. } => tell(check(alloc, files, file, texts), out),
+        Request::Debug { file, stimulus, .. } => {
+            debug_files(alloc, files, file, stimulus, reader, out, texts, said)
         }
         Request::Replay {
             file,
             stimulus,
             trace,
-        } => tell(replay_files(alloc, files, file, stimulus, trace), out),
+            ..
+        } => tell(
+            replay_files(alloc, files, file, stimulus, trace, texts),
+            out,
+        ),
         Request::Work {
             file,
             stimulus,
             crew,
-        } => tell(work_files(rt, alloc, files, file, stimulus, crew), out),
+            ..
+        } => tell(
+            work_files(rt, alloc, files, file, stimulus, crew, texts),
+            out,
+        ),
+        Request::Explain { page } => tell(show_page(alloc, page), out),
+        Request::Outline { file } => tell(outline_file(alloc, files, file, texts), out),
+        Request::Waiting {
+            file,
+            stimulus,
+            trace,
+        } => tell(
+            waiting_files(alloc, files, file, stimulus, trace, texts),
+            out,
+        ),
+        Request::Why {
+            file,
+            stimulus,
+            trace,
+            subject,
+            all,
+        } => tell(
+            why_files(
+                alloc,
+                files,
+                &Question {
+                    file,
+                    stimulus,
+                    trace,
+                    subject,
+                    all,
+                },
+                texts,
+                said,
+            ),
+            out,
+        ),
     }
 }
 
@@ -83,11 +130,11 @@ pub struct Ended {
     pub told: Result<(), Fault>,
 }
 
-/// The end of a run whose work ended so. A refusal is told on `err`.
-fn finish<E: Write>(done: Result<(), Fault>, err: &mut Counted<E>) -> Ended
+/// The end of a run whose work ended so. A refusal is told on `err`, with these words behind.
+fn finish<E: Write>(done: Result<(), Fault>, words: &[u8], err: &mut Counted<E>) -> Ended
     ensures status { result.status ≡ status_of done }
     ensures range { result.status ≤ 1 }
-    ensures told { Tells (told_text done) (used E.contents err.old err.new) result.told }
+    ensures told { Tells (told_with done words.now) (used E.contents err.old err.new) result.told }
     ensures quiet { result.status ≡ 0 → err.new ≡ err.old }
 {
     match done {
@@ -97,12 +144,13 @@ fn finish<E: Write>(done: Result<(), Fault>, err: &mut Counted<E>) -> Ended
         },
         Err(fault) => Ended {
             status: 1,
-            told: write_fault(fault, err),
+            told: write_refusal(fault, words, err),
         },
     }
 }
 
-/// Does what is asked for with the files that it names, and tells on `err` why it ended early.
+/// Does what is asked for with the files that it names, and tells on `err` why it ended early: in a line, and in words where
+/// these are asked for.
 pub fn serve<W: AllocGlobal + Threads + Wait + Sync, F: Files, I: Read, O: Write, E: Write>(
     rt: &W,
     request: Request<'_>,
@@ -111,31 +159,22 @@ pub fn serve<W: AllocGlobal + Threads + Wait + Sync, F: Files, I: Read, O: Write
     out: &mut Counted<O>,
     err: &mut Counted<E>,
 ) -> Ended
-    ensures served { (done : Outcome)
+    ensures served { (done : Outcome) × (words : List ℕ)
         × Serves (F.holds files.now) request.entry
         (used (reader_remaining I.remaining) reader.old reader.new)
         (used O.contents out.old out.new) done
+        × (explains request.entry ≡ false → words ≡ [])
         × (result.status ≡ status_of done)
-        × Tells (told_text done) (used E.contents err.old err.new) result.told }
+        × Tells (told_with done words) (used E.contents err.old err.new) result.told }
     ensures status { result.status ≤ 1 }
     ensures quiet { result.status ≡ 0 → err.new ≡ err.old }
 {
-    let done = perform(rt, request, files, reader, out);
-    finish(done, err)
-}
-
-/// The text of an error that is no want of memory, which is not empty.
-fn text_of(alloc: Global, error: &Error) -> Result<String, AllocError>
-    ensures { IfOk result (λ text. (text.bytes.items ≢ []) × (kind_of error.now ≢ OutOfMemory)) }
-{
-    if error.kind() == ErrorKind::OutOfMemory {
-        return Err(AllocError);
-    }
-    let mut text = error.to_string(alloc)?;
-    if text.is_empty() {
-        text.push('\n')?;
-    }
-    Ok(text)
+    let alloc = rt.alloc();
+    let mut texts = Texts::new(alloc);
+    let mut said = Vec::new(alloc);
+    let done = perform(rt, request, files, reader, out, &mut texts, &mut said);
+    let words = words_behind(alloc, &request, done, &texts, said.as_slice());
+    finish(done, words.as_slice(), err)
 }
 
 /// Tells a mistake in the words, with the status for it.
@@ -156,30 +195,25 @@ fn tell_help<O: Write, E: Write>(text: &[u8], out: &mut Counted<O>, err: &mut Co
     ensures told { TellsHelp result (used O.contents out.old out.new) (used E.contents err.old err.new) }
 {
     let done = write_out(out, text);
-    finish(done, err).status
+    finish(done, b"", err).status
 }
 
 /// Says why there is nothing to do: help was asked for, or the words are mistaken.
-fn explain<O: Write, E: Write>(
-    alloc: Global,
-    error: &Error,
+fn tell_unasked<O: Write, E: Write>(
+    unasked: Unasked,
     out: &mut Counted<O>,
     err: &mut Counted<E>,
 ) -> u8
+    requires { HasText unasked }
     ensures status { result ≤ 2 }
     ensures mistake { result ≡ 2 → out.new ≡ out.old }
     ensures quiet { result ≡ 0 → err.new ≡ err.old }
-    ensures explained { Explains (kind_of error.now ≢ OutOfMemory)
-        (IsHelp (kind_of error.now) → ⊥) (IsHelp (kind_of error.now)) result
-        (used O.contents out.old out.new) (used E.contents err.old err.new) }
+    ensures told { TellsUnasked unasked result (used O.contents out.old out.new) (used E.contents err.old err.new) }
 {
-    let Ok(text) = text_of(alloc, error) else {
-        return finish(Err(Fault::Memory), err).status;
-    };
-    if error.use_stderr() {
-        tell_mistake(text.as_bytes(), err)
-    } else {
-        tell_help(text.as_bytes(), out, err)
+    match unasked {
+        Unasked::Memory => finish(Err(Fault::Memory), b"", err).status,
+        Unasked::Help(text) => tell_help(text.as_bytes(), out, err),
+        Unasked::Mistake(text) => tell_mistake(text.as_bytes(), err),
     }
 }
 
@@ -209,6 +243,6 @@ pub fn run<R: AllocGlobal + Threads + Wait + Sync, S: AsStr, F: Files, I: Read, 
 {
     match requested(rt.alloc(), words) {
         Ok(request) => serve(rt, request, files, reader, out, err).status,
-        Err(error) => explain(rt.alloc(), &error, out, err),
+        Err(unasked) => tell_unasked(unasked, out, err),
     }
 }

@@ -61,7 +61,7 @@ pub fn tell<O: Write>(made: Result<Answer, Fault>, out: &mut Counted<O>) -> Resu
 {
     match made? {
         Answer::Accepted => write_out(out, b"accepted\n"),
-        Answer::Events(lines) => write_out(out, lines.as_slice()),
+        Answer::Lines(lines) => write_out(out, lines.as_slice()),
         Answer::Worked(done) => tell_tally(done, out),
     }
 }
@@ -86,4 +86,16 @@ pub fn write_fault<W: Write>(fault: Fault, out: &mut Counted<W>) -> Result<(), F
     ensures { Tells (fault_line fault) (used W.contents out.old out.new) result }
 {
     write_refused(out, u64::from(fault.number()), fault.field())
+}
+
+/// Writes the line that tells the fault, and words behind it.
+pub fn write_refusal<W: Write>(
+    fault: Fault,
+    words: &[u8],
+    out: &mut Counted<W>,
+) -> Result<(), Fault>
+    ensures { Tells (fault_line fault ++ words.now) (used W.contents out.old out.new) result }
+{
+    write_fault(fault, out)?;
+    write_out(out, words)
 }

@@ -96,7 +96,7 @@ pub static BAD_STIMULUS: Page = Page {
     name: "a bad line of a stimulus",
     line: "\
 this line of STIMULUS, from 1, fits no port, is a second one for a port, or
-has a value that is too great",
+has another form (blanks, line ends)",
     meaning: "\
 The line has another form, names no port of the last procedure, a port of
 another kind or one that was named before, or has a value that is too great
@@ -120,7 +120,8 @@ pub static BAD_COMMAND: Page = Page {
     field: "line",
     name: "a bad line of a script",
     line: "\
-this line of the script, from 1, is none of its lines, or names no variable",
+this line of the script, from 1, is none of its lines, or names no
+variable (a port or a channel is none)",
     meaning: "\
 The line has another form, a number that is too great for what it counts, or
 the name of no variable (a port or a channel is none). The answers before it

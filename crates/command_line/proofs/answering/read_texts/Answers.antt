@@ -2,9 +2,10 @@ use Rattle.std.proofs.Common.{inl, inr}
 use Rattle.command_line.proofs.Handing.{refused}
 use Rattle.command_line.proofs.answering.read_texts.Goals as goal
 
-pub returns-in_err-source : goal.returns-in_err-source
-returns-in_err-source g c =
-    refused c.from_residual.result c.in_err-source.field-0.0 _ _ (inl c.in_err-source.ensures) c.from_residual.ensures.1
+pub returns-in_err-read_source : goal.returns-in_err-read_source
+returns-in_err-read_source g c =
+    refused c.from_residual.result c.in_err-read_source.field-0.0 _ _ (inl c.in_err-read_source.ensures)
+    c.from_residual.ensures.1
 
 pub returns-in_err-values : goal.returns-in_err-values
 returns-in_err-values g c =

@@ -8,11 +8,11 @@ returns-in_err-checked g c =
     refused c.from_residual.result c.in_err-checked.field-0.0 _ _ (inl c.in_err-checked.ensures)
     c.from_residual.ensures.1
 
-pub returns-in_err-steps : goal.returns-in_err-steps
-returns-in_err-steps g c =
-    refused c.from_residual-in_err-steps.result c.in_err-steps.field-0.0 _ _
-    (inr (c.in_ok-checked.checked, c.in_ok-checked.ensures, inl c.in_err-steps.ensures))
-    c.from_residual-in_err-steps.ensures.1
+pub returns-in_err-read_trace : goal.returns-in_err-read_trace
+returns-in_err-read_trace g c =
+    refused c.from_residual-in_err-read_trace.result c.in_err-read_trace.field-0.0 _ _
+    (inr (c.in_ok-checked.checked, c.in_ok-checked.ensures, inl c.in_err-read_trace.ensures))
+    c.from_residual-in_err-read_trace.ensures.1
 
 pub returns-in_err-events : goal.returns-in_err-events
 returns-in_err-events g c =
@@ -21,8 +21,8 @@ returns-in_err-events g c =
       c.in_ok-checked.checked,
       c.in_ok-checked.ensures,
       inr (
-        c.in_ok-steps.steps.items,
-        c.in_ok-steps.ensures,
+        c.read_trace.new.texts.trace.items,
+        c.in_ok-read_trace.ensures,
         subst (λ (t : List ℕ). RefusesTrace c.in_ok-checked.checked t c.in_err-events.field-0.0) c.as_slice.ensures.value
             c.in_err-events.ensures,
       ),
@@ -32,9 +32,9 @@ returns-in_err-events g c =
 pub returns : goal.returns
 returns g c = (
   c.in_ok-checked.checked,
-  c.in_ok-steps.steps.items,
+  c.read_trace.new.texts.trace.items,
   c.in_ok-checked.ensures,
-  c.in_ok-steps.ensures,
+  c.in_ok-read_trace.ensures,
   subst (λ (t : List ℕ). Replays c.in_ok-checked.checked t c.in_ok-events.events.items) c.as_slice.ensures.value
       c.in_ok-events.ensures,
 )

@@ -1,6 +1,0 @@
-use Rattle.std.proofs.Common.{codes}
-use Rattle.clap.specs.Words.{new_app}
-use Rattle.command_line.proofs.request.debug.Goals as goal
-
-pub returns : goal.returns
-returns c = c.over_ports.ensures (new_app (codes "debug")) c.begun-command.ensures

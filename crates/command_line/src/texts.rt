@@ -1,0 +1,32 @@
+use std::alloc::Global;
+
+/// A text that a run reads.
+#[derive(Clone, Copy)]
+pub enum Part {
+    Source,
+    Stimulus,
+    Trace,
+    Script,
+}
+
+/// What a run has read, for who explains its refusal. A text that was not read yet is empty.
+#[derive(Drop)]
+pub struct Texts {
+    pub source: Vec<u8>,
+    pub values: Vec<u8>,
+    pub trace: Vec<u8>,
+    /// The text that was read last, or could not be.
+    pub last: Part,
+}
+
+impl Texts {
+    /// Nothing was read yet.
+    pub fn new(alloc: Global) -> Texts {
+        Texts {
+            source: Vec::new(alloc),
+            values: Vec::new(alloc),
+            trace: Vec::new(alloc),
+            last: Part::Source,
+        }
+    }
+}

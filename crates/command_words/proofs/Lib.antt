@@ -1,0 +1,3 @@
+pub mod Handing
+pub mod WordExamples
+pub mod WordLemmas

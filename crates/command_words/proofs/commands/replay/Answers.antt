@@ -1,0 +1,9 @@
+use Rattle.std.proofs.Common.{codes}
+use Rattle.clap.specs.Words.{new_app}
+use Rattle.command_words.specs.Words as spec
+use Rattle.command_words.proofs.commands.replay.Goals as goal
+
+pub returns : goal.returns
+returns c =
+    c.explaining.ensures (spec.over_trace (new_app (codes "replay")))
+    (c.over_trace.ensures (new_app (codes "replay")) c.begun-command.ensures)

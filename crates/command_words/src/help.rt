@@ -1,0 +1,377 @@
+//! The texts of `--help` and `--version`.
+
+pub const VERSION: &str = "0.1.0";
+
+pub const BALSADBG: &str = "\
+A debugger for Balsa that takes back any step, in any order, as long as nothing
+that depends on it is left";
+
+pub const BALSADBG_LONG: &str = "\
+A debugger for Balsa that takes back any step, in any order, as long as nothing
+that depends on it is left.
+
+Begin with a circuit that takes a value at the port i and gives it on at the
+port o, what comes in at its ports, and a script of steps forth and back:
+
+  balsadbg check examples/one.balsa
+  balsadbg debug examples/one.balsa examples/one.stimulus < examples/one.script
+
+The lines of a script can be typed by hand just as well, with Ctrl-D behind the
+last. `balsadbg debug --help` explains them.
+
+Where a description is refused, `check --explain` shows the place and says what
+helps. Where a run stands still, `waiting` tells who waits for whom; where a
+value is wrong, `why` tells the steps that led to it.";
+
+pub const FILE: &str = "The description, a text of Balsa";
+
+pub const STIMULUS: &str = "\
+What comes in at the ports of the last procedure: a line `i = 5 7` for an input
+port, `s * 3` for a sync port, and none for an output port";
+
+pub const EXPLAIN_REFUSAL: &str = "\
+Tell a refusal in words too, behind its line: the place, the line of
+the text with a mark under it, what is wrong there, and what helps";
+
+pub const CHECK: &str = "Say whether a description is accepted";
+
+pub const CHECK_LONG: &str = "\
+Say whether a description is accepted. If it is, the answer is `accepted`. If not,
+standard error gets the line `balsadbg: refused N ..` with one of the numbers
+below and, where a byte of FILE is meant, that byte.
+
+Example:
+  balsadbg check examples/buffer.balsa
+
+With --explain the place is shown, and what helps:
+  balsadbg check --explain examples/refused/two_writers.balsa";
+
+pub const DEBUG: &str = "Step a description forwards and backwards, as a script says";
+
+pub const DEBUG_LONG: &str = "\
+Step a description forwards and backwards, as a script says. It comes from
+standard input, and each line is answered as soon as it is read; lines that come
+together, as from a file, may have their answers together:
+
+  ready           list the steps that can be taken now. The last word of each is
+                  its place; behind `sync` it is the first of the two. `open`
+                  has its arm before the places
+  step PLACE      take the step that waits at this place: `step TICKET EVENT`
+  step PLACE ARM  the same where one of several arms can be taken, from 0
+  live            list the steps that are taken and not taken back
+  value X         tell the value of the variable X
+  undo TICKET     take this step back: `undone TICKET EVENT`. Later steps stay,
+                  as long as none of them depends on it
+  consequences TICKET
+                  tell this step and all that depend on it, by their tickets
+  roll TICKET     take all of those back: `rolled COUNT`
+  blame X         tell which step wrote the variable X last: `blame TICKET`
+  rollvalue X     take that step back, with all that depend on it
+  branch N        take the first step of branch N that can be taken now and is on
+                  no line with a breakpoint: `step TICKET EVENT`. `stopped LINE`
+                  where all are on such lines, `idle` where there is none, or
+                  no branch N
+  break LINE      set a breakpoint on this line of FILE, from 1: `ok`. A meeting
+                  is on the line of its receive (of two syncs, of the first), so
+                  a line with a send alone stops nothing
+  clear LINE      take it away: `ok`
+  session N       go on as session N, 0 to 15. All sessions step one run; each
+                  has breakpoints of its own. The session is 0 at first
+  trace           print the trace of the live steps, which `replay` takes again:
+                  the same bytes in whichever order independent steps were taken
+  view            print FILE with marks: `>` where a step can be taken, `*` for
+                  a breakpoint, `!` for a select that could take several arms.
+                  What the environment takes at an output port is on no line
+
+A line that is none of these ends the run, and its steps are lost (copy what
+`trace` prints before): there are no comments, no prompt, no `help`, and no
+`quit`, which is Ctrl-D; an arrow key ends the run too. `tee my.script |
+balsadbg debug ..` keeps what you type.
+
+A place is written like /0.1.0. /0 is the body of the last procedure, and /1,
+/2 and so on are the environment at its ports. Behind that, .N counts what comes
+one after the other, and /N the branches of ||, both from 0. A meeting is
+stepped at its receiver. The branches of `branch` are those of the body where it
+is a ||, else the body is branch 0; the environment's come behind them.
+
+Example, with the lines that are typed behind `>`, which is not printed:
+  balsadbg debug examples/one.balsa examples/one.stimulus
+  > step /0.0
+  step 1 meet i 5 /1.0.0 /0.0
+  > value x
+  value x 5
+  > undo 1
+  undone 1 meet i 5 /1.0.0 /0.0";
+
+pub const TRACE: &str = "The trace, as the script line `trace` answers it";
+
+pub const REPLAY: &str = "Take the steps of a trace again, and list them";
+
+pub const REPLAY_LONG: &str = "\
+Take the steps of a trace again, in its order, and list them with new tickets from
+1, as the script line `live` does. A trace is what the script line `trace` answers:
+the line `balsadbg trace 2`, and for each step that is live a line `step PLACE ARM`,
+always the one with the least place of those that wait for none that is left. Behind
+the line `balsadbg trace 1`, of older traces, the steps may stand in any order.
+
+Example:
+  balsadbg replay examples/one.balsa examples/one.stimulus examples/one.trace
+
+To go on from a trace, give its steps to `debug`, with more lines behind them:
+  (tail -n +2 examples/one.trace; echo 'value x') |
+    balsadbg debug examples/one.balsa examples/one.stimulus";
+
+pub const WORKERS: &str = "How many workers there are, 1 to 16";
+
+pub const TURNS: &str = "How many turns each worker takes, 0 to 1000000";
+
+pub const WORK: &str = "Let workers step a description side by side, and count the steps";
+
+pub const WORK_LONG: &str = "\
+Let workers step a description side by side, and count the steps. Each worker is
+a thread. In a turn it takes the number of a branch from a queue, or 0 where that
+is empty, and takes the first step of that branch that can be taken now, as the
+script line `branch` does; where there is none, the turn is idle. Which worker
+takes which step is left to chance. The answer has two lines: how many turns were
+steps, and how many steps are live in the end. It does not say why no more were.
+
+Example:
+  balsadbg work examples/one.balsa examples/one.stimulus --workers 2 --turns 9
+
+It answers:
+  stepped 2
+  live 2";
+
+pub const NUMBER: &str = "The number behind `refused`";
+
+pub const EXPLAIN: &str = "Tell what a refusal means";
+
+pub const EXPLAIN_LONG: &str = "\
+Tell what a refusal means: what stands behind its number, an example, and what
+it mostly comes from. N is the number behind `refused`, of the answer to a
+script line too.
+
+Example:
+  balsadbg explain 15
+
+It answers:
+  refused 15 byte: a variable in two branches
+  ..";
+
+pub const NO_REFUSAL: &str = "\
+no refusal has this number. Refusals have the numbers 1 to 17, 21 to 28, 31 to 34,
+41, 42, 51 and 61";
+
+pub const EXPLAIN_REFUSALS: &str = "\
+Refusals. The line `balsadbg: refused N` on standard error ends a run with
+status 1:
+
+   1  memory is used up
+  42  writing the answers failed
+
+A command line that cannot be read, also one with a number that no refusal has,
+ends with status 2. All else ends with status 0.";
+
+pub const OUTLINE: &str = "Tell which branches, variables and channels a description has";
+
+pub const OUTLINE_LONG: &str = "\
+Tell which branches, variables and channels a description has, by the numbers
+and names that lines of a script and answers use. Calls are replaced by the
+bodies of their procedures: `2:x` is the x of the second call. A line of a
+branch says what it does on a channel. A refusal is told in words too.
+
+Example:
+  balsadbg outline examples/one.balsa
+
+It answers:
+  branches 3
+    0 /0 line 7
+      receives i line 7
+      sends o line 8
+    1 /1 environment
+      sends i
+    2 /2 environment
+      receives o
+  variables 1
+    x 8 bits
+  channels 2
+    i 8 bits
+      receives, branch 0 line 7
+      sends, branch 1
+    o 8 bits
+      sends, branch 0 line 8
+      receives, branch 2";
+
+pub const WAITING: &str = "Tell who waits behind a trace, on what and for whom";
+
+pub const WAITING_LONG: &str = "\
+Take the steps of a trace again, and tell who waits behind them: `goes on` where
+a step can be taken, `done` where none can and nothing waits but for the
+environment, `stuck` where something else does. Then comes each end of a channel
+that waits, with its place, its line, and the place behind which the end that it
+waits for stands. Where each of some waits for the next, they are told as a
+ring. A refusal is told in words too. A trace is what the script line `trace`
+answers.
+
+Example:
+  balsadbg waiting examples/mutex.balsa examples/mutex.stimulus \\
+    examples/mutex.trace
+
+It answers:
+  stuck
+  waiting 3
+    /0/0.1.0.1 line 19: is held on lock_a, behind /0/2.1.1
+    /0/1.1.0.0 line 19: syncs on lock_b, behind /0/2.1
+    /0/2.1.1.0 line 9: syncs on unlock_a, behind /0/0.1.0
+  ring 2
+    /0/0.1.0.1
+    /0/2.1.1.0";
+
+pub const SUBJECT: &str = "The name of a variable, or the number of a step of the trace";
+
+pub const ALL: &str = "Tell the steps that carried no value too";
+
+pub const WHY: &str = "Tell why a variable has its value, or why a step could be taken";
+
+pub const WHY_LONG: &str = "\
+Take the steps of a trace again, and tell the steps that led to the value of the
+variable X, or to the step with the number X: each with its number, its line,
+what it carried or wrote, what it read, and the steps just before it. Steps
+count from 1, as `replay` lists them. A refusal is told in words too. A trace is
+what the script line `trace` answers.
+
+Example:
+  balsadbg why examples/one.balsa examples/one.stimulus examples/one.trace x
+
+It answers:
+  x is 5, written by step 1
+    1 line 7: i carries 5 into x";
+
+/// What each refusal of a command means: with lines for a trace, for the files, for a stimulus and for a script.
+macro_rules! refusal_lines {
+    ([$($trace:literal)*] [$($files:literal)*] [$($stimulus:literal)*] [$($script:literal)*]) => {
+        concat!(
+            "Refusals. The line `balsadbg: refused N ..` on standard error ends a run with\n",
+            "status 1. Behind most numbers stands the byte of FILE that is meant, from 0:\n",
+            "\n",
+            "   1  memory is used up\n",
+            "   2  this byte begins no word, number or sign\n",
+            "   3  this (-- is closed by no --)\n",
+            "   4  this number is over 2^64 - 1\n",
+            "   5  no description goes on with this word\n",
+            "   6  this opens more than 64 levels\n",
+            "   7  nothing visible has this name\n",
+            "   8  this name is declared already\n",
+            "   9  this name is that of another kind of thing\n",
+            "  10  this is too wide: over 64 bits, or wider than what takes it\n",
+            "  11  this condition is not one bit wide\n",
+            "  12  this label or channel stands in two arms, or the label is too wide\n",
+            "  13  the arguments of this call do not fit the ports\n",
+            "  14  the system has over 16384 nodes, or a command inside over 1024 others\n",
+            "  15  this variable is written in one parallel branch and used in another\n",
+            "  16  this channel has two senders, two receivers or three syncs at a time\n",
+            "  17  this channel is open around this place\n",
+            $($trace,)*
+            $($files,)*
+            "  42  writing the answers failed\n",
+            $($stimulus,)*
+            $($script,)*
+            "\n",
+            "`balsadbg explain N` shows an example and the usual causes of one. A command\n",
+            "line that cannot be read ends with status 2. All else ends with status 0."
+        )
+    };
+}
+
+/// The same with the lines for a stimulus.
+macro_rules! refusal_lines_over_ports {
+    ([$($trace:literal)*] [$($files:literal)*] [$($script:literal)*]) => {
+        refusal_lines!(
+            [$($trace)*]
+            [$($files)*]
+            [
+                "  51  this line of STIMULUS, from 1, fits no port, is a second one for a port, or\n"
+                "      has another form (blanks, line ends)\n"
+            ]
+            [$($script)*]
+        )
+    };
+}
+
+/// The same with the lines for a script.
+macro_rules! refusal_lines_of_scripts {
+    ([$($trace:literal)*] [$($files:literal)*]) => {
+        refusal_lines_over_ports!(
+            [$($trace)*]
+            [$($files)*]
+            [
+                "  61  this line of the script, from 1, is none of its lines, or names no\n"
+                "      variable (a port or a channel is none)\n"
+                "\n"
+                "`refused N` as the answer of a script line says that it cannot be done now. Then\n"
+                "nothing has changed, and the script goes on:\n"
+                "\n"
+                "   1  memory is used up\n"
+                "  21  nothing waits at this place with this arm\n"
+                "  22  65536 steps are live\n"
+                "  23  no live step has this ticket\n"
+                "  24  the step with the ticket that is named depends on this one\n"
+                "  25  no live step has written this variable\n"
+                "  26  no ticket is left\n"
+                "  27  this session has 64 breakpoints\n"
+                "  28  no command begins on this line\n"
+            ]
+        )
+    };
+}
+
+pub const REFUSALS: &str = refusal_lines_of_scripts!(
+    [
+        "  31  TRACE does not begin with the line `balsadbg trace 2`, or with 1 for 2\n"
+        "  32  this line of TRACE, from 1, is no step, or has no end\n"
+        "  33  the step of this line of TRACE, from 1, cannot be taken there\n"
+        "  34  behind `balsadbg trace 2` another step comes before that of this line\n"
+    ]
+    ["  41  a file is missing, or reading it or the script failed\n"]
+);
+
+pub const FILE_REFUSALS: &str = refusal_lines!(
+    []
+    ["  41  FILE is missing, or reading it failed\n"]
+    []
+    []
+);
+
+pub const DEBUG_REFUSALS: &str = refusal_lines_of_scripts!(
+    []["  41  FILE or STIMULUS is missing, or reading it or the script failed\n"]
+);
+
+pub const TRACE_REFUSALS: &str = refusal_lines_over_ports!(
+    [
+        "  31  TRACE does not begin with the line `balsadbg trace 2`, or with 1 for 2\n"
+        "  32  this line of TRACE, from 1, is no step, or has no end\n"
+        "  33  the step of this line of TRACE, from 1, cannot be taken there\n"
+        "  34  behind `balsadbg trace 2` another step comes before that of this line\n"
+    ]
+    ["  41  FILE, STIMULUS or TRACE is missing, or reading it failed\n"]
+    []
+);
+
+pub const WORK_REFUSALS: &str = refusal_lines_over_ports!(
+    []
+    ["  41  FILE or STIMULUS is missing, or reading it failed\n"]
+    []
+);
+
+pub const WHY_REFUSALS: &str = refusal_lines_over_ports!(
+    [
+        "  23  X is the number of no step of TRACE\n"
+        "  25  X is the name of no variable, or of one that no step of TRACE wrote\n"
+        "  31  TRACE does not begin with the line `balsadbg trace 2`, or with 1 for 2\n"
+        "  32  this line of TRACE, from 1, is no step, or has no end\n"
+        "  33  the step of this line of TRACE, from 1, cannot be taken there\n"
+        "  34  behind `balsadbg trace 2` another step comes before that of this line\n"
+    ]
+    ["  41  FILE, STIMULUS or TRACE is missing, or reading it failed\n"]
+    []
+);
