@@ -27,7 +27,7 @@ returns-clause-same c =
 pub invariant_of-self : goal.invariant_of-self
 invariant_of-self c =
     let h = c.self.inside.history in (
-      stands-same c.self.inside.system (tree_of h) (tree_of h) h.live.live c.mark_consequences.new.self.live h.inverses.items h.inverses.items h.next h.next
+      stands-same c.self.inside.system (tree_of h) (tree_of h) h.live.live c.mark_consequences.new.self.live h.inverses h.inverses h.next h.next
           c.self.invariant.0 refl c.mark_consequences.ensures.live refl refl,
       c.self.invariant.1,
     )
