@@ -92,6 +92,12 @@ pub fn why_files<F: Files>(
 {
     let checked = read_system(alloc, files, asked.file, asked.stimulus, texts)?;
     read_trace(alloc, files, asked.trace, texts)?;
-    let why = why_text(alloc, checked, texts.trace.as_slice(), asked.subject, asked.all)?;
+    let why = why_text(
+        alloc,
+        checked,
+        texts.trace.as_slice(),
+        asked.subject,
+        asked.all,
+    )?;
     told_why(why, said)
 }
