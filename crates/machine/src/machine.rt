@@ -6,6 +6,7 @@ ghost use Rattle.runs.specs.Ready.{ReadyList};
 ghost use Rattle.runs.specs.Does.{Answers};
 ghost use Rattle.runs.specs.declared.command.Command.{Command};
 ghost use Rattle.event_places.specs.EventPlaces.{line_after, is_open_after};
+ghost use Rattle.offered_sides.specs.Sides.{OffersExactly};
 ghost use Rattle.machine.specs.Branching.{AnswersBranch};
 ghost use Rattle.machine.specs.AtMachine.{object};
 ghost use Rattle.machine.specs.Headline.{Headline};
@@ -19,6 +20,7 @@ use address::Address;
 use channel_uses::ChannelUses;
 use dependence::Live;
 use event_places::{line_after, select_after};
+use offered_sides::OfferedSide;
 use process_tree::system_code;
 use runs::{Choice, Event, Reply};
 use sharing_check::Checked;
@@ -189,6 +191,13 @@ impl Machine {
         ensures { IfOk result (λ events. (T : State) × Reaches (object self.now) T × ReadyList T events) }
     {
         self.history.ready(self.alloc, &self.uses)
+    }
+
+    /// Exactly the sides that the state offers, in order of place. It is an error if there is no memory.
+    pub fn offered(&self) -> Result<Items<OfferedSide>, AllocError>
+        ensures { IfOk result (λ sides. (T : State) × Reaches (object self.now) T × OffersExactly T sides) }
+    {
+        self.history.offered(self.alloc)
     }
 
     /// The line, from 1, of the command that has this place after the live events. None where no command has it.
