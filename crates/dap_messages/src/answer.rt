@@ -85,6 +85,11 @@ impl Answer {
         self.add(told, None);
     }
 
+    /// Takes each `stopped` away.
+    pub fn drop_stopped(&mut self) {
+        self.notes.retain(|note| note.told != Told::Stopped);
+    }
+
     /// Adds an event.
     fn add(&mut self, told: Told, body: Option<Value>)
         ensures { Adds self.old.notes.items self.old.lacks told self.new.notes.items self.new.lacks }

@@ -120,6 +120,11 @@ impl Listed {
         }
     }
 
+    /// Keeps in mind that there was no memory for a part.
+    pub fn lack(&mut self) {
+        self.lacks = true;
+    }
+
     /// How many items there are.
     pub fn len(&self) -> usize {
         self.made.len()

@@ -1,6 +1,7 @@
 // In which branches an event takes part.
-ghost use Rattle.std.specs.Prelude.{◌≡◌, ◌≤◌, length, MatchOption};
+ghost use Rattle.std.specs.Prelude.{◌≡◌, ℕ, true, Some, slice_get, MatchOption};
 ghost use Rattle.runs.specs.Events.{acting};
+ghost use Rattle.runs.specs.declared.event.Event.{Event as AnEvent};
 ghost use Rattle.machine.specs.Branching.{is_branch};
 ghost use Rattle.system_places.specs.SystemBranches.{branch_at};
 ghost use Rattle.dap_moves.specs.Parts.{takes_part, second_in, NoneBelow, NewestBelow};
@@ -46,15 +47,25 @@ fn is_branch(branch: u32, found: Option<u32>) -> bool
 
 /// The index, counted from 0 in order of tickets, of the last live event below this index in which the branch took part.
 pub fn newest_below(system: &System, live: &Live, branch: u32, below: usize) -> Option<usize>
-    requires { below ≤ length live.now.live }
     ensures { MatchOption result (NoneBelow system.now branch live.now.live below) (λ i. NewestBelow system.now branch live.now.live below i) }
 {
-    for i in (0..below).rev() {
-        if let Some((_, event)) = live.pair_at(i as u64) {
-            if takes_part(system, branch, event) {
-                return Some(i);
-            }
+    let mut left = below;
+    while left > 0 {
+        left -= 1;
+        if took_part_at(system, live, branch, left) {
+            return Some(left);
         }
     }
     None
+}
+
+/// Whether the branch took part in the live event at this index. There may be none.
+fn took_part_at(system: &System, live: &Live, branch: u32, index: usize) -> bool
+    ensures is { (x : ℕ × AnEvent) → slice_get live.now.live index ≡ Some x → result ≡ takes_part system.now branch x.1 }
+    ensures found { result ≡ true → (x : ℕ × AnEvent) × (slice_get live.now.live index ≡ Some x) × (takes_part system.now branch x.1 ≡ true) }
+{
+    match live.pair_at(index as u64) {
+        Some((_, event)) => takes_part(system, branch, event),
+        None => false,
+    }
 }

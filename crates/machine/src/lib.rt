@@ -8,6 +8,7 @@ mod breaks;
 mod history;
 mod laws;
 mod machine;
+mod offers;
 mod replying;
 mod rolling;
 mod stepping;
