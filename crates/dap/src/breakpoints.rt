@@ -241,8 +241,8 @@ pub(crate) fn locations(
     };
     let first = program.meant_line(line);
     let last = program.meant_line(request.number("endLine").unwrap_or(line));
-    let last = last.min(first.saturating_add(MOST_LOCATIONS)).min(program.lines.count());
-    let Ok(lines) = stop_lines(alloc, machine.checked().system(), first, last) else {
+    let below = last.min(first.saturating_add(MOST_LOCATIONS)).min(program.lines.count());
+    let Ok(lines) = stop_lines(alloc, machine.checked().system(), first, below.saturating_add(1)) else {
         answer.lacks = true;
         return;
     };

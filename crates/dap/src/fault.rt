@@ -22,9 +22,8 @@ impl Fault {
     pub fn number(&self) -> u32 {
         match self {
             Fault::Memory => 1,
-            Fault::ReadFailed => 41,
+            Fault::ReadFailed | Fault::NoHeader => 41,
             Fault::WriteFailed => 42,
-            Fault::NoHeader => 71,
         }
     }
 }

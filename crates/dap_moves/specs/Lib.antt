@@ -4,3 +4,5 @@ pub mod Laws
 pub mod Led
 pub mod Moves
 pub mod Parts
+pub mod Stops
+pub mod walking

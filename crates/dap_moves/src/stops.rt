@@ -1,107 +1,124 @@
 // The lines on which a command stands that can be a side of an event.
+ghost use Rattle.std.specs.Prelude.{◌≡◌, false, map};
+ghost use Rattle.std.specs.Option.{option_map};
+ghost use Rattle.system_places.specs.LinesBegun.{any_onto, last_of};
+ghost use Rattle.dap_moves.specs.Stops as model;
+ghost use Rattle.dap_moves.specs.walking.StopParts as parts;
+
 use std::alloc::{AllocError, Global};
 use system::{Action, Arm, Command, Guarded, Labelled, System};
 
-/// The least such line that is not less than `from`, nor as great as `below`.
-pub fn first_stop(system: &System, from: u64, below: u64) -> Option<u64> {
-    let mut least = below;
-    lower(&system.main, from, &mut least);
-    if least < below { Some(least) } else { None }
+/// The first such line, of those from `from` on and before `below`.
+pub fn first_stop(system: &System, from: u64, below: u64) -> Option<u64>
+    ensures { model.FirstStop system.now.main from below result }
+{
+    for line in from..below {
+        if stops(&system.main, line) {
+            return Some(line);
+        }
+    }
+    None
 }
 
-/// All such lines from `from` to `last`, ascending. It is an error if there is no memory.
+/// All such lines from `from` on and before `below`, ascending. It is an error if there is no memory.
 pub fn stop_lines(
     alloc: Global,
     system: &System,
     from: u64,
-    last: u64,
+    below: u64,
 ) -> Result<Vec<u64>, AllocError> {
     let mut lines = Vec::new(alloc);
-    let mut next = from;
-    while let Some(line) = first_stop(system, next, last.saturating_add(1)) {
-        lines.push(line)?;
-        next = line.saturating_add(1);
+    for line in from..below {
+        if stops(&system.main, line) {
+            lines.push(line)?;
+        }
     }
     Ok(lines)
 }
 
-/// Whether a command of this kind can be a side of an event.
-fn is_side(action: &Action) -> bool {
-    !matches!(
-        action,
-        Action::Continue | Action::Halt | Action::Sequence(_) | Action::Parallel(_)
-    )
-}
-
-/// Lowers the line to that of the command, or of one within it, where that is a side of events, is less, and is not less than
-/// `from`.
-#[cycle(lower)]
-fn lower(command: &Command, from: u64, least: &mut u64) {
-    let action = command.action.get();
-    if is_side(action) && from <= command.line && command.line < *least {
-        *least = command.line;
-    }
-    match action {
-        Action::Continue
-        | Action::Halt
-        | Action::Assign(_, _, _)
+/// Whether a command that has the line, or one within it, can be a side of an event.
+#[cycle(stop)]
+fn stops(command: &Command, line: u64) -> bool
+    ensures { result ≡ model.stops line command.now }
+{
+    let here = command.line == line;
+    match command.action.get() {
+        Action::Continue | Action::Halt => false,
+        Action::Assign(_, _, _)
         | Action::Send(_, _, _)
         | Action::Receive(_, _)
-        | Action::Sync(_) => {}
+        | Action::Sync(_) => here,
         Action::Loop(body) | Action::While(_, body) | Action::Input(_, body) => {
-            lower(body, from, least);
+            here || stops(body, line)
         }
         Action::If(arms, last) => {
-            lower_guarded(arms.as_slice(), from, least);
-            lower_last(last, from, least);
+            here || (guarded_stop(arms.as_slice(), line) || last_stops(last, line))
         }
         Action::Case(_, arms, last) => {
-            lower_labelled(arms.as_slice(), from, least);
-            lower_last(last, from, least);
+            here || (labelled_stop(arms.as_slice(), line) || last_stops(last, line))
         }
-        Action::Select(arms) | Action::Arbitrate(arms) => lower_arms(arms.as_slice(), from, least),
+        Action::Select(arms) | Action::Arbitrate(arms) => here || arms_stop(arms.as_slice(), line),
         Action::Sequence(children) | Action::Parallel(children) => {
-            lower_all(children.as_slice(), from, least);
+            commands_stop(children.as_slice(), line)
         }
     }
 }
 
-/// The same over commands.
-#[cycle(lower)]
-fn lower_all(commands: &[Command], from: u64, least: &mut u64) {
+/// Whether one of the commands does.
+#[cycle(stop)]
+fn commands_stop(commands: &[Command], line: u64) -> bool
+    ensures { result ≡ any_onto false (map (model.stops line) commands.now) }
+{
+    let mut found = false;
     for command in commands {
-        lower(command, from, least);
+        found = found || stops(command, line);
     }
+    found
 }
 
-/// The same over the arms of an `if`.
-#[cycle(lower)]
-fn lower_guarded(arms: &[Guarded], from: u64, least: &mut u64) {
+/// Whether an arm of an `if` does.
+#[cycle(stop)]
+fn guarded_stop(arms: &[Guarded], line: u64) -> bool
+    ensures { result ≡ any_onto false (map (parts.guarded_stops line) arms.now) }
+{
+    let mut found = false;
     for arm in arms {
-        lower(&arm.body, from, least);
+        found = found || stops(&arm.body, line);
     }
+    found
 }
 
-/// The same over the arms of a `case`.
-#[cycle(lower)]
-fn lower_labelled(arms: &[Labelled], from: u64, least: &mut u64) {
+/// Whether an arm of a `case` does.
+#[cycle(stop)]
+fn labelled_stop(arms: &[Labelled], line: u64) -> bool
+    ensures { result ≡ any_onto false (map (parts.labelled_stops line) arms.now) }
+{
+    let mut found = false;
     for arm in arms {
-        lower(&arm.body, from, least);
+        found = found || stops(&arm.body, line);
     }
+    found
 }
 
-/// The same over the arms of a `select` or an `arbitrate`.
-#[cycle(lower)]
-fn lower_arms(arms: &[Arm], from: u64, least: &mut u64) {
+/// Whether an arm of a `select` or an `arbitrate` does.
+#[cycle(stop)]
+fn arms_stop(arms: &[Arm], line: u64) -> bool
+    ensures { result ≡ any_onto false (map (parts.arm_stops line) arms.now) }
+{
+    let mut found = false;
     for arm in arms {
-        lower(&arm.body, from, least);
+        found = found || stops(&arm.body, line);
     }
+    found
 }
 
-/// The same over what stands behind an `else`.
-#[cycle(lower)]
-fn lower_last(last: &Option<Command>, from: u64, least: &mut u64) {
-    if let Some(body) = last {
-        lower(body, from, least);
+/// Whether what stands behind an `else` does.
+#[cycle(stop)]
+fn last_stops(last: &Option<Command>, line: u64) -> bool
+    ensures { result ≡ last_of (option_map (model.stops line) last.now) }
+{
+    match last {
+        Some(body) => stops(body, line),
+        None => false,
     }
 }

@@ -1,11 +1,13 @@
-//! Serves the debug adapter protocol on standard input and output, in the toolchain's trial build.
+//! Serves the debug adapter protocol on standard input and output, in the toolchain's trial build. With a word it reads the file of
+//! this name first: whoever copies the program while it runs lets it wait at a fifo.
 #![tactic(auto)]
 
 use dap::{Sources, serve};
 use std::alloc::{AllocError, Global};
-use std::fs;
+use std::io;
 use std::io::ErrorKind;
 use std::process::ExitCode;
+use std::{env, fs};
 
 /// The files of the system.
 #[derive(Drop)]
@@ -23,7 +25,18 @@ impl<R: fs::Files + AllocGlobal> Sources for Disk<'_, R> {
     }
 }
 
+/// Reads the file that the first word names, if there is one.
+fn wait(rt: &HostRuntime) -> io::Result<()> {
+    if let Some(name) = env::args(rt)?.nth(1) {
+        drop(fs::read(rt, name.as_str())?);
+    }
+    Ok(())
+}
+
 fn main(rt: HostRuntime) -> ExitCode {
+    if wait(&rt).is_err() {
+        return ExitCode::from(2);
+    }
     let mut reader = rt.stdin();
     let mut writer = rt.stdout();
     let files = Disk { rt: &rt };
