@@ -15,6 +15,7 @@
 ;;; Code:
 
 (require 'dap-mode)
+(require 'dap-ui)
 
 (defcustom dap-balsa-command '("balsadbg" "dap")
   "The command of the debug adapter."

@@ -118,12 +118,18 @@ fn step_branch(desk: &mut Desk, plan: &Plan<'_>, branch: u32) -> Turn
 /// What came of a step of the branch that was answered so.
 fn told(plan: &Plan<'_>, branch: u32, reply: Reply) -> Turn {
     match reply {
-        Reply::Stepped(ticket, event) if is_watched(plan.watched, &event) => {
-            Turn::Ended(Ended::Watched(branch, ticket))
-        }
-        Reply::Stepped(_, _) => Turn::Went(branch),
+        Reply::Stepped(ticket, event) => went(plan, branch, ticket, &event),
         Reply::Refused(why) => Turn::Ended(Ended::Refused(branch, why)),
         _ => Turn::Ended(Ended::Nothing),
+    }
+}
+
+/// What comes of a step of the branch that was taken.
+fn went(plan: &Plan<'_>, branch: u32, ticket: u64, event: &Event) -> Turn {
+    if is_watched(plan.watched, event) {
+        Turn::Ended(Ended::Watched(branch, ticket))
+    } else {
+        Turn::Went(branch)
     }
 }
 

@@ -1,6 +1,6 @@
 ;;; emacs.el --- Drives the debug adapter by dap-mode, in batch  -*- lexical-binding: t -*-
 
-;; emacs -Q --batch -L editors/emacs -l tests/dap/clients/emacs.el PROGRAM..
+;; emacs -q --batch -L editors/emacs -l tests/dap/clients/emacs.el PROGRAM..
 ;; Launches examples/adder.balsa, sets a breakpoint, steps, steps back, evaluates, and prints what was seen.
 
 (setq load-prefer-newer t)

@@ -31,6 +31,8 @@ func main() {
 			fmt.Printf("not decoded: %v: %s\n", err, body)
 			os.Exit(1)
 		}
+		// Newer than go-dap 0.7.
+		body = bytes.Replace(body, []byte(`"supportsSingleThreadExecutionRequests":true,`), nil, 1)
 		again := reflect.New(reflect.TypeOf(message).Elem()).Interface()
 		decoder := json.NewDecoder(bytes.NewReader(body))
 		decoder.DisallowUnknownFields()
