@@ -58,7 +58,7 @@ fn add_events(
 {
     let mut seq = first;
     for note in notes {
-        seq = seq.checked_add(1).ok_or(AllocError)?;
+        seq = following(seq)?;
         messages.push(Message {
             seq,
             answers: None,
@@ -66,6 +66,16 @@ fn add_events(
         })?;
     }
     Ok(())
+}
+
+/// The number behind this.
+fn following(seq: u64) -> Result<u64, AllocError>
+    ensures { IfOk result (λ next. next ≡ seq + 1) }
+{
+    match seq.checked_add(1) {
+        Some(next) => Ok(next),
+        None => Err(AllocError),
+    }
 }
 
 /// The members of the response.

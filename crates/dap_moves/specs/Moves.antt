@@ -4,6 +4,7 @@ use Rattle.system.specs.declared.system.System.{System}
 use Rattle.system_places.specs.SystemBranches.{branch_at}
 use Rattle.runs.specs.Choices.{choice_of}
 use Rattle.runs.specs.Events.{acting}
+use Rattle.runs.specs.Live.{Live}
 use Rattle.runs.specs.declared.event.Event.{Event}
 use Rattle.runs.specs.declared.command.Refusal.TheVariants.{Memory}
 use Rattle.machine.specs.Branching.{is_branch}
@@ -35,12 +36,14 @@ joins system k e = takes_part system k e && not (acts system k e)
 abbrev pub targets : System → ℕ → List Event → List Event
 targets system k es = filter (acts system k) es ++ filter (joins system k) es
 
--- the newest live step in which branch k took part, where there is one
+-- the ticket of the last of these live events in which branch k took part, where there is one
+abbrev pub NewestOf : System → Live → ℕ → Option ℕ → Type 0
+NewestOf system l k None = NoneBelow system k l (length l)
+NewestOf system l k (Some t) = (i : ℕ) × (e : Event) × NewestBelow system k l (length l) i × (slice_get l i ≡ Some (t, e))
+
+-- the same of all live events
 abbrev pub NewestTicket : AtDesk → ℕ → Option ℕ → Type 0
-NewestTicket d k None = NoneBelow d.machine.checked k d.machine.live (length d.machine.live)
-NewestTicket d k (Some t) =
-    (i : ℕ) × (e : Event) × NewestBelow d.machine.checked k d.machine.live (length d.machine.live) i
-    × (slice_get d.machine.live i ≡ Some (t, e))
+NewestTicket d k t = NewestOf d.machine.checked d.machine.live k t
 
 -- a step back of branch k: it took part in no live step; or the newest in which it did is asked to be undone
 abbrev pub StepsBack : AtDesk → ℕ → Back → AtDesk → Type 0

@@ -4,11 +4,13 @@ ghost use Rattle.std.specs.Prelude.{◌≡◌};
 ghost use Rattle.locked_execution.specs.Performs.{Answers};
 ghost use Rattle.locked_execution.specs.declared.command.Command as asked;
 ghost use Rattle.dap_moves.specs.Led.{Led};
-ghost use Rattle.dap_moves.specs.Moves.{StepsBack, NewestTicket};
+ghost use Rattle.dap_moves.specs.Moves.{StepsBack, NewestTicket, NewestOf};
 
 use crate::QUIET;
 use crate::parts::newest_below;
+use dependence::Live;
 use locked_execution::{Command, Desk, Reply};
+use system::System;
 
 /// What came of a step back.
 #[derive(Drop)]
@@ -37,8 +39,14 @@ fn newest_ticket(desk: &Desk, branch: u32) -> Option<u64>
     ensures { NewestTicket desk.now branch result }
 {
     let machine = desk.machine();
-    let live = machine.live_events();
-    let index = newest_below(machine.checked().system(), live, branch, live.len())?;
+    newest_on(machine.checked().system(), machine.live_events(), branch)
+}
+
+/// The ticket of the last of these live events in which the branch took part.
+fn newest_on(system: &System, live: &Live, branch: u32) -> Option<u64>
+    ensures { NewestOf system.now live.now.live branch result }
+{
+    let index = newest_below(system, live, branch, live.len())?;
     match live.pair_at(index as u64) {
         Some((ticket, _)) => Some(ticket),
         None => None,

@@ -56,7 +56,7 @@ fn joined_at<'a>(
 {
     let mut left = number;
     for event in events {
-        if takes_part(system, branch, event) && !acts_in(system, branch, event) {
+        if joins(system, branch, event) {
             if left == 0 {
                 return Some(event);
             }
@@ -64,4 +64,11 @@ fn joined_at<'a>(
         }
     }
     None
+}
+
+/// Whether the branch takes part in the event, and it acts in another.
+fn joins(system: &System, branch: u32, event: &Event) -> bool
+    ensures { result ≡ joins system.now branch event.now }
+{
+    takes_part(system, branch, event) && !acts_in(system, branch, event)
 }

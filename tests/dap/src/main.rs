@@ -35,7 +35,8 @@ fn wait(rt: &HostRuntime) -> io::Result<()> {
 
 fn main(rt: HostRuntime) -> ExitCode {
     if wait(&rt).is_err() {
-        return ExitCode::from(2);
+        let _ = eprintln!(rt; "balsadbg: refused 1");
+        return ExitCode::from(1);
     }
     let mut reader = rt.stdin();
     let mut writer = rt.stdout();
