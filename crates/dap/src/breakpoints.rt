@@ -215,7 +215,7 @@ pub(crate) fn tell_changed(
 ) {
     let mut list = Listed::new(alloc);
     place_all(alloc, machine, program, &mut list, answer);
-    let Some(Value::Array(items)) = list.into_value() else {
+    let Some(items) = list.into_items() else {
         answer.lacks = true;
         return;
     };

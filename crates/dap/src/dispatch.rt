@@ -8,7 +8,7 @@ use crate::frames::{stack_trace, thread_in, threads};
 use crate::launch::begin;
 use crate::moves::{back, go, next, reverse, stop, targets};
 use crate::program::Program;
-use crate::typed::{completions, evaluate};
+use crate::console::{completions, evaluate};
 use crate::values::{scopes, variables};
 use dap_messages::{Answer, Kind, Members, Request, Told};
 use dap_moves::{Desk, Machine};

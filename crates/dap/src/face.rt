@@ -1,7 +1,7 @@
 // A session: who the client is, and what is launched.
 use crate::breakpoints::{asks_for_refusals, set_before, set_data_before};
 use crate::dispatch::perform;
-use crate::launch::{Launched, launched, restart};
+use crate::launch::{Launched, restart, start};
 use crate::program::Counting;
 use crate::sources::Sources;
 use dap_messages::{Answer, Kind, Listed, Members, Request, Told};
@@ -74,7 +74,7 @@ impl Face {
             answer.refuse(107, "a program is launched already");
             return;
         }
-        let found = launched(self.alloc, files, counting, request.arguments(), answer);
+        let found = start(self.alloc, files, counting, request.arguments(), answer);
         if let Some(mut found) = found {
             found.program.excepts = self.excepts;
             self.launched = Some(found);

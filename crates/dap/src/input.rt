@@ -1,7 +1,7 @@
 // The messages of a reader, one after another.
 use crate::Fault;
 use dap_frames::{Unframed, unframe};
-use std::alloc::Global;
+use std::alloc::{AllocError, Global};
 use std::io::{ErrorKind, Read};
 
 /// How many bytes are asked for at a time.
@@ -11,6 +11,8 @@ const CHUNK: usize = 8_192;
 #[derive(Drop)]
 pub(crate) struct Input {
     bytes: Vec<u8>,
+    /// the room for what comes next
+    chunk: Vec<u8>,
     /// where what was not looked at begins
     start: usize,
     /// how many bytes are to be passed over
@@ -29,13 +31,14 @@ pub(crate) enum Next {
 }
 
 impl Input {
-    /// Nothing has been read.
-    pub(crate) fn new(alloc: Global) -> Input {
-        Input {
+    /// Nothing has been read. It is an error if there is no memory.
+    pub(crate) fn new(alloc: Global) -> Result<Input, AllocError> {
+        Ok(Input {
             bytes: Vec::new(alloc),
+            chunk: vec![in alloc; 0; CHUNK]?,
             start: 0,
             skip: 0,
-        }
+        })
     }
 
     /// The next message.
@@ -93,9 +96,9 @@ impl Input {
     /// Reads some bytes more, behind those that were not looked at; whether there were any.
     fn read_more<R: Read>(&mut self, reader: &mut R) -> Result<bool, Fault> {
         self.drop_looked_at();
-        let mut chunk = [0u8; CHUNK];
-        let count = read_some(reader, &mut chunk)?;
-        self.bytes.extend_from_slice(chunk.get(..count).unwrap_or(&[]))?;
+        let count = read_some(reader, self.chunk.as_mut_slice())?;
+        let read = self.chunk.as_slice().get(..count).unwrap_or(&[]);
+        self.bytes.extend_from_slice(read)?;
         Ok(count > 0)
     }
 

@@ -43,14 +43,14 @@ impl From<AllocError> for Failed {
 }
 
 /// Launches what the arguments name. Where it is refused, the answer says so, and none is given.
-pub(crate) fn launched<F: Sources>(
+pub(crate) fn start<F: Sources>(
     alloc: Global,
     files: &F,
     counting: Counting,
     arguments: &Value,
     answer: &mut Answer,
 ) -> Option<Launched> {
-    match launch(alloc, files, counting, arguments, answer) {
+    match prepare(alloc, files, counting, arguments, answer) {
         Ok(launched) => Some(launched),
         Err(Failed::Memory) => {
             answer.lacks = true;
@@ -60,7 +60,7 @@ pub(crate) fn launched<F: Sources>(
     }
 }
 
-fn launch<F: Sources>(
+fn prepare<F: Sources>(
     alloc: Global,
     files: &F,
     counting: Counting,
@@ -68,18 +68,80 @@ fn launch<F: Sources>(
     answer: &mut Answer,
 ) -> Result<Launched, Failed> {
     let asked = launch_of(alloc, arguments, answer)?;
+    let texts = texts_of(alloc, files, &asked, answer)?;
+    let machine = machine_of(alloc, &asked, &texts, counting, answer)?;
+    Ok(program_on(alloc, asked, texts, counting, machine)?)
+}
+
+/// The texts of the files that a launch names.
+#[derive(Drop)]
+struct Texts {
+    source: Vec<u8>,
+    stimulus: Vec<u8>,
+    /// empty where no trace is named
+    trace: Vec<u8>,
+}
+
+/// Reads the files.
+fn texts_of<F: Sources>(
+    alloc: Global,
+    files: &F,
+    asked: &Launch,
+    answer: &mut Answer,
+) -> Result<Texts, Failed> {
     let source = file(alloc, files, asked.program.as_str(), answer)?;
-    let stimulus = stimulus(alloc, files, &asked, answer)?;
-    let trace = match &asked.trace {
-        Some(name) => Some(file(alloc, files, name.as_str(), answer)?),
-        None => None,
-    };
-    let checked = checked(alloc, &asked, source.as_slice(), stimulus.as_slice(), counting, answer)?;
-    let machine = machine(alloc, checked, &asked, trace, answer)?;
+    let stimulus = stimulus(alloc, files, asked, answer)?;
+    let trace = trace(alloc, files, asked, answer)?;
+    Ok(Texts {
+        source,
+        stimulus,
+        trace,
+    })
+}
+
+/// The trace that is named; nothing where none is.
+fn trace<F: Sources>(
+    alloc: Global,
+    files: &F,
+    asked: &Launch,
+    answer: &mut Answer,
+) -> Result<Vec<u8>, Failed> {
+    match &asked.trace {
+        Some(name) => file(alloc, files, name.as_str(), answer),
+        None => Ok(Vec::new(alloc)),
+    }
+}
+
+/// The machine before the first step, or behind the trace.
+fn machine_of(
+    alloc: Global,
+    asked: &Launch,
+    texts: &Texts,
+    counting: Counting,
+    answer: &mut Answer,
+) -> Result<Machine, Failed> {
+    let source = texts.source.as_slice();
+    let checked = checked(alloc, asked, source, texts.stimulus.as_slice(), counting, answer)?;
+    machine(alloc, checked, asked, texts.trace.as_slice(), answer)
+}
+
+/// The program on this machine.
+fn program_on(
+    alloc: Global,
+    launch: Launch,
+    texts: Texts,
+    counting: Counting,
+    machine: Machine,
+) -> Result<Launched, AllocError> {
     let index = Index::new(alloc, machine.checked().system())?;
-    let lines = Lines::new(alloc, source.as_slice())?;
+    let lines = Lines::new(alloc, texts.source.as_slice())?;
+    let Texts {
+        source,
+        stimulus: _stimulus,
+        trace: _trace,
+    } = texts;
     let program = Program {
-        launch: asked,
+        launch,
         counting,
         source,
         lines,
@@ -193,22 +255,34 @@ fn checked(
         Ok(checked) => Ok(checked),
         Err(front_end::Fault::Memory) => Err(Failed::Memory),
         Err(fault) => {
-            let number = fault.number();
-            let (line, column) = match fault.field() {
-                Some(offset) if number < 30 => place_in(source, offset),
-                Some(line) => (line, 1),
-                None => (1, 1),
-            };
-            let beside = beside(alloc, asked.program.as_str());
-            let name = match &asked.stimulus {
-                _ if number < 30 => asked.program.as_str(),
-                Some(name) => name.as_str(),
-                None => beside.as_str(),
-            };
-            refuse_at(alloc, name, line, column, number, counting, answer);
+            refuse_texts(alloc, asked, source, fault, counting, answer);
             Err(Failed::Told)
         }
     }
+}
+
+/// Refuses source or stimulus.
+fn refuse_texts(
+    alloc: Global,
+    asked: &Launch,
+    source: &[u8],
+    fault: front_end::Fault,
+    counting: Counting,
+    answer: &mut Answer,
+) {
+    let number = fault.number();
+    let field = fault.field().unwrap_or(0);
+    if number < 30 {
+        let (line, column) = place_in(source, field);
+        refuse_at(alloc, asked.program.as_str(), line, column, number, counting, answer);
+        return;
+    }
+    let beside = beside(alloc, asked.program.as_str());
+    let name = match &asked.stimulus {
+        Some(name) => name.as_str(),
+        None => beside.as_str(),
+    };
+    refuse_at(alloc, name, field.max(1), 1, number, counting, answer);
 }
 
 /// The line and the column of the byte at this offset, from 1.
@@ -226,34 +300,35 @@ fn place_in(source: &[u8], offset: u64) -> (u64, u64) {
     (line, column)
 }
 
-/// The machine before the first step, or behind the trace.
+/// The machine of the system, behind the trace if there is one.
 fn machine(
     alloc: Global,
     checked: Checked,
     asked: &Launch,
-    trace: Option<Vec<u8>>,
+    trace: &[u8],
     answer: &mut Answer,
 ) -> Result<Machine, Failed> {
-    let Some(trace) = trace else {
+    let Some(name) = &asked.trace else {
         return Ok(Machine::new(alloc, checked)?);
     };
-    match load_text(alloc, checked, trace.as_slice()) {
+    match load_text(alloc, checked, trace) {
         Ok(machine) => Ok(machine),
         Err(trace_file::Fault::Memory) => Err(Failed::Memory),
         Err(fault) => {
-            let name = match &asked.trace {
-                Some(name) => name.as_str(),
-                None => "the trace",
-            };
-            let line = fault.field().unwrap_or(1);
-            let counting = Counting {
-                lines: 0,
-                columns: 0,
-            };
-            refuse_at(alloc, name, line, 1, fault.number(), counting, answer);
+            refuse_trace(alloc, name.as_str(), fault, answer);
             Err(Failed::Told)
         }
     }
+}
+
+/// Refuses the trace.
+fn refuse_trace(alloc: Global, name: &str, fault: trace_file::Fault, answer: &mut Answer) {
+    let line = fault.field().unwrap_or(1);
+    let counting = Counting {
+        lines: 0,
+        columns: 0,
+    };
+    refuse_at(alloc, name, line, 1, fault.number(), counting, answer);
 }
 
 /// Refuses with the place of the fault, and tells it with a link to that place.
@@ -333,22 +408,40 @@ pub(crate) fn restart<F: Sources>(
     request: &Request,
     answer: &mut Answer,
 ) {
-    let Some(arguments) = again(alloc, program, request) else {
-        answer.lacks = true;
+    let Some(launched) = started_again(alloc, files, program, request, answer) else {
         return;
     };
-    let Some(Launched {
+    let Launched {
         program: new,
         desk: fresh,
-    }) = launched(alloc, files, program.counting, &arguments, answer)
-    else {
-        return;
-    };
+    } = launched;
     *desk = fresh;
     let old = mem::replace(program, new);
     keep_settings(old, program);
     tell_changed(alloc, desk.machine(), program, answer);
     begin(alloc, desk, program, answer);
+}
+
+/// What a restart launches.
+fn started_again<F: Sources>(
+    alloc: Global,
+    files: &F,
+    program: &Program,
+    request: &Request,
+    answer: &mut Answer,
+) -> Option<Launched> {
+    if let Some(given) = request.part("arguments") {
+        if text_in(given, "program").is_some() {
+            return start(alloc, files, program.counting, given, answer);
+        }
+    }
+    match again(alloc, program).into_value() {
+        Some(arguments) => start(alloc, files, program.counting, &arguments, answer),
+        None => {
+            answer.lacks = true;
+            None
+        }
+    }
 }
 
 /// Keeps what the client has set on the program before; what is watched only where the source is the same.
@@ -375,24 +468,22 @@ fn keep_settings(old: Program, program: &mut Program) {
     }
 }
 
-/// The arguments of a restart: those that the client gives, else those of the launch.
-fn again(alloc: Global, program: &Program, request: &Request) -> Option<Value> {
-    if let Some(given) = request.part("arguments") {
-        if text_in(given, "program").is_some() {
-            return given.clone().ok();
-        }
-    }
+/// The arguments of the launch.
+fn again(alloc: Global, program: &Program) -> Members {
     let launch = &program.launch;
     let mut arguments = Members::new(alloc);
     arguments.text("program", launch.program.as_str());
-    if let Some(name) = &launch.stimulus {
-        arguments.text("stimulus", name.as_str());
-    }
-    if let Some(name) = &launch.trace {
-        arguments.text("trace", name.as_str());
-    }
+    add_name(&mut arguments, "stimulus", &launch.stimulus);
+    add_name(&mut arguments, "trace", &launch.trace);
     arguments.flag("stopOnEntry", launch.stops);
     arguments.number("maxSteps", launch.most);
     arguments.flag("noDebug", launch.free);
-    arguments.into_value()
+    arguments
+}
+
+/// Adds the name of a file, where there is one.
+fn add_name(arguments: &mut Members, key: &str, name: &Option<String>) {
+    if let Some(name) = name {
+        arguments.text(key, name.as_str());
+    }
 }

@@ -3,6 +3,7 @@
 #![tactic(auto)]
 
 mod breakpoints;
+mod console;
 mod dispatch;
 mod face;
 mod fault;
@@ -18,7 +19,6 @@ mod session;
 mod short;
 mod sight;
 mod sources;
-mod typed;
 mod values;
 mod words;
 

@@ -74,7 +74,7 @@ pub(crate) fn next(
     let number = request.number("targetId").unwrap_or(1).saturating_sub(1);
     match ready_events(desk) {
         Ok(events) => take_target(alloc, desk, program, &events, branch, number, answer),
-        Err(why) => refused(alloc, program, answer, branch, why, "no memory to look for a step"),
+        Err(why) => tell_refused(alloc, program, answer, branch, why, "no memory to look for a step"),
     }
 }
 
@@ -111,17 +111,29 @@ fn take(
     ensures system { desk.new.machine.checked ≡ desk.old.machine.checked }
 {
     let before = desk.machine().live_events().len();
-    let reply = step_at(alloc, desk, event);
+    let refusal = refusal_in(&step_at(alloc, desk, event));
     program.seen.clear();
-    match reply {
-        Reply::Stepped(ticket, taken) => {
-            tell_outputs(alloc, desk.machine(), before, answer);
-            tell_step(alloc, desk.machine(), "step ", ticket, &taken, answer);
-            stop(alloc, answer, "step", branch, "");
-        }
-        Reply::Refused(why) => refused(alloc, program, answer, branch, why, words_of(why)),
-        _ => stop(alloc, answer, "step", branch, ""),
+    match refusal {
+        Some(why) => tell_refused(alloc, program, answer, branch, why, words_of(why)),
+        None => tell_taken(alloc, desk.machine(), before, branch, answer),
     }
+}
+
+/// Why it was refused, if it was.
+fn refusal_in(reply: &Reply) -> Option<Refusal> {
+    match reply {
+        Reply::Refused(why) => Some(*why),
+        _ => None,
+    }
+}
+
+/// Tells the live step at this index, which was taken.
+fn tell_taken(alloc: Global, machine: &Machine, index: usize, branch: u32, answer: &mut Answer) {
+    tell_outputs(alloc, machine, index, answer);
+    if let Some((ticket, event)) = machine.live_events().pair_at(index as u64) {
+        tell_step(alloc, machine, "step ", ticket, event, answer);
+    }
+    stop(alloc, answer, "step", branch, "");
 }
 
 /// Tells that the thread has no such step, and for whom it waits.
@@ -222,7 +234,7 @@ fn add_output(alloc: Global, machine: &Machine, event: &Event, words: &mut Words
 }
 
 /// Tells that a step was refused, as an exception where the client wants these.
-fn refused(
+fn tell_refused(
     alloc: Global,
     program: &mut Program,
     answer: &mut Answer,
@@ -309,7 +321,9 @@ pub(crate) fn run(
         seen: seen.as_slice(),
         most: program.launch.most,
     };
-    let ended = go_on(alloc, desk, &plan);
+    let mut kept = Vec::new(alloc);
+    let ended = go_on(alloc, desk, &plan, &mut kept);
+    program.seen = kept;
     tell_outputs(alloc, desk.machine(), before, answer);
     tell_ended(alloc, desk, program, answer, branch, only, ended);
 }
@@ -346,10 +360,7 @@ fn tell_ended(
             tell(alloc, words.as_str(), "console", answer);
             stop(alloc, answer, "pause", branch.unwrap_or(0), words.as_str());
         }
-        Ended::AtLine(side, line, choice) => {
-            keep_seen(program, choice);
-            stop_at_line(alloc, program, answer, side, line);
-        }
+        Ended::AtLine(side, line) => stop_at_line(alloc, program, answer, side, line),
         Ended::Watched(branch, ticket) => {
             stop_watched(alloc, desk.machine(), answer, branch, ticket);
         }
@@ -360,16 +371,8 @@ fn tell_ended(
             stop(alloc, answer, "pause", branch, words.as_str());
         }
         Ended::Refused(branch, why) => {
-            refused(alloc, program, answer, branch, why, words_of(why));
+            tell_refused(alloc, program, answer, branch, why, words_of(why));
         }
-    }
-}
-
-/// Keeps in mind the step before which a run has stopped.
-fn keep_seen(program: &mut Program, choice: Option<Choice>) {
-    program.seen.clear();
-    if let Some(choice) = choice {
-        let _ = program.seen.push(choice);
     }
 }
 
@@ -439,7 +442,7 @@ pub(crate) fn back_in(
             stop(alloc, answer, "step", branch, text);
         }
         Back::Asked(ticket, reply) => {
-            tell_back(alloc, desk.machine(), program, branch, ticket, reply, answer);
+            tell_back(alloc, desk.machine(), program, branch, ticket, &reply, answer);
         }
     }
 }
@@ -451,18 +454,18 @@ fn tell_back(
     program: &mut Program,
     branch: u32,
     ticket: u64,
-    reply: Reply,
+    reply: &Reply,
     answer: &mut Answer,
 ) {
     match reply {
         Reply::Undone(_, event) => {
             program.seen.clear();
-            tell_step(alloc, machine, "taken back, step ", ticket, &event, answer);
+            tell_step(alloc, machine, "taken back, step ", ticket, event, answer);
             stop(alloc, answer, "step", branch, "");
         }
         Reply::Refused(why) => {
-            let (words, thread) = kept_words(alloc, machine, branch, ticket, why);
-            refused(alloc, program, answer, thread, why, words.as_str());
+            let (words, thread) = kept_words(alloc, machine, branch, ticket, *why);
+            tell_refused(alloc, program, answer, thread, *why, words.as_str());
         }
         _ => stop(alloc, answer, "step", branch, ""),
     }
@@ -536,24 +539,22 @@ pub(crate) fn reverse_in(
         lines: program.stops.as_slice(),
         watched: program.watched.as_slice(),
     };
+    let mut kept = Vec::new(alloc);
     let ended = if single {
-        rewind_branch(alloc, desk, branch, marks)
+        rewind_branch(alloc, desk, branch, marks, &mut kept)
     } else {
-        rewind(alloc, desk, marks)
+        rewind(alloc, desk, marks, &mut kept)
     };
-    program.seen.clear();
+    program.seen = kept;
     match ended {
         Rewound::AtBeginning => stop(alloc, answer, "entry", branch, "At the beginning"),
-        Rewound::AtLine(side, line, choice) => {
-            keep_seen(program, choice);
-            stop_at_line(alloc, program, answer, side, line);
-        }
+        Rewound::AtLine(side, line) => stop_at_line(alloc, program, answer, side, line),
         Rewound::Watched(branch, ticket) => {
             let mut words = Words::of(alloc, "before step ");
             words.number(ticket);
             stop(alloc, answer, "data breakpoint", branch, words.as_str());
         }
-        Rewound::Refused(why) => refused(alloc, program, answer, branch, why, words_of(why)),
+        Rewound::Refused(why) => tell_refused(alloc, program, answer, branch, why, words_of(why)),
     }
 }
 

@@ -1,6 +1,6 @@
 use crate::face::Face;
 use crate::fault::Fault;
-use crate::fixed::{Fixed, header, response, stopped, told};
+use crate::fixed::{Fixed, runs};
 use crate::input::{Input, Next};
 use crate::sources::Sources;
 use dap_frames::frame;
@@ -26,9 +26,10 @@ pub fn serve<R: Read, W: Write, F: Sources>(
     writer: &mut W,
     files: &F,
 ) -> Result<(), Fault> {
-    let mut input = Input::new(alloc);
+    let mut input = Input::new(alloc)?;
     let mut session = Sitting {
         face: Face::new(alloc),
+        fixed: Fixed::new(alloc)?,
         sent: 0,
     };
     for _ in 0..u64::MAX {
@@ -48,6 +49,7 @@ pub fn serve<R: Read, W: Write, F: Sources>(
 #[derive(Drop)]
 struct Sitting {
     face: Face,
+    fixed: Fixed,
     sent: u64,
 }
 
@@ -98,20 +100,27 @@ impl Sitting {
     /// Answers a request for whose answer there is no memory.
     fn answer_short<W: Write>(&mut self, writer: &mut W, request: &Request) -> Result<(), Fault> {
         self.sent = self.sent.saturating_add(1);
-        put_fixed(writer, &response(request, self.sent))?;
-        match stopped(request, self.sent.saturating_add(1)) {
-            Some(text) => {
-                self.sent = self.sent.saturating_add(1);
-                put_fixed(writer, &text)
-            }
-            None => Ok(()),
+        self.fixed.response(request, self.sent);
+        self.put_fixed(writer)?;
+        if !runs(request.kind) {
+            return Ok(());
         }
+        self.sent = self.sent.saturating_add(1);
+        self.fixed.stopped(request, self.sent);
+        self.put_fixed(writer)
     }
 
     /// Tells a line.
     fn tell<W: Write>(&mut self, writer: &mut W, line: &str) -> Result<(), Fault> {
         self.sent = self.sent.saturating_add(1);
-        put_fixed(writer, &told(line, self.sent))
+        self.fixed.told(line, self.sent);
+        self.put_fixed(writer)
+    }
+
+    /// Writes the message that took no memory.
+    fn put_fixed<W: Write>(&mut self, writer: &mut W) -> Result<(), Fault> {
+        put(writer, self.fixed.header())?;
+        put(writer, self.fixed.body())
     }
 }
 
@@ -129,12 +138,6 @@ fn frames_of(
         count = count.saturating_add(1);
     }
     Ok((bytes, count))
-}
-
-/// Writes a message that took no memory.
-fn put_fixed<W: Write>(writer: &mut W, text: &Fixed) -> Result<(), Fault> {
-    put(writer, header(text.text().len()).text())?;
-    put(writer, text.text())
 }
 
 /// Writes all the bytes, and flushes.

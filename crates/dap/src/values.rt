@@ -58,27 +58,12 @@ fn scope(alloc: Global, name: &str, title: &str, handle: Handle, is_wide: bool) 
     }
     let mut scope = Members::new(alloc);
     scope.text("name", words.as_str());
-    scope.number("variablesReference", number_for(handle));
+    scope.number("variablesReference", reference(handle));
     scope.flag("expensive", is_wide);
     if let Handle::Variables(_) = handle {
         scope.text("presentationHint", "locals");
     }
     scope
-}
-
-/// The number by which something is unfolded; 0, which unfolds nothing, where it would not have one.
-fn number_for(handle: Handle) -> u64 {
-    let number = match handle {
-        Handle::Variables(number)
-        | Handle::Channels(number)
-        | Handle::Steps(number)
-        | Handle::Instance(number) => number,
-    };
-    if number < 4_294_967_296 {
-        reference(handle)
-    } else {
-        0
-    }
 }
 
 /// Answers `variables`.
@@ -288,7 +273,7 @@ fn add_calls(alloc: Global, program: &Program, instance: usize, list: &mut Liste
                 words.add(own.strip_suffix(':').unwrap_or(own));
                 call.text("name", words.as_str());
                 call.text("value", "");
-                call.number("variablesReference", number_for(Handle::Instance(index as u64)));
+                call.number("variablesReference", reference(Handle::Instance(index as u64)));
                 list.push(call);
             }
         }

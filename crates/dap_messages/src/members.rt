@@ -137,8 +137,13 @@ impl Listed {
 
     /// The list; `None` where there was no memory for a part.
     pub fn into_value(self) -> Option<Value> {
+        Some(Value::Array(self.into_items()?))
+    }
+
+    /// The items; `None` where there was no memory for a part.
+    pub fn into_items(self) -> Option<Vec<Value>> {
         let Listed { made, lacks } = self;
-        if lacks { None } else { Some(Value::Array(made)) }
+        if lacks { None } else { Some(made) }
     }
 }
 

@@ -1,5 +1,5 @@
 // The numbers by which a client names frames and what it unfolds: no table is kept, so one state has one number for each.
-ghost use Rattle.std.specs.Prelude.{ℕ, ◌≡◌, ◌<◌, ◌^◌, Some};
+ghost use Rattle.std.specs.Prelude.{ℕ, ◌≡◌, ◌<◌, ◌^◌, ◌*◌, ◌+◌, Some};
 ghost use Rattle.dap_moves.specs.declared.handles.Handle.{Handle as Unfolded};
 ghost use Rattle.dap_moves.specs.Handles as model;
 
@@ -34,16 +34,27 @@ pub fn frame_of(id: u64) -> (u64, u64)
     (id / MOST_FRAMES, id % MOST_FRAMES)
 }
 
-/// The number by which something is unfolded. It is never 0.
+/// The number by which something is unfolded. It is never 0. Numbers of 2^32 and more, which no system has, may share one.
 pub fn reference(handle: Handle) -> u64
-    requires { model.number_of handle < 2 ^ 32 }
-    ensures { result ≡ model.reference handle }
+    ensures { model.number_of handle < 2 ^ 32 → result ≡ model.reference handle }
 {
     match handle {
-        Handle::Variables(number) => number * 8 + 1,
-        Handle::Channels(number) => number * 8 + 2,
-        Handle::Steps(number) => number * 8 + 3,
-        Handle::Instance(number) => number * 8 + 4,
+        Handle::Variables(number) => eightfold(number, 1),
+        Handle::Channels(number) => eightfold(number, 2),
+        Handle::Steps(number) => eightfold(number, 3),
+        Handle::Instance(number) => eightfold(number, 4),
+    }
+}
+
+/// Eight times the number, and the rest behind it; as if the number were 2^32 where it is more.
+fn eightfold(number: u64, rest: u64) -> u64
+    requires { rest < 8 }
+    ensures { number < 2 ^ 32 → result ≡ number * 8 + rest }
+{
+    if number < 4_294_967_296 {
+        number * 8 + rest
+    } else {
+        34_359_738_368 + rest
     }
 }
 

@@ -31,13 +31,12 @@ pub struct Plan<'a> {
 }
 
 /// Why a run ended.
-#[derive(Drop)]
+#[derive(Clone, Copy, PartialEq, Eq)]
 pub enum Ended {
     /// no step is ready
     Nothing,
-    /// a step that is about to happen has a side in this branch on this line, which has a breakpoint; the choice is that of the
-    /// step, where there was memory for it
-    AtLine(u32, u64, Option<Choice>),
+    /// a step that is about to happen has a side in this branch on this line, which has a breakpoint
+    AtLine(u32, u64),
     /// the step of this ticket in this branch, which is watched, was taken
     Watched(u32, u64),
     /// as many steps were taken as there may be; it is the turn of this branch
@@ -47,21 +46,28 @@ pub enum Ended {
 }
 
 /// What came of a turn.
+#[derive(Clone, Copy, PartialEq, Eq)]
 enum Turn {
     /// a step of this branch
     Went(u32),
     Ended(Ended),
 }
 
-/// Goes on as planned. Each step is one command.
-pub fn go_on(alloc: Global, desk: &mut Desk, plan: &Plan<'_>) -> Ended
+/// Goes on as planned. Each step is one command. Where it stops before a step, `kept` has the choice of that, if there was memory
+/// for it.
+pub fn go_on(
+    alloc: Global,
+    desk: &mut Desk,
+    plan: &Plan<'_>,
+    kept: &mut Vec<Choice>,
+) -> Ended
     ensures led { Led desk.old desk.new }
     ensures system { desk.new.machine.checked ≡ desk.old.machine.checked }
 {
     let count = branch_count(desk.machine().checked().system());
     let mut turn = plan.first;
     for _ in 0..plan.most {
-        match take_turn(alloc, desk, plan, turn, count) {
+        match take_turn(alloc, desk, plan, kept, turn, count) {
             Turn::Went(branch) => turn = branch.saturating_add(1),
             Turn::Ended(ended) => return ended,
         }
@@ -71,12 +77,19 @@ pub fn go_on(alloc: Global, desk: &mut Desk, plan: &Plan<'_>) -> Ended
 
 /// One step, of this branch or of the next that has one. Where no line has a breakpoint nobody looks at the step before it is
 /// taken.
-fn take_turn(alloc: Global, desk: &mut Desk, plan: &Plan<'_>, turn: u32, count: u32) -> Turn
+fn take_turn(
+    alloc: Global,
+    desk: &mut Desk,
+    plan: &Plan<'_>,
+    kept: &mut Vec<Choice>,
+    turn: u32,
+    count: u32,
+) -> Turn
     ensures led { Led desk.old desk.new }
     ensures system { desk.new.machine.checked ≡ desk.old.machine.checked }
 {
     if !plan.lines.is_empty() {
-        return look_and_step(alloc, desk, plan, turn, count);
+        return look_and_step(alloc, desk, plan, kept, turn, count);
     }
     match plan.only {
         Some(branch) => step_branch(desk, plan, branch),
@@ -90,12 +103,17 @@ fn step_next(desk: &mut Desk, plan: &Plan<'_>, turn: u32, count: u32) -> Turn
     ensures system { desk.new.machine.checked ≡ desk.old.machine.checked }
 {
     for ahead in 0..count {
-        match step_branch(desk, plan, in_turn(turn, ahead, count)) {
-            Turn::Ended(Ended::Nothing) => {}
-            turn => return turn,
+        let outcome = step_branch(desk, plan, in_turn(turn, ahead, count));
+        if !is_idle(outcome) {
+            return outcome;
         }
     }
     Turn::Ended(Ended::Nothing)
+}
+
+/// Whether the branch had no step.
+fn is_idle(turn: Turn) -> bool {
+    matches!(turn, Turn::Ended(Ended::Nothing))
 }
 
 /// The branch that is so many behind the one whose turn it is, of so many.
@@ -134,7 +152,14 @@ fn went(plan: &Plan<'_>, branch: u32, ticket: u64, event: &Event) -> Turn {
 }
 
 /// The next step in turn, unless a side of it is on a line with a breakpoint.
-fn look_and_step(alloc: Global, desk: &mut Desk, plan: &Plan<'_>, turn: u32, count: u32) -> Turn
+fn look_and_step(
+    alloc: Global,
+    desk: &mut Desk,
+    plan: &Plan<'_>,
+    kept: &mut Vec<Choice>,
+    turn: u32,
+    count: u32,
+) -> Turn
     ensures led { Led desk.old desk.new }
     ensures system { desk.new.machine.checked ≡ desk.old.machine.checked }
 {
@@ -144,7 +169,7 @@ fn look_and_step(alloc: Global, desk: &mut Desk, plan: &Plan<'_>, turn: u32, cou
     };
     let next = next_in_turn(desk.machine().checked().system(), events.as_slice(), plan, turn, count);
     match next {
-        Some((branch, event)) => step_or_stop(alloc, desk, plan, branch, event),
+        Some((branch, event)) => step_or_stop(alloc, desk, plan, kept, branch, event),
         None => Turn::Ended(Ended::Nothing),
     }
 }
@@ -154,6 +179,7 @@ fn step_or_stop(
     alloc: Global,
     desk: &mut Desk,
     plan: &Plan<'_>,
+    kept: &mut Vec<Choice>,
     branch: u32,
     event: &Event,
 ) -> Turn
@@ -162,11 +188,20 @@ fn step_or_stop(
 {
     if !is_seen(plan.seen, event) {
         if let Some((side, line)) = line_among(desk.machine(), plan.lines, event) {
-            return Turn::Ended(Ended::AtLine(side, line, event.choice(alloc).ok()));
+            keep(alloc, kept, event);
+            return Turn::Ended(Ended::AtLine(side, line));
         }
     }
     let reply = step_at(alloc, desk, event);
     told(plan, branch, reply)
+}
+
+/// Keeps the choice of the event alone, where there is memory for it.
+pub(crate) fn keep(alloc: Global, kept: &mut Vec<Choice>, event: &Event) {
+    kept.clear();
+    if let Ok(choice) = event.choice(alloc) {
+        let _ = kept.push(choice);
+    }
 }
 
 /// The first of these events that acts in the first branch in turn in which one does, and that branch.

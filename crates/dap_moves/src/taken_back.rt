@@ -5,7 +5,7 @@ ghost use Rattle.dap_moves.specs.Led.{Led};
 use crate::QUIET;
 use crate::back::undo;
 use crate::parts::newest_below;
-use crate::run::line_among;
+use crate::run::{keep, line_among};
 use crate::seen::{Watched, is_watched};
 use locked_execution::{Command, Desk, Machine, Reply};
 use runs::{Choice, Event, Refusal};
@@ -13,13 +13,12 @@ use std::alloc::Global;
 use system_places::branch_at;
 
 /// Why a run back ended.
-#[derive(Drop)]
+#[derive(Clone, Copy, PartialEq, Eq)]
 pub enum Rewound {
     /// no step is left that it could take back
     AtBeginning,
-    /// the step that was taken back last has a side in this branch on this line, which has a breakpoint; the choice is that of
-    /// the step, where there was memory for it
-    AtLine(u32, u64, Option<Choice>),
+    /// the step that was taken back last has a side in this branch on this line, which has a breakpoint
+    AtLine(u32, u64),
     /// the step that was taken back last, of this ticket, which is watched, acted in this branch
     Watched(u32, u64),
     /// a step was refused
@@ -34,13 +33,19 @@ pub struct Marks<'a> {
     pub watched: &'a [Watched],
 }
 
-/// Takes the live step of the greatest ticket back, again and again.
-pub fn rewind(alloc: Global, desk: &mut Desk, marks: Marks<'_>) -> Rewound
+/// Takes the live step of the greatest ticket back, again and again. Where a line stops it, `kept` has the choice of the step
+/// that was taken back last, if there was memory for it.
+pub fn rewind(
+    alloc: Global,
+    desk: &mut Desk,
+    marks: Marks<'_>,
+    kept: &mut Vec<Choice>,
+) -> Rewound
     ensures led { Led desk.old desk.new }
     ensures system { desk.new.machine.checked ≡ desk.old.machine.checked }
 {
     for _ in 0..65_537u32 {
-        if let Some(ended) = undo_last(alloc, desk, marks) {
+        if let Some(ended) = undo_last(alloc, desk, marks, kept) {
             return ended;
         }
     }
@@ -48,7 +53,12 @@ pub fn rewind(alloc: Global, desk: &mut Desk, marks: Marks<'_>) -> Rewound
 }
 
 /// Takes the live step of the greatest ticket back; why the run ends there, if it does.
-fn undo_last(alloc: Global, desk: &mut Desk, marks: Marks<'_>) -> Option<Rewound>
+fn undo_last(
+    alloc: Global,
+    desk: &mut Desk,
+    marks: Marks<'_>,
+    kept: &mut Vec<Choice>,
+) -> Option<Rewound>
     ensures led { Led desk.old desk.new }
     ensures system { desk.new.machine.checked ≡ desk.old.machine.checked }
 {
@@ -56,7 +66,7 @@ fn undo_last(alloc: Global, desk: &mut Desk, marks: Marks<'_>) -> Option<Rewound
         return Some(Rewound::AtBeginning);
     };
     match undo(desk, ticket) {
-        Reply::Undone(ticket, event) => stop_at(alloc, desk.machine(), marks, ticket, &event),
+        Reply::Undone(ticket, event) => stop_at(alloc, desk.machine(), marks, kept, ticket, &event),
         Reply::Refused(why) => Some(Rewound::Refused(why)),
         _ => Some(Rewound::AtBeginning),
     }
@@ -69,14 +79,21 @@ fn last_ticket(machine: &Machine) -> Option<u64> {
     Some(ticket)
 }
 
-/// Takes the newest live step back in which the branch took part, with all that depend on it, again and again.
-pub fn rewind_branch(alloc: Global, desk: &mut Desk, branch: u32, marks: Marks<'_>) -> Rewound
+/// Takes the newest live step back in which the branch took part, with all that depend on it, again and again; otherwise as
+/// `rewind`.
+pub fn rewind_branch(
+    alloc: Global,
+    desk: &mut Desk,
+    branch: u32,
+    marks: Marks<'_>,
+    kept: &mut Vec<Choice>,
+) -> Rewound
     ensures led { Led desk.old desk.new }
     ensures system { desk.new.machine.checked ≡ desk.old.machine.checked }
 {
     let mut below = desk.machine().live_events().len();
     for _ in 0..65_537u32 {
-        match roll_newest(alloc, desk, branch, below, marks) {
+        match roll_newest(alloc, desk, branch, below, marks, kept) {
             Rolled::On(index) => below = index,
             Rolled::Ended(ended) => return ended,
         }
@@ -85,6 +102,7 @@ pub fn rewind_branch(alloc: Global, desk: &mut Desk, branch: u32, marks: Marks<'
 }
 
 /// What came of a rollback.
+#[derive(Clone, Copy, PartialEq, Eq)]
 enum Rolled {
     /// those before this index are left
     On(usize),
@@ -98,29 +116,49 @@ fn roll_newest(
     branch: u32,
     below: usize,
     marks: Marks<'_>,
+    kept: &mut Vec<Choice>,
 ) -> Rolled
     ensures led { Led desk.old desk.new }
     ensures system { desk.new.machine.checked ≡ desk.old.machine.checked }
 {
-    let Some((index, ticket, stop)) = newest_with_stop(alloc, desk.machine(), branch, below, marks)
+    let Some((index, ticket, stop)) = newest_with_stop(alloc, desk.machine(), branch, below, marks, kept)
     else {
         return Rolled::Ended(Rewound::AtBeginning);
     };
-    match (undo_or_roll(desk, ticket), stop) {
-        (Reply::Refused(why), _) => Rolled::Ended(Rewound::Refused(why)),
-        (_, Some(ended)) => Rolled::Ended(ended),
-        (_, None) => Rolled::On(index),
+    if let Some(why) = undo_or_roll(desk, ticket) {
+        return Rolled::Ended(Rewound::Refused(why));
+    }
+    match stop {
+        Some(ended) => Rolled::Ended(ended),
+        None => Rolled::On(index),
     }
 }
 
-/// Takes the live event of this ticket back, with all that depend on it. Where none does, that is an undo, which is quicker.
-fn undo_or_roll(desk: &mut Desk, ticket: u64) -> Reply
+/// Takes the live event of this ticket back, with all that depend on it; why not, if it was refused. Where none depends on it,
+/// that is an undo, which is quicker.
+fn undo_or_roll(desk: &mut Desk, ticket: u64) -> Option<Refusal>
     ensures led { Led desk.old desk.new }
     ensures system { desk.new.machine.checked ≡ desk.old.machine.checked }
 {
-    match undo(desk, ticket) {
-        Reply::Refused(Refusal::NeededBy(_)) => desk.perform(QUIET, &Command::Roll(ticket)),
-        reply => reply,
+    match refusal_in(&undo(desk, ticket)) {
+        Some(Refusal::NeededBy(_)) => roll(desk, ticket),
+        why => why,
+    }
+}
+
+/// Takes the live event of this ticket back, with all that depend on it; why not, if it was refused.
+fn roll(desk: &mut Desk, ticket: u64) -> Option<Refusal>
+    ensures led { Led desk.old desk.new }
+    ensures system { desk.new.machine.checked ≡ desk.old.machine.checked }
+{
+    refusal_in(&desk.perform(QUIET, &Command::Roll(ticket)))
+}
+
+/// Why it was refused, if it was.
+fn refusal_in(reply: &Reply) -> Option<Refusal> {
+    match reply {
+        Reply::Refused(why) => Some(*why),
+        _ => None,
     }
 }
 
@@ -132,11 +170,12 @@ fn newest_with_stop(
     branch: u32,
     below: usize,
     marks: Marks<'_>,
+    kept: &mut Vec<Choice>,
 ) -> Option<(usize, u64, Option<Rewound>)> {
     let live = machine.live_events();
     let index = newest_below(machine.checked().system(), live, branch, below.min(live.len()))?;
     let (ticket, event) = live.pair_at(index as u64)?;
-    Some((index, ticket, stop_at(alloc, machine, marks, ticket, event)))
+    Some((index, ticket, stop_at(alloc, machine, marks, kept, ticket, event)))
 }
 
 /// Why a run back ends behind this step, if it does.
@@ -144,6 +183,7 @@ fn stop_at(
     alloc: Global,
     machine: &Machine,
     marks: Marks<'_>,
+    kept: &mut Vec<Choice>,
     ticket: u64,
     event: &Event,
 ) -> Option<Rewound> {
@@ -152,5 +192,6 @@ fn stop_at(
         return Some(Rewound::Watched(branch.unwrap_or(0), ticket));
     }
     let (side, line) = line_among(machine, marks.lines, event)?;
-    Some(Rewound::AtLine(side, line, event.choice(alloc).ok()))
+    keep(alloc, kept, event);
+    Some(Rewound::AtLine(side, line))
 }

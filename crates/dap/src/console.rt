@@ -20,11 +20,12 @@ use line_text::{
 use source_view::view;
 use std::alloc::{AllocError, Global};
 use std::str;
+use syntax::Boxed;
 use system::System;
 use trace_file::write_trace;
 
 /// The words with which a line of a script begins, and those that are understood here alone.
-static WORDS: [&str; 16] = [
+static LINE_WORDS: [&str; 16] = [
     "ready",
     "live",
     "value",
@@ -46,9 +47,11 @@ static WORDS: [&str; 16] = [
 /// What a typed line asks for.
 #[derive(Drop)]
 enum Line {
-    Asked(Command),
+    Asked(Boxed<Command>),
     View,
     Trace,
+    /// it is no line of a script
+    Unknown,
 }
 
 /// Answers `evaluate`: a variable, a channel, or a line of a script. One that changes something is taken only where it was typed
@@ -200,13 +203,36 @@ fn read_line(
     ensures system { desk.new.machine.checked ≡ desk.old.machine.checked }
 {
     match line_of(alloc, desk.machine().checked().system(), line.as_bytes()) {
-        Ok(Some(Line::Asked(command))) if is_typed || only_reads(&command) => {
-            ask(alloc, desk, program, branch, &command, answer);
-        }
-        Ok(Some(Line::View)) => show(alloc, view_bytes(alloc, desk, program), answer),
-        Ok(Some(Line::Trace)) => show(alloc, write_trace(alloc, desk.machine()), answer),
-        Ok(_) => no_line(alloc, line, answer),
+        Ok(found) => answer_line(alloc, desk, program, branch, line, &found, is_typed, answer),
         Err(AllocError) => answer.lacks = true,
+    }
+}
+
+/// Answers the line that asks for this.
+fn answer_line(
+    alloc: Global,
+    desk: &mut Desk,
+    program: &mut Program,
+    branch: u32,
+    line: &str,
+    found: &Line,
+    is_typed: bool,
+    answer: &mut Answer,
+)
+    ensures led { Led desk.old desk.new }
+    ensures system { desk.new.machine.checked ≡ desk.old.machine.checked }
+{
+    match found {
+        Line::Asked(command) => {
+            if is_typed || only_reads(command.get()) {
+                ask(alloc, desk, program, branch, command.get(), answer);
+            } else {
+                no_line(alloc, line, answer);
+            }
+        }
+        Line::View => show(alloc, view_bytes(alloc, desk, program), answer),
+        Line::Trace => show(alloc, write_trace(alloc, desk.machine()), answer),
+        Line::Unknown => no_line(alloc, line, answer),
     }
 }
 
@@ -275,47 +301,55 @@ fn only_reads(command: &Command) -> bool {
     )
 }
 
-/// What the line asks for, if it is one of a script. It is an error if there is no memory for the place of a step.
-fn line_of(alloc: Global, system: &System, line: &[u8]) -> Result<Option<Line>, AllocError> {
+/// What the line asks for. It is an error if there is no memory for it.
+fn line_of(alloc: Global, system: &System, line: &[u8]) -> Result<Line, AllocError> {
     let (word, rest) = cut_at_space(line);
     match Keyword::read(word) {
-        Some(Keyword::Step) => match read_choice(alloc, rest)? {
-            Some(choice) => Ok(asked(Command::Step(choice))),
-            None => Ok(None),
-        },
-        Some(keyword) => Ok(simple(system, keyword, rest)),
-        None => Ok(None),
+        Some(Keyword::Step) => step_line(alloc, rest),
+        Some(Keyword::View) if rest.is_empty() => Ok(Line::View),
+        Some(Keyword::Trace) if rest.is_empty() => Ok(Line::Trace),
+        Some(keyword) => boxed(alloc, simple(system, keyword, rest)),
+        None => Ok(Line::Unknown),
     }
 }
 
-/// What a line with another keyword asks for.
-fn simple(system: &System, keyword: Keyword, rest: &[u8]) -> Option<Line> {
-    match keyword {
-        Keyword::Step | Keyword::Session => None,
-        Keyword::Undo => asked(Command::Undo(read_ticket(rest)?)),
-        Keyword::Roll => asked(Command::Roll(read_ticket(rest)?)),
-        Keyword::Consequences => asked(Command::Consequences(read_ticket(rest)?)),
-        Keyword::RollValue => asked(Command::RollValue(read_variable(system, rest)?)),
-        Keyword::Blame => asked(Command::Blame(read_variable(system, rest)?)),
-        Keyword::Value => asked(Command::Value(read_variable(system, rest)?)),
-        Keyword::Branch => asked(Command::Branch(read_branch(rest)?)),
-        Keyword::Break => asked(Command::Break(read_ticket(rest)?)),
-        Keyword::Clear => asked(Command::Clear(read_ticket(rest)?)),
-        Keyword::Ready => bare(rest, Line::Asked(Command::Ready)),
-        Keyword::Live => bare(rest, Line::Asked(Command::Live)),
-        Keyword::View => bare(rest, Line::View),
-        Keyword::Trace => bare(rest, Line::Trace),
+/// What a line asks for that asks for a step.
+fn step_line(alloc: Global, rest: &[u8]) -> Result<Line, AllocError> {
+    match read_choice(alloc, rest)? {
+        Some(choice) => boxed(alloc, Some(Command::Step(choice))),
+        None => Ok(Line::Unknown),
     }
 }
 
 /// The line that asks for the command.
-fn asked(command: Command) -> Option<Line> {
-    Some(Line::Asked(command))
+fn boxed(alloc: Global, command: Option<Command>) -> Result<Line, AllocError> {
+    match command {
+        Some(command) => Ok(Line::Asked(Boxed::new(alloc, command)?)),
+        None => Ok(Line::Unknown),
+    }
 }
 
-/// The line, where nothing is left.
-fn bare(rest: &[u8], line: Line) -> Option<Line> {
-    if rest.is_empty() { Some(line) } else { None }
+/// What a line with another keyword asks for.
+fn simple(system: &System, keyword: Keyword, rest: &[u8]) -> Option<Command> {
+    match keyword {
+        Keyword::Step | Keyword::Session | Keyword::View | Keyword::Trace => None,
+        Keyword::Undo => Some(Command::Undo(read_ticket(rest)?)),
+        Keyword::Roll => Some(Command::Roll(read_ticket(rest)?)),
+        Keyword::Consequences => Some(Command::Consequences(read_ticket(rest)?)),
+        Keyword::RollValue => Some(Command::RollValue(read_variable(system, rest)?)),
+        Keyword::Blame => Some(Command::Blame(read_variable(system, rest)?)),
+        Keyword::Value => Some(Command::Value(read_variable(system, rest)?)),
+        Keyword::Branch => Some(Command::Branch(read_branch(rest)?)),
+        Keyword::Break => Some(Command::Break(read_ticket(rest)?)),
+        Keyword::Clear => Some(Command::Clear(read_ticket(rest)?)),
+        Keyword::Ready => bare(rest, Command::Ready),
+        Keyword::Live => bare(rest, Command::Live),
+    }
+}
+
+/// The command, where nothing is left.
+fn bare(rest: &[u8], command: Command) -> Option<Command> {
+    if rest.is_empty() { Some(command) } else { None }
 }
 
 /// The bytes with which a script is answered where this is the reply to the command.
@@ -390,7 +424,7 @@ pub(crate) fn completions(
 
 /// Adds the words that begin so.
 fn add_words(alloc: Global, begun: &str, list: &mut Listed) {
-    for word in &WORDS {
+    for word in &LINE_WORDS {
         if word.starts_with(begun) {
             add_target(alloc, word, list);
         }
