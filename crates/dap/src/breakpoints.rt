@@ -20,7 +20,11 @@ const MOST_LOCATIONS: u64 = 10_000;
 pub(crate) fn set_before(alloc: Global, request: &Request, answer: &mut Answer) {
     let mut list = Listed::new(alloc);
     for value in request.items("breakpoints").unwrap_or(&[]) {
-        list.push(unset(alloc, number_in(value, "line").unwrap_or(0), "nothing is launched yet"));
+        list.push(unset(
+            alloc,
+            number_in(value, "line").unwrap_or(0),
+            "nothing is launched yet",
+        ));
     }
     let mut body = Members::new(alloc);
     body.list("breakpoints", list);
@@ -199,7 +203,10 @@ fn shown(alloc: Global, program: &Program, asked: Asked, placed: &Placed) -> Mem
     let mut one = Members::new(alloc);
     one.number("id", asked.id);
     one.flag("verified", placed.line.is_some());
-    one.number("line", program.shown_line(placed.line.unwrap_or(asked.line)));
+    one.number(
+        "line",
+        program.shown_line(placed.line.unwrap_or(asked.line)),
+    );
     if !placed.words.is_empty() {
         one.text("message", placed.words.as_str());
     }
@@ -241,8 +248,15 @@ pub(crate) fn locations(
     };
     let first = program.meant_line(line);
     let last = program.meant_line(request.number("endLine").unwrap_or(line));
-    let below = last.min(first.saturating_add(MOST_LOCATIONS)).min(program.lines.count());
-    let Ok(lines) = stop_lines(alloc, machine.checked().system(), first, below.saturating_add(1)) else {
+    let below = last
+        .min(first.saturating_add(MOST_LOCATIONS))
+        .min(program.lines.count());
+    let Ok(lines) = stop_lines(
+        alloc,
+        machine.checked().system(),
+        first,
+        below.saturating_add(1),
+    ) else {
         answer.lacks = true;
         return;
     };
@@ -288,7 +302,12 @@ pub(crate) fn data_info(
         return;
     };
     let name = request.text("name").unwrap_or("");
-    let body = info(alloc, desk.machine(), program.index.find(instance, name), name);
+    let body = info(
+        alloc,
+        desk.machine(),
+        program.index.find(instance, name),
+        name,
+    );
     answer.body(body);
 }
 

@@ -171,13 +171,7 @@ fn add_writer(alloc: Global, machine: &Machine, variable: u32, words: &mut Words
     words.add(")");
 }
 
-fn told_channel(
-    alloc: Global,
-    desk: &mut Desk,
-    program: &Program,
-    number: u32,
-    answer: &mut Answer,
-)
+fn told_channel(alloc: Global, desk: &mut Desk, program: &Program, number: u32, answer: &mut Answer)
     ensures { desk.new ≡ desk.old }
 {
     match sight_of(desk) {
@@ -238,7 +232,12 @@ fn answer_line(
 
 /// The view of the source.
 fn view_bytes(alloc: Global, desk: &Desk, program: &Program) -> Result<Vec<u8>, AllocError> {
-    view(alloc, desk.machine(), desk.breaks(0), program.source.as_slice())
+    view(
+        alloc,
+        desk.machine(),
+        desk.breaks(0),
+        program.source.as_slice(),
+    )
 }
 
 /// Refuses what is no variable, no channel and no line.
@@ -404,7 +403,9 @@ pub(crate) fn completions(
 ) {
     let text = request.text("text").unwrap_or("");
     let column = request.number("column").unwrap_or(0);
-    let before = column.saturating_add(program.counting.columns).saturating_sub(1);
+    let before = column
+        .saturating_add(program.counting.columns)
+        .saturating_sub(1);
     let text = match text.split_at_checked(before as usize) {
         Some((front, _)) => front,
         None => text,

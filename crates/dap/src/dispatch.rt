@@ -3,12 +3,12 @@ ghost use Rattle.std.specs.Prelude.{◌≡◌};
 ghost use Rattle.dap_moves.specs.Led.{Led};
 
 use crate::breakpoints::{data_info, locations, set_data, set_exceptions, set_lines};
+use crate::console::{completions, evaluate};
 use crate::face::{attach, unknown};
 use crate::frames::{stack_trace, thread_in, threads};
 use crate::launch::begin;
 use crate::moves::{back, go, next, reverse, stop, targets};
 use crate::program::Program;
-use crate::console::{completions, evaluate};
 use crate::values::{scopes, variables};
 use dap_messages::{Answer, Kind, Members, Request, Told};
 use dap_moves::{Desk, Machine};

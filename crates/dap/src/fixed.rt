@@ -76,7 +76,9 @@ impl Fixed {
     /// The `stopped` behind the response to a request to run.
     pub(crate) fn stopped(&mut self, request: &Request, seq: u64) {
         self.begin(seq);
-        self.add(",\"type\":\"event\",\"event\":\"stopped\",\"body\":{\"reason\":\"exception\",\"threadId\":");
+        self.add(
+            ",\"type\":\"event\",\"event\":\"stopped\",\"body\":{\"reason\":\"exception\",\"threadId\":",
+        );
         self.number(request.number("threadId").unwrap_or(1));
         self.add(",\"allThreadsStopped\":true,\"text\":\"refused 1: there is no memory left\"}}");
         self.end();
@@ -85,7 +87,9 @@ impl Fixed {
     /// An event that tells a line on standard error.
     pub(crate) fn told(&mut self, line: &str, seq: u64) {
         self.begin(seq);
-        self.add(",\"type\":\"event\",\"event\":\"output\",\"body\":{\"category\":\"stderr\",\"output\":\"balsadbg: ");
+        self.add(
+            ",\"type\":\"event\",\"event\":\"output\",\"body\":{\"category\":\"stderr\",\"output\":\"balsadbg: ",
+        );
         self.add(line);
         self.add("\\n\"}}");
         self.end();

@@ -89,7 +89,11 @@ fn line_of_branch(system: &System, branch: u32) -> Option<u64> {
 /// Adds the port at which a branch of the environment stands.
 fn add_port(alloc: Global, system: &System, branch: u32, words: &mut Words) {
     let body = (branch_count(system) as usize).saturating_sub(environment_within(system));
-    match system.environment.as_slice().get((branch as usize).saturating_sub(body)) {
+    match system
+        .environment
+        .as_slice()
+        .get((branch as usize).saturating_sub(body))
+    {
         Some(Branch::Feed(channel, _, _)) => port(alloc, system, "input ", *channel, words),
         Some(Branch::Drain(channel)) => port(alloc, system, "output ", *channel, words),
         Some(Branch::Syncs(channel, _)) => port(alloc, system, "sync ", *channel, words),

@@ -59,12 +59,7 @@ impl Index {
     }
 
     /// Adds a name.
-    fn add(
-        &mut self,
-        alloc: Global,
-        name: &QualifiedName,
-        thing: Thing,
-    ) -> Result<(), AllocError> {
+    fn add(&mut self, alloc: Global, name: &QualifiedName, thing: Thing) -> Result<(), AllocError> {
         let mut bytes = Vec::new(alloc);
         name.write_to(&mut bytes)?;
         let (prefix, own) = parts_of(str::from_utf8(bytes.as_slice()).unwrap_or("?"));

@@ -78,10 +78,7 @@ impl Input {
         match unframe(rest) {
             Unframed::Whole(from, to) => {
                 self.start = start.saturating_add(to);
-                Ok(Some(Next::Body(
-                    start.saturating_add(from),
-                    start.saturating_add(to),
-                )))
+                Ok(Some(Next::Body(start.saturating_add(from), start.saturating_add(to))))
             }
             Unframed::Begun => Ok(None),
             Unframed::Large(from, length) => {

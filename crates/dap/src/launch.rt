@@ -121,7 +121,14 @@ fn machine_of(
     answer: &mut Answer,
 ) -> Result<Machine, Failed> {
     let source = texts.source.as_slice();
-    let checked = checked(alloc, asked, source, texts.stimulus.as_slice(), counting, answer)?;
+    let checked = checked(
+        alloc,
+        asked,
+        source,
+        texts.stimulus.as_slice(),
+        counting,
+        answer,
+    )?;
     machine(alloc, checked, asked, texts.trace.as_slice(), answer)
 }
 
@@ -172,7 +179,9 @@ fn launch_of(alloc: Global, arguments: &Value, answer: &mut Answer) -> Result<La
         stimulus: copied(alloc, text_in(arguments, "stimulus"))?,
         trace: copied(alloc, text_in(arguments, "trace"))?,
         stops: flag_in(arguments, "stopOnEntry", true),
-        most: number_in(arguments, "maxSteps").unwrap_or(MOST_STEPS).max(1),
+        most: number_in(arguments, "maxSteps")
+            .unwrap_or(MOST_STEPS)
+            .max(1),
         free: flag_in(arguments, "noDebug", false),
     })
 }
@@ -274,7 +283,15 @@ fn refuse_texts(
     let field = fault.field().unwrap_or(0);
     if number < 30 {
         let (line, column) = place_in(source, field);
-        refuse_at(alloc, asked.program.as_str(), line, column, number, counting, answer);
+        refuse_at(
+            alloc,
+            asked.program.as_str(),
+            line,
+            column,
+            number,
+            counting,
+            answer,
+        );
         return;
     }
     let beside = beside(alloc, asked.program.as_str());

@@ -74,7 +74,14 @@ pub(crate) fn next(
     let number = request.number("targetId").unwrap_or(1).saturating_sub(1);
     match ready_events(desk) {
         Ok(events) => take_target(alloc, desk, program, &events, branch, number, answer),
-        Err(why) => tell_refused(alloc, program, answer, branch, why, "no memory to look for a step"),
+        Err(why) => tell_refused(
+            alloc,
+            program,
+            answer,
+            branch,
+            why,
+            "no memory to look for a step",
+        ),
     }
 }
 
@@ -178,7 +185,11 @@ fn waits_words(
     let mut words = Words::new(alloc);
     for number in &places_in(alloc, machine, sight, branch).unwrap_or(Vec::new(alloc)) {
         if let Some(offered) = sight.sides.as_slice().get(*number) {
-            words.add(if words.is_empty() { "Waits for " } else { " and " });
+            words.add(if words.is_empty() {
+                "Waits for "
+            } else {
+                " and "
+            });
             add_waits(alloc, machine, &program.lines, sight, offered, &mut words);
         }
     }
@@ -253,7 +264,10 @@ fn tell_refused(
     let mut body = stopped(alloc, reason, branch, words);
     body.text("description", line.as_str());
     answer.note(Told::Stopped, body);
-    match (String::from_str(alloc, line.as_str()), String::from_str(alloc, words)) {
+    match (
+        String::from_str(alloc, line.as_str()),
+        String::from_str(alloc, words),
+    ) {
         (Ok(line), Ok(words)) => program.refused = Some(Refused { line, words }),
         _ => answer.lacks = true,
     }
@@ -442,7 +456,15 @@ pub(crate) fn back_in(
             stop(alloc, answer, "step", branch, text);
         }
         Back::Asked(ticket, reply) => {
-            tell_back(alloc, desk.machine(), program, branch, ticket, &reply, answer);
+            tell_back(
+                alloc,
+                desk.machine(),
+                program,
+                branch,
+                ticket,
+                &reply,
+                answer,
+            );
         }
     }
 }
@@ -585,7 +607,12 @@ pub(crate) fn targets(
 fn target_list(alloc: Global, machine: &Machine, events: &Items<Event>, branch: u32) -> Members {
     let mut list = Listed::new(alloc);
     for number in 0..events.len() as u64 {
-        let found = target_at(machine.checked().system(), events.as_slice(), branch, number);
+        let found = target_at(
+            machine.checked().system(),
+            events.as_slice(),
+            branch,
+            number,
+        );
         let Some(event) = found else {
             break;
         };

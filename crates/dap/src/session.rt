@@ -65,10 +65,16 @@ impl Sitting {
         match read_request(alloc, body) {
             Ok(request) => self.answer(alloc, writer, files, &request),
             Err(Unread::Memory) => {
-                self.tell(writer, "there is no memory to read a message, which is passed over")
+                self.tell(
+                    writer,
+                    "there is no memory to read a message, which is passed over",
+                )
             }
             Err(Unread::NoJson) => {
-                self.tell(writer, "a message that is no JSON of 64 levels at most is passed over")
+                self.tell(
+                    writer,
+                    "a message that is no JSON of 64 levels at most is passed over",
+                )
             }
             Err(Unread::NoRequest) => {
                 self.tell(writer, "a message that is no request is passed over")

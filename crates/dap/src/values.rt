@@ -39,10 +39,22 @@ pub(crate) fn scopes(
 fn scope_list(alloc: Global, program: &Program, branch: u32, instance: u64) -> Members {
     let title = program.index.prefix(instance as usize);
     let mut list = Listed::new(alloc);
-    list.push(scope(alloc, "Variables", title, Handle::Variables(instance), false));
+    list.push(scope(
+        alloc,
+        "Variables",
+        title,
+        Handle::Variables(instance),
+        false,
+    ));
     list.push(scope(alloc, "Channels", title, Handle::Channels(instance), false));
     let thread = u64::from(branch).saturating_add(1);
-    list.push(scope(alloc, "Steps of this thread", "", Handle::Steps(thread), false));
+    list.push(scope(
+        alloc,
+        "Steps of this thread",
+        "",
+        Handle::Steps(thread),
+        false,
+    ));
     list.push(scope(alloc, "All calls", "", Handle::Instance(0), true));
     let mut body = Members::new(alloc);
     body.list("scopes", list);
@@ -231,7 +243,12 @@ fn steps_of(alloc: Global, machine: &Machine, branch: u32) -> Listed {
     let mut list = Listed::new(alloc);
     let mut below = live.len();
     for _ in 0..MOST_STEPS {
-        match newest_below(machine.checked().system(), live, branch, below.min(live.len())) {
+        match newest_below(
+            machine.checked().system(),
+            live,
+            branch,
+            below.min(live.len()),
+        ) {
             Some(index) => {
                 add_step(alloc, machine, index, &mut list);
                 below = index;
@@ -273,7 +290,10 @@ fn add_calls(alloc: Global, program: &Program, instance: usize, list: &mut Liste
                 words.add(own.strip_suffix(':').unwrap_or(own));
                 call.text("name", words.as_str());
                 call.text("value", "");
-                call.number("variablesReference", reference(Handle::Instance(index as u64)));
+                call.number(
+                    "variablesReference",
+                    reference(Handle::Instance(index as u64)),
+                );
                 list.push(call);
             }
         }

@@ -80,7 +80,8 @@ before n = codes "Content-Length: " ++ decimal n
 
 before-plain : (n : ℕ) → n < 2 ^ 64 → NoReturn (before n)
 before-plain n small = (
-  refl, (refl, (refl, (refl, (refl, (refl, (refl, (refl, (refl, (refl, (refl, (refl, (refl, (refl, (refl, (refl, no-return (decimal n) (decimal-plain n small))))))))))))))))
+  refl,
+  (refl, (refl, (refl, (refl, (refl, (refl, (refl, (refl, (refl, (refl, (refl, (refl, (refl, (refl, (refl, no-return (decimal n) (decimal-plain n small)))))))))))))))),
 )
 
 -- a header tells its number
@@ -134,9 +135,9 @@ reads-whole bytes body rest n unframed size few is h =
       | inl none ↦ let a : model.header_length bytes ≡ None = none.0 in absurd (cc)
       | inr rest' ↦ elim rest' [
         | inl (s, at, low, body') ↦
-          let same : s ≡ start = cc in
-          at-body bytes (before n ++ header_end) start n unframed cut (λ m. tells-it n m small) (tells-some n small) few room
-          (subst (λ (k : ℕ). BodyAt bytes k unframed) same body')
+            let same : s ≡ start = cc in
+            at-body bytes (before n ++ header_end) start n unframed cut (λ m. tells-it n m small) (tells-some n small) few room
+            (subst (λ (k : ℕ). BodyAt bytes k unframed) same body')
         | inr (s, at, far, broken) ↦ let same : s ≡ start = cc in absurd (omega arith)
       ]
     ]

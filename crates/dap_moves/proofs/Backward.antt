@@ -51,11 +51,11 @@ pub refused-back : RefusedBack
 refused-back d d' k t why h =
     let newest = h.0 in
     let live : LiveAt d.machine.live t newest.1 = in-at d.machine.live newest.0 (t, newest.1) newest.3 in
-    elim h.1 [ | inl done ↦ refused-on d d' t newest.1 why live done | inr none ↦ absurd none.0 ]
+    elim h.1 [ inl done ↦ refused-on d d' t newest.1 why live done | inr none ↦ absurd none.0 ]
 
 undone-on : (d d' : AtDesk) (t u : ℕ) (e : Event) → OnExecution d (runs_command.Command.Undo t) (Reply.Undone u e) d' →
     (u ≡ t) × NoDependent d.machine.live t
 undone-on d d' t u e h = told-undone (execution d) (execution d') t u e h.0 h.1 h.2
 
 pub back-where-alone : BackWhereAlone
-back-where-alone d d' k t u e h = elim h.1 [ | inl done ↦ undone-on d d' t u e done | inr none ↦ absurd none.0 ]
+back-where-alone d d' k t u e h = elim h.1 [ inl done ↦ undone-on d d' t u e done | inr none ↦ absurd none.0 ]

@@ -69,7 +69,7 @@ ready-stays d d' reply h = all-same d d' h.3 (listed d d' h.0 h.2) h.4
 
 -- the list of ready events leaves the desk
 pub ready_leaves : (d d' : AtDesk) (session : ℕ) (reply : Reply) → Answers d session Command.Ready reply d' → d' ≡ d
-ready_leaves d d' session reply h = elim h [ | inl done ↦ ready-stays d d' reply done | inr none ↦ none.2 ]
+ready_leaves d d' session reply h = elim h [ inl done ↦ ready-stays d d' reply done | inr none ↦ none.2 ]
 
 -- to tell a value leaves the execution
 valued : (d d' : AtDesk) (x : ℕ) (answer : runs_reply.Reply) → calculus.TellsValue (execution d) x answer (execution d') → execution d' ≡ execution d
@@ -82,7 +82,7 @@ value-stays d d' x reply h = all-same d d' h.3 (valued d d' x h.0 h.2) h.4
 
 -- the value of a variable leaves the desk
 pub value_leaves : (d d' : AtDesk) (session x : ℕ) (reply : Reply) → Answers d session (Command.Value x) reply d' → d' ≡ d
-value_leaves d d' session x reply h = elim h [ | inl done ↦ value-stays d d' x reply done | inr none ↦ none.2 ]
+value_leaves d d' session x reply h = elim h [ inl done ↦ value-stays d d' x reply done | inr none ↦ none.2 ]
 
 -- what a list of ready events lists
 ready-told : (d d' : AtDesk) (es : List Event) (answer : runs_reply.Reply) → Reply.Ready es ≡ session_reply answer →

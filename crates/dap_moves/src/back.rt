@@ -1,6 +1,5 @@
 // One step back: the newest step of a branch.
 ghost use Rattle.std.specs.Prelude.{◌≡◌};
-
 ghost use Rattle.locked_execution.specs.Performs.{Answers};
 ghost use Rattle.locked_execution.specs.declared.command.Command as asked;
 ghost use Rattle.dap_moves.specs.Led.{Led};

@@ -20,10 +20,10 @@ pub use known::{ready_events, value_of};
 pub use laws::{led_laws, step_back_laws};
 pub use locked_execution::{Command, Desk, Machine, Reply};
 pub use parts::{acts_in, newest_below, takes_part};
-pub use taken_back::{Marks, Rewound, rewind, rewind_branch};
 pub use run::{Ended, Plan, go_on};
 pub use seen::{Watched, has_choice, is_watched};
 pub use stops::{first_stop, stop_lines};
+pub use taken_back::{Marks, Rewound, rewind, rewind_branch};
 
 /// The session in which an adapter steps. It never sets a breakpoint there; lines that are typed are of session 0.
 pub const QUIET: u32 = 15;

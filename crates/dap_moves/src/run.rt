@@ -55,12 +55,7 @@ enum Turn {
 
 /// Goes on as planned. Each step is one command. Where it stops before a step, `kept` has the choice of that, if there was memory
 /// for it.
-pub fn go_on(
-    alloc: Global,
-    desk: &mut Desk,
-    plan: &Plan<'_>,
-    kept: &mut Vec<Choice>,
-) -> Ended
+pub fn go_on(alloc: Global, desk: &mut Desk, plan: &Plan<'_>, kept: &mut Vec<Choice>) -> Ended
     ensures led { Led desk.old desk.new }
     ensures system { desk.new.machine.checked ≡ desk.old.machine.checked }
 {
@@ -167,7 +162,13 @@ fn look_and_step(
         Ok(events) => events,
         Err(why) => return Turn::Ended(Ended::Refused(turn, why)),
     };
-    let next = next_in_turn(desk.machine().checked().system(), events.as_slice(), plan, turn, count);
+    let next = next_in_turn(
+        desk.machine().checked().system(),
+        events.as_slice(),
+        plan,
+        turn,
+        count,
+    );
     match next {
         Some((branch, event)) => step_or_stop(alloc, desk, plan, kept, branch, event),
         None => Turn::Ended(Ended::Nothing),

@@ -44,10 +44,8 @@ fn stops(command: &Command, line: u64) -> bool
     let here = command.line == line;
     match command.action.get() {
         Action::Continue | Action::Halt => false,
-        Action::Assign(_, _, _)
-        | Action::Send(_, _, _)
-        | Action::Receive(_, _)
-        | Action::Sync(_) => here,
+        Action::Assign(_, _, _) | Action::Send(_, _, _) | Action::Receive(_, _) | Action::Sync(_) =>
+            here,
         Action::Loop(body) | Action::While(_, body) | Action::Input(_, body) => {
             here || stops(body, line)
         }

@@ -35,12 +35,7 @@ pub struct Marks<'a> {
 
 /// Takes the live step of the greatest ticket back, again and again. Where a line stops it, `kept` has the choice of the step
 /// that was taken back last, if there was memory for it.
-pub fn rewind(
-    alloc: Global,
-    desk: &mut Desk,
-    marks: Marks<'_>,
-    kept: &mut Vec<Choice>,
-) -> Rewound
+pub fn rewind(alloc: Global, desk: &mut Desk, marks: Marks<'_>, kept: &mut Vec<Choice>) -> Rewound
     ensures led { Led desk.old desk.new }
     ensures system { desk.new.machine.checked ≡ desk.old.machine.checked }
 {
@@ -121,8 +116,14 @@ fn roll_newest(
     ensures led { Led desk.old desk.new }
     ensures system { desk.new.machine.checked ≡ desk.old.machine.checked }
 {
-    let Some((index, ticket, stop)) = newest_with_stop(alloc, desk.machine(), branch, below, marks, kept)
-    else {
+    let Some((index, ticket, stop)) = newest_with_stop(
+        alloc,
+        desk.machine(),
+        branch,
+        below,
+        marks,
+        kept,
+    ) else {
         return Rolled::Ended(Rewound::AtBeginning);
     };
     if let Some(why) = undo_or_roll(desk, ticket) {
@@ -173,9 +174,18 @@ fn newest_with_stop(
     kept: &mut Vec<Choice>,
 ) -> Option<(usize, u64, Option<Rewound>)> {
     let live = machine.live_events();
-    let index = newest_below(machine.checked().system(), live, branch, below.min(live.len()))?;
+    let index = newest_below(
+        machine.checked().system(),
+        live,
+        branch,
+        below.min(live.len()),
+    )?;
     let (ticket, event) = live.pair_at(index as u64)?;
-    Some((index, ticket, stop_at(alloc, machine, marks, kept, ticket, event)))
+    Some((
+        index,
+        ticket,
+        stop_at(alloc, machine, marks, kept, ticket, event),
+    ))
 }
 
 /// Why a run back ends behind this step, if it does.
