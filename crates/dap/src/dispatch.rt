@@ -2,16 +2,16 @@
 ghost use Rattle.std.specs.Prelude.{◌≡◌};
 ghost use Rattle.dap_moves.specs.Led.{Led};
 
-use crate::breakpoints::{data_info, locations, set_data, set_exceptions, set_lines};
-use crate::console::{completions, evaluate};
 use crate::face::{attach, unknown};
-use crate::frames::{stack_trace, thread_in, threads};
 use crate::launch::begin;
-use crate::moves::{back, go, next, reverse, stop, targets};
-use crate::program::Program;
-use crate::values::{scopes, variables};
 use dap_messages::{Answer, Kind, Members, Request, Told};
 use dap_moves::{Desk, Machine};
+use dap_requests::{
+    back, completions, data_info, evaluate, go, locations, next, reverse, set_data, set_exceptions,
+    set_lines, stop, targets,
+};
+use dap_threads::{scopes, stack_trace, thread_in, threads, variables};
+use dap_views::Program;
 use std::alloc::Global;
 
 /// Answers a request, but for those that name files. What it leaves is what commands of sessions leave.

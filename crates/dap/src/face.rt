@@ -1,10 +1,10 @@
 // A session: who the client is, and what is launched.
-use crate::breakpoints::{asks_for_refusals, set_before, set_data_before};
 use crate::dispatch::perform;
 use crate::launch::{Launched, restart, start};
-use crate::program::Counting;
 use crate::sources::Sources;
 use dap_messages::{Answer, Kind, Listed, Members, Request, Told};
+use dap_requests::{asks_for_refusals, set_before, set_data_before};
+use dap_views::Counting;
 use std::alloc::Global;
 
 /// A session with a client.

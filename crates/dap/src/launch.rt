@@ -1,15 +1,11 @@
 // The launch of a description.
 ghost use Rattle.dap_moves.specs.Led.{Led};
 
-use crate::breakpoints::tell_changed;
-use crate::index::Index;
-use crate::lines::Lines;
-use crate::moves::{run, stop};
-use crate::program::{Counting, Launch, Program, base_of};
 use crate::sources::Sources;
-use crate::words::Words;
 use dap_messages::{Answer, Members, Request, Told, field, number_in, text_in};
 use dap_moves::{Desk, Machine};
+use dap_requests::{run, stop, tell_changed};
+use dap_views::{Counting, Index, Launch, Lines, Program, Words, base_of};
 use front_end::accept;
 use refusal_pages::page_of;
 use serde_json::Value;
@@ -238,7 +234,7 @@ fn stimulus<F: Sources>(
             let mut words = Words::of(alloc, "No `stimulus` is given, and ");
             words.add(base_of(beside.as_str()));
             words.add(" is not there: the inputs get no values.");
-            crate::breakpoints::tell(alloc, words.as_str(), "console", answer);
+            dap_requests::tell(alloc, words.as_str(), "console", answer);
             Ok(Vec::new(alloc))
         }
     }

@@ -14,14 +14,14 @@ use system_places::branch_at;
 
 /// The steps that are ready, and the sides that are offered.
 #[derive(Drop)]
-pub(crate) struct Sight {
-    pub(crate) ready: Items<Event>,
-    pub(crate) sides: Items<OfferedSide>,
+pub struct Sight {
+    pub ready: Items<Event>,
+    pub sides: Items<OfferedSide>,
 }
 
 /// How far a place is from going on. A lesser one stands before a greater one.
 #[derive(Clone, Copy, Debug, PartialEq, Eq)]
-pub(crate) enum Rank {
+pub enum Rank {
     /// a step acts there
     Acts,
     /// its partner's step acts
@@ -31,7 +31,7 @@ pub(crate) enum Rank {
 }
 
 /// What the state offers. It is an error if there is no memory.
-pub(crate) fn sight_of(desk: &mut Desk) -> Result<Sight, AllocError>
+pub fn sight_of(desk: &mut Desk) -> Result<Sight, AllocError>
     ensures { desk.new ≡ desk.old }
 {
     let ready = match ready_events(desk) {
@@ -44,7 +44,7 @@ pub(crate) fn sight_of(desk: &mut Desk) -> Result<Sight, AllocError>
 
 impl Sight {
     /// How far the place is from going on.
-    pub(crate) fn rank(&self, place: &Address) -> Rank {
+    pub fn rank(&self, place: &Address) -> Rank {
         let mut rank = Rank::Waits;
         for event in self.ready.as_slice() {
             if event.acting_place().equals(place) {
@@ -58,7 +58,7 @@ impl Sight {
     }
 
     /// The branch of the first step that is ready; the first where none is.
-    pub(crate) fn able(&self, machine: &Machine) -> u32 {
+    pub fn able(&self, machine: &Machine) -> u32 {
         match self.ready.as_slice().first() {
             Some(event) => branch_at(machine.checked().system(), event.acting_place()).unwrap_or(0),
             None => 0,
@@ -66,7 +66,7 @@ impl Sight {
     }
 
     /// How the branch stands, behind its name.
-    pub(crate) fn state(&self, machine: &Machine, branch: u32) -> &'static str {
+    pub fn state(&self, machine: &Machine, branch: u32) -> &'static str {
         let system = machine.checked().system();
         for event in self.ready.as_slice() {
             if acts_in(system, branch, event) || takes_part(system, branch, event) {
@@ -94,7 +94,7 @@ fn is_at(event: &Event, place: &Address) -> bool {
 }
 
 /// The channel that the side uses.
-pub(crate) fn channel_of(side: &Side) -> Option<u32> {
+pub fn channel_of(side: &Side) -> Option<u32> {
     match side {
         Side::Sends(channel, _, _)
         | Side::Receives(channel, _)
@@ -107,7 +107,7 @@ pub(crate) fn channel_of(side: &Side) -> Option<u32> {
 }
 
 /// A variable of the command, if it is known to use one.
-pub(crate) fn variable_of(side: &Side) -> Option<u32> {
+pub fn variable_of(side: &Side) -> Option<u32> {
     match side {
         Side::Assigns(variable, _, _) | Side::Receives(_, Some(variable)) => Some(*variable),
         Side::Sends(_, _, read) | Side::Tests(_, read) => read.as_slice().first().copied(),
@@ -116,7 +116,7 @@ pub(crate) fn variable_of(side: &Side) -> Option<u32> {
 }
 
 /// Adds the side in a few words.
-pub(crate) fn add_side(alloc: Global, machine: &Machine, side: &Side, words: &mut Words) {
+pub fn add_side(alloc: Global, machine: &Machine, side: &Side, words: &mut Words) {
     let system = machine.checked().system();
     match side {
         Side::Assigns(variable, value, _) => {
@@ -159,12 +159,12 @@ fn named(
 }
 
 /// The line of a place, where a command has it.
-pub(crate) fn line_at(machine: &Machine, place: &Address) -> Option<u64> {
+pub fn line_at(machine: &Machine, place: &Address) -> Option<u64> {
     line_after(machine.checked(), machine.live_events(), place)
 }
 
 /// Adds who stands at a place.
-pub(crate) fn add_who(machine: &Machine, lines: &Lines, place: &Address, words: &mut Words) {
+pub fn add_who(machine: &Machine, lines: &Lines, place: &Address, words: &mut Words) {
     match line_at(machine, place) {
         Some(line) => {
             words.add("line ");
@@ -177,7 +177,7 @@ pub(crate) fn add_who(machine: &Machine, lines: &Lines, place: &Address, words: 
 }
 
 /// Adds for whom the side waits: who stands at its channel, or who is missing there.
-pub(crate) fn add_waits(
+pub fn add_waits(
     alloc: Global,
     machine: &Machine,
     lines: &Lines,

@@ -8,67 +8,67 @@ use std::alloc::Global;
 
 /// What a client asked to launch.
 #[derive(Drop)]
-pub(crate) struct Launch {
-    pub(crate) program: String,
-    pub(crate) stimulus: Option<String>,
-    pub(crate) trace: Option<String>,
+pub struct Launch {
+    pub program: String,
+    pub stimulus: Option<String>,
+    pub trace: Option<String>,
     /// whether it stops before the first step
-    pub(crate) stops: bool,
+    pub stops: bool,
     /// the most steps of one run
-    pub(crate) most: u64,
+    pub most: u64,
     /// whether it runs to its end without being debugged
-    pub(crate) free: bool,
+    pub free: bool,
 }
 
 /// How a client counts: what is to be added to its lines and its columns so that they count from 1.
 #[derive(Clone, Copy, Debug, PartialEq, Eq)]
-pub(crate) struct Counting {
-    pub(crate) lines: u64,
-    pub(crate) columns: u64,
+pub struct Counting {
+    pub lines: u64,
+    pub columns: u64,
 }
 
 /// A breakpoint that was asked for.
 #[derive(Clone, Copy, Debug, PartialEq, Eq)]
-pub(crate) struct Asked {
-    pub(crate) id: u64,
+pub struct Asked {
+    pub id: u64,
     /// the line that was asked for
-    pub(crate) line: u64,
+    pub line: u64,
     /// the line on which it stands
-    pub(crate) at: Option<u64>,
+    pub at: Option<u64>,
 }
 
 /// Why a step was refused, for whoever asks: its line of a script, and the words for it.
 #[derive(Drop)]
-pub(crate) struct Refused {
-    pub(crate) line: String,
-    pub(crate) words: String,
+pub struct Refused {
+    pub line: String,
+    pub words: String,
 }
 
 /// A description that was accepted, and what a client has set on it.
 #[derive(Drop)]
-pub(crate) struct Program {
-    pub(crate) launch: Launch,
-    pub(crate) counting: Counting,
-    pub(crate) source: Vec<u8>,
-    pub(crate) lines: Lines,
-    pub(crate) index: Index,
+pub struct Program {
+    pub launch: Launch,
+    pub counting: Counting,
+    pub source: Vec<u8>,
+    pub lines: Lines,
+    pub index: Index,
     /// the breakpoints that were asked for
-    pub(crate) asked: Vec<Asked>,
+    pub asked: Vec<Asked>,
     /// the lines that stop
-    pub(crate) stops: Vec<u64>,
-    pub(crate) watched: Vec<Watched>,
+    pub stops: Vec<u64>,
+    pub watched: Vec<Watched>,
     /// the step before which a run has stopped, if it is not taken yet
-    pub(crate) seen: Vec<Choice>,
+    pub seen: Vec<Choice>,
     /// the last refusal of a step
-    pub(crate) refused: Option<Refused>,
+    pub refused: Option<Refused>,
     /// whether a refusal stops as an exception
-    pub(crate) excepts: bool,
-    pub(crate) last_id: u64,
+    pub excepts: bool,
+    pub last_id: u64,
 }
 
 impl Program {
     /// Adds the file.
-    pub(crate) fn add_source(&self, alloc: Global, members: &mut Members) {
+    pub fn add_source(&self, alloc: Global, members: &mut Members) {
         let path = self.launch.program.as_str();
         let mut source = Members::new(alloc);
         source.text("name", base_of(path));
@@ -77,7 +77,7 @@ impl Program {
     }
 
     /// Adds where the first word of the line stands, as the client counts.
-    pub(crate) fn add_place(&self, alloc: Global, members: &mut Members, line: u64) {
+    pub fn add_place(&self, alloc: Global, members: &mut Members, line: u64) {
         let column = self.lines.column(self.source.as_slice(), line);
         self.add_source(alloc, members);
         members.number("line", self.shown_line(line));
@@ -85,18 +85,18 @@ impl Program {
     }
 
     /// The line, as the client counts.
-    pub(crate) fn shown_line(&self, line: u64) -> u64 {
+    pub fn shown_line(&self, line: u64) -> u64 {
         line.saturating_sub(self.counting.lines)
     }
 
     /// The line that the client means, from 1.
-    pub(crate) fn meant_line(&self, line: u64) -> u64 {
+    pub fn meant_line(&self, line: u64) -> u64 {
         line.saturating_add(self.counting.lines)
     }
 }
 
 /// The name of a file without the folders before it.
-pub(crate) fn base_of(path: &str) -> &str {
+pub fn base_of(path: &str) -> &str {
     match path.rsplit_once('/') {
         Some((_, base)) => base,
         None => path,

@@ -5,31 +5,31 @@ use system::{QualifiedName, System};
 
 /// A variable or a channel.
 #[derive(Clone, Copy, Debug, PartialEq, Eq)]
-pub(crate) enum Thing {
+pub enum Thing {
     Variable(u32),
     Channel(u32),
 }
 
 /// The name of a thing, as it was declared.
 #[derive(Drop)]
-pub(crate) struct Named {
+pub struct Named {
     /// the index of the instance to which it belongs
-    pub(crate) instance: usize,
-    pub(crate) own: String,
-    pub(crate) thing: Thing,
+    pub instance: usize,
+    pub own: String,
+    pub thing: Thing,
 }
 
 /// All names. An instance is a call, named by the numbers of the calls around it, a `:` behind each; the root has an empty name,
 /// and stands first.
 #[derive(Drop)]
-pub(crate) struct Index {
-    pub(crate) instances: Vec<String>,
-    pub(crate) names: Vec<Named>,
+pub struct Index {
+    pub instances: Vec<String>,
+    pub names: Vec<Named>,
 }
 
 impl Index {
     /// The names of the system. It is an error if there is no memory.
-    pub(crate) fn new(alloc: Global, system: &System) -> Result<Index, AllocError> {
+    pub fn new(alloc: Global, system: &System) -> Result<Index, AllocError> {
         let mut index = Index {
             instances: Vec::new(alloc),
             names: Vec::new(alloc),
@@ -88,7 +88,7 @@ impl Index {
     }
 
     /// The name of the instance at this index; empty for one that is not there.
-    pub(crate) fn prefix(&self, instance: usize) -> &str {
+    pub fn prefix(&self, instance: usize) -> &str {
         match self.instances.as_slice().get(instance) {
             Some(prefix) => prefix.as_str(),
             None => "",
@@ -96,7 +96,7 @@ impl Index {
     }
 
     /// The index of the instance of this name.
-    pub(crate) fn instance(&self, prefix: &str) -> Option<usize> {
+    pub fn instance(&self, prefix: &str) -> Option<usize> {
         for (index, name) in self.instances.iter().enumerate() {
             if name.as_str() == prefix {
                 return Some(index);
@@ -106,7 +106,7 @@ impl Index {
     }
 
     /// What a name means that is read in an instance: its own, else the first that has it; or a whole name, as `1:x`.
-    pub(crate) fn find(&self, instance: usize, name: &str) -> Option<Thing> {
+    pub fn find(&self, instance: usize, name: &str) -> Option<Thing> {
         let (prefix, own) = parts_of(name);
         if !prefix.is_empty() {
             return self.own(self.instance(prefix)?, own);
@@ -138,7 +138,7 @@ impl Index {
     }
 
     /// The instance to which the variable of this number belongs.
-    pub(crate) fn instance_of(&self, variable: u32) -> usize {
+    pub fn instance_of(&self, variable: u32) -> usize {
         match self.names.as_slice().get(variable as usize) {
             Some(named) => named.instance,
             None => 0,

@@ -5,14 +5,14 @@ use std::str;
 
 /// A procedure, and the line on which it begins.
 #[derive(Drop)]
-pub(crate) struct Heading {
-    pub(crate) line: u64,
-    pub(crate) name: String,
+pub struct Heading {
+    pub line: u64,
+    pub name: String,
 }
 
 /// The lines of a source.
 #[derive(Drop)]
-pub(crate) struct Lines {
+pub struct Lines {
     /// the offset at which each line begins
     begins: Vec<usize>,
     /// in the order of the source
@@ -21,7 +21,7 @@ pub(crate) struct Lines {
 
 impl Lines {
     /// The lines of the source. It is an error if there is no memory.
-    pub(crate) fn new(alloc: Global, source: &[u8]) -> Result<Lines, AllocError> {
+    pub fn new(alloc: Global, source: &[u8]) -> Result<Lines, AllocError> {
         Ok(Lines {
             begins: begins_of(alloc, source)?,
             headings: headings_of(alloc, source)?,
@@ -29,12 +29,12 @@ impl Lines {
     }
 
     /// How many lines there are.
-    pub(crate) fn count(&self) -> u64 {
+    pub fn count(&self) -> u64 {
         self.begins.len() as u64
     }
 
     /// The column of the first byte of the line that is not blank, from 1.
-    pub(crate) fn column(&self, source: &[u8], line: u64) -> u64 {
+    pub fn column(&self, source: &[u8], line: u64) -> u64 {
         let mut column = 1u64;
         for byte in source.get(self.begin(line)..).unwrap_or(&[]) {
             if *byte != b' ' && *byte != b'\t' {
@@ -52,7 +52,7 @@ impl Lines {
     }
 
     /// The line of the byte at this offset.
-    pub(crate) fn line_of(&self, offset: u64) -> u64 {
+    pub fn line_of(&self, offset: u64) -> u64 {
         let mut line = 0u64;
         for begin in &self.begins {
             if (*begin as u64) > offset {
@@ -64,7 +64,7 @@ impl Lines {
     }
 
     /// The name of the procedure in which the line is; empty above the first.
-    pub(crate) fn procedure(&self, line: u64) -> &str {
+    pub fn procedure(&self, line: u64) -> &str {
         let mut name = "";
         for heading in &self.headings {
             if heading.line <= line {
@@ -75,7 +75,7 @@ impl Lines {
     }
 
     /// The line on which the next procedure begins behind this line, or that behind the last.
-    pub(crate) fn below(&self, line: u64) -> u64 {
+    pub fn below(&self, line: u64) -> u64 {
         for heading in &self.headings {
             if heading.line > line {
                 return heading.line;

@@ -1,11 +1,9 @@
 // Threads and their frames.
 ghost use Rattle.std.specs.Prelude.{◌≡◌};
 
-use crate::program::Program;
-use crate::sight::{Rank, Sight, add_side, add_waits, line_at, sight_of, variable_of};
-use crate::words::Words;
 use dap_messages::{Answer, Listed, Members, Request};
 use dap_moves::{Desk, Machine, frame_id, frame_of};
+use dap_views::{Program, Rank, Sight, Words, add_side, add_waits, line_at, sight_of, variable_of};
 use offered_sides::OfferedSide;
 use std::alloc::{AllocError, Global};
 use system::{Action, Branch, System};
@@ -15,7 +13,7 @@ use system_places::{branch_at, branch_count};
 const MOST_FRAMES: u64 = 1_000;
 
 /// The thread that the request names; a thread is a branch, counted from 1.
-pub(crate) fn thread_in(request: &Request, machine: &Machine, answer: &mut Answer) -> Option<u32> {
+pub fn thread_in(request: &Request, machine: &Machine, answer: &mut Answer) -> Option<u32> {
     let Some(number) = request.number("threadId") else {
         answer.refuse(104, "`threadId` is missing or no number");
         return None;
@@ -29,7 +27,7 @@ pub(crate) fn thread_in(request: &Request, machine: &Machine, answer: &mut Answe
 }
 
 /// Answers `threads`: all branches, with how each stands.
-pub(crate) fn threads(alloc: Global, desk: &mut Desk, program: &Program, answer: &mut Answer)
+pub fn threads(alloc: Global, desk: &mut Desk, program: &Program, answer: &mut Answer)
     ensures { desk.new ≡ desk.old }
 {
     match sight_of(desk) {
@@ -58,12 +56,7 @@ fn thread_list(alloc: Global, machine: &Machine, program: &Program, sight: &Sigh
 }
 
 /// The name of a thread: the procedure and the line on which it begins, or the port.
-pub(crate) fn thread_name(
-    alloc: Global,
-    machine: &Machine,
-    program: &Program,
-    branch: u32,
-) -> Words {
+pub fn thread_name(alloc: Global, machine: &Machine, program: &Program, branch: u32) -> Words {
     let system = machine.checked().system();
     let mut words = Words::new(alloc);
     match line_of_branch(system, branch) {
@@ -112,7 +105,7 @@ fn port(alloc: Global, system: &System, word: &str, channel: u32, words: &mut Wo
 }
 
 /// Answers `stackTrace`: the places of the thread, the one that goes on first above the others.
-pub(crate) fn stack_trace(
+pub fn stack_trace(
     alloc: Global,
     desk: &mut Desk,
     program: &Program,
@@ -178,7 +171,7 @@ fn lacking(alloc: Global) -> Members {
 
 /// The indexes of the sides at the places of the branch, one for each place, at most 1,000: those that act first, and then those
 /// whose partner does.
-pub(crate) fn places_in(
+pub fn places_in(
     alloc: Global,
     machine: &Machine,
     sight: &Sight,
@@ -264,7 +257,7 @@ fn add_port_place(
     frame: &mut Members,
 ) {
     let system = machine.checked().system();
-    let channel = crate::sight::channel_of(&offered.side).unwrap_or(0);
+    let channel = dap_views::channel_of(&offered.side).unwrap_or(0);
     let line = match system.channels.as_slice().get(channel as usize) {
         Some(channel) => program.lines.line_of(channel.declared),
         None => 1,
@@ -290,7 +283,7 @@ fn done_frame(alloc: Global, branch: u32) -> Members {
 
 /// The branch and the instance of the frame that a request names; those of the first step that is ready where it names none. It is
 /// refused where there is no such frame.
-pub(crate) fn frame_in(
+pub fn frame_in(
     alloc: Global,
     desk: &mut Desk,
     program: &Program,

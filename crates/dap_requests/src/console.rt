@@ -2,16 +2,11 @@
 ghost use Rattle.std.specs.Prelude.{◌≡◌};
 ghost use Rattle.dap_moves.specs.Led.{Led};
 
-use crate::frames::frame_in;
-use crate::index::Thing;
 use crate::moves::{back_in, reverse_in, stop};
-use crate::program::Program;
-use crate::short::event_words;
-use crate::sight::sight_of;
-use crate::values::channel_words;
-use crate::words::Words;
 use dap_messages::{Answer, Listed, Members, Request};
 use dap_moves::{Command, Desk, Machine, Reply, value_of};
+use dap_threads::{channel_words, frame_in};
+use dap_views::{Program, Thing, Words, event_words, sight_of};
 use line_text::{
     Field, Keyword, add_bytes, add_consequences, add_entry, add_live, add_numbered, add_ready,
     add_refusal, add_valued, cut_at_space, read_branch, read_choice, read_ticket, read_variable,
@@ -56,7 +51,7 @@ enum Line {
 
 /// Answers `evaluate`: a variable, a channel, or a line of a script. One that changes something is taken only where it was typed
 /// for that: in the console, or behind a `!`.
-pub(crate) fn evaluate(
+pub fn evaluate(
     alloc: Global,
     desk: &mut Desk,
     program: &mut Program,
@@ -395,12 +390,7 @@ fn asked_field<'a>(system: &'a System, command: &Command) -> Field<'a> {
 }
 
 /// Answers `completions`: the words with which a line begins, and names.
-pub(crate) fn completions(
-    alloc: Global,
-    program: &Program,
-    request: &Request,
-    answer: &mut Answer,
-) {
+pub fn completions(alloc: Global, program: &Program, request: &Request, answer: &mut Answer) {
     let text = request.text("text").unwrap_or("");
     let column = request.number("column").unwrap_or(0);
     let before = column

@@ -2,13 +2,11 @@
 ghost use Rattle.std.specs.Prelude.{◌≡◌};
 
 use crate::frames::frame_in;
-use crate::index::{Named, Thing};
-use crate::program::Program;
-use crate::short::event_words;
-use crate::sight::{Sight, add_side, add_who, channel_of, sight_of};
-use crate::words::Words;
 use dap_messages::{Answer, Listed, Members, Request};
 use dap_moves::{Desk, Handle, Machine, handle_of, newest_below, reference, value_of};
+use dap_views::{
+    Named, Program, Sight, Thing, Words, add_side, add_who, channel_of, event_words, sight_of,
+};
 use std::alloc::{AllocError, Global};
 use system_places::branch_count;
 
@@ -16,7 +14,7 @@ use system_places::branch_count;
 const MOST_STEPS: u32 = 10;
 
 /// Answers `scopes`.
-pub(crate) fn scopes(
+pub fn scopes(
     alloc: Global,
     desk: &mut Desk,
     program: &Program,
@@ -79,7 +77,7 @@ fn scope(alloc: Global, name: &str, title: &str, handle: Handle, is_wide: bool) 
 }
 
 /// Answers `variables`.
-pub(crate) fn variables(
+pub fn variables(
     alloc: Global,
     desk: &mut Desk,
     program: &Program,
@@ -202,7 +200,7 @@ fn channels_in(
 }
 
 /// Who stands at a channel, and what each does there.
-pub(crate) fn channel_words(
+pub fn channel_words(
     alloc: Global,
     machine: &Machine,
     program: &Program,

@@ -8,7 +8,7 @@ use system::System;
 use value::Value;
 
 /// The event in plain words.
-pub(crate) fn event_words(alloc: Global, machine: &Machine, event: &Event) -> Words {
+pub fn event_words(alloc: Global, machine: &Machine, event: &Event) -> Words {
     let mut words = Words::new(alloc);
     let system = machine.checked().system();
     match event.kind {

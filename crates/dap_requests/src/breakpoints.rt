@@ -1,12 +1,10 @@
 // Breakpoints on lines, on variables and on channels.
 ghost use Rattle.std.specs.Prelude.{◌≡◌};
 
-use crate::frames::frame_in;
-use crate::index::Thing;
-use crate::program::{Asked, Program, base_of};
-use crate::words::Words;
 use dap_messages::{Answer, Listed, Members, Request, Told, field, number_in, text_in};
 use dap_moves::{Desk, Handle, Machine, Watched, first_stop, handle_of, stop_lines};
+use dap_threads::frame_in;
+use dap_views::{Asked, Program, Thing, Words, base_of};
 use serde_json::Value;
 use std::alloc::Global;
 
@@ -17,7 +15,7 @@ const MOST_LINES: usize = 64;
 const MOST_LOCATIONS: u64 = 10_000;
 
 /// Answers `setBreakpoints` while nothing is launched: none is verified.
-pub(crate) fn set_before(alloc: Global, request: &Request, answer: &mut Answer) {
+pub fn set_before(alloc: Global, request: &Request, answer: &mut Answer) {
     let mut list = Listed::new(alloc);
     for value in request.items("breakpoints").unwrap_or(&[]) {
         list.push(unset(
@@ -41,7 +39,7 @@ fn unset(alloc: Global, line: u64, reason: &str) -> Members {
 }
 
 /// Answers `setBreakpoints`: those of this file are set anew.
-pub(crate) fn set_lines(
+pub fn set_lines(
     alloc: Global,
     machine: &Machine,
     program: &mut Program,
@@ -106,7 +104,7 @@ fn keep_asked(alloc: Global, program: &mut Program, request: &Request) -> Option
 }
 
 /// Places the breakpoints that are asked for on lines that stop, and lists them.
-pub(crate) fn place_all(
+pub fn place_all(
     alloc: Global,
     machine: &Machine,
     program: &mut Program,
@@ -143,9 +141,9 @@ fn add_stop(stops: &mut Vec<u64>, line: Option<u64>) -> bool {
 
 /// Where a breakpoint stands, and what is to be said of it.
 #[derive(Drop)]
-pub(crate) struct Placed {
-    pub(crate) line: Option<u64>,
-    pub(crate) words: Words,
+pub struct Placed {
+    pub line: Option<u64>,
+    pub words: Words,
 }
 
 /// Where the breakpoint stands: on its line, else on the next one of the same procedure that stops.
@@ -189,7 +187,7 @@ fn tell_moved(alloc: Global, program: &Program, asked: Asked, why: &Words, answe
 }
 
 /// Tells a line of text.
-pub(crate) fn tell(alloc: Global, line: &str, category: &str, answer: &mut Answer) {
+pub fn tell(alloc: Global, line: &str, category: &str, answer: &mut Answer) {
     let mut words = Words::of(alloc, line);
     words.add("\n");
     let mut body = Members::new(alloc);
@@ -214,12 +212,7 @@ fn shown(alloc: Global, program: &Program, asked: Asked, placed: &Placed) -> Mem
 }
 
 /// Tells the breakpoints again, which may have moved in another source.
-pub(crate) fn tell_changed(
-    alloc: Global,
-    machine: &Machine,
-    program: &mut Program,
-    answer: &mut Answer,
-) {
+pub fn tell_changed(alloc: Global, machine: &Machine, program: &mut Program, answer: &mut Answer) {
     let mut list = Listed::new(alloc);
     place_all(alloc, machine, program, &mut list, answer);
     let Some(items) = list.into_items() else {
@@ -235,7 +228,7 @@ pub(crate) fn tell_changed(
 }
 
 /// Answers `breakpointLocations`: the lines that stop, of those that are asked for.
-pub(crate) fn locations(
+pub fn locations(
     alloc: Global,
     machine: &Machine,
     program: &Program,
@@ -274,12 +267,12 @@ pub(crate) fn locations(
 }
 
 /// Answers `setExceptionBreakpoints`.
-pub(crate) fn set_exceptions(program: &mut Program, request: &Request) {
+pub fn set_exceptions(program: &mut Program, request: &Request) {
     program.excepts = asks_for_refusals(request);
 }
 
 /// Whether the filters that are set have refusals among them.
-pub(crate) fn asks_for_refusals(request: &Request) -> bool {
+pub fn asks_for_refusals(request: &Request) -> bool {
     for value in request.items("filters").unwrap_or(&[]) {
         if value.as_str() == Some("refused") {
             return true;
@@ -289,7 +282,7 @@ pub(crate) fn asks_for_refusals(request: &Request) -> bool {
 }
 
 /// Answers `dataBreakpointInfo`: the variable or the channel of this name.
-pub(crate) fn data_info(
+pub fn data_info(
     alloc: Global,
     desk: &mut Desk,
     program: &Program,
@@ -371,7 +364,7 @@ fn info(alloc: Global, machine: &Machine, thing: Option<Thing>, name: &str) -> M
 }
 
 /// The whole name of a variable or a channel.
-pub(crate) fn whole_name(alloc: Global, machine: &Machine, thing: Thing) -> Words {
+pub fn whole_name(alloc: Global, machine: &Machine, thing: Thing) -> Words {
     let system = machine.checked().system();
     let mut words = Words::new(alloc);
     match thing {
@@ -382,12 +375,7 @@ pub(crate) fn whole_name(alloc: Global, machine: &Machine, thing: Thing) -> Word
 }
 
 /// Answers `setDataBreakpoints`.
-pub(crate) fn set_data(
-    alloc: Global,
-    program: &mut Program,
-    request: &Request,
-    answer: &mut Answer,
-) {
+pub fn set_data(alloc: Global, program: &mut Program, request: &Request, answer: &mut Answer) {
     let mut watched = Vec::new(alloc);
     let mut list = Listed::new(alloc);
     for value in request.items("breakpoints").unwrap_or(&[]) {
@@ -421,7 +409,7 @@ fn watched_by(program: &Program, id: &str) -> Option<Watched> {
 }
 
 /// Answers `setDataBreakpoints` while nothing is launched.
-pub(crate) fn set_data_before(alloc: Global, request: &Request, answer: &mut Answer) {
+pub fn set_data_before(alloc: Global, request: &Request, answer: &mut Answer) {
     let mut list = Listed::new(alloc);
     for value in request.items("breakpoints").unwrap_or(&[]) {
         let mut one = Members::new(alloc);

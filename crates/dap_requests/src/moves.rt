@@ -3,16 +3,13 @@ ghost use Rattle.std.specs.Prelude.{◌≡◌};
 ghost use Rattle.dap_moves.specs.Led.{Led};
 
 use crate::breakpoints::tell;
-use crate::frames::{places_in, thread_in};
-use crate::program::{Program, Refused};
-use crate::short::event_words;
-use crate::sight::{Sight, add_waits, sight_of};
-use crate::words::Words;
 use dap_messages::{Answer, Listed, Members, Request, Told};
 use dap_moves::{
     Back, Desk, Ended, Machine, Marks, Plan, Reply, Rewound, go_on, ready_events, rewind,
     rewind_branch, step_at, step_back, target_at,
 };
+use dap_threads::{places_in, thread_in};
+use dap_views::{Program, Refused, Sight, Words, add_waits, event_words, sight_of};
 use runs::{Choice, Event, Kind, Refusal};
 use serde_json::Value;
 use std::alloc::{AllocError, Global};
@@ -24,7 +21,7 @@ use system_places::branch_at;
 const MOST_OUTPUTS: usize = 1_000;
 
 /// Tells that nothing moves, with the reason and the thread, and what else there is to say.
-pub(crate) fn stop(alloc: Global, answer: &mut Answer, reason: &str, branch: u32, text: &str) {
+pub fn stop(alloc: Global, answer: &mut Answer, reason: &str, branch: u32, text: &str) {
     let body = stopped(alloc, reason, branch, text);
     answer.note(Told::Stopped, body);
 }
@@ -58,7 +55,7 @@ fn stop_at_line(alloc: Global, program: &Program, answer: &mut Answer, branch: u
 }
 
 /// Answers `next`, `stepIn` and `stepOut`: one step of the thread.
-pub(crate) fn next(
+pub fn next(
     alloc: Global,
     desk: &mut Desk,
     program: &mut Program,
@@ -289,7 +286,7 @@ fn words_of(why: Refusal) -> &'static str {
 }
 
 /// Answers `continue`.
-pub(crate) fn go(
+pub fn go(
     alloc: Global,
     desk: &mut Desk,
     program: &mut Program,
@@ -311,7 +308,7 @@ pub(crate) fn go(
 }
 
 /// Goes on from where the branch stands, which a run has seen.
-pub(crate) fn run(
+pub fn run(
     alloc: Global,
     desk: &mut Desk,
     program: &mut Program,
@@ -424,7 +421,7 @@ fn stop_watched(alloc: Global, machine: &Machine, answer: &mut Answer, branch: u
 }
 
 /// Answers `stepBack`.
-pub(crate) fn back(
+pub fn back(
     alloc: Global,
     desk: &mut Desk,
     program: &mut Program,
@@ -440,7 +437,7 @@ pub(crate) fn back(
 }
 
 /// Takes the newest step of the branch back.
-pub(crate) fn back_in(
+pub fn back_in(
     alloc: Global,
     desk: &mut Desk,
     program: &mut Program,
@@ -529,7 +526,7 @@ fn add_live(alloc: Global, machine: &Machine, ticket: u64, words: &mut Words) ->
 }
 
 /// Answers `reverseContinue`.
-pub(crate) fn reverse(
+pub fn reverse(
     alloc: Global,
     desk: &mut Desk,
     program: &mut Program,
@@ -546,7 +543,7 @@ pub(crate) fn reverse(
 }
 
 /// Takes steps back until something stops it: those of the branch with all that depend on them, or all.
-pub(crate) fn reverse_in(
+pub fn reverse_in(
     alloc: Global,
     desk: &mut Desk,
     program: &mut Program,
@@ -581,7 +578,7 @@ pub(crate) fn reverse_in(
 }
 
 /// Answers `stepInTargets`: all steps that a step of the frame's thread can be.
-pub(crate) fn targets(
+pub fn targets(
     alloc: Global,
     desk: &mut Desk,
     program: &Program,
@@ -590,7 +587,7 @@ pub(crate) fn targets(
 )
     ensures { desk.new ≡ desk.old }
 {
-    let found = crate::frames::frame_in(alloc, desk, program, request, answer);
+    let found = dap_threads::frame_in(alloc, desk, program, request, answer);
     let Some((branch, _)) = found else {
         return;
     };
