@@ -1,16 +1,16 @@
 -- A frame, as it is read.
-use Rattle.std.proofs.Common.{◌≡◌, ℕ, suc, zero, ◌+◌, ◌-◌, ◌*◌, ◌^◌, ◌<◌, ◌≤◌, ◌⊎◌, inl, inr, List, [], ◌∷◌, ◌++◌, length, take, drop, get_or, cond, true, false, Bool, Some, None, MatchOption, Option, ap, ap₂, subst, refl, sym, ◌∙◌, arith, ◌==◌, ◌&&◌, nat_eq, codes, append_assoc, length-append}
+use Rattle.std.proofs.Common.{◌≡◌, ℕ, suc, ◌+◌, ◌-◌, ◌^◌, ◌<◌, ◌≤◌, inl, inr, List, [], ◌∷◌, ◌++◌, length, take, get_or, cond, false, Bool, Some, None, ap, ap₂, subst, refl, sym, ◌∙◌, arith, ◌&&◌, nat_eq, codes, append_assoc, length-append}
 use Rattle.std.specs.Fmt.{decimal}
 use Rattle.std.specs.Str.Parse.{AllDigits}
 use Rattle.std.specs.Cmp.Lexicographic.{pointwise}
 use Rattle.std.proofs.lemmas.Bool.Decides.{nat_tests}
 use Rattle.std.proofs.lemmas.Fmt.{decimal_nonempty, length-decimal-le, digits_decimal, decimal_injective}
 use Rattle.std.proofs.lemmas.List.{take_at}
-use Rattle.std.proofs.lemmas.Str.Parse.{IsNumeralModel, numerals_by_value, tells_digits, digit_at}
+use Rattle.std.proofs.lemmas.Str.Parse.{numerals_by_value, tells_digits, digit_at}
 use Rattle.dap_frames.specs.Frames.{header_end, header_of, framed}
 use Rattle.dap_frames.specs.Header as model
 use Rattle.dap_frames.specs.Laws.{FramesComeBack}
-use Rattle.dap_frames.specs.Unframing.{Unframes, BodyAt, WithoutHeader}
+use Rattle.dap_frames.specs.Unframing.{Unframes, BodyAt}
 use Rattle.dap_frames.specs.declared.beginning.Unframed.{Unframed}
 use Rattle.dap_frames.specs.declared.beginning.TheConstants.{MOST_BODY, MOST_HEADER}
 

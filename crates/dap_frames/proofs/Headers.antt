@@ -1,5 +1,5 @@
 -- The header, a byte at a time.
-use Rattle.std.proofs.Common.{◌≡◌, ℕ, ◌+◌, ◌<◌, ◌-◌, List, [], ◌∷◌, ◌++◌, length, take, drop, get_or, cond, true, false, Bool, Some, Option, ap, subst, refl, sym, ◌∙◌, arith, ◌==◌}
+use Rattle.std.proofs.Common.{◌≡◌, ℕ, ◌+◌, ◌<◌, List, [], ◌∷◌, length, drop, get_or, cond, true, false, Bool, Some, ap, sym, ◌∙◌, arith, ◌==◌}
 use Rattle.std.proofs.lemmas.List.{drop_more, drop-drop, length-drop}
 use Rattle.dap_frames.specs.Header as model
 

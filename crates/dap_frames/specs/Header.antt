@@ -1,5 +1,5 @@
 -- What a header says.
-use Rattle.std.specs.Prelude.{ℕ, Bool, true, false, cond, ◌&&◌, ◌==◌, ◌≡◌, ◌+◌, List, [], ◌∷◌, Option, Some, None, MatchOption, drop, nat_eq, codes}
+use Rattle.std.specs.Prelude.{ℕ, Bool, true, cond, ◌&&◌, ◌==◌, ◌+◌, List, [], ◌∷◌, Option, Some, None, MatchOption, drop, nat_eq, codes}
 use Rattle.std.specs.List.{starts_with}
 use Rattle.decimal.specs.Reading.{Reads, IsNoNumber}
 use Rattle.dap_frames.specs.Frames.{header_end}

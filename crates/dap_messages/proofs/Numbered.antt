@@ -1,5 +1,5 @@
 -- One event more.
-use Rattle.std.proofs.Common.{◌≡◌, ℕ, ◌+◌, List, [], ◌∷◌, ◌++◌, length, Some, None, ap, refl, sym, subst, ◌∙◌, arith}
+use Rattle.std.proofs.Common.{◌≡◌, ℕ, ◌+◌, List, [], ◌∷◌, ◌++◌, length, None, ap, refl, ◌∙◌, arith}
 use Rattle.dap_messages.specs.Messages.{AreEvents}
 use Rattle.dap_messages.specs.Notes.{told_by}
 use Rattle.dap_messages.specs.declared.answer.Note.{Note}

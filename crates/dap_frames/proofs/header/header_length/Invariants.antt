@@ -1,4 +1,4 @@
-use Rattle.std.proofs.Common.{◌≡◌, ◌++◌, take, drop, true}
+use Rattle.std.proofs.Common.{◌≡◌, drop}
 use Rattle.dap_frames.specs.Header as model
 use Rattle.dap_frames.proofs.header.header_length.Given as goal
 
