@@ -1,5 +1,5 @@
 -- A step back: what its reply says.
-use Rattle.std.proofs.Common.{◌≡◌, ℕ, Some, refl, inl, inr, subst}
+use Rattle.std.proofs.Common.{◌≡◌, ℕ, refl, inl, inr, subst}
 use Rattle.runs.specs.Does.{Undoes}
 use Rattle.runs.specs.Live.{LiveAt, FirstDependent, NoDependent}
 use Rattle.runs.specs.Object.{Object}
@@ -7,15 +7,13 @@ use Rattle.runs.specs.declared.event.Event.{Event}
 use Rattle.runs.specs.declared.command.Command as runs_command
 use Rattle.runs.specs.declared.command.Reply as runs_reply
 use Rattle.runs.specs.declared.command.Refusal.{Refusal}
-use Rattle.runs.specs.declared.command.Refusal.TheVariants.{Memory, NotReady, HistoryFull, NoSuchEvent, NeededBy, NeverWritten, Spent, BreaksFull, NoSuchLine}
+use Rattle.runs.specs.declared.command.Refusal.TheVariants.{NoSuchEvent, NeededBy}
 use Rattle.dependence.proofs.ListPlaces.{in-at}
 use Rattle.locked_execution.specs.AtDesk.{AtDesk, execution}
-use Rattle.locked_execution.specs.Performs.{Answers, OnExecution, session_reply}
-use Rattle.locked_execution.specs.declared.command.Command.{Command}
+use Rattle.locked_execution.specs.Performs.{OnExecution, session_reply}
 use Rattle.locked_execution.specs.declared.command.Reply.{Reply}
 use Rattle.locked_execution.proofs.Unchanged.{all-same}
 use Rattle.dap_moves.specs.Laws.{RefusedBack, BackWhereAlone}
-use Rattle.dap_moves.specs.Moves.{NewestTicket}
 
 -- an undo of a live event is refused where another depends on it
 refused-undo : (o o' : Object) (t : ℕ) (e : Event) (why : Refusal) → LiveAt o.live t e → Undoes o t (runs_reply.Reply.Refused why) o' →

@@ -4,7 +4,6 @@ use Rattle.value.specs.Word.{Word}
 use Rattle.syntax.specs.Lists.{Every}
 use Rattle.runs.specs.Object.{Reaches}
 use Rattle.runs.specs.Ready.{ReadyList}
-use Rattle.runs.specs.Sound.{Sound}
 use Rattle.runs.specs.Steps.{State}
 use Rattle.runs.specs.declared.event.Event.{Event}
 use Rattle.runs.specs.declared.command.Refusal.TheVariants.{Memory}
@@ -14,7 +13,6 @@ use Rattle.runs.specs.declared.command.Reply as runs_reply
 use Rattle.machine.proofs.HeadlineLaws.{headline}
 use Rattle.runs.proofs.ObjectLaws.{stays-over-lists}
 use Rattle.locked_execution.specs.AtDesk.{AtDesk, execution}
-use Rattle.locked_execution.specs.Answered.{Answered}
 use Rattle.locked_execution.specs.Bridge.{commands_of}
 use Rattle.locked_execution.specs.Performs.{Answers, OnExecution, session_reply}
 use Rattle.locked_execution.specs.declared.command.Command.{Command}
@@ -25,7 +23,6 @@ use Rattle.locked_execution.proofs.BridgeLaws.{are-on-execution}
 use Rattle.locked_execution.proofs.Unchanged.{all-same}
 use Rattle.dap_moves.specs.Laws.{LedNowhere, LedOn, LedByOne, KeepsHeadline, LosesNothingElse}
 use Rattle.dap_moves.specs.Known.{HasValue}
-use Rattle.dap_moves.specs.Led.{Led}
 
 every-both : {X : Type 0} (P : X → Type 0) (xs ys : List X) → Every P xs → Every P ys → Every P (xs ++ ys)
 every-both P [] ys h k = k

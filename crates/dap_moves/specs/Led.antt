@@ -1,5 +1,5 @@
 -- What commands of sessions leave, whichever they were.
-use Rattle.std.specs.Prelude.{ℕ, ◌<◌, ◌≡◌, List}
+use Rattle.std.specs.Prelude.{ℕ, ◌<◌, List}
 use Rattle.syntax.specs.Lists.{Every}
 use Rattle.locked_execution.specs.AtDesk.{AtDesk}
 use Rattle.locked_execution.specs.Answered.{Answered}

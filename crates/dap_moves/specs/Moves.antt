@@ -1,5 +1,5 @@
 -- What a step forth and a step back of a branch do to a desk.
-use Rattle.std.specs.Prelude.{◌≡◌, ◌⊎◌, ℕ, ◌&&◌, ◌++◌, Bool, true, false, not, List, filter, length, Option, None, Some, slice_get}
+use Rattle.std.specs.Prelude.{◌≡◌, ◌⊎◌, ℕ, ◌&&◌, ◌++◌, Bool, not, List, filter, length, Option, None, Some, slice_get}
 use Rattle.system.specs.declared.system.System.{System}
 use Rattle.system_places.specs.SystemBranches.{branch_at}
 use Rattle.runs.specs.Choices.{choice_of}

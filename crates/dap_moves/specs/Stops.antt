@@ -1,5 +1,5 @@
 -- The lines on which a command stands that can be a side of an event.
-use Rattle.std.specs.Prelude.{ℕ, ◌==◌, ◌||◌, ◌≡◌, ◌≤◌, ◌<◌, List, Bool, true, false, Option, None, Some}
+use Rattle.std.specs.Prelude.{ℕ, ◌==◌, ◌||◌, ◌≡◌, ◌≤◌, ◌<◌, Bool, true, false, Option, None, Some}
 use Rattle.system.specs.declared.command.Command.{Command}
 use Rattle.system.specs.declared.command.Action.TheOpen.{Action-F, Arm-F, Command-F, Guarded-F, Labelled-F}
 use Rattle.system.specs.declared.command.Action.TheFolds.{fold-Command}

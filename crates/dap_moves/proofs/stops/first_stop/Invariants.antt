@@ -1,4 +1,3 @@
-use Rattle.std.proofs.Common.{◌≤◌}
 use Rattle.dap_moves.specs.Stops.{NoneStops}
 use Rattle.dap_moves.proofs.stops.first_stop.Given as goal
 
