@@ -1,0 +1,4 @@
+pub mod Frames
+pub mod Header
+pub mod Laws
+pub mod Unframing

@@ -1,0 +1,12 @@
+use Rattle.std.proofs.Common.{◌≡◌, ◌∙◌, ◌++◌, ◌∷◌, [], not, is_ok, true, inl, refl, ap}
+use Rattle.dap_messages.specs.Notes.{told_by}
+use Rattle.dap_messages.specs.declared.answer.Note.{Note}
+use Rattle.dap_messages.proofs.Numbered.{told-more}
+use Rattle.dap_messages.proofs.answer.Answer.add.Goals as goal
+
+pub returns-else-is_err : goal.returns-else-is_err
+returns-else-is_err c =
+    let ok : is_ok c.push.result ≡ true = c.is_err.ensures.negation ∙ ap not c.if-is_err.false in
+    let note : Note = record { told = c.args.told; body = c.args.body } in
+    let after : c.push.new.self.items ≡ c.args.self.now.notes.items ++ note ∷ [] = rw ok at c.push.ensures.items in
+    inl (ap told_by after ∙ told-more c.args.self.now.notes.items note, refl)

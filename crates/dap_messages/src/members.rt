@@ -1,0 +1,164 @@
+// Objects and lists of JSON that are being made. Where there is no memory for a part this is kept in mind, and told at the end: so
+// whoever makes a message need not ask after each part.
+use serde_json::{Map, Value, push, put};
+use std::alloc::Global;
+
+/// An object that is being made.
+#[derive(Drop)]
+pub struct Members {
+    alloc: Global,
+    made: Map<String, Value>,
+    lacks: bool,
+}
+
+impl Members {
+    /// An object without members.
+    pub fn new(alloc: Global) -> Members {
+        Members {
+            alloc,
+            made: Map::new(alloc),
+            lacks: false,
+        }
+    }
+
+    /// Adds a value.
+    pub fn value(&mut self, name: &str, value: Value) {
+        if put(&mut self.made, self.alloc, name, value).is_err() {
+            self.lacks = true;
+        }
+    }
+
+    /// Adds a number.
+    pub fn number(&mut self, name: &str, number: u64) {
+        self.value(name, Value::from(number));
+    }
+
+    /// Adds `true` or `false`.
+    pub fn flag(&mut self, name: &str, flag: bool) {
+        self.value(name, Value::from(flag));
+    }
+
+    /// Adds a text.
+    pub fn text(&mut self, name: &str, text: &str) {
+        match Value::try_from_str(self.alloc, text) {
+            Ok(value) => self.value(name, value),
+            Err(_) => self.lacks = true,
+        }
+    }
+
+    /// Adds an object.
+    pub fn object(&mut self, name: &str, members: Members) {
+        match members.into_value() {
+            Some(value) => self.value(name, value),
+            None => self.lacks = true,
+        }
+    }
+
+    /// Adds a list.
+    pub fn list(&mut self, name: &str, list: Listed) {
+        match list.into_value() {
+            Some(value) => self.value(name, value),
+            None => self.lacks = true,
+        }
+    }
+
+    /// Keeps in mind that there was no memory for a part.
+    pub fn lack(&mut self) {
+        self.lacks = true;
+    }
+
+    /// The object; `None` where there was no memory for a part.
+    pub fn into_value(self) -> Option<Value> {
+        let Members {
+            alloc: _,
+            made,
+            lacks,
+        } = self;
+        if lacks {
+            None
+        } else {
+            Some(Value::Object(made))
+        }
+    }
+}
+
+/// A list that is being made.
+#[derive(Drop)]
+pub struct Listed {
+    made: Vec<Value>,
+    lacks: bool,
+}
+
+impl Listed {
+    /// A list without items.
+    pub fn new(alloc: Global) -> Listed {
+        Listed {
+            made: Vec::new(alloc),
+            lacks: false,
+        }
+    }
+
+    /// Adds an object behind the others.
+    pub fn push(&mut self, members: Members) {
+        let added = match members.into_value() {
+            Some(value) => push(&mut self.made, value).is_ok(),
+            None => false,
+        };
+        if !added {
+            self.lacks = true;
+        }
+    }
+
+    /// Adds a text behind the others.
+    pub fn push_text(&mut self, alloc: Global, text: &str) {
+        let added = match Value::try_from_str(alloc, text) {
+            Ok(value) => push(&mut self.made, value).is_ok(),
+            Err(_) => false,
+        };
+        if !added {
+            self.lacks = true;
+        }
+    }
+
+    /// Keeps in mind that there was no memory for a part.
+    pub fn lack(&mut self) {
+        self.lacks = true;
+    }
+
+    /// How many items there are.
+    pub fn len(&self) -> usize {
+        self.made.len()
+    }
+
+    /// Whether there is no item.
+    pub fn is_empty(&self) -> bool {
+        self.made.is_empty()
+    }
+
+    /// The list; `None` where there was no memory for a part.
+    pub fn into_value(self) -> Option<Value> {
+        Some(Value::Array(self.into_items()?))
+    }
+
+    /// The items; `None` where there was no memory for a part.
+    pub fn into_items(self) -> Option<Vec<Value>> {
+        let Listed { made, lacks } = self;
+        if lacks { None } else { Some(made) }
+    }
+}
+
+/// The member of this name that is not null.
+pub fn field<'a>(value: &'a Value, name: &str) -> Option<&'a Value> {
+    let found = value.get(name)?;
+    if found.is_null() { None } else { Some(found) }
+}
+
+/// The member of this name, where it is a whole number from 0 on.
+pub fn number_in(value: &Value, name: &str) -> Option<u64> {
+    field(value, name)?.as_u64()
+}
+
+/// The member of this name, where it is a text.
+pub fn text_in<'a>(value: &'a Value, name: &str) -> Option<&'a str> {
+    field(value, name)?.as_str()
+}

@@ -1,0 +1,152 @@
+use crate::kind::{Kind, kind_of};
+use crate::members::{field, number_in, text_in};
+use serde_json::{Map, Value};
+use std::alloc::{AllocError, Global};
+
+/// How deep a request may nest.
+pub const MOST_DEPTH: u32 = 64;
+
+/// A request.
+#[derive(Drop)]
+pub struct Request {
+    /// the number that the client gave it
+    pub seq: u64,
+    pub kind: Kind,
+    /// its name, as it came
+    pub command: String,
+    /// its arguments, `Null` where there are none
+    arguments: Value,
+}
+
+/// Why a message was not read.
+#[derive(Clone, Copy, Debug, PartialEq, Eq)]
+pub enum Unread {
+    Memory,
+    /// it is no JSON, or nests deeper than it may
+    NoJson,
+    /// it is JSON, and no request
+    NoRequest,
+}
+
+impl From<AllocError> for Unread {
+    fn from(_error: AllocError) -> Unread {
+        Unread::Memory
+    }
+}
+
+impl Request {
+    /// The argument of this name, where it is a whole number from 0 on.
+    pub fn number(&self, name: &str) -> Option<u64> {
+        number_in(&self.arguments, name)
+    }
+
+    /// The argument of this name, where it is a text.
+    pub fn text(&self, name: &str) -> Option<&str> {
+        text_in(&self.arguments, name)
+    }
+
+    /// The argument of this name, where it is `true` or `false`; else the one that stands for it.
+    pub fn flag(&self, name: &str, otherwise: bool) -> bool {
+        match field(&self.arguments, name) {
+            Some(value) => value.as_bool().unwrap_or(otherwise),
+            None => otherwise,
+        }
+    }
+
+    /// The argument of this name, where it is there and not null.
+    pub fn part(&self, name: &str) -> Option<&Value> {
+        field(&self.arguments, name)
+    }
+
+    /// The argument of this name, where it is a list.
+    pub fn items(&self, name: &str) -> Option<&[Value]> {
+        match field(&self.arguments, name)?.as_array() {
+            Some(list) => Some(list.as_slice()),
+            None => None,
+        }
+    }
+
+    /// All arguments.
+    pub fn arguments(&self) -> &Value {
+        &self.arguments
+    }
+}
+
+/// The request that the bytes are: a JSON object of the type `request` with a number and a name.
+pub fn read_request(alloc: Global, bytes: &[u8]) -> Result<Request, Unread> {
+    match Value::from_slice(alloc, bytes) {
+        Ok(value) if nests_within(&value, MOST_DEPTH) => request_of(alloc, value),
+        Ok(_) => Err(Unread::NoJson),
+        Err(error) if error.is_memory() => Err(Unread::Memory),
+        Err(_) => Err(Unread::NoJson),
+    }
+}
+
+/// The request that the value is.
+fn request_of(alloc: Global, value: Value) -> Result<Request, Unread> {
+    let Some((seq, name)) = head_of(&value) else {
+        return Err(Unread::NoRequest);
+    };
+    let command = String::from_str(alloc, name)?;
+    let kind = kind_of(command.as_str());
+    Ok(Request {
+        seq,
+        kind,
+        command,
+        arguments: arguments_of(value),
+    })
+}
+
+/// The number and the name of a request.
+fn head_of(value: &Value) -> Option<(u64, &str)> {
+    if text_in(value, "type")? != "request" {
+        return None;
+    }
+    Some((number_in(value, "seq")?, text_in(value, "command")?))
+}
+
+/// The arguments of a request.
+fn arguments_of(value: Value) -> Value {
+    match value {
+        Value::Object(members) => taken(members),
+        _ => Value::Null,
+    }
+}
+
+/// The member `arguments` of these.
+fn taken(mut members: Map<String, Value>) -> Value {
+    match members.remove("arguments") {
+        Some(arguments) => arguments,
+        None => Value::Null,
+    }
+}
+
+/// Whether the value nests no deeper than so many levels.
+#[cycle(nests)]
+fn nests_within(value: &Value, levels: u32) -> bool {
+    match value {
+        Value::Null | Value::Bool(_) | Value::Number(_) | Value::String(_) => true,
+        Value::Array(items) => levels > 0 && all_within(items.as_slice(), levels - 1),
+        Value::Object(members) => levels > 0 && members_within(members, levels - 1),
+    }
+}
+
+/// Whether each of the values does.
+#[cycle(nests)]
+fn all_within(values: &[Value], levels: u32) -> bool {
+    let mut within = true;
+    for value in values {
+        within = within && nests_within(value, levels);
+    }
+    within
+}
+
+/// Whether each of the members does.
+#[cycle(nests)]
+fn members_within(members: &Map<String, Value>, levels: u32) -> bool {
+    let mut within = true;
+    for value in members.values() {
+        within = within && nests_within(value, levels);
+    }
+    within
+}

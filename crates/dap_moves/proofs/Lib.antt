@@ -1,0 +1,3 @@
+pub mod Backward
+pub mod Leading
+pub mod Targets

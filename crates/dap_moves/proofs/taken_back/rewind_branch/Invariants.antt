@@ -1,0 +1,9 @@
+use Rattle.std.proofs.Common.{◌≡◌}
+use Rattle.dap_moves.specs.Led.{Led}
+use Rattle.dap_moves.proofs.taken_back.rewind_branch.Given as goal
+
+abbrev pub invariant-loop : goal.invariant-loop
+invariant-loop l = record {
+  led : Led l.initial.desk l.desk;
+  system : l.desk.machine.checked ≡ l.initial.desk.machine.checked;
+}

@@ -1,0 +1,29 @@
+//! What a debug adapter does to a desk: it steps a branch, goes on until something stops it, and takes steps back. What a
+//! request leaves is what some commands of sessions leave, and none where it only reads.
+#![tactic(auto)]
+
+mod back;
+mod forth;
+mod handles;
+mod known;
+mod laws;
+mod parts;
+mod run;
+mod seen;
+mod stops;
+mod taken_back;
+
+pub use back::{Back, step_back};
+pub use forth::{step_at, target_at};
+pub use handles::{Handle, frame_id, frame_of, handle_of, reference};
+pub use known::{ready_events, value_of};
+pub use laws::{led_laws, step_back_laws};
+pub use locked_execution::{Command, Desk, Machine, Reply};
+pub use parts::{acts_in, newest_below, takes_part};
+pub use run::{Ended, Plan, go_on};
+pub use seen::{Watched, has_choice, is_watched};
+pub use stops::{first_stop, stop_lines};
+pub use taken_back::{Marks, Rewound, rewind, rewind_branch};
+
+/// The session in which an adapter steps. It never sets a breakpoint there; lines that are typed are of session 0.
+pub const QUIET: u32 = 15;

@@ -1,0 +1,40 @@
+// What a run looks at: variables and channels that are watched, and steps before which it has stopped already.
+use runs::{Choice, Event};
+
+/// What is watched.
+#[derive(Clone, Copy, Debug, PartialEq, Eq)]
+pub enum Watched {
+    /// the variable of this number, where an event writes it
+    Variable(u32),
+    /// the channel of this number, where an event is on it
+    Channel(u32),
+}
+
+/// Whether the event writes a variable that is watched, or is on a channel that is.
+pub fn is_watched(watched: &[Watched], event: &Event) -> bool {
+    for one in watched {
+        let hit = match one {
+            Watched::Variable(number) => event.written == Some(*number),
+            Watched::Channel(number) => event.channel == Some(*number),
+        };
+        if hit {
+            return true;
+        }
+    }
+    false
+}
+
+/// Whether this is the choice of the event.
+pub fn has_choice(choice: &Choice, event: &Event) -> bool {
+    choice.arm == event.arm_to_open() && choice.place.equals(event.acting_place())
+}
+
+/// Whether one of the choices is that of the event.
+pub(crate) fn is_seen(seen: &[Choice], event: &Event) -> bool {
+    for choice in seen {
+        if has_choice(choice, event) {
+            return true;
+        }
+    }
+    false
+}
