@@ -30,9 +30,10 @@ pub record Kept (source stimulus script answer : List ℕ) : Type 0 where
   -- the headline holds of what they leave
   pub headline : Headline (execution left.desk)
 
--- this is so whenever `debug` ends well on a reader that had the script and a writer that had nothing yet
+-- this is so whenever `debug` ends well on a reader that had the script and a writer that had nothing yet (what holds of
+-- both where source and stimulus are refused does not matter here, and is left out)
 abbrev pub PromiseIsKept : Type 0
 PromiseIsKept =
-    (source stimulus script answer : List ℕ) (untouched : Type 0) (rest : Option (List ℕ)) →
-    Debugged source stimulus untouched (Some script) rest (Some []) (Some answer) (Ok tt) →
+    (source stimulus script answer : List ℕ) (rest : Option (List ℕ)) →
+    Debugged source stimulus (Unit {0}) (Some script) rest (Some []) (Some answer) (Ok tt) →
     Kept source stimulus script answer
