@@ -74,7 +74,7 @@ promise-is-kept source stimulus script answer rest (inl refused) =
     absurd (subst (λ (r : Result (Unit {0}) Fault). MatchResult r (λ _. Unit {0}) (λ _. ⊥)) refused.1 tt)
 promise-is-kept source stimulus script answer rest (inr (system, accepted, ends)) =
     let all : Completed system (first_line system source) script ends.1 =
-        Consumes-whole (Some script) rest ends.0 (λ bytes. Completed system (first_line system source) bytes ends.1)
-        ends.2 ends.4.0 ends.4.1 in
+    Consumes-whole (Some script) rest ends.0 (λ bytes. Completed system (first_line system source) bytes ends.1)
+    ends.2 ends.4.0 ends.4.1 in
     completed source stimulus script answer system accepted
-        (subst (Completed system (first_line system source) script) (sym ends.3) all)
+    (subst (Completed system (first_line system source) script) (sym ends.3) all)
