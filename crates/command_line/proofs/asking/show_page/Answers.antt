@@ -4,4 +4,4 @@ use Rattle.std.proofs.Common.{refl}
 use Rattle.command_line.proofs.asking.show_page.Goals as goal
 
 pub returns-in_err-text : goal.returns-in_err-text
-returns-in_err-text g c = refused c.from_residual.result Memory _ _ refl c.from_residual.ensures.1
+returns-in_err-text c = refused c.from_residual.result Memory _ _ refl c.from_residual.ensures.1

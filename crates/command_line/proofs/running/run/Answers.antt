@@ -8,8 +8,8 @@ returns-in-Ok-clause-run g c =
     let served = c.serve.ensures.served in
     inl (c.in-Ok.request, c.in-Ok.ensures, served.0, c.serve.result.told, served.1, served.2, served.3, served.4, served.5)
 
-pub tell_unasked-requires-in-Err : goal.tell_unasked-requires-in-Err
-tell_unasked-requires-in-Err g c =
+pub tell_unasked-requires : goal.tell_unasked-requires
+tell_unasked-requires g c =
     nothing-has-text (map g.S.AsStr.text c.args.words.now) c.in-Err.unasked c.in-Err.ensures
 
 pub returns-in-Err-clause-run : goal.returns-in-Err-clause-run

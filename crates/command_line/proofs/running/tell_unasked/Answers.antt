@@ -4,11 +4,11 @@ use Rattle.command_line.specs.Used.{used}
 use Rattle.command_line.proofs.RunningLemmas.{told-alone}
 use Rattle.command_line.proofs.running.tell_unasked.Goals as goal
 
-pub tell_help-requires-in-Help : goal.tell_help-requires-in-Help
-tell_help-requires-in-Help g c = λ e. (rw c.in-Help.is at c.requires) (sym c.as_bytes.ensures.value ∙ e)
+pub tell_help-requires : goal.tell_help-requires
+tell_help-requires g c = λ e. (rw c.in-Help.is at c.requires) (sym c.as_bytes.ensures.value ∙ e)
 
-pub tell_mistake-requires-in-Mistake : goal.tell_mistake-requires-in-Mistake
-tell_mistake-requires-in-Mistake g c =
+pub tell_mistake-requires : goal.tell_mistake-requires
+tell_mistake-requires g c =
     λ e. (rw c.in-Mistake.is at c.requires) (sym c.as_bytes-in-Mistake.ensures.value ∙ e)
 
 pub returns-in-Memory-clause-told : goal.returns-in-Memory-clause-told
