@@ -38,11 +38,7 @@ fn live_on(alloc: Global, machine: &Machine) -> Result<Vec<u8>, Fault>
 }
 
 /// The answer of the line `live` where these events are live.
-fn live_answer(
-    alloc: Global,
-    checked: &Checked,
-    live: &[(Ticket, Event)],
-) -> Result<Vec<u8>, Fault>
+fn live_answer(alloc: Global, checked: &Checked, live: &[(Ticket, Event)]) -> Result<Vec<u8>, Fault>
     ensures { MatchResult result
         (λ answer. answer.items ≡ answer_text checked.now asked.Command.Live (told.Reply.Live live.now))
         (λ fault. fault ≡ Memory) }
