@@ -1,12 +1,14 @@
 // The laws of followers and of a new event, each the contract of a function that does nothing.
 ghost use Rattle.dependence.specs.Laws.{LeastIsFollower, ReachedThroughFollowers, NoNewFollower, LastComesBehind};
 
-/// The least of the events that depend on an event is a follower of it.
+/// The least of the events that depend on an event is a follower of it, that is an immediate successor in the causal
+/// order.
 pub fn least_is_follower()
     ensures { LeastIsFollower }
 {}
 
-/// What depends on an event is reached from it by going from event to follower.
+/// What depends on an event is reached from it by going from event to follower: the causal order is the closure of
+/// its covering relation.
 pub fn reached_through_followers()
     ensures { ReachedThroughFollowers }
 {}

@@ -1,8 +1,8 @@
 // Events made on the tree and the store.
-ghost use Rattle.std.specs.Prelude.{◌≡◌, Some, IsSome, IfOk, OnErr};
+ghost use Rattle.std.specs.Prelude.{◌≡◌, ◌<◌, length, Some, IsSome, IfOk, OnErr};
 ghost use Rattle.std.specs.Option.{option_map};
 ghost use Rattle.system.specs.Expression.{get};
-ghost use Rattle.runs.specs.Events.{store_after};
+ghost use Rattle.runs.specs.Events.{store_after, written_by};
 ghost use Rattle.event_inverse.specs.Grown.{applied};
 ghost use Rattle.event_inverse.specs.View.{both_view, record_view};
 ghost use Rattle.event_inverse.specs.walking.Reverted.{reverted};
@@ -40,14 +40,29 @@ pub fn apply(
     }
 }
 
-/// Writes what the event writes. The value that it overwrites, if it writes a variable.
+/// Writes what the event writes. The value that it overwrites, if it writes a variable; of no variable that is a zero of one
+/// bit, and nothing is written.
 fn write(store: &mut Store, event: &Event) -> Option<Value>
     ensures written { store.new ≡ store_after event.now store.old }
     ensures old { result ≡ option_map (get store.old) event.now.written }
 {
-    match (event.written, event.value) {
-        (Some(variable), Some(value)) => Some(store.put(variable, value)),
-        (Some(variable), None) => Some(store.get(variable)),
-        (None, _) => None,
+    match event.written {
+        Some(variable) if (variable as usize) < store.len() => {
+            Some(overwrite(store, variable, event.value))
+        }
+        Some(_) => Some(Value::zero(1)),
+        None => None,
+    }
+}
+
+/// Writes the value, if there is one, to the variable. The value that stood there.
+fn overwrite(store: &mut Store, variable: u32, value: Option<Value>) -> Value
+    requires { variable < length store.old }
+    ensures written { store.new ≡ written_by (Some variable) value store.old }
+    ensures old { result ≡ get store.old variable }
+{
+    match value {
+        Some(value) => store.put(variable, value),
+        None => store.get(variable),
     }
 }

@@ -37,11 +37,14 @@ pub fn invert_by(tree: &mut Tree, store: &mut Store, event: &Event, inverse: &mu
     write_back(store, event.written, inverse.overwritten);
 }
 
-/// Puts back the value that was overwritten, if one was.
+/// Puts back the value that was overwritten, if a variable was written.
 fn write_back(store: &mut Store, written: Option<u32>, overwritten: Option<Value>)
     ensures { store.new ≡ written_back written overwritten store.old }
 {
-    if let (Some(variable), Some(value)) = (written, overwritten) {
-        store.put_back(variable, value);
+    match (written, overwritten) {
+        (Some(variable), Some(value)) if (variable as usize) < store.len() => {
+            store.put_back(variable, value);
+        }
+        _ => {}
     }
 }

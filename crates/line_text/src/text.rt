@@ -1,15 +1,15 @@
 //! Pieces of answers. Each function adds its text behind what is there; without memory a part of it may be there.
-ghost use Rattle.std.specs.Prelude.{◌≡◌, ◌++◌, OnOk};
+ghost use Rattle.std.specs.Prelude.{◌≡◌, ◌∷◌, ◌++◌, OnOk};
 ghost use Rattle.std.specs.List.{flat_map};
 ghost use Rattle.std.specs.Fmt.{decimal};
-ghost use Rattle.address.specs.Text.{text_of};
+ghost use Rattle.address.specs.Text.{entry_text, text_of};
 ghost use Rattle.line_text.specs.AnswerText.{ending};
 ghost use Rattle.line_text.specs.FieldText.{shown, spaced};
 
 use crate::field::Field;
-use address::Address;
+use address::{Address, Entry};
+use itoa::Buffer;
 use std::alloc::AllocError;
-use std::io::Write;
 
 /// Adds bytes.
 pub fn add_bytes(out: &mut Vec<u8>, bytes: &[u8]) -> Result<(), AllocError>
@@ -22,14 +22,38 @@ pub fn add_bytes(out: &mut Vec<u8>, bytes: &[u8]) -> Result<(), AllocError>
 fn add_decimal(out: &mut Vec<u8>, number: u64) -> Result<(), AllocError>
     ensures { OnOk result (out.new.items ≡ out.old.items ++ decimal number) }
 {
-    write!(out, "{number}").map_err(|_| AllocError)
+    let mut buffer = Buffer::new();
+    let digits = buffer.format(number);
+    out.extend_from_slice(digits.as_bytes())
+}
+
+/// Adds a mark and a number.
+fn add_marked(out: &mut Vec<u8>, mark: u8, number: u32) -> Result<(), AllocError>
+    ensures { OnOk result (out.new.items ≡ out.old.items ++ (mark ∷ decimal number)) }
+{
+    out.push(mark)?;
+    add_decimal(out, u64::from(number))
+}
+
+/// Adds an entry of a place.
+fn add_entry(out: &mut Vec<u8>, entry: Entry) -> Result<(), AllocError>
+    ensures { OnOk result (out.new.items ≡ out.old.items ++ entry_text entry) }
+{
+    match entry {
+        Entry::Ordered(number) => add_marked(out, b'.', number),
+        Entry::Branch(number) => add_marked(out, b'/', number),
+    }
 }
 
 /// Adds a place.
 fn add_place(out: &mut Vec<u8>, place: &Address) -> Result<(), AllocError>
     ensures { OnOk result (out.new.items ≡ out.old.items ++ text_of place.now) }
 {
-    write!(out, "{place}").map_err(|_| AllocError)
+    let entries = place.entries();
+    for entry in entries {
+        add_entry(out, *entry)?;
+    }
+    Ok(())
 }
 
 /// Adds what stands in the field.

@@ -24,13 +24,14 @@ pub fn moves_are_local()
     ensures offered { MadeAreOffered }
 {}
 
-/// A move taken back, with what it took out, gives the same tree, finished processes included.
+/// A move taken back, with what it took out, gives the same tree, finished processes included: the loop lemma for one
+/// move.
 pub fn moves_go_back()
     ensures { MovesGoBack }
 {}
 
 /// Two moves in turn can be made the other way round, to the same tree and with the same processes taken out,
-/// unless the place of the first is before that of the second.
+/// unless the place of the first is before that of the second: the square lemma for one move.
 pub fn moves_swap()
     ensures { MovesSwap }
 {}
@@ -42,8 +43,8 @@ pub fn systems_open_alike()
     ensures opening { SystemsOpenAlike }
 {}
 
-/// A move at a place in one child of a sequence or parallel is a move of that child, and so is its undo; the others stay,
-/// and in a sequence the earlier ones are finished.
+/// A move at a place in one child of a sequence or parallel is a move of that child, and so is its undo; the others
+/// stay, and in a sequence the earlier ones are finished.
 pub fn one_child_moves()
     ensures sequence { MovesInOneChild }
     ensures parallel { MovesInOneBranch }
@@ -51,8 +52,8 @@ pub fn one_child_moves()
     ensures back_in_parallel { BackInOneBranch }
 {}
 
-/// Behind the first child of a sequence that is not finished none has made a move: so it is with what has made no move,
-/// and a move keeps it.
+/// Behind the first child of a sequence that is not finished none has made a move: so it is with what has made no
+/// move, and a move keeps it.
 pub fn moves_keep_tidy()
     ensures started { StartedIsTidy }
     ensures moves { MovesKeepTidy }

@@ -2,18 +2,20 @@
 ghost use Rattle.runs.specs.Laws.{NeighboursSwap, RunsWithout, RunsWithoutConsequences, CausesAlone, RespectingOrdersRun, LeadsToOneState, EventsAreDistinct, ActingOnce, EarlierPlaces, RelatedAreOrdered, SameEventsRespect, OrdersDependAlike, RunsDependAlike, OpeningIsWellFormed, StatesAreWellFormed, OneChoice, ApartMovesMeet, ApartMovesWereOffered};
 ghost use Rattle.runs.specs.walking.Agreement.{AllowedAreListed, AllowedWhereFormed, RunAsFunction};
 
-/// Two neighbours of a run swap unless the second depends directly on the first.
+/// Two neighbours of a run swap unless the second depends directly on the first. This is the square lemma of Danos
+/// and Krivine (Reversible Communicating Systems, 2004).
 pub fn neighbours_swap()
     ensures { NeighboursSwap }
 {}
 
-/// A list that runs still runs without an event on which nothing after it depends directly, and
-/// that event then leads on to the same state.
+/// A list that runs still runs without an event on which nothing after it depends directly, and that event then leads
+/// on to the same state: the half of the loop lemma (Danos and Krivine, 2004) that goes back and then forth.
 pub fn runs_without()
     ensures { RunsWithout }
 {}
 
-/// A list that runs, runs without an event and all that depends on it.
+/// A list that runs, runs without an event and all that depends on it: what a causal-consistent rollback (Giachino,
+/// Lanese and Mezzina, 2014) leaves.
 pub fn runs_without_consequences()
     ensures { RunsWithoutConsequences }
 {}
@@ -23,7 +25,8 @@ pub fn causes_alone()
     ensures { CausesAlone }
 {}
 
-/// Every respecting order of a list that runs, runs to the same state.
+/// Every respecting order of a list that runs, runs to the same state: causally equivalent runs, the linear
+/// extensions of one causal order, are cofinal.
 pub fn respecting_orders()
     ensures { RespectingOrdersRun }
 {}
@@ -55,7 +58,8 @@ pub fn ordered()
 {}
 
 /// Under the rule on sharing, two lists that run and have the same events, with any two that are on
-/// one shared variable in the same order, are respecting orders of each other.
+/// one shared variable in the same order, are respecting orders of each other. This is causal consistency (Danos and
+/// Krivine, 2004), said of events: runs with the same events are causally equivalent.
 pub fn same_events()
     ensures { SameEventsRespect }
 {}
@@ -87,7 +91,8 @@ pub fn allowed_are_listed()
 {}
 
 /// Two moves that are offered at places apart can be made one after the other, in either order; and in a well-formed
-/// residual, of two that are made so, the second was offered before the first.
+/// residual, of two that are made so, the second was offered before the first. This is the square lemma for moves of
+/// one residual.
 pub fn apart_moves_meet()
     ensures made { ApartMovesMeet }
     ensures offered { ApartMovesWereOffered }

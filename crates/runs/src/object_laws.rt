@@ -39,7 +39,8 @@ pub fn step_laws()
 {}
 
 /// A step and its undo leave everything as it was; an event is undone exactly where no other live
-/// event depends on it, else the first that does is named.
+/// event depends on it, else the first that does is named. `restores` is the loop lemma (Danos and Krivine, 2004);
+/// `exactly` and `needed` are causal safety and causal liveness (Lanese, Phillips and Ulidowski, 2020).
 pub fn undo_laws()
     ensures restores { OfSound StepThenUndo }
     ensures exactly { OfSound UndoesExactly }
@@ -47,9 +48,9 @@ pub fn undo_laws()
     ensures needed { OfSound NeededExactly }
 {}
 
-/// An event is rolled back exactly where it is live, and that leaves exactly the events that do not
-/// depend on it. A variable is rolled back exactly where a live event wrote it, and that is the
-/// rollback of the event that is blamed for it.
+/// An event is rolled back exactly where it is live, and that leaves exactly the events that do not depend on it. A
+/// variable is rolled back exactly where a live event wrote it, and that is the rollback of the event that is blamed
+/// for it. This is causal-consistent rollback (Giachino, Lanese and Mezzina, 2014).
 pub fn roll_laws()
     ensures live { OfSound RollsWhereLive }
     ensures exactly { OfSound RollsExactly }
@@ -67,7 +68,8 @@ pub fn least_rollback_law()
     ensures { LeastRollback }
 {}
 
-/// Any commands amount to going back and then forth.
+/// Any commands amount to going back and then forth: the parabolic lemma (Lanese, Phillips and Ulidowski, 2020, after
+/// Danos and Krivine, 2004).
 pub fn back_then_forth_law()
     ensures { BackThenForth }
 {}

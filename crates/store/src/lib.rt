@@ -1,7 +1,7 @@
 //! The values of the variables of a system, changed in place.
 #![tactic(auto)]
 
-ghost use Rattle.std.specs.Prelude.{◌≡◌, map, slice_set, IfOk};
+ghost use Rattle.std.specs.Prelude.{◌≡◌, ◌<◌, length, map, slice_set, IfOk};
 ghost use Rattle.system.specs.Expression as model;
 ghost use Rattle.system.specs.Translation.{opening_store};
 
@@ -33,14 +33,19 @@ impl Store {
         Ok(Store { values })
     }
 
-    /// The value of the variable of this number; of no variable a zero of one bit.
+    /// How many variables there are.
+    pub fn len(&self) -> usize
+        ensures { result ≡ length self.now }
+    {
+        self.values.len()
+    }
+
+    /// The value of the variable of this number.
     pub fn get(&self, variable: u32) -> Value
+        requires { variable < length self.now }
         ensures { result ≡ model.get self.now variable }
     {
-        match self.values.get(variable as usize) {
-            Some(value) => *value,
-            None => Value::zero(1),
-        }
+        self.as_slice()[variable as usize]
     }
 
     /// All values, by number.
@@ -50,9 +55,9 @@ impl Store {
         self.values.as_slice()
     }
 
-    /// Writes the value, cut or widened to the width of the variable, and gives back the one that stood there. Where there is no
-    /// such variable nothing is written.
+    /// Writes the value, cut or widened to the width of the variable, and gives back the one that stood there.
     pub fn put(&mut self, variable: u32, value: Value) -> Value
+        requires { variable < length self.old }
         ensures put { self.new ≡ model.put self.old variable value }
         ensures old { result ≡ model.get self.old variable }
         // What is given back and written as it is takes this back.
@@ -63,13 +68,12 @@ impl Store {
         old
     }
 
-    /// Writes the value as it is, which stood there before, if there is such a variable.
+    /// Writes the value as it is, which stood there before.
     pub fn put_back(&mut self, variable: u32, value: Value)
+        requires { variable < length self.old }
         ensures { self.new ≡ slice_set self.old variable value }
     {
-        if let Some(held) = self.values.get_mut(variable as usize) {
-            *held = value;
-        }
+        self.values[variable as usize] = value;
     }
 }
 

@@ -20,6 +20,7 @@ use address::{Address, Entry};
 use canonical_order::canonical_order;
 use dependence::{Live, LiveEvent};
 use devices::{Counted, write_out};
+use itoa::Buffer;
 use machine::Machine;
 use runs::Event;
 use std::alloc::{AllocError, Global};
@@ -129,7 +130,9 @@ fn add_entry(out: &mut Vec<u8>, entry: Entry) -> Result<(), AllocError>
 fn add_number(out: &mut Vec<u8>, number: u32) -> Result<(), AllocError>
     ensures { OnOk result (out.new.items ≡ out.old.items ++ decimal number) }
 {
-    write!(out, "{number}").map_err(|_| AllocError)
+    let mut buffer = Buffer::new();
+    let digits = buffer.format(number);
+    out.extend_from_slice(digits.as_bytes())
 }
 
 /// Adds bytes.
