@@ -1,5 +1,5 @@
 -- How what the libraries give becomes the answer to a request, or the reason why there is none.
-use Rattle.std.proofs.Common.{◌≡◌, inl, inr, ℕ, List, Option, Some, Result, Ok, Err, subst}
+use Rattle.std.proofs.Common.{◌≡◌, inl, inr, ℕ, List, Some, Result, Ok, Err, subst}
 use Rattle.std.specs.Prelude.{IfOk, IfErr, MatchResult}
 use Rattle.system.specs.declared.system.System.{System}
 use Rattle.trace_file.specs.Loading as trace_text

@@ -1,9 +1,9 @@
 //! What is answered to people's questions about the files of a request.
 
-ghost use Rattle.std.specs.Prelude.{◌≡◌, MatchResult};
+ghost use Rattle.std.specs.Prelude.{MatchResult};
 ghost use Rattle.command_line.specs.Answering.{CheckRefuses, OutlineGives, PageRefuses, ReplayRefuses, WaitingGives};
 ghost use Rattle.command_line.specs.Answering.{WhyGives, WhyRefuses};
-ghost use Rattle.command_line.specs.walking.Answers.{AnswersWhyOf, answer_text};
+ghost use Rattle.command_line.specs.walking.Answers.{AnswersWhyOf};
 
 use crate::answering::{Answer, read_source, read_system, read_trace};
 use crate::files::Files;
@@ -92,6 +92,12 @@ pub fn why_files<F: Files>(
 {
     let checked = read_system(alloc, files, asked.file, asked.stimulus, texts)?;
     read_trace(alloc, files, asked.trace, texts)?;
-    let why = why_text(alloc, checked, texts.trace.as_slice(), asked.subject, asked.all)?;
+    let why = why_text(
+        alloc,
+        checked,
+        texts.trace.as_slice(),
+        asked.subject,
+        asked.all,
+    )?;
     told_why(why, said)
 }

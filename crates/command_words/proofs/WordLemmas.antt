@@ -1,5 +1,5 @@
 -- What a parse reads of a command as it is made, and what the matches hold of a word.
-use Rattle.std.proofs.Common.{◌≡◌, ℕ, ◌<◌, ◌^◌, List, Option, Some, None, Result, Ok, Err, ◌||◌, true, ◌∙◌, sym, ap, ap₂, refl, subst, arith, codes, length, Bool, false, ◌⊎◌, inl, inr, ◌≢◌, [], ◌∷◌, ◌==◌, nat_lt, IsTrue, ◌↔◌}
+use Rattle.std.proofs.Common.{◌≡◌, ℕ, ◌<◌, ◌^◌, List, Option, Some, None, Result, Ok, Err, ◌||◌, true, ◌∙◌, sym, ap, ap₂, refl, subst, arith, codes, Bool, false, ◌⊎◌, inl, inr, ◌≢◌, [], ◌∷◌, ◌==◌, nat_lt, IsTrue, ◌↔◌}
 use Rattle.std.proofs.lemmas.Bool.{false≢true}
 use Rattle.std.proofs.lemmas.Result.{IfOk-weaker}
 use Rattle.std.proofs.lemmas.Slice.Eq.{bytes_eq-Decides}

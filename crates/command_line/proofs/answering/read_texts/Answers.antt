@@ -11,3 +11,6 @@ pub returns-in_err-values : goal.returns-in_err-values
 returns-in_err-values g c =
     refused c.from_residual-in_err-values.result c.in_err-values.field-0.0 _ _ (inr c.in_err-values.ensures)
     c.from_residual-in_err-values.ensures.1
+
+pub returns : goal.returns
+returns g c = (c.in_ok-read_source.ensures, c.in_ok-values.ensures)

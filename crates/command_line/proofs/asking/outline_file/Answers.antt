@@ -1,4 +1,4 @@
-use Rattle.std.proofs.Common.{ℕ, List, inl, inr, subst, []}
+use Rattle.std.proofs.Common.{ℕ, List, inl, inr, refl, subst, []}
 use Rattle.debug_session.specs.Accepting.{AcceptedAs, IsRefused}
 use Rattle.debug_session.specs.declared.fault.Fault.TheVariants.{Memory}
 use Rattle.command_line.proofs.Handing.{refused}

@@ -1,5 +1,4 @@
 use Rattle.std.proofs.Common.{ℕ, List, inl, inr, subst}
-use Rattle.debug_session.specs.Replaying.{RefusesTrace}
 use Rattle.debug_session.specs.Wrapping.{of_trace}
 use Rattle.questions.specs.Asking.{IsTraced}
 use Rattle.trace_file.specs.Loading as trace

@@ -1,5 +1,4 @@
-use Rattle.std.proofs.Common.{[], subst}
-use Rattle.command_line.specs.Used.{Tells, used}
+use Rattle.command_line.specs.Used.{used}
 use Rattle.command_line.proofs.RunningLemmas.{help-told, told-alone}
 use Rattle.command_line.proofs.running.tell_help.Goals as goal
 

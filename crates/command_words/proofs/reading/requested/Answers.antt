@@ -1,5 +1,4 @@
 use Rattle.std.proofs.Common.{map}
-use Rattle.clap.specs.Words.{kind_of}
 use Rattle.command_words.proofs.WordLemmas.{nothing_asked}
 use Rattle.command_words.proofs.reading.requested.Goals as goal
 
