@@ -182,7 +182,6 @@ IsRequest name rows (Request.Waiting file stimulus trace) =
 IsRequest name rows (Request.Why file stimulus trace subject all) =
     (name ≡ codes "why") × AreTraced rows file.now stimulus.now trace.now
     × (first_of (codes "X") rows ≡ Some subject.now) × IsFlag (one_of (codes "all") rows) all
-
 IsRequest name rows (Request.Shell file stimulus trace) =
     (name ≡ codes "shell") × AreFiles rows file.now stimulus.now
     × (option_map (λ text. text.now) trace ≡ first_of (codes "TRACE") rows)

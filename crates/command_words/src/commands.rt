@@ -282,13 +282,7 @@ fn picture<'a>(alloc: Global) -> Result<Command<'a>, AllocError>
 fn dap<'a>(alloc: Global) -> Result<Command<'a>, AllocError>
     ensures { IfOk result (IsCommand spec.dap) }
 {
-    let command = begun(
-        alloc,
-        "dap",
-        help::DAP,
-        help::DAP_LONG,
-        help::DAP_REFUSALS,
-    );
+    let command = begun(alloc, "dap", help::DAP, help::DAP_LONG, help::DAP_REFUSALS);
     Ok(command)
 }
 
