@@ -247,6 +247,58 @@ It answers:
   x is 5, written by step 1
     1 line 7: i carries 5 into x";
 
+pub const SHELL: &str = "Step a description by hand, with answers in plain words";
+
+pub const SHELL_LONG: &str = "\
+Step a description by hand: a session of lines that are answered in plain words,
+from the end of a trace where one is named. The lines of a script work as they
+are; `help` lists what else can be typed, and no mistake ends the session. Lines
+from a pipe are answered as typed ones are.
+
+Example:
+  balsadbg shell examples/adder.balsa examples/adder.stimulus";
+
+pub const EVENT: &str = "Mark the causes and consequences of this step of the trace";
+
+pub const SVG: &str = "Write a drawing for a document";
+
+pub const VCD: &str = "Write a value change dump, as GTKWave shows it";
+
+pub const JSON: &str = "Write the data alone";
+
+pub const QUIET: &str = "Leave out turns and tests";
+
+pub const PICTURE: &str = "Draw a picture of a run";
+
+pub const PICTURE_LONG: &str = "\
+Draw a picture of the run that a trace is, with time going down and a column for
+each branch: a page for a browser, which shows causes and consequences of the
+step under the pointer, or another form. --event and --quiet are for --svg.
+
+Example:
+  balsadbg picture examples/adder.balsa examples/adder.stimulus \\
+    examples/adder.trace > adder.html";
+
+pub const DAP: &str = "Serve an editor, by the debug adapter protocol";
+
+pub const DAP_LONG: &str = "\
+Serve an editor over standard input and output, by the debug adapter protocol. An
+editor starts it; docs/guide/editors.md has the settings of each.
+
+Example of what an editor runs:
+  balsadbg dap";
+
+pub const DAP_REFUSALS: &str = "\
+Refusals. The line `balsadbg: refused N` on standard error ends a run with
+status 1:
+
+   1  memory is used up
+  41  reading standard input failed
+  42  writing the answers failed
+
+What is wrong with a description is told to the editor. A command line that cannot
+be read ends with status 2. All else ends with status 0.";
+
 /// What each refusal of a command means: with lines for a trace, for the files, for a stimulus and for a script.
 macro_rules! refusal_lines {
     ([$($trace:literal)*] [$($files:literal)*] [$($stimulus:literal)*] [$($script:literal)*]) => {
@@ -373,5 +425,16 @@ pub const WHY_REFUSALS: &str = refusal_lines_over_ports!(
         "  34  behind `balsadbg trace 2` another step comes before that of this line\n"
     ]
     ["  41  FILE, STIMULUS or TRACE is missing, or reading it failed\n"]
+    []
+);
+
+pub const SHELL_REFUSALS: &str = refusal_lines_over_ports!(
+    [
+        "  31  TRACE does not begin with the line `balsadbg trace 2`, or with 1 for 2\n"
+        "  32  this line of TRACE, from 1, is no step, or has no end\n"
+        "  33  the step of this line of TRACE, from 1, cannot be taken there\n"
+        "  34  behind `balsadbg trace 2` another step comes before that of this line\n"
+    ]
+    ["  41  FILE, STIMULUS or TRACE is missing, or reading it or the lines failed\n"]
     []
 );
