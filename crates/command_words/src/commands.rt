@@ -144,7 +144,7 @@ fn check<'a>(alloc: Global) -> Result<Command<'a>, AllocError>
         "check",
         help::CHECK,
         help::CHECK_LONG,
-        help::FILE_REFUSALS,
+        help::CHECK_REFUSALS,
     );
     explaining(alloc, over_file(alloc, command))
 }
@@ -210,7 +210,7 @@ fn outline<'a>(alloc: Global) -> Result<Command<'a>, AllocError>
         "outline",
         help::OUTLINE,
         help::OUTLINE_LONG,
-        help::FILE_REFUSALS,
+        help::OUTLINE_REFUSALS,
     );
     over_file(alloc, command)
 }

@@ -1,5 +1,5 @@
-/// Which picture of a run is to be drawn. Of several forms that are asked for the first is drawn: a drawing, a dump, the data;
-/// where none is, a page.
+/// Which picture of a run is to be drawn. Of several forms that are asked for the first is drawn, in the order of the
+/// fields; where none is, a page.
 #[derive(Clone, Copy)]
 pub struct Drawing {
     /// A drawing in SVG.
