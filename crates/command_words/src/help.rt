@@ -17,11 +17,12 @@ port o, what comes in at its ports, and a script of steps forth and back:
   balsadbg debug examples/one.balsa examples/one.stimulus < examples/one.script
 
 The lines of a script can be typed by hand just as well, with Ctrl-D behind the
-last. `balsadbg debug --help` explains them.
+last. `balsadbg debug --help` explains them. `shell` takes them too, answers in
+plain words, and no mistake ends it.
 
 Where a description is refused, `check --explain` shows the place and says what
 helps. Where a run stands still, `waiting` tells who waits for whom; where a
-value is wrong, `why` tells the steps that led to it.";
+value is wrong, `why` tells the steps that led to it; `picture` draws the run.";
 
 pub const FILE: &str = "The description, a text of Balsa";
 
@@ -138,7 +139,7 @@ that is empty, and takes the first step of that branch that can be taken now, as
 the script line `branch` does; where there is none, the turn is idle. Which
 worker takes which step is left to chance. The answer has two lines: how many
 turns were steps, and how many steps are live in the end. It does not say why no
-more were; `waiting` tells that behind a trace.
+more were.
 
 Example:
   balsadbg work examples/one.balsa examples/one.stimulus --workers 2 --turns 9
