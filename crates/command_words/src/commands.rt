@@ -274,7 +274,7 @@ fn picture<'a>(alloc: Global) -> Result<Command<'a>, AllocError>
         "picture",
         help::PICTURE,
         help::PICTURE_LONG,
-        help::TRACE_REFUSALS,
+        help::PICTURE_REFUSALS,
     );
     drawing(alloc, over_trace(alloc, command))
 }

@@ -282,6 +282,7 @@ pub const PICTURE_LONG: &str = "\
 Draw a picture of the run that a trace is, with time going down and a column for
 each branch: a page for a browser, which shows causes and consequences of the
 step under the pointer, or another form. --event and --quiet are for --svg.
+Steps are numbered from 1 as they stand in the trace.
 
 Example:
   balsadbg picture examples/adder.balsa examples/adder.stimulus \\
@@ -482,6 +483,12 @@ pub const WHY_REFUSALS: &str = refusal_lines_over_traces!(
         "  25  X is the name of no variable, or of one that no step of TRACE wrote\n"
     ]
     ["  41  FILE, STIMULUS or TRACE is missing, or reading it failed\n"]
+);
+
+pub const PICTURE_REFUSALS: &str = refusal_lines_over_traces!(
+    [
+        "  23  T is the number of no step of TRACE\n"
+    ]["  41  FILE, STIMULUS or TRACE is missing, or reading it failed\n"]
 );
 
 pub const SHELL_REFUSALS: &str = refusal_lines_over_traces!(

@@ -37,8 +37,8 @@ pub static NO_SUCH_EVENT: Page = Page {
     line: "no live step has this ticket",
     meaning: "\
 No live step has this ticket: it was taken back, or never given. Tickets are
-not used again. Where `balsadbg why` ends with 23, the trace has no step of
-this number.",
+not used again. Where `balsadbg why` ends with 23, or `balsadbg picture` with
+`--event`, the trace has no step of this number.",
     source: "",
     told: "",
     causes: "",
