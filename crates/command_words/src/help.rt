@@ -17,28 +17,32 @@ port o, what comes in at its ports, and a script of steps forth and back:
   balsadbg debug examples/one.balsa examples/one.stimulus < examples/one.script
 
 The lines of a script can be typed by hand just as well, with Ctrl-D behind the
-last. `balsadbg debug --help` explains them.
+last. `balsadbg debug --help` explains them. `shell` takes them too, answers in
+plain words, and no mistake ends it.
 
 Where a description is refused, `check --explain` shows the place and says what
 helps. Where a run stands still, `waiting` tells who waits for whom; where a
-value is wrong, `why` tells the steps that led to it.";
+value is wrong, `why` tells the steps that led to it; `picture` draws the run.";
 
 pub const FILE: &str = "The description, a text of Balsa";
 
 pub const STIMULUS: &str = "\
-What comes in at the ports of the last procedure: a line `i = 5 7` for an input
-port, `s * 3` for a sync port, and none for an output port";
+What comes in at the ports of the last procedure: a line
+`i = 5 7` for an input port, `s * 3` for a sync port, and none
+for an output port";
 
 pub const EXPLAIN_REFUSAL: &str = "\
-Tell a refusal in words too, behind its line: the place, the line of
-the text with a mark under it, what is wrong there, and what helps";
+Where the whole run is refused, tell it in words as well:
+the place, the line of the text with a mark under it, what
+is wrong there, and what helps. `refused N` as the answer
+of a script line stays as it is";
 
 pub const CHECK: &str = "Say whether a description is accepted";
 
 pub const CHECK_LONG: &str = "\
-Say whether a description is accepted. If it is, the answer is `accepted`. If not,
-standard error gets the line `balsadbg: refused N ..` with one of the numbers
-below and, where a byte of FILE is meant, that byte.
+Say whether a description is accepted. If it is, the answer is `accepted`. If
+not, standard error gets the line `balsadbg: refused N ..` with one of the
+numbers below and, where a byte of FILE is meant, that byte.
 
 Example:
   balsadbg check examples/buffer.balsa
@@ -67,10 +71,10 @@ together, as from a file, may have their answers together:
   roll TICKET     take all of those back: `rolled COUNT`
   blame X         tell which step wrote the variable X last: `blame TICKET`
   rollvalue X     take that step back, with all that depend on it
-  branch N        take the first step of branch N that can be taken now and is on
-                  no line with a breakpoint: `step TICKET EVENT`. `stopped LINE`
-                  where all are on such lines, `idle` where there is none, or
-                  no branch N
+  branch N        take the first step of branch N that can be taken now and is
+                  on no line with a breakpoint: `step TICKET EVENT`.
+                  `stopped LINE` where all are on such lines, `idle` where there
+                  is none, or no branch N
   break LINE      set a breakpoint on this line of FILE, from 1: `ok`. A meeting
                   is on the line of its receive (of two syncs, of the first), so
                   a line with a send alone stops nothing
@@ -108,11 +112,12 @@ pub const TRACE: &str = "The trace, as the script line `trace` answers it";
 pub const REPLAY: &str = "Take the steps of a trace again, and list them";
 
 pub const REPLAY_LONG: &str = "\
-Take the steps of a trace again, in its order, and list them with new tickets from
-1, as the script line `live` does. A trace is what the script line `trace` answers:
-the line `balsadbg trace 2`, and for each step that is live a line `step PLACE ARM`,
-always the one with the least place of those that wait for none that is left. Behind
-the line `balsadbg trace 1`, of older traces, the steps may stand in any order.
+Take the steps of a trace again, in its order, and list them with new tickets
+from 1, as the script line `live` does. A trace is what the script line `trace`
+answers: the line `balsadbg trace 2`, and for each step that is live a line
+`step PLACE ARM`, always the one with the least place of those that wait for
+none that is left. Behind the line `balsadbg trace 1`, of older traces, the
+steps may stand in any order.
 
 Example:
   balsadbg replay examples/one.balsa examples/one.stimulus examples/one.trace
@@ -129,11 +134,12 @@ pub const WORK: &str = "Let workers step a description side by side, and count t
 
 pub const WORK_LONG: &str = "\
 Let workers step a description side by side, and count the steps. Each worker is
-a thread. In a turn it takes the number of a branch from a queue, or 0 where that
-is empty, and takes the first step of that branch that can be taken now, as the
-script line `branch` does; where there is none, the turn is idle. Which worker
-takes which step is left to chance. The answer has two lines: how many turns were
-steps, and how many steps are live in the end. It does not say why no more were.
+a thread. In a turn it takes the number of a branch from a queue, or 0 where
+that is empty, and takes the first step of that branch that can be taken now, as
+the script line `branch` does; where there is none, the turn is idle. Which
+worker takes which step is left to chance. The answer has two lines: how many
+turns were steps, and how many steps are live in the end. It does not say why no
+more were.
 
 Example:
   balsadbg work examples/one.balsa examples/one.stimulus --workers 2 --turns 9
@@ -159,8 +165,8 @@ It answers:
   ..";
 
 pub const NO_REFUSAL: &str = "\
-no refusal has this number. Refusals have the numbers 1 to 17, 21 to 28, 31 to 34,
-41, 42, 51 and 61";
+no refusal has this number. Refusals have the numbers 1 to 17, 21 to 28,
+31 to 34, 41, 42, 51 and 61";
 
 pub const EXPLAIN_REFUSALS: &str = "\
 Refusals. The line `balsadbg: refused N` on standard error ends a run with
@@ -206,12 +212,12 @@ pub const WAITING: &str = "Tell who waits behind a trace, on what and for whom";
 
 pub const WAITING_LONG: &str = "\
 Take the steps of a trace again, and tell who waits behind them: `goes on` where
-a step can be taken, `done` where none can and nothing waits but for the
-environment, `stuck` where something else does. Then comes each end of a channel
-that waits, with its place, its line, and the place behind which the end that it
-waits for stands. Where each of some waits for the next, they are told as a
-ring. A refusal is told in words too. A trace is what the script line `trace`
-answers.
+a step can be taken; `done` where none can and nothing waits but an output port
+for more to come; `stuck` where something else waits, as an input whose values
+are used up. Then comes each end of a channel that waits, with its place, its
+line, and the place behind which the end that it waits for stands. Where each of
+some waits for the next, they are told as a ring. A refusal is told in words
+too. A trace is what the script line `trace` answers.
 
 Example:
   balsadbg waiting examples/mutex.balsa examples/mutex.stimulus \\
@@ -236,9 +242,11 @@ pub const WHY: &str = "Tell why a variable has its value, or why a step could be
 pub const WHY_LONG: &str = "\
 Take the steps of a trace again, and tell the steps that led to the value of the
 variable X, or to the step with the number X: each with its number, its line,
-what it carried or wrote, what it read, and the steps just before it. Steps
-count from 1, as `replay` lists them. A refusal is told in words too. A trace is
-what the script line `trace` answers.
+what it carried or wrote, what it read, and the steps just before it. Steps are
+numbered from 1 as they stand in the trace, so as `replay` lists them; tickets
+of the session may be others. An output port has no value: ask for it by the
+number of the step that carried what came out. A refusal is told in words too. A
+trace is what the script line `trace` answers.
 
 Example:
   balsadbg why examples/one.balsa examples/one.stimulus examples/one.trace x
@@ -247,30 +255,110 @@ It answers:
   x is 5, written by step 1
     1 line 7: i carries 5 into x";
 
-/// What each refusal of a command means: with lines for a trace, for the files, for a stimulus and for a script.
+pub const SHELL: &str = "Step a description by hand, with answers in plain words";
+
+pub const SHELL_LONG: &str = "\
+Step a description by hand: a session of lines that are answered in plain words,
+from the end of a trace where one is named. The lines of a script work as they
+are; `help` lists what else can be typed, and no mistake ends the session. Lines
+from a pipe are answered as typed ones are.
+
+Example:
+  balsadbg shell examples/adder.balsa examples/adder.stimulus";
+
+pub const EVENT: &str = "Mark the causes and consequences of this step of the trace";
+
+pub const SVG: &str = "Write a drawing for a document";
+
+pub const VCD: &str = "Write a value change dump, as GTKWave shows it";
+
+pub const JSON: &str = "Write the data alone";
+
+pub const QUIET: &str = "Leave out turns and tests";
+
+pub const PICTURE: &str = "Draw a picture of a run";
+
+pub const PICTURE_LONG: &str = "\
+Draw a picture of the run that a trace is, with time going down and a column for
+each branch: a page for a browser, which shows causes and consequences of the
+step under the pointer, or another form. --event and --quiet are for --svg.
+Steps are numbered from 1 as they stand in the trace.
+
+Example:
+  balsadbg picture examples/adder.balsa examples/adder.stimulus \\
+    examples/adder.trace > adder.html";
+
+pub const DAP: &str = "Serve an editor, by the debug adapter protocol";
+
+pub const DAP_LONG: &str = "\
+Serve an editor over standard input and output, by the debug adapter protocol.
+An editor starts it; docs/guide/editors.md has the settings of each.
+
+Example of what an editor runs:
+  balsadbg dap";
+
+pub const DAP_REFUSALS: &str = "\
+Refusals. The line `balsadbg: refused N` on standard error ends a run with
+status 1:
+
+   1  memory is used up
+  41  reading standard input failed
+  42  writing the answers failed
+
+What is wrong with a description is told to the editor. A command line that
+cannot be read ends with status 2. All else ends with status 0.";
+
+/// What each refusal of a command means: a line for each of a description, or one for all (`together`); with lines for
+/// a trace, for the files, for a stimulus and for a script.
 macro_rules! refusal_lines {
-    ([$($trace:literal)*] [$($files:literal)*] [$($stimulus:literal)*] [$($script:literal)*]) => {
+    (each [$($trace:literal)*] [$($files:literal)*] [$($stimulus:literal)*] [$($script:literal)*]) => {
+        refusal_lines!(
+            [
+                "   2  this byte begins no word, number or sign\n"
+                "   3  this (-- is closed by no --)\n"
+                "   4  this number is over 2^64 - 1\n"
+                "   5  no description goes on with this word\n"
+                "   6  this opens more than 64 levels\n"
+                "   7  nothing visible has this name\n"
+                "   8  this name is declared already\n"
+                "   9  this name is that of another kind of thing\n"
+                "  10  this is too wide: over 64 bits, or wider than what takes it\n"
+                "  11  this condition is not one bit wide\n"
+                "  12  this label or channel stands in two arms, or the label is too wide\n"
+                "  13  the arguments of this call do not fit the ports\n"
+                "  14  the system has over 16384 nodes, or a command inside over 1024 others\n"
+                "  15  this variable is written in one parallel branch and used in another\n"
+                "  16  this channel has two senders, two receivers or three syncs at a time\n"
+                "  17  this channel is open around this place\n"
+            ]
+            [$($trace)*]
+            [$($files)*]
+            [$($stimulus)*]
+            [$($script)*]
+        )
+    };
+    (together [$($trace:literal)*] [$($files:literal)*] [$($stimulus:literal)*] [$($script:literal)*]) => {
+        refusal_lines!(
+            ["2-17  FILE is refused: `balsadbg check --help` has a line on each\n"]
+            [$($trace)*]
+            [$($files)*]
+            [$($stimulus)*]
+            [$($script)*]
+        )
+    };
+    (
+        [$($description:literal)*]
+        [$($trace:literal)*]
+        [$($files:literal)*]
+        [$($stimulus:literal)*]
+        [$($script:literal)*]
+    ) => {
         concat!(
             "Refusals. The line `balsadbg: refused N ..` on standard error ends a run with\n",
             "status 1. Behind most numbers stands the byte of FILE that is meant, from 0:\n",
             "\n",
             "   1  memory is used up\n",
-            "   2  this byte begins no word, number or sign\n",
-            "   3  this (-- is closed by no --)\n",
-            "   4  this number is over 2^64 - 1\n",
-            "   5  no description goes on with this word\n",
-            "   6  this opens more than 64 levels\n",
-            "   7  nothing visible has this name\n",
-            "   8  this name is declared already\n",
-            "   9  this name is that of another kind of thing\n",
-            "  10  this is too wide: over 64 bits, or wider than what takes it\n",
-            "  11  this condition is not one bit wide\n",
-            "  12  this label or channel stands in two arms, or the label is too wide\n",
-            "  13  the arguments of this call do not fit the ports\n",
-            "  14  the system has over 16384 nodes, or a command inside over 1024 others\n",
-            "  15  this variable is written in one parallel branch and used in another\n",
-            "  16  this channel has two senders, two receivers or three syncs at a time\n",
-            "  17  this channel is open around this place\n",
+            $($description,)*
             $($trace,)*
             $($files,)*
             "  42  writing the answers failed\n",
@@ -285,13 +373,14 @@ macro_rules! refusal_lines {
 
 /// The same with the lines for a stimulus.
 macro_rules! refusal_lines_over_ports {
-    ([$($trace:literal)*] [$($files:literal)*] [$($script:literal)*]) => {
+    ($description:tt [$($trace:literal)*] [$($files:literal)*] [$($script:literal)*]) => {
         refusal_lines!(
+            $description
             [$($trace)*]
             [$($files)*]
             [
-                "  51  this line of STIMULUS, from 1, fits no port, is a second one for a port, or\n"
-                "      has another form (blanks, line ends)\n"
+                "  51  this line of STIMULUS, from 1, fits no port, is a second one for a port,\n"
+                "      or has another form (blanks, line ends)\n"
             ]
             [$($script)*]
         )
@@ -300,8 +389,9 @@ macro_rules! refusal_lines_over_ports {
 
 /// The same with the lines for a script.
 macro_rules! refusal_lines_of_scripts {
-    ([$($trace:literal)*] [$($files:literal)*]) => {
+    ($description:tt [$($trace:literal)*] [$($files:literal)*]) => {
         refusal_lines_over_ports!(
+            $description
             [$($trace)*]
             [$($files)*]
             [
@@ -325,7 +415,26 @@ macro_rules! refusal_lines_of_scripts {
     };
 }
 
+/// The same with the lines for a trace, behind those that are its command's own.
+macro_rules! refusal_lines_over_traces {
+    ([$($own:literal)*] [$($files:literal)*]) => {
+        refusal_lines_over_ports!(
+            together
+            [
+                $($own)*
+                "  31  TRACE does not begin with the line `balsadbg trace 2`, or with 1 for 2\n"
+                "  32  this line of TRACE, from 1, is no step, or has no end\n"
+                "  33  the step of this line of TRACE, from 1, cannot be taken there\n"
+                "  34  behind `balsadbg trace 2` another step comes before that of this line\n"
+            ]
+            [$($files)*]
+            []
+        )
+    };
+}
+
 pub const REFUSALS: &str = refusal_lines_of_scripts!(
+    each
     [
         "  31  TRACE does not begin with the line `balsadbg trace 2`, or with 1 for 2\n"
         "  32  this line of TRACE, from 1, is no step, or has no end\n"
@@ -335,7 +444,16 @@ pub const REFUSALS: &str = refusal_lines_of_scripts!(
     ["  41  a file is missing, or reading it or the script failed\n"]
 );
 
-pub const FILE_REFUSALS: &str = refusal_lines!(
+pub const CHECK_REFUSALS: &str = refusal_lines!(
+    each
+    []
+    ["  41  FILE is missing, or reading it failed\n"]
+    []
+    []
+);
+
+pub const OUTLINE_REFUSALS: &str = refusal_lines!(
+    together
     []
     ["  41  FILE is missing, or reading it failed\n"]
     []
@@ -343,35 +461,36 @@ pub const FILE_REFUSALS: &str = refusal_lines!(
 );
 
 pub const DEBUG_REFUSALS: &str = refusal_lines_of_scripts!(
-    []["  41  FILE or STIMULUS is missing, or reading it or the script failed\n"]
-);
-
-pub const TRACE_REFUSALS: &str = refusal_lines_over_ports!(
-    [
-        "  31  TRACE does not begin with the line `balsadbg trace 2`, or with 1 for 2\n"
-        "  32  this line of TRACE, from 1, is no step, or has no end\n"
-        "  33  the step of this line of TRACE, from 1, cannot be taken there\n"
-        "  34  behind `balsadbg trace 2` another step comes before that of this line\n"
-    ]
-    ["  41  FILE, STIMULUS or TRACE is missing, or reading it failed\n"]
+    together
     []
+    ["  41  FILE or STIMULUS is missing, or reading it or the script failed\n"]
 );
 
 pub const WORK_REFUSALS: &str = refusal_lines_over_ports!(
+    together
     []
     ["  41  FILE or STIMULUS is missing, or reading it failed\n"]
     []
 );
 
-pub const WHY_REFUSALS: &str = refusal_lines_over_ports!(
+pub const TRACE_REFUSALS: &str = refusal_lines_over_traces!(
+    []["  41  FILE, STIMULUS or TRACE is missing, or reading it failed\n"]
+);
+
+pub const WHY_REFUSALS: &str = refusal_lines_over_traces!(
     [
         "  23  X is the number of no step of TRACE\n"
         "  25  X is the name of no variable, or of one that no step of TRACE wrote\n"
-        "  31  TRACE does not begin with the line `balsadbg trace 2`, or with 1 for 2\n"
-        "  32  this line of TRACE, from 1, is no step, or has no end\n"
-        "  33  the step of this line of TRACE, from 1, cannot be taken there\n"
-        "  34  behind `balsadbg trace 2` another step comes before that of this line\n"
     ]
     ["  41  FILE, STIMULUS or TRACE is missing, or reading it failed\n"]
-    []
+);
+
+pub const PICTURE_REFUSALS: &str = refusal_lines_over_traces!(
+    [
+        "  23  T is the number of no step of TRACE\n"
+    ]["  41  FILE, STIMULUS or TRACE is missing, or reading it failed\n"]
+);
+
+pub const SHELL_REFUSALS: &str = refusal_lines_over_traces!(
+    []["  41  FILE, STIMULUS or TRACE is missing, or reading it or the lines failed\n"]
 );

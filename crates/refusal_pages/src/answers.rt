@@ -13,10 +13,10 @@ pub static NOT_READY: Page = Page {
 > step /2.0
 refused 21",
     causes: "\
-the partner of a meeting is not there yet; the place of the other partner was
-given (a meeting is stepped at its receiver, and two syncs at the lesser
-place); the arm of an `open` was left out, and arm 0 does not wait; the step
-is made already.",
+the partner of a meeting is not there yet; the place of the other
+partner was given (a meeting is stepped at its receiver, and two syncs at the
+lesser place); the arm of an `open` was left out, and arm 0 does not wait; the
+step is made already.",
 };
 
 pub static HISTORY_FULL: Page = Page {
@@ -37,8 +37,8 @@ pub static NO_SUCH_EVENT: Page = Page {
     line: "no live step has this ticket",
     meaning: "\
 No live step has this ticket: it was taken back, or never given. Tickets are
-not used again. Where `balsadbg why` ends with 23, the trace has no step of
-this number.",
+not used again. Where `balsadbg why` ends with 23, or `balsadbg picture` with
+`--event`, the trace has no step of this number.",
     source: "",
     told: "",
     causes: "",
@@ -130,8 +130,8 @@ ok
 > branch 0
 stopped 2",
     causes: "\
-a line with `end`, `else` or `[` alone, a blank line, a line that only goes on
-with a command or has a call and nothing else with which no sequence or
-parallel begins, a procedure that the last one does not reach, or a line past
-the last. Lines count from 1.",
+a line with `end`, `else` or `[` alone, a blank line, a line that
+only goes on with a command or has a call and nothing else with which no
+sequence or parallel begins, a procedure that the last one does not reach, or a
+line past the last. Lines count from 1.",
 };

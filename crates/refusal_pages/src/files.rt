@@ -14,8 +14,8 @@ The first line of the trace is not `balsadbg trace 2` or, of an older trace,
     source: "",
     told: "",
     causes: "\
-another file, line ends from Windows, or what stood before `balsadbg trace 2`
-in a transcript.",
+another file, line ends from Windows, or what stood before
+`balsadbg trace 2` in a transcript.",
 };
 
 pub static BAD_LINE: Page = Page {
@@ -27,9 +27,9 @@ pub static BAD_LINE: Page = Page {
     source: "",
     told: "",
     causes: "\
-a file that is cut off inside a line (a cut between two lines is not seen),
-line ends from Windows where the first line alone is right, an empty line at
-the end, or an edit by hand.",
+a file that is cut off inside a line (a cut between two lines is
+not seen), line ends from Windows where the first line alone is right, an empty
+line at the end, or an edit by hand.",
 };
 
 pub static NOT_A_STEP: Page = Page {
@@ -42,8 +42,8 @@ The step of this line cannot be taken once those of the lines before are.",
     source: "",
     told: "",
     causes: "\
-the trace of another description or stimulus, or lines that were taken out or
-exchanged.",
+the trace of another description or stimulus, or lines that were
+taken out or exchanged.",
 };
 
 pub static NOT_CANONICAL: Page = Page {
@@ -95,8 +95,8 @@ pub static BAD_STIMULUS: Page = Page {
     field: "line",
     name: "a bad line of a stimulus",
     line: "\
-this line of STIMULUS, from 1, fits no port, is a second one for a port, or
-has another form (blanks, line ends)",
+this line of STIMULUS, from 1, fits no port, is a second one for a port,
+or has another form (blanks, line ends)",
     meaning: "\
 The line has another form, names no port of the last procedure, a port of
 another kind or one that was named before, or has a value that is too great
@@ -107,12 +107,12 @@ i = 5
 i = 7
 ^                                refused 51 2: write i = 5 7",
     causes: "\
-a second line for one port, where all its values belong on one (`i = 5 7`); a
-name that is that of a port in another procedure than the last; a value for an
-output port; a blank at the end, `i=5` without blanks, `i = 05`, a comma
-between values, a comment, a name in place of a number (`s = idle`), a script
-or a trace given as STIMULUS; line ends from Windows, which are refused at
-line 1.",
+a second line for one port, where all its values belong on one
+(`i = 5 7`); a name that is that of a port in another procedure than the last;
+a value for an output port; a blank at the end, `i=5` without blanks, `i = 05`,
+a comma between values, a comment, a name in place of a number (`s = idle`), a
+script or a trace given as STIMULUS; line ends from Windows, which are refused
+at line 1.",
 };
 
 pub static BAD_COMMAND: Page = Page {
@@ -129,9 +129,9 @@ are out; the run ends.",
     source: "",
     told: "",
     causes: "\
-two blanks, a blank or a tab in front or at the end, capital letters, a
-comment, `help` or `quit`, an arrow key, a place without its first `/`,
-`session 16`, a command without its number, `undo 01`, a variable of a called
-procedure without its number (`1:x`), line ends from Windows. Since the run
-ends, keep long sessions in a file.",
+two blanks, a blank or a tab in front or at the end, capital
+letters, a comment, `help` or `quit`, an arrow key, a place without its first
+`/`, `session 16`, a command without its number, `undo 01`, a variable of a
+called procedure without its number (`1:x`), line ends from Windows. Since the
+run ends, keep long sessions in a file.",
 };

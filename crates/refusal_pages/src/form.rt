@@ -27,8 +27,9 @@ pub static BAD_CHARACTER: Page = Page {
     source: "procedure p @",
     told: "            ^            refused 2 12",
     causes: "\
-`_` or `/` alone, a letter with an accent, a `\"`. Files from some Windows
-editors begin with a byte order mark, which is `refused 2 0`: save without it.",
+`_` or `/` alone, a letter with an accent, a `\"`. Files from some
+Windows editors begin with a byte order mark, which is `refused 2 0`: save
+without it.",
 };
 
 pub static OPEN_COMMENT: Page = Page {
@@ -40,8 +41,8 @@ pub static OPEN_COMMENT: Page = Page {
     source: "(-- (-- --)",
     told: "^            refused 3 0",
     causes: "\
-`(--)`, which opens a comment and does not close it, or a comment that was
-nested and closed once.",
+`(--)`, which opens a comment and does not close it, or a comment
+that was nested and closed once.",
 };
 
 pub static NUMBER_TOO_LARGE: Page = Page {
@@ -66,9 +67,9 @@ file, the byte is the file's length.",
     source: "procedure p is begin halt || end",
     told: "                             ^   refused 5 29",
     causes: "\
-a missing `end` (the byte is then the word `procedure` behind the one that
-lacks it, or the file's length: look back from there), a `;` before `end`,
-`||` without a command behind it, `=` for `:=`, a comma between ports, a
+a missing `end` (the byte is then the word `procedure` behind the
+one that lacks it, or the file's length: look back from there), a `;` before
+`end`, `||` without a command behind it, `=` for `:=`, a comma between ports, a
 reserved word as a name (`sync`, `input`), `while` without `loop`, a word in
 capitals, an `arbitrate` with one arm, `shared` before `channel` or `sync`
 (only variables are shared), a file that is cut off, or one whose lines end
@@ -88,5 +89,6 @@ each, and so does each operator until its expression ends.",
     source: "",
     told: "",
     causes: "\
-generated text, or a sum of more than 65 parts; a variable in between helps.",
+generated text, or a sum of more than 65 parts; a variable in
+between helps.",
 };

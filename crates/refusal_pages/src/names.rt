@@ -11,9 +11,9 @@ pub static UNKNOWN_NAME: Page = Page {
     source: "procedure p is begin q () end",
     told: "                     ^   refused 7 21",
     causes: "\
-a slip of the pen; `byte` without `type byte is 8 bits`; large and small
-letters exchanged; a procedure that is called in its own body or before its
-`end`; a local of another procedure.",
+a slip of the pen; `byte` without `type byte is 8 bits`; large and
+small letters exchanged; a procedure that is called in its own body or before
+its `end`; a local of another procedure.",
 };
 
 pub static NAME_TWICE: Page = Page {
@@ -25,8 +25,8 @@ pub static NAME_TWICE: Page = Page {
     source: "procedure p is variable x, x : 8 bits begin halt end",
     told: "                           ^     refused 8 27",
     causes: "\
-a local with the name of a type, of an element of an enumeration, or of a
-port.",
+a local with the name of a type, of an element of an enumeration,
+or of a port.",
 };
 
 pub static WRONG_KIND: Page = Page {
@@ -38,9 +38,9 @@ pub static WRONG_KIND: Page = Page {
     source: "procedure p (input i : 8 bits) is begin i <- 1 end",
     told: "                                        ^   refused 9 40",
     causes: "\
-sending on an input port, receiving from an output port, a port or channel
-behind `->`, where a variable must stand (`i -> x ; o <- x` hands a value on),
-`->` on a sync, a channel read as a value outside its arm.",
+sending on an input port, receiving from an output port, a port or
+channel behind `->`, where a variable must stand (`i -> x ; o <- x` hands a
+value on), `->` on a sync, a channel read as a value outside its arm.",
 };
 
 pub static TOO_WIDE: Page = Page {
@@ -54,7 +54,8 @@ than what takes it.",
     source: "procedure p is variable x : 8 bits begin x := 255 + 1 end",
     told: "                                              ^   refused 10 46",
     causes: "\
-a sum is one bit wider than its operands. A cast cuts it: `(x + 1 as 8 bits)`.",
+a sum is one bit wider than its operands. A cast cuts it:
+`(x + 1 as 8 bits)`.",
 };
 
 pub static GUARD_NOT_ONE_BIT: Page = Page {
@@ -80,8 +81,8 @@ expression; or a channel stands in two arms of one `select` or `arbitrate`.",
     source: "procedure p is begin case 1 of 0 then halt | 0 then halt end end",
     told: "                                             ^   refused 12 45",
     causes: "\
-a number and the element of an enumeration that has it as two labels, or a
-width that was made smaller.",
+a number and the element of an enumeration that has it as two
+labels, or a width that was made smaller.",
 };
 
 pub static PORT_MISMATCH: Page = Page {
@@ -97,8 +98,8 @@ procedure q (sync s) is begin sync s end procedure p is begin q () end",
     told: "\
 \x20                                                             ^   refused 13 62",
     causes: "\
-an argument that was left out, two arguments that were exchanged, or a channel
-that is a bit wider than the port.",
+an argument that was left out, two arguments that were exchanged,
+or a channel that is a bit wider than the port.",
 };
 
 pub static ENCLOSED_TWICE: Page = Page {
@@ -113,5 +114,7 @@ received; any other use of it is refused.",
 procedure p (input i : 8 bits) is variable x : 8 bits begin i -> then i -> x end end",
     told: "\
 \x20                                                                     ^   refused 17 70",
-    causes: "receiving once more inside the arm, where the name itself is meant.",
+    causes: "\
+receiving once more inside the arm, where the name itself is
+meant.",
 };

@@ -14,11 +14,11 @@ tell which.",
     source: "",
     told: "",
     causes: "\
-procedures that call others twice, over many levels; a stimulus with more than
-16,000 values; a long text: `x := (x + 1 as byte)` is 5 nodes, so some 3,270
-such commands fit. Commands nested near the limit of 1,024 want some 3 MB of
-stack: with less (`ulimit -s`, a small container) the program ends with a
-segmentation fault and no refusal.",
+procedures that call others twice, over many levels; a stimulus
+with more than 16,000 values; a long text: `x := (x + 1 as byte)` is 5 nodes,
+so some 3,270 such commands fit. Commands nested near the limit of 1,024 want
+some 3 MB of stack: with less (`ulimit -s`, a small container) the program ends
+with a segmentation fault and no refusal.",
 };
 
 pub static SHARED_VARIABLE: Page = Page {
@@ -32,11 +32,11 @@ read or written in another. The byte is the first use that takes part.",
     source: "procedure p is variable x, y : 8 bits begin x := 1 || y := x end",
     told: "                                            ^   refused 15 44",
     causes: "\
-a result handed over in a variable where a channel should stand; remember that
-`||` binds tighter than `;`. Send the value over a channel; or, where the
-branches are meant to race, declare the variable shared, and then which of
-them came first decides what it holds and which steps have to be taken back
-before which.",
+a result handed over in a variable where a channel should stand;
+remember that `||` binds tighter than `;`. Send the value over a channel; or,
+where the branches are meant to race, declare the variable shared, and then
+which of them came first decides what it holds and which steps have to be taken
+back before which.",
 };
 
 pub static SHARED_CHANNEL: Page = Page {

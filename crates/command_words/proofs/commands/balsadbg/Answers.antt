@@ -4,7 +4,7 @@ use Rattle.command_words.proofs.commands.balsadbg.Goals as goal
 
 pub returns : goal.returns
 returns c =
-    let one = c.with_command-program.ensures spec.running spec.explain c.running.ensures c.explain.ensures in
-    let two = c.with_command-program-2.ensures (spec.with_subcommands spec.running (spec.explain ∷ [])) spec.outline one c.outline.ensures in
-    let three = c.with_command-program-3.ensures (spec.with_subcommands spec.running (spec.explain ∷ spec.outline ∷ [])) spec.waiting two c.waiting.ensures in
-    c.with_command.ensures (spec.with_subcommands spec.running (spec.explain ∷ spec.outline ∷ spec.waiting ∷ [])) spec.why three c.why.ensures
+    let one = c.with_command-program.ensures spec.asking spec.shell c.asking.ensures c.shell.ensures in
+    let two = c.with_command-program-2.ensures (spec.with_subcommands spec.asking (spec.shell ∷ [])) spec.picture one
+    c.picture.ensures in
+    c.with_command.ensures (spec.with_subcommands spec.asking (spec.shell ∷ spec.picture ∷ [])) spec.dap two c.dap.ensures
