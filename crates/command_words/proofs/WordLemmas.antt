@@ -27,7 +27,7 @@ use Rattle.refusal_pages.specs.Numbers.{among, is_refusal, of_files, of_lines, o
 use Rattle.refusal_pages.specs.declared.writing.Page.{Page}
 use Rattle.command_words.specs.declared.request.Request.{Request}
 use Rattle.command_words.specs.declared.unasked.Unasked.{Unasked}
-use Rattle.command_words.specs.Words.{AskFor, AskForSome, AskForNone, AskNothing, IsEvent, IsFaultOf, IsFlag, IsNumber, IsRequest, Named, TellsPage, program}
+use Rattle.command_words.specs.Words.{AskFor, AskForSome, AskForNone, AskNothing, IsFaultOf, IsFlag, IsNumber, IsRequest, Named, TellsPage, program}
 use Rattle.command_words.specs.declared.crew_size.CrewSize.{CrewSize}
 use Rattle.command_words.specs.walking.Building.{Chooses, ChoosesNone, IsArgument, IsCommand, IsNoRequest}
 use Rattle.command_words.specs.walking.Building.{Finds, NamesNoFiles, NamesNoTrace, Refuses, TellsCrew, TellsError, TellsNoCrew, TellsNoPage}
@@ -148,39 +148,33 @@ flag_of_row f id b none given absent =
 pub no_check : (rows : List Row) → ((s : Text) → first_of (codes "FILE") rows ≡ Some s → ⊥)
     → IsNoRequest (codes "check") rows
 no_check rows none (Request.Check file explain) h = none file.now h.1
-no_check rows none Request.Dap h = unlike h refl
 no_check rows none other h = unlike h.0 refl
 
 -- nor that of `outline`
 pub no_outline : (rows : List Row) → ((s : Text) → first_of (codes "FILE") rows ≡ Some s → ⊥)
     → IsNoRequest (codes "outline") rows
 no_outline rows none (Request.Outline file) h = none file.now h.1
-no_outline rows none Request.Dap h = unlike h refl
 no_outline rows none other h = unlike h.0 refl
 
 -- nor that of `debug` where no files are
 pub no_debug : (rows : List Row) → NamesNoFiles rows → IsNoRequest (codes "debug") rows
 no_debug rows none (Request.Debug file stimulus explain) h = none file.now stimulus.now h.1
-no_debug rows none Request.Dap h = unlike h refl
 no_debug rows none other h = unlike h.0 refl
 
 -- nor that of `replay`, with a trace
 pub no_replay : (rows : List Row) → NamesNoTrace rows → IsNoRequest (codes "replay") rows
 no_replay rows none (Request.Replay file stimulus trace explain) h = none file.now stimulus.now trace.now h.1
-no_replay rows none Request.Dap h = unlike h refl
 no_replay rows none other h = unlike h.0 refl
 
 -- nor that of `waiting`
 pub no_waiting : (rows : List Row) → NamesNoTrace rows → IsNoRequest (codes "waiting") rows
 no_waiting rows none (Request.Waiting file stimulus trace) h = none file.now stimulus.now trace.now h.1
-no_waiting rows none Request.Dap h = unlike h refl
 no_waiting rows none other h = unlike h.0 refl
 
 -- nor that of `work` where no files are, or the numbers are those of no crew
 pub no_work : (rows : List Row) → NamesNoFiles rows ⊎ TellsNoCrew rows → IsNoRequest (codes "work") rows
 no_work rows (inl none) (Request.Work file stimulus crew explain) h = none file.now stimulus.now h.1
 no_work rows (inr none) (Request.Work file stimulus crew explain) h = none crew (h.2, h.3)
-no_work rows none Request.Dap h = unlike h refl
 no_work rows none other h = unlike h.0 refl
 
 -- nor that of `why` where no files are, or nothing is asked about
@@ -188,42 +182,12 @@ pub no_why : (rows : List Row) → NamesNoTrace rows ⊎ ((s : Text) → first_o
     → IsNoRequest (codes "why") rows
 no_why rows (inl none) (Request.Why file stimulus trace subject all) h = none file.now stimulus.now trace.now h.1
 no_why rows (inr none) (Request.Why file stimulus trace subject all) h = none subject.now h.2
-no_why rows none Request.Dap h = unlike h refl
 no_why rows none other h = unlike h.0 refl
 
 -- nor that of `explain` where the number is that of no refusal
 pub no_explain : (rows : List Row) → TellsNoPage rows → IsNoRequest (codes "explain") rows
 no_explain rows none (Request.Explain page) h = none page.now h.1
-no_explain rows none Request.Dap h = unlike h refl
 no_explain rows none other h = unlike h.0 refl
-
--- nor that of `shell` where no files are
-pub no_shell : (rows : List Row) → NamesNoFiles rows → IsNoRequest (codes "shell") rows
-no_shell rows none (Request.Shell file stimulus trace) h = none file.now stimulus.now h.1
-no_shell rows none Request.Dap h = unlike h refl
-no_shell rows none other h = unlike h.0 refl
-
--- nor that of `picture`, with a trace
-pub no_picture : (rows : List Row) → NamesNoTrace rows → IsNoRequest (codes "picture") rows
-no_picture rows none (Request.Picture file stimulus trace drawing) h = none file.now stimulus.now trace.now h.1
-no_picture rows none Request.Dap h = unlike h refl
-no_picture rows none other h = unlike h.0 refl
-
--- the number of a step that was got is that of the row
-pub event_of_row : {E : Type 0} (G : List ℕ → Result ℕ E → Type 0) (f : Found) (id : Text) (o : Option ℕ)
-    → (one_text f id ≡ None → o ≡ None) → ((t : List ℕ) → one_text f id ≡ Some t → ReadsOne G t o)
-    → ((u : List ℕ) (x : ℕ) → G u (Ok x) → IsNumeral 10 (without_leading_plus u) × (x ≡ digits_value 10 (without_leading_plus u)))
-    → ((u : List ℕ) (e : E) → G u (Err e) → IsNumeral 10 (without_leading_plus u) × (digits_value 10 (without_leading_plus u) < 2 ^ 64) → ⊥)
-    → IsEvent (one_of id (rows_of f)) o
-event_of_row {E} G f id o none value tells lacks =
-    subst (λ (t : Option Text). IsEvent t o) (one_text-rows f id) (go (one_text f id) refl o refl)
-  where
-    go : (t : Option Text) → one_text f id ≡ t → (r : Option ℕ) → o ≡ r → IsEvent t r
-    go None e r is = sym is ∙ none e
-    go (Some t) e (Some n) is = tells t n (subst (λ (r : Option ℕ). ReadsOne G t r) is (value t e))
-    go (Some t) e None is = λ n small number.
-        let read : ReadsOne G t None = subst (λ (r : Option ℕ). ReadsOne G t r) is (value t e) in
-        lacks t read.0 read.1 (number.0, subst (λ (m : ℕ). m < 2 ^ 64) number.1 small)
 
 -- one of two tests holds
 either : (a b : Bool) → IsTrue (a || b) → IsTrue a ⊎ IsTrue b

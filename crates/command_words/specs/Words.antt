@@ -1,5 +1,5 @@
 -- What the words of the command line ask for, of which the first is the program's name.
-use Rattle.std.specs.Prelude.{◌≡◌, ◌≢◌, ◌⊎◌, [], ◌∷◌, ℕ, Bool, IsTrue, List, Option, Some, None, pos, codes, false, true, option_map, ◌<◌, ◌^◌}
+use Rattle.std.specs.Prelude.{◌≡◌, ◌≢◌, ◌⊎◌, [], ◌∷◌, ℕ, Bool, IsTrue, List, Option, Some, None, pos, codes, false, true}
 use Rattle.std.specs.Str.Parse.{IsNumeral, digits_value, without_leading_plus}
 use Rattle.clap.specs.Kinds.{IsAmong}
 use Rattle.clap.specs.declared.error.kind.ErrorKind.{ErrorKind}
@@ -12,7 +12,6 @@ use Rattle.clap.specs.declared.builder.value_parser.ValueParser.{ValueParser}
 use Rattle.clap.specs.declared.builder.value_parser.ValueParser.TheVariants.{Signed, Unsigned}
 use Rattle.refusal_pages.specs.Numbers.{is_refusal}
 use Rattle.refusal_pages.specs.declared.writing.Page.{Page}
-use Rattle.command_words.specs.declared.drawing.Drawing.{Drawing}
 use Rattle.command_words.specs.declared.request.Request.{Request}
 use Rattle.command_words.specs.declared.unasked.Unasked.{Unasked}
 
@@ -31,17 +30,6 @@ refusal_number = record (word (codes "N")) { parser = Some (Unsigned 1 61) }
 -- `--NAME`
 abbrev pub flag : Text → Rule
 flag name = record (new_rule name) { long = Some name; action = Some SetTrue }
-
--- a word that may be left out, and `--event T`
-abbrev pub optional : Text → Rule
-optional name = record (new_rule name) { action = Some Set }
-
-abbrev pub event_number : Rule
-event_number = record (optional (codes "event")) {
-  long = Some (codes "event");
-  value_names = 1;
-  parser = Some (Unsigned 0 18446744073709551615);
-}
 
 -- a command with a description behind its name, with its stimulus too, and with a trace too
 abbrev pub over_file : App → App
@@ -83,21 +71,6 @@ waiting = over_trace (new_app (codes "waiting"))
 abbrev pub why : App
 why = with_rule (with_rule (over_trace (new_app (codes "why"))) (word (codes "X"))) (flag (codes "all"))
 
-abbrev pub shell : App
-shell = with_rule (over_ports (new_app (codes "shell"))) (optional (codes "TRACE"))
-
--- a command with the forms of a picture
-abbrev pub drawing : App → App
-drawing command =
-    with_rule (with_rule (with_rule (with_rule (with_rule command (flag (codes "svg"))) (flag (codes "vcd")))
-    (flag (codes "json"))) (flag (codes "quiet"))) event_number
-
-abbrev pub picture : App
-picture = drawing (over_trace (new_app (codes "picture")))
-
-abbrev pub dap : App
-dap = new_app (codes "dap")
-
 -- the program without its subcommands: it has a version, and wants a subcommand
 abbrev pub bare : App
 bare = on_top (λ s. record s { has_version = true; subcommand_required = true; arg_required_else_help = true })
@@ -118,7 +91,7 @@ asking = with_subcommands running (explain ∷ outline ∷ waiting ∷ why ∷ [
 
 -- the program
 abbrev pub program : App
-program = with_subcommands asking (shell ∷ picture ∷ dap ∷ [])
+program = asking
 
 -- the name of a subcommand and its values
 abbrev pub Named : Type 0
@@ -148,19 +121,6 @@ AreTraced rows file stimulus trace = AreFiles rows file stimulus × (first_of (c
 abbrev pub TellsPage : List Row → Page → Type 0
 TellsPage rows page = IsNumber (one_of (codes "N") rows) page.number × IsTrue (is_refusal page.number)
 
--- the number of a step, where the values have one
-abbrev pub IsEvent : Option Text → Option ℕ → Type 0
-IsEvent None event = event ≡ None
-IsEvent (Some text) (Some t) = IsNumber (Some text) t
-IsEvent (Some text) None = (t : ℕ) → t < 2 ^ 64 → IsNumber (Some text) t → ⊥
-
--- the values ask for this picture
-abbrev pub IsDrawing : List Row → Drawing → Type 0
-IsDrawing rows drawing =
-    IsFlag (one_of (codes "svg") rows) drawing.svg × IsFlag (one_of (codes "vcd") rows) drawing.vcd
-    × IsFlag (one_of (codes "json") rows) drawing.json × IsFlag (one_of (codes "quiet") rows) drawing.quiet
-    × IsEvent (one_of (codes "event") rows) drawing.event
-
 -- the subcommand of this name with these values is this request
 abbrev pub IsRequest : Text → List Row → Request → Type 0
 IsRequest name rows (Request.Check file explain) =
@@ -182,12 +142,6 @@ IsRequest name rows (Request.Waiting file stimulus trace) =
 IsRequest name rows (Request.Why file stimulus trace subject all) =
     (name ≡ codes "why") × AreTraced rows file.now stimulus.now trace.now
     × (first_of (codes "X") rows ≡ Some subject.now) × IsFlag (one_of (codes "all") rows) all
-IsRequest name rows (Request.Shell file stimulus trace) =
-    (name ≡ codes "shell") × AreFiles rows file.now stimulus.now
-    × (option_map (λ text. text.now) trace ≡ first_of (codes "TRACE") rows)
-IsRequest name rows (Request.Picture file stimulus trace drawing) =
-    (name ≡ codes "picture") × AreTraced rows file.now stimulus.now trace.now × IsDrawing rows drawing
-IsRequest name rows Request.Dap = name ≡ codes "dap"
 
 -- whether a refusal of the request is told in words too
 abbrev pub explains : Request → Bool

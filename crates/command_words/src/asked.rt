@@ -6,7 +6,7 @@ ghost use Rattle.command_words.specs.Words as spec;
 ghost use Rattle.command_words.specs.walking.Building.{Chooses, ChoosesNone, IsNoRequest, NamesNoFiles, NamesNoTrace};
 ghost use Rattle.command_words.specs.walking.Building.{rows_in, TellsCrew, TellsNoCrew, TellsNoPage};
 
-use crate::{CrewSize, Drawing, Request};
+use crate::{CrewSize, Request};
 use clap::ArgMatches;
 use refusal_pages::{Page, page_of};
 
@@ -150,60 +150,6 @@ fn why_asked<'a>(words: &ArgMatches<'a>) -> Option<Request<'a>>
     })
 }
 
-/// The name of a trace, where one is among the words.
-fn trace_asked<'a>(words: &ArgMatches<'a>) -> Option<&'a str>
-    ensures { option_map (λ text. text.now) result ≡ first_of (codes "TRACE") (rows_in words.now) }
-{
-    words.get_str("TRACE")
-}
-
-fn shell_asked<'a>(words: &ArgMatches<'a>) -> Option<Request<'a>>
-    ensures { MatchOption result (IsNoRequest (codes "shell") (rows_in words.now))
-        (spec.IsRequest (codes "shell") (rows_in words.now)) }
-{
-    let (file, stimulus) = files_asked(words)?;
-    let trace = trace_asked(words);
-    Some(Request::Shell {
-        file,
-        stimulus,
-        trace,
-    })
-}
-
-/// The number of a step that is to be marked, where one is among the words.
-fn event_asked(words: &ArgMatches<'_>) -> Option<u64>
-    ensures { spec.IsEvent (one_of (codes "event") (rows_in words.now)) result }
-{
-    words.get_one::<u64>("event")
-}
-
-/// Which picture is asked for.
-fn drawing_asked(words: &ArgMatches<'_>) -> Drawing
-    ensures { spec.IsDrawing (rows_in words.now) result }
-{
-    Drawing {
-        svg: flag_asked(words, "svg"),
-        vcd: flag_asked(words, "vcd"),
-        json: flag_asked(words, "json"),
-        quiet: flag_asked(words, "quiet"),
-        event: event_asked(words),
-    }
-}
-
-fn picture_asked<'a>(words: &ArgMatches<'a>) -> Option<Request<'a>>
-    ensures { MatchOption result (IsNoRequest (codes "picture") (rows_in words.now))
-        (spec.IsRequest (codes "picture") (rows_in words.now)) }
-{
-    let (file, stimulus, trace) = traced_asked(words)?;
-    let drawing = drawing_asked(words);
-    Some(Request::Picture {
-        file,
-        stimulus,
-        trace,
-        drawing,
-    })
-}
-
 /// The request of the command of this name with these words.
 fn request_of<'a>(name: &str, words: &ArgMatches<'a>) -> Option<Request<'a>>
     ensures { MatchOption result (IsNoRequest name.now (rows_in words.now))
@@ -218,9 +164,6 @@ fn request_of<'a>(name: &str, words: &ArgMatches<'a>) -> Option<Request<'a>>
         "outline" => outline_asked(words),
         "waiting" => waiting_asked(words),
         "why" => why_asked(words),
-        "shell" => shell_asked(words),
-        "picture" => picture_asked(words),
-        "dap" => Some(Request::Dap),
         _ => None,
     }
 }

@@ -86,23 +86,6 @@ fn with_argument<'a>(
     }
 }
 
-/// A word that may be left out.
-fn optional<'a>(alloc: Global, name: &'a str, help: &'a str) -> Arg<'a>
-    ensures { IsArgument (spec.optional name.now) result }
-{
-    Arg::new(alloc, name).action(ArgAction::Set).help(help)
-}
-
-/// `--event T`, which may be left out.
-fn event<'a>(alloc: Global) -> Arg<'a>
-    ensures { IsArgument spec.event_number result }
-{
-    optional(alloc, "event", help::EVENT)
-        .long("event")
-        .value_name("T")
-        .value_parser(value_parser!(u64))
-}
-
 /// The command with `--explain`.
 fn explaining<'a>(
     alloc: Global,
@@ -236,56 +219,6 @@ fn why<'a>(alloc: Global) -> Result<Command<'a>, AllocError>
     with_argument(asking, flag(alloc, "all", help::ALL))
 }
 
-fn shell<'a>(alloc: Global) -> Result<Command<'a>, AllocError>
-    ensures { IfOk result (IsCommand spec.shell) }
-{
-    let command = begun(
-        alloc,
-        "shell",
-        help::SHELL,
-        help::SHELL_LONG,
-        help::SHELL_REFUSALS,
-    );
-    with_argument(
-        over_ports(alloc, command),
-        optional(alloc, "TRACE", help::TRACE),
-    )
-}
-
-/// The command with the forms of a picture.
-fn drawing<'a>(
-    alloc: Global,
-    command: Result<Command<'a>, AllocError>,
-) -> Result<Command<'a>, AllocError>
-    ensures { (app : App) → IfOk command.entry (IsCommand app) → IfOk result (IsCommand (spec.drawing app)) }
-{
-    let command = with_argument(command, flag(alloc, "svg", help::SVG));
-    let command = with_argument(command, flag(alloc, "vcd", help::VCD));
-    let command = with_argument(command, flag(alloc, "json", help::JSON));
-    let command = with_argument(command, flag(alloc, "quiet", help::QUIET));
-    with_argument(command, event(alloc))
-}
-
-fn picture<'a>(alloc: Global) -> Result<Command<'a>, AllocError>
-    ensures { IfOk result (IsCommand spec.picture) }
-{
-    let command = begun(
-        alloc,
-        "picture",
-        help::PICTURE,
-        help::PICTURE_LONG,
-        help::PICTURE_REFUSALS,
-    );
-    drawing(alloc, over_trace(alloc, command))
-}
-
-fn dap<'a>(alloc: Global) -> Result<Command<'a>, AllocError>
-    ensures { IfOk result (IsCommand spec.dap) }
-{
-    let command = begun(alloc, "dap", help::DAP, help::DAP_LONG, help::DAP_REFUSALS);
-    Ok(command)
-}
-
 /// The program without its commands.
 fn bare<'a>(alloc: Global) -> Result<Command<'a>, AllocError>
     ensures { IfOk result (IsCommand spec.bare) }
@@ -355,7 +288,5 @@ fn asking<'a>(alloc: Global) -> Result<Command<'a>, AllocError>
 pub fn balsadbg<'a>(alloc: Global) -> Result<Command<'a>, AllocError>
     ensures { IfOk result (IsCommand spec.program) }
 {
-    let program = with_command(asking(alloc), shell(alloc));
-    let program = with_command(program, picture(alloc));
-    with_command(program, dap(alloc))
+    asking(alloc)
 }

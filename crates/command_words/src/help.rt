@@ -17,12 +17,11 @@ port o, what comes in at its ports, and a script of steps forth and back:
   balsadbg debug examples/one.balsa examples/one.stimulus < examples/one.script
 
 The lines of a script can be typed by hand just as well, with Ctrl-D behind the
-last. `balsadbg debug --help` explains them. `shell` takes them too, answers in
-plain words, and no mistake ends it.
+last. `balsadbg debug --help` explains them.
 
 Where a description is refused, `check --explain` shows the place and says what
 helps. Where a run stands still, `waiting` tells who waits for whom; where a
-value is wrong, `why` tells the steps that led to it; `picture` draws the run.";
+value is wrong, `why` tells the steps that led to it.";
 
 pub const FILE: &str = "The description, a text of Balsa";
 
@@ -255,59 +254,6 @@ It answers:
   x is 5, written by step 1
     1 line 7: i carries 5 into x";
 
-pub const SHELL: &str = "Step a description by hand, with answers in plain words";
-
-pub const SHELL_LONG: &str = "\
-Step a description by hand: a session of lines that are answered in plain words,
-from the end of a trace where one is named. The lines of a script work as they
-are; `help` lists what else can be typed, and no mistake ends the session. Lines
-from a pipe are answered as typed ones are.
-
-Example:
-  balsadbg shell examples/adder.balsa examples/adder.stimulus";
-
-pub const EVENT: &str = "Mark the causes and consequences of this step of the trace";
-
-pub const SVG: &str = "Write a drawing for a document";
-
-pub const VCD: &str = "Write a value change dump, as GTKWave shows it";
-
-pub const JSON: &str = "Write the data alone";
-
-pub const QUIET: &str = "Leave out turns and tests";
-
-pub const PICTURE: &str = "Draw a picture of a run";
-
-pub const PICTURE_LONG: &str = "\
-Draw a picture of the run that a trace is, with time going down and a column for
-each branch: a page for a browser, which shows causes and consequences of the
-step under the pointer, or another form. --event and --quiet are for --svg.
-Steps are numbered from 1 as they stand in the trace.
-
-Example:
-  balsadbg picture examples/adder.balsa examples/adder.stimulus \\
-    examples/adder.trace > adder.html";
-
-pub const DAP: &str = "Serve an editor, by the debug adapter protocol";
-
-pub const DAP_LONG: &str = "\
-Serve an editor over standard input and output, by the debug adapter protocol.
-An editor starts it; docs/guide/editors.md has the settings of each.
-
-Example of what an editor runs:
-  balsadbg dap";
-
-pub const DAP_REFUSALS: &str = "\
-Refusals. The line `balsadbg: refused N` on standard error ends a run with
-status 1:
-
-   1  memory is used up
-  41  reading standard input failed
-  42  writing the answers failed
-
-What is wrong with a description is told to the editor. A command line that
-cannot be read ends with status 2. All else ends with status 0.";
-
 /// What each refusal of a command means: a line for each of a description, or one for all (`together`); with lines for
 /// a trace, for the files, for a stimulus and for a script.
 macro_rules! refusal_lines {
@@ -483,14 +429,4 @@ pub const WHY_REFUSALS: &str = refusal_lines_over_traces!(
         "  25  X is the name of no variable, or of one that no step of TRACE wrote\n"
     ]
     ["  41  FILE, STIMULUS or TRACE is missing, or reading it failed\n"]
-);
-
-pub const PICTURE_REFUSALS: &str = refusal_lines_over_traces!(
-    [
-        "  23  T is the number of no step of TRACE\n"
-    ]["  41  FILE, STIMULUS or TRACE is missing, or reading it failed\n"]
-);
-
-pub const SHELL_REFUSALS: &str = refusal_lines_over_traces!(
-    []["  41  FILE, STIMULUS or TRACE is missing, or reading it or the lines failed\n"]
 );

@@ -1,7 +1,7 @@
 ghost use Rattle.std.specs.Prelude.{◌≡◌};
 ghost use Rattle.command_words.specs.Words.{explains};
 
-use crate::{CrewSize, Drawing};
+use crate::CrewSize;
 use refusal_pages::Page;
 
 /// What a run is to do. With `explain` a refusal is told in words too.
@@ -55,21 +55,6 @@ pub enum Request<'a> {
         subject: &'a str,
         all: bool,
     },
-    /// Answer a person who steps the description in `file`, from the end of a trace where one is named.
-    Shell {
-        file: &'a str,
-        stimulus: &'a str,
-        trace: Option<&'a str>,
-    },
-    /// Draw a picture of the run that a trace is.
-    Picture {
-        file: &'a str,
-        stimulus: &'a str,
-        trace: &'a str,
-        drawing: Drawing,
-    },
-    /// Answer an editor, by the debug adapter protocol.
-    Dap,
 }
 
 impl Request<'_> {
