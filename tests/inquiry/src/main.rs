@@ -16,12 +16,7 @@ use std::time::Instant;
 use waiting::who_waits;
 
 /// The past of the variable of this name, or of the ticket that these digits are.
-fn past(
-    alloc: Global,
-    machine: &Machine,
-    subject: &[u8],
-    all: bool,
-) -> io::Result<Option<Past>> {
+fn past(alloc: Global, machine: &Machine, subject: &[u8], all: bool) -> io::Result<Option<Past>> {
     if let Some(variable) = machine.checked().system().variable(subject) {
         return Ok(past_of_variable(alloc, machine.live_events(), variable, all)?);
     }

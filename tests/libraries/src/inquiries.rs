@@ -175,7 +175,8 @@ fn the_whole_past_has_turns_too(rt: HostRuntime) -> Result<(), Fail> {
 #[test]
 fn a_step_without_a_value_is_told_where_it_is_asked_for(rt: HostRuntime) -> Result<(), Fail> {
     let alloc = rt.alloc();
-    let trace = b"balsadbg trace 2\nstep /0/0.0 0\nstep /0/0.1.0 0\nstep /0/1.0 0\nstep /0/1.1.0 0\nstep /0/0.2 0\n";
+    let trace =
+        b"balsadbg trace 2\nstep /0/0.0 0\nstep /0/0.1.0 0\nstep /0/1.0 0\nstep /0/1.1.0 0\nstep /0/0.2 0\n";
     let machine = loaded(alloc, TWO_BUFFERS, trace)?;
     let Some(past) = past_of_event(alloc, machine.live_events(), 5, false)? else {
         return Err(Fail::from(std::alloc::AllocError));
