@@ -24,5 +24,6 @@ returns c =
       loaded.0,
       loaded.1,
       subst (λ (m : AtMachine). AnswersWhy m.checked m.live c.args.subject.now c.in_ok-answer.field-0) loaded.2
-          (answers _ _ c.args.subject.now c.args.all c.in_ok-reason.reason c.in_ok-answer.field-0 c.in_ok-reason.ensures c.in_ok-answer.ensures),
+          (answers c.in_ok-machine.machine.checked c.in_ok-machine.machine.live c.args.subject.now c.args.all
+          c.in_ok-reason.reason c.in_ok-answer.field-0 c.in_ok-reason.ensures c.in_ok-answer.ensures),
     )
