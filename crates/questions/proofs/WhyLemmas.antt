@@ -4,7 +4,6 @@ use Rattle.std.specs.Prelude.{MatchOption}
 use Rattle.decimal.specs.Reading.{Reads}
 use Rattle.system.specs.declared.system.System.{System}
 use Rattle.runs.specs.Live.{Live, LastWriter, NoneAt, NoWriter}
-use Rattle.runs.specs.declared.command.Refusal.{Refusal}
 use Rattle.past.specs.Past.{ListsPast}
 use Rattle.past.specs.declared.past.Past.{Past}
 use Rattle.questions.specs.Asking.{AnswersWhy, Explains, IsAboutNone, Tells, variable_of}
