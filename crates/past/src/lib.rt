@@ -6,5 +6,5 @@ mod marking;
 mod past;
 mod text;
 
-pub use past::{PastEvent, past_of_event, past_of_variable};
+pub use past::{Past, PastEvent, past_of_event, past_of_variable};
 pub use text::write_past;

@@ -6,37 +6,45 @@ ghost use Rattle.dependence.specs.walking.Tables.{IsRising};
 ghost use Rattle.past.specs.Past.{is_told};
 ghost use Rattle.past.specs.walking.Marked.{ListsMarked};
 
-use crate::past::PastEvent;
+use crate::past::{Past, PastEvent};
 use dependence::Live;
 use runs::Event;
 use std::alloc::{AllocError, Global};
 use syntax::Items;
 
-/// The marked events that are told, in order of tickets, each with those that it follows.
+/// What is told of the marked events as the past of the one of ticket `asked`, in order of tickets, each with those that it
+/// follows.
 pub(crate) fn list_marked(
     alloc: Global,
     live: &Live,
     marks: &[bool],
+    asked: u64,
     all: bool,
-) -> Result<Items<PastEvent>, AllocError>
+) -> Result<Past, AllocError>
     requires rising { IsRising live.now.live }
     requires size { length marks.now ≡ length live.now.live }
-    ensures { IfOk result (λ past. ListsMarked all live.now.live live.now.live marks.now past) }
+    ensures { IfOk result (λ past. ListsMarked all live.now.live asked marks.now past) }
 {
-    let mut past = Items::new(alloc);
+    let mut events = Items::new(alloc);
+    let mut left_out = 0;
     for (index, entry) in live.as_slice().iter().enumerate() {
-        if marks[index] && is_told(entry.1.get(), all) {
-            past.push(past_event(alloc, live, entry.0)?)?;
+        if marks[index] {
+            if is_told(all, asked, entry.0, entry.1.get()) {
+                events.push(past_event(alloc, live, entry.0)?)?;
+            } else {
+                left_out += 1;
+            }
         }
     }
-    Ok(past)
+    Ok(Past { events, left_out })
 }
 
-/// Whether the event is told: each is where all are asked for, else one that carried a value.
-fn is_told(event: &Event, all: bool) -> bool
-    ensures { result ≡ is_told all event.now }
+/// Whether the event of this ticket is told where `asked` is asked for: each is where all are, else one that carried a value, and
+/// `asked` itself.
+fn is_told(all: bool, asked: u64, ticket: u64, event: &Event) -> bool
+    ensures { result ≡ is_told all asked ticket event.now }
 {
-    all || event.value.is_some()
+    all || event.value.is_some() || ticket == asked
 }
 
 /// The live event of this ticket with those that it follows.

@@ -18,15 +18,24 @@ pub struct PastEvent {
     pub follows: Items<u64>,
 }
 
+/// The events that led to one.
+#[derive(Drop)]
+pub struct Past {
+    /// in order of tickets, the last is the event itself
+    pub events: Items<PastEvent>,
+    /// how many more there are, which carried no value; none where all were asked for
+    pub left_out: usize,
+}
+
 /// Exactly the live events on which the one of this ticket depends, itself among them, in order of tickets, each with those that
-/// it follows; where not `all` are asked for, of them those that carried a value. `None` where no live event has the ticket. It
+/// it follows; where not `all` are asked for, of them those that carried a value, and the one of this ticket. `None` where no live event has the ticket. It
 /// takes one sweep over the live events, and is an error if there is no memory.
 pub fn past_of_event(
     alloc: Global,
     live: &Live,
     ticket: u64,
     all: bool,
-) -> Result<Option<Items<PastEvent>>, AllocError>
+) -> Result<Option<Past>, AllocError>
     ensures { IfOk result (λ told. MatchOption told (NoneAt live.now.live ticket) (λ past. ListsPast all live.now.live ticket past)) }
 {
     match live.index_of(ticket) {
@@ -41,7 +50,7 @@ pub fn past_of_variable(
     live: &Live,
     variable: u32,
     all: bool,
-) -> Result<Option<Items<PastEvent>>, AllocError>
+) -> Result<Option<Past>, AllocError>
     ensures { IfOk result (λ told. MatchOption told (NoWriter live.now.live variable) (λ past. (t : ℕ) × LastWriter live.now.live variable t × ListsPast all live.now.live t past)) }
 {
     match live.last_writer(variable) {
@@ -51,16 +60,11 @@ pub fn past_of_variable(
 }
 
 /// The past of the live event of this ticket.
-fn past_of(
-    alloc: Global,
-    live: &Live,
-    ticket: u64,
-    all: bool,
-) -> Result<Items<PastEvent>, AllocError>
+fn past_of(alloc: Global, live: &Live, ticket: u64, all: bool) -> Result<Past, AllocError>
     requires { IsLive live.now.live ticket }
     ensures { IfOk result (λ past. ListsPast all live.now.live ticket past) }
 {
     live.is_sound();
     let marks = mark_past(alloc, live, ticket)?;
-    list_marked(alloc, live, marks.as_slice(), all)
+    list_marked(alloc, live, marks.as_slice(), ticket, all)
 }

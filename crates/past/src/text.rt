@@ -1,5 +1,5 @@
 // The past of an event as text, a line for each event.
-use crate::past::PastEvent;
+use crate::past::{Past, PastEvent};
 use dependence::Live;
 use event_places::line_after;
 use runs::{Event, Kind};
@@ -10,20 +10,20 @@ use system::System;
 use value::Value;
 
 /// Adds a line for each of the events, which are live: its ticket, its line in the source, what it did, the values of the variables
-/// that it read, and the tickets that it follows. Without memory a part of it may be there.
+/// that it read, and the tickets that it follows. Then a line for those that are left out, if there are any. Without memory a part of it may be there.
 pub fn write_past(
     alloc: Global,
     out: &mut Vec<u8>,
     checked: &Checked,
     live: &Live,
-    past: &[PastEvent],
+    past: &Past,
 ) -> Result<(), AllocError> {
     let system = checked.system();
     let mut values = zeros(alloc, system)?;
     let mut next = 0;
     for entry in live.as_slice() {
         let event = entry.1.get();
-        if let Some(told) = past.get(next) {
+        if let Some(told) = past.events.as_slice().get(next) {
             if told.ticket == entry.0 {
                 write_event(out, checked, live, event, told, values.as_slice())?;
                 next += 1;
@@ -31,7 +31,16 @@ pub fn write_past(
         }
         note(values.as_mut_slice(), event);
     }
-    Ok(())
+    write_left_out(out, past.left_out)
+}
+
+/// Adds how many events are left out, and how to see them.
+fn write_left_out(out: &mut Vec<u8>, count: usize) -> Result<(), AllocError> {
+    match count {
+        0 => Ok(()),
+        1 => out.extend_from_slice(b"1 step without a value left out: --all\n"),
+        _ => write!(out, "{count} steps without a value left out: --all\n").map_err(|_| AllocError),
+    }
 }
 
 /// Every variable at 0.

@@ -1,5 +1,5 @@
 -- What a question about a run is answered.
-use Rattle.std.specs.Prelude.{◌≡◌, ◌⊎◌, ℕ, List, Option, Some, None}
+use Rattle.std.specs.Prelude.{◌≡◌, ◌⊎◌, ℕ, List, Bool, Option, Some, None}
 use Rattle.decimal.specs.Reading.{Reads, IsNoNumber}
 use Rattle.system.specs.Named.{variable_from}
 use Rattle.system.specs.declared.system.System.{System}
@@ -8,6 +8,8 @@ use Rattle.runs.specs.declared.command.Refusal.{Refusal}
 use Rattle.runs.specs.declared.event.Event.{Event}
 use Rattle.trace_file.specs.Loading.{ticketed}
 use Rattle.trace_file.specs.TraceText.{StandsFor}
+use Rattle.past.specs.Past.{ListsPast}
+use Rattle.questions.specs.declared.reason.Reason.{Reason}
 use Rattle.questions.specs.declared.why.Why.{Why}
 
 -- the variable of this name; the first, if there are more
@@ -36,6 +38,26 @@ IsAboutNone system live subject why = ⊥
 abbrev pub AnswersWhy : System → Live → List ℕ → Why → Type 0
 AnswersWhy system live subject (Why.Told lines) = (t : ℕ) × IsAbout system live subject t
 AnswersWhy system live subject (Why.Refused why words) = IsAboutNone system live subject why
+
+-- this is why the subject of a question is as it is, where the steps that carried a value are asked for, or all
+abbrev pub Explains : System → Live → List ℕ → Bool → Reason → Type 0
+Explains system live subject all (Reason.Value x past) =
+    (variable_of system subject ≡ Some x) × ((t : ℕ) × LastWriter live x t × ListsPast all live t past)
+Explains system live subject all (Reason.Step t past) =
+    (variable_of system subject ≡ None) × Reads subject t × ListsPast all live t past
+Explains system live subject all Reason.Unwritten = (x : ℕ) × (variable_of system subject ≡ Some x) × NoWriter live x
+Explains system live subject all Reason.Missing =
+    (t : ℕ) × (variable_of system subject ≡ None) × Reads subject t × NoneAt live t
+Explains system live subject all Reason.Unknown = (variable_of system subject ≡ None) × IsNoNumber subject
+
+-- it is told, or is the reason of a refusal
+abbrev pub Tells : Reason → Why → Type 0
+Tells (Reason.Value x past) (Why.Told lines) = Unit {0}
+Tells (Reason.Step t past) (Why.Told lines) = Unit {0}
+Tells Reason.Unwritten (Why.Refused why words) = why ≡ Refusal.NeverWritten
+Tells Reason.Missing (Why.Refused why words) = why ≡ Refusal.NoSuchEvent
+Tells Reason.Unknown (Why.Refused why words) = why ≡ Refusal.NeverWritten
+Tells reason answer = ⊥
 
 -- the trace stands for events
 abbrev pub IsTraced : System → List ℕ → Type 0

@@ -3,9 +3,11 @@
 
 mod naming;
 mod outlining;
+mod reason;
 mod waits;
 mod why;
 
 pub use outlining::outline_text;
+pub use reason::{Reason, reason_of};
 pub use waits::waiting_text;
 pub use why::{Why, why_text};

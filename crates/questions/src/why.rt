@@ -1,18 +1,15 @@
-ghost use Rattle.std.specs.Prelude.{◌≡◌, Some, None, IfOk, MatchResult};
-ghost use Rattle.decimal.specs.Reading.{Reads};
+ghost use Rattle.std.specs.Prelude.{IfOk, MatchResult};
 ghost use Rattle.trace_file.specs.Loading.{IsRefused};
-ghost use Rattle.questions.specs.Asking.{AnswersWhy, IsAnswered, variable_of};
+ghost use Rattle.questions.specs.Asking.{IsAnswered, Tells};
 
 use crate::naming::unknown_text;
-use decimal::read_number;
-use dependence::Live;
+use crate::reason::{Reason, reason_of};
 use machine::Machine;
-use past::{PastEvent, past_of_event, past_of_variable, write_past};
+use past::{Past, write_past};
 use runs::Refusal;
 use sharing_check::Checked;
 use std::alloc::{AllocError, Global};
 use std::io::Write;
-use syntax::Items;
 use trace_file::{Fault, load_text};
 
 /// What is answered to the question why.
@@ -25,8 +22,9 @@ pub enum Why {
 }
 
 /// Why a variable has its value behind the trace, or why a step of the trace could be taken: `subject` is the name of the
-/// variable, or the ticket of the step. The steps that carried a value are told, or `all`. It is refused as `blame` is
-/// where no step wrote the variable, or there is no such variable, and as `undo` is where no step has the ticket.
+/// variable, or the ticket of the step. The steps that carried a value are told and the one that is asked for, or `all`. It is
+/// refused as `blame` is where no step wrote the variable, or there is no such variable, and as `undo` is where no step has
+/// the ticket.
 ///
 /// It is an error if the text is no trace of the system, or if there is no memory; the fault says which.
 pub fn why_text(
@@ -39,39 +37,36 @@ pub fn why_text(
     ensures { MatchResult result (IsAnswered checked trace.now subject.now) (λ fault. IsRefused checked trace.now fault) }
 {
     let machine = load_text(alloc, checked, trace)?;
-    Ok(why_on(alloc, &machine, subject, all)?)
+    let reason = reason_of(alloc, &machine, subject, all)?;
+    Ok(answer(alloc, &machine, subject, &reason)?)
 }
 
-/// The same on this machine.
-fn why_on(alloc: Global, machine: &Machine, subject: &str, all: bool) -> Result<Why, AllocError>
-    ensures { IfOk result (AnswersWhy machine.now.checked machine.now.live subject.now) }
-{
-    let system = machine.checked().system();
-    if let Some(variable) = system.variable(subject.as_bytes()) {
-        return why_value(alloc, machine, subject, variable, all);
-    }
-    if let Some(ticket) = read_number(subject.as_bytes()) {
-        return why_step(alloc, machine, subject, ticket, all);
-    }
-    let words = unknown_text(alloc, system, subject)?;
-    Ok(Why::Refused(Refusal::NeverWritten, words))
-}
-
-/// Why the variable has its value.
-fn why_value(
+/// The reason in words.
+fn answer(
     alloc: Global,
     machine: &Machine,
-    name: &str,
-    variable: u32,
-    all: bool,
+    subject: &str,
+    reason: &Reason,
 ) -> Result<Why, AllocError>
-    requires { variable_of machine.now.checked name.now ≡ Some variable }
-    ensures { IfOk result (AnswersWhy machine.now.checked machine.now.live name.now) }
+    ensures { IfOk result (Tells reason.now) }
 {
-    let found = past_of_variable(alloc, machine.live_events(), variable, all)?;
-    match found {
-        Some(past) => Ok(Why::Told(value_text(alloc, machine, name, variable, &past)?)),
-        None => Ok(Why::Refused(Refusal::NeverWritten, unwritten_text(alloc, name)?)),
+    match reason {
+        Reason::Value(variable, past) => {
+            Ok(Why::Told(value_text(alloc, machine, subject, *variable, past)?))
+        }
+        Reason::Step(ticket, past) => Ok(Why::Told(step_text(alloc, machine, *ticket, past)?)),
+        Reason::Unwritten => Ok(Why::Refused(
+            Refusal::NeverWritten,
+            unwritten_text(alloc, subject)?,
+        )),
+        Reason::Missing => Ok(Why::Refused(
+            Refusal::NoSuchEvent,
+            missing_text(alloc, subject, machine.live_events().len())?,
+        )),
+        Reason::Unknown => Ok(Why::Refused(
+            Refusal::NeverWritten,
+            unknown_text(alloc, machine.checked().system(), subject)?,
+        )),
     }
 }
 
@@ -81,18 +76,17 @@ fn value_text(
     machine: &Machine,
     name: &str,
     variable: u32,
-    past: &Items<PastEvent>,
+    past: &Past,
 ) -> Result<Vec<u8>, AllocError> {
     let mut text = Vec::new(alloc);
     write_value(&mut text, machine, name, variable)?;
-    write_steps(alloc, &mut text, machine, past)?;
-    Ok(text)
-}
-
-/// What is said of a variable that no step wrote.
-fn unwritten_text(alloc: Global, name: &str) -> Result<Vec<u8>, AllocError> {
-    let mut text = Vec::new(alloc);
-    write!(text, "no step of the trace wrote `{name}`, so it is 0\n").map_err(|_| AllocError)?;
+    write_past(
+        alloc,
+        &mut text,
+        machine.checked(),
+        machine.live_events(),
+        past,
+    )?;
     Ok(text)
 }
 
@@ -114,26 +108,30 @@ fn write_value(
     out.extend_from_slice(b"\n")
 }
 
-/// Why the step of this ticket could be taken.
-fn why_step(
+/// The step, and those that led to it.
+fn step_text(
     alloc: Global,
     machine: &Machine,
-    subject: &str,
     ticket: u64,
-    all: bool,
-) -> Result<Why, AllocError>
-    requires none { variable_of machine.now.checked subject.now ≡ None }
-    requires ticket { Reads subject.now ticket }
-    ensures { IfOk result (AnswersWhy machine.now.checked machine.now.live subject.now) }
-{
-    let live = machine.live_events();
-    match live.index_of(ticket) {
-        Some(_) => Ok(Why::Told(step_text(alloc, machine, ticket, all)?)),
-        None => Ok(Why::Refused(
-            Refusal::NoSuchEvent,
-            missing_text(alloc, subject, live.len())?,
-        )),
-    }
+    past: &Past,
+) -> Result<Vec<u8>, AllocError> {
+    let mut text = Vec::new(alloc);
+    write!(text, "step {ticket}\n").map_err(|_| AllocError)?;
+    write_past(
+        alloc,
+        &mut text,
+        machine.checked(),
+        machine.live_events(),
+        past,
+    )?;
+    Ok(text)
+}
+
+/// What is said of a variable that no step wrote.
+fn unwritten_text(alloc: Global, name: &str) -> Result<Vec<u8>, AllocError> {
+    let mut text = Vec::new(alloc);
+    write!(text, "no step of the trace wrote `{name}`, so it is 0\n").map_err(|_| AllocError)?;
+    Ok(text)
 }
 
 /// What is said of a step that a trace of so many steps does not have.
@@ -145,30 +143,4 @@ fn missing_text(alloc: Global, subject: &str, count: usize) -> Result<Vec<u8>, A
     )
     .map_err(|_| AllocError)?;
     Ok(text)
-}
-
-/// The steps that led to this one, which is live.
-fn step_text(
-    alloc: Global,
-    machine: &Machine,
-    ticket: u64,
-    all: bool,
-) -> Result<Vec<u8>, AllocError> {
-    let mut text = Vec::new(alloc);
-    write!(text, "step {ticket}\n").map_err(|_| AllocError)?;
-    if let Some(past) = past_of_event(alloc, machine.live_events(), ticket, all)? {
-        write_steps(alloc, &mut text, machine, &past)?;
-    }
-    Ok(text)
-}
-
-/// Adds the steps, a line each.
-fn write_steps(
-    alloc: Global,
-    out: &mut Vec<u8>,
-    machine: &Machine,
-    past: &Items<PastEvent>,
-) -> Result<(), AllocError> {
-    let live: &Live = machine.live_events();
-    write_past(alloc, out, machine.checked(), live, past.as_slice())
 }

@@ -12,4 +12,5 @@ mod text;
 mod waiting;
 
 pub use progress::Progress;
+pub use ring::Partner;
 pub use waiting::{Waiting, who_waits};

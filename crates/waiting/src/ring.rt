@@ -6,33 +6,41 @@ use offered_sides::OfferedSide;
 use process_tree::Tree;
 use std::alloc::{AllocError, Global};
 
-/// For each side the place that its only other end stands behind, if that is known.
-pub(crate) fn all_behind(
+/// What has to go on before the partner of a side that waits can come.
+#[derive(Drop)]
+pub enum Partner {
+    /// all that stands at this place and below it
+    Behind(Address),
+    /// nothing helps: none can come any more
+    Gone,
+    /// it is there already, or may come from more than one branch
+    Open,
+}
+
+/// For each side what has to go on before its partner can come.
+pub(crate) fn all_partners(
     alloc: Global,
     tree: &Tree,
     sides: &[OfferedSide],
-) -> Result<Vec<Option<Address>>, AllocError> {
-    let mut behind = Vec::with_capacity(alloc, sides.len())?;
+) -> Result<Vec<Partner>, AllocError> {
+    let mut partners = Vec::with_capacity(alloc, sides.len())?;
     for side in sides {
-        behind.push(place_behind(alloc, tree, side)?)?;
+        partners.push(partner_of(alloc, tree, side)?)?;
     }
-    Ok(behind)
+    Ok(partners)
 }
 
-/// The place that the only other end of the side's channel stands behind, if that is known.
-fn place_behind(
-    alloc: Global,
-    tree: &Tree,
-    offered: &OfferedSide,
-) -> Result<Option<Address>, AllocError> {
+/// What has to go on before the partner of the side can come.
+fn partner_of(alloc: Global, tree: &Tree, offered: &OfferedSide) -> Result<Partner, AllocError> {
     let Some(sought) = Sought::by(&offered.side) else {
-        return Ok(None);
+        return Ok(Partner::Open);
     };
     let own = offered.place.entries();
     let mut place = Vec::new(alloc);
     match look(alloc, tree.root(), sought, &mut place, Some(own))? {
-        Found::Behind(entries) => Ok(Some(Address::from_vec(entries))),
-        Found::Nowhere | Found::Open => Ok(None),
+        Found::Behind(entries) => Ok(Partner::Behind(Address::from_vec(entries))),
+        Found::Nowhere => Ok(Partner::Gone),
+        Found::Open => Ok(Partner::Open),
     }
 }
 
@@ -48,12 +56,12 @@ enum Seen {
 pub(crate) fn ring_among(
     alloc: Global,
     sides: &[OfferedSide],
-    behind: &[Option<Address>],
+    partners: &[Partner],
 ) -> Result<Vec<usize>, AllocError> {
     let mut seen = vec![in alloc; Seen::New; sides.len()]?;
     for start in 0..sides.len() {
         if is_new(seen.as_slice(), start) {
-            let ring = ring_from(alloc, sides, behind, seen.as_mut_slice(), start)?;
+            let ring = ring_from(alloc, sides, partners, seen.as_mut_slice(), start)?;
             if !ring.is_empty() {
                 return Ok(ring);
             }
@@ -89,7 +97,7 @@ fn note(seen: &mut [Seen], index: usize, state: Seen) {
 fn ring_from(
     alloc: Global,
     sides: &[OfferedSide],
-    behind: &[Option<Address>],
+    partners: &[Partner],
     seen: &mut [Seen],
     start: usize,
 ) -> Result<Vec<usize>, AllocError> {
@@ -100,7 +108,7 @@ fn ring_from(
         let Some((top, from)) = way.pop() else {
             break;
         };
-        match next_open(sides, behind, seen, top, from) {
+        match next_open(sides, partners, seen, top, from) {
             Some(next) if is_on_way(seen, next) => {
                 way.push((top, from))?;
                 return part_from(alloc, way.as_slice(), next);
@@ -119,13 +127,13 @@ fn ring_from(
 /// The first side from this index on for which the side waits, and at which the search is not done.
 fn next_open(
     sides: &[OfferedSide],
-    behind: &[Option<Address>],
+    partners: &[Partner],
     seen: &[Seen],
     top: usize,
     from: usize,
 ) -> Option<usize> {
     for next in from..sides.len() {
-        if (is_new(seen, next) || is_on_way(seen, next)) && waits_for(sides, behind, top, next) {
+        if (is_new(seen, next) || is_on_way(seen, next)) && waits_for(sides, partners, top, next) {
             return Some(next);
         }
     }
@@ -148,15 +156,15 @@ fn part_from(
 }
 
 /// Whether all sides at the place of the one have their other end behind the place of the other.
-fn waits_for(sides: &[OfferedSide], behind: &[Option<Address>], one: usize, other: usize) -> bool {
+fn waits_for(sides: &[OfferedSide], partners: &[Partner], one: usize, other: usize) -> bool {
     let (Some(waits), Some(goes)) = (sides.get(one), sides.get(other)) else {
         return false;
     };
-    if !stands_behind(behind, one, &goes.place) {
+    if !stands_behind(partners, one, &goes.place) {
         return false;
     }
     for (index, side) in sides.iter().enumerate() {
-        if side.place.equals(&waits.place) && !stands_behind(behind, index, &goes.place) {
+        if side.place.equals(&waits.place) && !stands_behind(partners, index, &goes.place) {
             return false;
         }
     }
@@ -164,9 +172,9 @@ fn waits_for(sides: &[OfferedSide], behind: &[Option<Address>], one: usize, othe
 }
 
 /// Whether the other end of the side at this index stands behind the place.
-fn stands_behind(behind: &[Option<Address>], index: usize, place: &Address) -> bool {
-    match behind.get(index) {
-        Some(Some(first)) => begins(place.entries(), first.entries()),
+fn stands_behind(partners: &[Partner], index: usize, place: &Address) -> bool {
+    match partners.get(index) {
+        Some(Partner::Behind(first)) => begins(place.entries(), first.entries()),
         _ => false,
     }
 }

@@ -1,12 +1,12 @@
 // Who waits as text, in lines.
 use crate::progress::Progress;
+use crate::ring::Partner;
 use crate::waiting::Waiting;
-use address::Address;
 use machine::Machine;
 use offered_sides::{OfferedSide, Side};
 use std::alloc::AllocError;
 use std::io::Write;
-use system::System;
+use system::{Branch, System};
 
 impl Waiting {
     /// Adds the text: how the run stands, each side that waits, and a ring of them if there is one. The machine is the one that was
@@ -16,7 +16,8 @@ impl Waiting {
         let count = self.sides.len();
         write!(out, "waiting {count}\n").map_err(|_| AllocError)?;
         for (index, side) in self.sides.as_slice().iter().enumerate() {
-            write_side(machine, side, self.behind_of(index), out)?;
+            write_side(machine, side, out)?;
+            write_partner(machine, side, self.partners.as_slice().get(index), out)?;
         }
         self.write_ring(out)
     }
@@ -27,14 +28,6 @@ impl Waiting {
             Progress::GoesOn => out.extend_from_slice(b"goes on\n"),
             Progress::Done => out.extend_from_slice(b"done\n"),
             Progress::Stuck => out.extend_from_slice(b"stuck\n"),
-        }
-    }
-
-    /// The place that has to go on before the partner of the side at this index can come, if that is known.
-    fn behind_of(&self, index: usize) -> Option<&Address> {
-        match self.behind.as_slice().get(index) {
-            Some(Some(place)) => Some(place),
-            _ => None,
         }
     }
 
@@ -59,7 +52,6 @@ impl Waiting {
 fn write_side(
     machine: &Machine,
     offered: &OfferedSide,
-    behind: Option<&Address>,
     out: &mut Vec<u8>,
 ) -> Result<(), AllocError> {
     let place = &offered.place;
@@ -68,11 +60,62 @@ fn write_side(
         Some(line) => write!(out, " line {line}:").map_err(|_| AllocError)?,
         None => out.extend_from_slice(b" environment:")?,
     }
-    write_what(machine.checked().system(), &offered.side, out)?;
-    if let Some(first) = behind {
-        write!(out, ", behind {first}").map_err(|_| AllocError)?;
+    write_what(machine.checked().system(), &offered.side, out)
+}
+
+/// Adds why the partner of the side does not come, if that is known, and the end of the line.
+fn write_partner(
+    machine: &Machine,
+    offered: &OfferedSide,
+    partner: Option<&Partner>,
+    out: &mut Vec<u8>,
+) -> Result<(), AllocError> {
+    match partner {
+        Some(Partner::Behind(first)) => write!(out, ", behind {first}").map_err(|_| AllocError)?,
+        Some(Partner::Gone) => write_gone(machine, offered, out)?,
+        Some(Partner::Open) | None => {}
     }
     out.extend_from_slice(b"\n")
+}
+
+/// Adds why no partner of the side can come any more: what the environment had for it is used up, or nobody else uses the channel.
+fn write_gone(
+    machine: &Machine,
+    offered: &OfferedSide,
+    out: &mut Vec<u8>,
+) -> Result<(), AllocError> {
+    let system = machine.checked().system();
+    match fed_channel(system, &offered.side) {
+        Some(channel) if machine.line(&offered.place).is_some() => {
+            out.extend_from_slice(b", the stimulus of")?;
+            write_channel(system, channel, out)?;
+            out.extend_from_slice(b" is used up")
+        }
+        _ => out.extend_from_slice(b", nobody else uses it any more"),
+    }
+}
+
+/// The channel on which the side takes what the environment has a number of, if it is one.
+fn fed_channel(system: &System, side: &Side) -> Option<u32> {
+    match side {
+        Side::Receives(channel, _) | Side::Opens(channel, _) | Side::Syncs(channel) => {
+            fed(system, *channel)
+        }
+        _ => None,
+    }
+}
+
+/// The channel, if it is the one of a port for which the environment has so many values or handshakes.
+fn fed(system: &System, channel: u32) -> Option<u32> {
+    for branch in system.environment.as_slice() {
+        match branch {
+            Branch::Feed(port, _, _) | Branch::Syncs(port, _) if *port == channel => {
+                return Some(channel);
+            }
+            _ => {}
+        }
+    }
+    None
 }
 
 /// Adds what the side waits to do.

@@ -9,9 +9,8 @@ ghost use Rattle.waiting.specs.Waits.{ListsWaiting};
 
 use crate::progress::{Progress, progress_of};
 use crate::replaying::made_again;
-use crate::ring::{all_behind, ring_among};
+use crate::ring::{Partner, all_partners, ring_among};
 use crate::sides::left_over;
-use address::Address;
 use machine::Machine;
 use offered_sides::{OfferedSide, sides_of};
 use runs::Event;
@@ -24,8 +23,8 @@ pub struct Waiting {
     pub progress: Progress,
     /// the sides that wait, in order of place
     pub sides: Items<OfferedSide>,
-    /// for each of them the place that has to go on before its partner can come, if that is known
-    pub behind: Vec<Option<Address>>,
+    /// for each of them what has to go on before its partner can come
+    pub partners: Vec<Partner>,
     /// the indexes of sides of which each waits for the next, and the last for the first; empty where no such ring was found
     pub ring: Vec<usize>,
 }
@@ -41,12 +40,12 @@ pub fn who_waits(alloc: Global, machine: &Machine) -> Result<Waiting, AllocError
     let events = ready_events(machine)?;
     let progress = progress_of(sides.as_slice(), events.as_slice());
     let sides = left_over(sides, events.as_slice());
-    let behind = all_behind(alloc, &state.tree, sides.as_slice())?;
-    let ring = ring_among(alloc, sides.as_slice(), behind.as_slice())?;
+    let partners = all_partners(alloc, &state.tree, sides.as_slice())?;
+    let ring = ring_among(alloc, sides.as_slice(), partners.as_slice())?;
     Ok(Waiting {
         progress,
         sides,
-        behind,
+        partners,
         ring,
     })
 }

@@ -7,22 +7,16 @@ mod cases;
 use cases::{Case, first_case, number};
 use machine::Machine;
 use outline::outline_of;
-use past::{PastEvent, past_of_event, past_of_variable, write_past};
+use past::{Past, past_of_event, past_of_variable, write_past};
 use std::alloc::Global;
 use std::io;
 use std::io::{BufReader, Read};
 use std::process::ExitCode;
 use std::time::Instant;
-use syntax::Items;
 use waiting::who_waits;
 
 /// The past of the variable of this name, or of the ticket that these digits are.
-fn past(
-    alloc: Global,
-    machine: &Machine,
-    subject: &[u8],
-    all: bool,
-) -> io::Result<Option<Items<PastEvent>>> {
+fn past(alloc: Global, machine: &Machine, subject: &[u8], all: bool) -> io::Result<Option<Past>> {
     if let Some(variable) = machine.checked().system().variable(subject) {
         return Ok(past_of_variable(alloc, machine.live_events(), variable, all)?);
     }
@@ -46,7 +40,7 @@ fn answer(alloc: Global, case: &Case<'_>, out: &mut Vec<u8>) -> io::Result<()> {
     match past(alloc, &machine, case.subject, case.question == b"why-all".as_slice())? {
         Some(past) => {
             let live = machine.live_events();
-            write_past(alloc, out, machine.checked(), live, past.as_slice())?;
+            write_past(alloc, out, machine.checked(), live, &past)?;
         }
         None => out.extend_from_slice(b"none\n")?,
     }
@@ -68,7 +62,7 @@ fn time(rt: &HostRuntime, case: &Case<'_>) -> io::Result<()> {
     let live = machine.live_events().len();
     let sides = told.sides.len();
     let count = match found {
-        Some(found) => found.len(),
+        Some(found) => found.events.len(),
         None => 0,
     };
     eprintln!(rt; "{live} events: load {loaded} us, waiting {waited} us ({sides}), why {passed} us ({count})")?;

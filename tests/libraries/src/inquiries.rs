@@ -72,7 +72,7 @@ fn a_run_is_done_when_only_outputs_are_offered(rt: HostRuntime) -> Result<(), Fa
     is(
         &rt,
         &text,
-        b"done\nwaiting 1\n  /2.1 environment: takes from o\n",
+        b"done\nwaiting 1\n  /2.1 environment: takes from o, nobody else uses it any more\n",
     );
     Ok(())
 }
@@ -93,7 +93,7 @@ fn the_second_value_waits_behind_the_first(rt: HostRuntime) -> Result<(), Fail> 
     let trace = b"balsadbg trace 2\nstep /0.0.0 0\nstep /2.0 0\nstep /3.0 0\n";
     let text = told(rt.alloc(), FORK, trace)?;
     let wanted =
-        b"goes on\nwaiting 2\n  /2.1 environment: takes from a\n  /3.1 environment: takes from b\n";
+        b"goes on\nwaiting 2\n  /2.1 environment: takes from a, nobody else uses it any more\n  /3.1 environment: takes from b, nobody else uses it any more\n";
     is(&rt, &text, wanted);
     Ok(())
 }
@@ -122,7 +122,7 @@ fn five_wait_in_a_circle(rt: HostRuntime) -> Result<(), Fail> {
 fn arms_wait_for_inputs_that_have_no_values(rt: HostRuntime) -> Result<(), Fail> {
     let text = told(rt.alloc(), CHOICE, b"balsadbg trace 2\n")?;
     let wanted =
-        b"stuck\nwaiting 3\n  /0.0 line 2: opens arm 0 on a\n  /0.0 line 2: opens arm 1 on b\n  /3.0 environment: takes from o, behind /0\n";
+        b"stuck\nwaiting 3\n  /0.0 line 2: opens arm 0 on a, the stimulus of a is used up\n  /0.0 line 2: opens arm 1 on b, the stimulus of b is used up\n  /3.0 environment: takes from o, behind /0\n";
     is(&rt, &text, wanted);
     Ok(())
 }
@@ -144,10 +144,10 @@ fn a_value_has_a_past(rt: HostRuntime) -> Result<(), Fail> {
         &mut text,
         machine.checked(),
         machine.live_events(),
-        past.as_slice(),
+        &past,
     )?;
     let wanted =
-        b"  2 line 2: a carries 5 into 1:x, after 1\n  4 line 2: c carries 5 into 2:x, reads 1:x 5, after 2 3\n";
+        b"  2 line 2: a carries 5 into 1:x, after 1\n  4 line 2: c carries 5 into 2:x, reads 1:x 5, after 2 3\n2 steps without a value left out: --all\n";
     is(&rt, &text, wanted);
     Ok(())
 }
@@ -160,14 +160,38 @@ fn the_whole_past_has_turns_too(rt: HostRuntime) -> Result<(), Fail> {
         return Err(Fail::from(std::alloc::AllocError));
     };
     let mut tickets = Vec::new(alloc);
-    for event in past.as_slice() {
+    for event in past.events.as_slice() {
         tickets.push(event.ticket)?;
     }
     assert!(rt; tickets.as_slice() == [1, 2, 3, 4].as_slice());
     let Some(short) = past_of_event(alloc, machine.live_events(), 3, true)? else {
         return Err(Fail::from(std::alloc::AllocError));
     };
-    assert!(rt; short.len() == 1);
+    assert!(rt; short.events.len() == 1);
+    assert!(rt; short.left_out == 0);
+    Ok(())
+}
+
+#[test]
+fn a_step_without_a_value_is_told_where_it_is_asked_for(rt: HostRuntime) -> Result<(), Fail> {
+    let alloc = rt.alloc();
+    let trace =
+        b"balsadbg trace 2\nstep /0/0.0 0\nstep /0/0.1.0 0\nstep /0/1.0 0\nstep /0/1.1.0 0\nstep /0/0.2 0\n";
+    let machine = loaded(alloc, TWO_BUFFERS, trace)?;
+    let Some(past) = past_of_event(alloc, machine.live_events(), 5, false)? else {
+        return Err(Fail::from(std::alloc::AllocError));
+    };
+    let mut text = Vec::new(alloc);
+    write_past(
+        alloc,
+        &mut text,
+        machine.checked(),
+        machine.live_events(),
+        &past,
+    )?;
+    let wanted =
+        b"  2 line 2: a carries 5 into 1:x, after 1\n  4 line 2: c carries 5 into 2:x, reads 1:x 5, after 2 3\n  5 line 2: turn, after 4\n2 steps without a value left out: --all\n";
+    is(&rt, &text, wanted);
     Ok(())
 }
 
