@@ -1,0 +1,2 @@
+pub mod DeedLemmas
+pub mod WordLemmas

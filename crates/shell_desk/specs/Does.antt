@@ -1,0 +1,148 @@
+-- What each deed asks of the desk, and what it leaves.
+use Rattle.std.specs.Prelude.{◌≡◌, ◌⊎◌, ℕ, zero, suc, ◌+◌, ◌-◌, ◌<◌, List, [], length, map, Option, Some, None}
+use Rattle.std.specs.Prelude.{nat_lt, if◌then◌else◌, slice_get, option_map, Bool, true, false, MatchBool}
+use Rattle.syntax.specs.Lists.{Every}
+use Rattle.system.specs.Expression.{is_in}
+use Rattle.system.specs.declared.system.System.{System}
+use Rattle.system_places.specs.SystemBranches.{branch_at, branch_count}
+use Rattle.runs.specs.Choices.{choice_of}
+use Rattle.runs.specs.Events.{acting}
+use Rattle.runs.specs.Live.{Live}
+use Rattle.runs.specs.declared.event.Event.{Event}
+use Rattle.machine.specs.AtMachine.{AtMachine}
+use Rattle.locked_execution.specs.AtDesk.{AtDesk, new_desk, breaks_of, sessions}
+use Rattle.locked_execution.specs.Answered.{Answered}
+use Rattle.locked_execution.specs.Performs.{Answers}
+use Rattle.locked_execution.specs.declared.command.Command.{Command}
+use Rattle.locked_execution.specs.declared.command.Reply.{Reply}
+use Rattle.shell_desk.specs.AtBench.{AtBench}
+use Rattle.shell_desk.specs.declared.deed.Deed.{Deed}
+use Rattle.shell_desk.specs.declared.deed.Done.{Done}
+use Rattle.shell_desk.specs.declared.deed.End.{End}
+
+-- the branch that was stepped last behind a reply: that of the acting place of the event that was taken, where it lies in one
+abbrev pub branch_or : Option ℕ → Option ℕ → Option ℕ
+branch_or None before = before
+branch_or (Some k) before = Some k
+
+abbrev pub branch_behind : System → Reply → Option ℕ → Option ℕ
+branch_behind system (Reply.Stepped t e) before = branch_or (branch_at system (acting e)) before
+branch_behind system _ before = before
+
+-- the command that takes the event
+abbrev pub step_of : Event → Command
+step_of e = Command.Step (choice_of e)
+
+-- what bare numbers mean behind a reply: a list of ready events numbers them, or, without memory, nothing
+abbrev pub Numbers : Reply → List Command → List Command → Type 0
+Numbers (Reply.Ready events) before after = (after ≡ map step_of events) ⊎ (after ≡ [])
+Numbers _ before after = after ≡ before
+
+-- one command of the session is asked and answered
+abbrev pub Asked : AtBench → Command → Reply → AtBench → Type 0
+Asked b c reply b' =
+    Answers b.desk b.session c reply b'.desk × (b'.session ≡ b.session)
+    × Numbers reply b.numbered b'.numbered
+    × (b'.branch ≡ branch_behind b.desk.machine.checked reply b.branch)
+
+-- the element with this number, from 1
+abbrev pub numbered_as : {X : Type 0} → List X → ℕ → Option X
+numbered_as xs zero = None
+numbered_as xs (suc i) = slice_get xs i
+
+-- the branch behind k, and behind the last the first
+abbrev pub next_of : ℕ → ℕ → ℕ
+next_of count k = if nat_lt (k + 1) count then k + 1 else 0
+
+-- the branch whose turn it is where `last` was stepped last
+abbrev pub first_of : ℕ → Option ℕ → ℕ
+first_of count None = 0
+first_of count (Some last) = next_of count last
+
+-- whether a reply to a step of a branch tells of something else than that it has none
+abbrev pub is_busy : Reply → Bool
+is_busy Reply.Idle = false
+is_busy _ = true
+
+-- whether a reply ends a run: it tells of no step
+abbrev pub ends_run : Reply → Bool
+ends_run (Reply.Stepped t e) = false
+ends_run _ = true
+
+-- whether a reply ends a way back: it tells of no step that was taken back
+abbrev pub ends_way : Reply → Bool
+ends_way (Reply.Undone t e) = false
+ends_way _ = true
+
+-- `left` branches from k on are asked in turn for a step, up to the first that is not idle, which answers `reply`; where all
+-- are idle, that is the reply
+abbrev pub InTurn : ℕ → AtBench → ℕ → ℕ → Reply → AtBench → Type 0
+InTurn count b zero k reply b' = (reply ≡ Reply.Idle) × (b' ≡ b)
+InTurn count b (suc left) k reply b' =
+    (r : Reply) × (m : AtBench) × Asked b (Command.Branch k) r m
+    × MatchBool (is_busy r) ((reply ≡ r) × (b' ≡ m)) (InTurn count m left (next_of count k) reply b')
+
+-- each branch once, from the one behind that which was stepped last
+abbrev pub OneTurn : AtBench → Reply → AtBench → Type 0
+OneTurn b reply b' =
+    let count = branch_count b.desk.machine.checked in InTurn count b count (first_of count b.branch) reply b'
+
+-- why a run ends at a reply that tells of no step
+abbrev pub end_of : Reply → End
+end_of (Reply.Stopped line) = End.AtBreak line
+end_of (Reply.Refused why) = End.Refused why
+end_of _ = End.Idle
+
+-- a run of so many steps at most: each is the first that the branches have in turn, and it ends before, where there is none
+abbrev pub Runs : AtBench → ℕ → End → AtBench → Type 0
+Runs b zero end b' = (end ≡ End.Enough) × (b' ≡ b)
+Runs b (suc left) end b' =
+    (r : Reply) × (m : AtBench) × OneTurn b r m × MatchBool (ends_run r) ((end ≡ end_of r) × (b' ≡ m)) (Runs m left end b')
+
+-- t is the greatest ticket of a live event
+abbrev pub IsNewest : Live → ℕ → Type 0
+IsNewest live t = (e : Event) × (slice_get live (length live - 1) ≡ Some (t, e))
+
+-- so many of the newest steps are taken back, or all where there are fewer; where one cannot be taken back, it ends there,
+-- with the answer to that
+abbrev pub GoesBack : AtBench → ℕ → Option Reply → AtBench → Type 0
+GoesBack b zero told b' = (told ≡ None) × (b' ≡ b)
+GoesBack b (suc left) told b' =
+    ((b.desk.machine.live ≡ []) × (told ≡ None) × (b' ≡ b))
+    ⊎ ((t : ℕ) × IsNewest b.desk.machine.live t × (r : Reply) × (m : AtBench) × Asked b (Command.Undo t) r m
+    × MatchBool (ends_way r) ((told ≡ Some r) × (b' ≡ m)) (GoesBack m left told b'))
+
+-- a command is asked where there is one, and else nothing is
+abbrev pub AsksIfAny : AtBench → Option Command → Done → AtBench → Type 0
+AsksIfAny b None done b' = (done ≡ Done.Unknown) × (b' ≡ b)
+AsksIfAny b (Some c) done b' = (reply : Reply) × Asked b c reply b' × (done ≡ Done.Told reply)
+
+-- the deed is done so, and leaves b'
+abbrev pub Does : AtBench → Deed → Done → AtBench → Type 0
+Does b Deed.Rest done b' = (done ≡ Done.Rested) × (b' ≡ b)
+Does b (Deed.Turn session) done b' =
+    (done ≡ Done.Rested)
+    × (b' ≡ record { desk = b.desk; session = session; numbered = b.numbered; branch = b.branch })
+Does b (Deed.Ask c) done b' = AsksIfAny b (Some c) done b'
+Does b (Deed.Take number) done b' = AsksIfAny b (numbered_as b.numbered number) done b'
+Does b (Deed.Next k) done b' = AsksIfAny b (Some (Command.Branch k)) done b'
+Does b Deed.NextAgain done b' = AsksIfAny b (option_map Command.Branch b.branch) done b'
+Does b (Deed.Run limit) done b' = (end : End) × Runs b limit end b' × (done ≡ Done.Ran end)
+Does b (Deed.Back count) done b' = (told : Option Reply) × GoesBack b count told b' × (done ≡ Done.Back told)
+
+-- a session that a deed names is one of the sixteen
+abbrev pub NamesSession : Deed → Type 0
+NamesSession (Deed.Turn session) = session < sessions
+NamesSession _ = Unit {0}
+
+-- breakpoints that sessions have at the desk
+abbrev pub AreBreaksAt : AtDesk → List (ℕ × Command) → Type 0
+AreBreaksAt d commands =
+    Every (λ x. (line : ℕ) × (x.1 ≡ Command.Break line) × (is_in line (breaks_of d x.0) ≡ true)) commands
+
+-- in place of b stands another execution: its desk is what breakpoints of b, set again, leave of a new one
+abbrev pub TurnsTo : AtBench → AtMachine → AtBench → Type 0
+TurnsTo b machine b' =
+    (breaks : List (ℕ × Command)) × (replies : List Reply) × AreBreaksAt b.desk breaks
+    × Answered (new_desk machine) breaks replies b'.desk
+    × (b'.session ≡ b.session) × (b'.numbered ≡ []) × (b'.branch ≡ None)

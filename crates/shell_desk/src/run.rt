@@ -1,0 +1,105 @@
+// Runs in which the branches step in turn.
+ghost use Rattle.std.specs.Prelude.{◌≡◌};
+ghost use Rattle.system_places.specs.SystemBranches.{branch_count as count_of};
+ghost use Rattle.shell_desk.specs.Does.{OneTurn, Runs, end_of, ends_run, first_of, is_busy, next_of};
+
+use crate::{Bench, End, Watch};
+use locked_execution::{Command, Reply};
+use system_places::branch_count;
+
+impl Bench {
+    /// Takes so many steps at most, each the first that the branches have in turn.
+    pub(crate) fn run<W: Watch>(&mut self, limit: u64, watch: &mut W) -> End
+        ensures { Runs self.old limit result self.new }
+    {
+        for taken in 0..limit {
+            let reply = self.turn(watch);
+            if ends_run(&reply) {
+                return end_of(&reply);
+            }
+        }
+        End::Enough
+    }
+
+    /// Asks the branches in turn for a step, up to the first that is not idle.
+    fn turn<W: Watch>(&mut self, watch: &mut W) -> Reply
+        ensures { OneTurn self.old result self.new }
+    {
+        let count = self.branch_count();
+        let mut branch = self.first(count);
+        for passed in 0..count {
+            let reply = self.ask(&Command::Branch(branch), watch);
+            if is_busy(&reply) {
+                return reply;
+            }
+            branch = next_of(count, branch);
+        }
+        Reply::Idle
+    }
+
+    /// How many branches the system has.
+    fn branch_count(&self) -> u32
+        ensures { result ≡ count_of self.now.desk.machine.checked }
+    {
+        branch_count(self.desk.machine().checked().system())
+    }
+
+    /// The branch whose turn it is, of so many.
+    fn first(&self, count: u32) -> u32
+        ensures { result ≡ first_of count self.now.branch }
+    {
+        first_of(count, self.branch)
+    }
+}
+
+/// The branch whose turn it is where this was stepped last.
+fn first_of(count: u32, last: Option<u32>) -> u32
+    ensures { result ≡ first_of count last }
+{
+    match last {
+        Some(branch) => next_of(count, branch),
+        None => 0,
+    }
+}
+
+/// The branch behind this one, and behind the last the first.
+fn next_of(count: u32, branch: u32) -> u32
+    ensures { result ≡ next_of count branch }
+{
+    if branch < count && count - branch > 1 {
+        branch + 1
+    } else {
+        0
+    }
+}
+
+/// Whether the reply to a step of a branch tells of something else than that it has none.
+fn is_busy(reply: &Reply) -> bool
+    ensures { result ≡ is_busy reply.now }
+{
+    match reply {
+        Reply::Idle => false,
+        _ => true,
+    }
+}
+
+/// Whether the reply ends a run: it tells of no step.
+fn ends_run(reply: &Reply) -> bool
+    ensures { result ≡ ends_run reply.now }
+{
+    match reply {
+        Reply::Stepped(_, _) => false,
+        _ => true,
+    }
+}
+
+/// Why a run ends at a reply that tells of no step.
+fn end_of(reply: &Reply) -> End
+    ensures { result ≡ end_of reply.now }
+{
+    match reply {
+        Reply::Stopped(line) => End::AtBreak(*line),
+        Reply::Refused(why) => End::Refused(*why),
+        _ => End::Idle,
+    }
+}
