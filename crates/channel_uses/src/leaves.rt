@@ -1,5 +1,5 @@
 // What leaves offer on a channel.
-ghost use Rattle.std.specs.Prelude.{◌≡◌, [], ◌∷◌, OnOk};
+ghost use Rattle.std.specs.Prelude.{◌≡◌, ◌≤◌, ◌^◌, [], ◌∷◌, IfOk, OnOk, OnErr};
 ghost use Rattle.address.specs.declared.Entry.TheVariants.{Ordered};
 ghost use Rattle.system.specs.Expression as model;
 ghost use Rattle.system.specs.Residual.{drain};
@@ -100,8 +100,7 @@ pub(crate) fn arms_on(
     Ok(())
 }
 
-/// Lists the arm of this number that waits on its channel. A number of 2^32 and more has no arm: it takes more memory to have so
-/// many than there is, and the answer is the same.
+/// Lists the arm of this number that waits on its channel.
 fn arm_on(
     alloc: Global,
     arm: usize,
@@ -114,8 +113,16 @@ fn arm_on(
     if waits != channel {
         return Ok(());
     }
+    around.add_act(alloc, 0, Side::Opens(waits, number_of(arm)?))
+}
+
+/// The number of an arm. It is an error from arm 2^32 on: there is not memory enough for so many.
+fn number_of(arm: usize) -> Result<u32, AllocError>
+    ensures same { IfOk result (λ same. same ≡ arm) }
+    ensures large { OnErr result (2 ^ 32 ≤ arm) }
+{
     match u32::try_from(arm) {
-        Ok(small) => around.add_act(alloc, 0, Side::Opens(waits, small)),
+        Ok(same) => Ok(same),
         Err(_) => Err(AllocError),
     }
 }

@@ -1,5 +1,5 @@
 // The sides of what is at work in a tree, one leaf at a time.
-ghost use Rattle.std.specs.Prelude.{◌≡◌, ◌*◌, [], ◌∷◌, Some, None, false, option_map, IfOk, OnOk};
+ghost use Rattle.std.specs.Prelude.{◌≡◌, ◌≤◌, ℕ, ◌*◌, ◌^◌, [], ◌∷◌, Some, None, false, option_map, IfOk, OnOk, OnErr};
 ghost use Rattle.system.specs.Expression as model;
 ghost use Rattle.system.specs.Translation.{expression_of, decision_of};
 ghost use Rattle.runs.specs.Events.{sent};
@@ -154,9 +154,10 @@ fn sent(values: &[Value], width: Width, value: &Expression) -> Value
     value::resize(value.value(values), width.bits())
 }
 
-/// The arm that a test takes, if it takes one.
+/// The arm that a test takes, if it takes one. It is an error if that is arm 2^32 or a later one.
 fn arm_of(decision: &Decision, values: &[Value]) -> Result<Option<u32>, AllocError>
-    ensures { IfOk result (λ arm. arm ≡ model.decide values.now (decision_of decision.now)) }
+    ensures arm { IfOk result (λ arm. arm ≡ model.decide values.now (decision_of decision.now)) }
+    ensures large { OnErr result ((k : ℕ) × (model.decide values.now (decision_of decision.now) ≡ Some k) × (2 ^ 32 ≤ k)) }
 {
     match decision.decide(values) {
         Some(arm) => Ok(Some(small(arm)?)),
@@ -173,9 +174,10 @@ fn one_guard(alloc: Global, guard: &Expression) -> Result<Decision, AllocError>
     Ok(Decision::Guards(guards, false))
 }
 
-/// The act with which this turn of a loop begins.
+/// The act with which this turn of a loop begins. It is an error from turn 2^32 on, which no run reaches.
 fn act_of_turn(turn: u64) -> Result<u64, AllocError>
-    ensures { IfOk result (λ act. act ≡ 2 * turn) }
+    ensures act { IfOk result (λ act. act ≡ 2 * turn) }
+    ensures large { OnErr result (2 ^ 32 ≤ turn) }
 {
     Ok(u64::from(small(turn)?) * 2)
 }

@@ -1,5 +1,5 @@
 // The walk through a tree.
-ghost use Rattle.std.specs.Prelude.{◌≡◌, ℕ, ◌+◌, ◌*◌, List, map, IfOk, OnOk};
+ghost use Rattle.std.specs.Prelude.{◌≡◌, ◌≤◌, ℕ, ◌+◌, ◌*◌, ◌^◌, List, map, IfOk, OnOk, OnErr};
 ghost use Rattle.process_tree.specs.Code as model_code;
 ghost use Rattle.process_tree.specs.Left.{with_value};
 ghost use Rattle.process_tree.specs.Proc as model;
@@ -310,9 +310,10 @@ fn list_branch(
     Ok(over)
 }
 
-/// The turn behind this one.
+/// The turn behind this one. It is an error if its number does not fit into 64 bits, which no run reaches.
 pub(crate) fn next_turn(turn: u64) -> Result<u64, AllocError>
-    ensures { IfOk result (λ next. next ≡ turn + 1) }
+    ensures next { IfOk result (λ next. next ≡ turn + 1) }
+    ensures large { OnErr result (2 ^ 64 ≤ turn + 1) }
 {
     match turn.checked_add(1) {
         Some(next) => Ok(next),
@@ -320,9 +321,10 @@ pub(crate) fn next_turn(turn: u64) -> Result<u64, AllocError>
     }
 }
 
-/// The number of the body of this turn of a loop. It is an error if the number does not fit into 64 bits, which no run reaches.
+/// The number of the body of this turn of a loop. It is an error from turn 2^32 on, which no run reaches.
 pub fn body_of_turn(turn: u64) -> Result<u64, AllocError>
-    ensures { IfOk result (λ number. number ≡ 2 * turn + 1) }
+    ensures number { IfOk result (λ number. number ≡ 2 * turn + 1) }
+    ensures large { OnErr result (2 ^ 32 ≤ turn) }
 {
     Ok(u64::from(small(turn)?) * 2 + 1)
 }

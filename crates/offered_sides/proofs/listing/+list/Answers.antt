@@ -87,7 +87,7 @@ pub list_turn-returns-in_ok-list_again-clause-sides : goal.list_turn-returns-in_
 list_turn-returns-in_ok-list_again-clause-sides t c =
     turn-again c.args.values.now c.args.around.now c.list_child.new.around c.list_again.new.around c.args.turn c.in_ok-next.next c.in_ok-body_of_turn.field-0
     (repeat_view c.args.repeat.now).0 (repeat_view c.args.repeat.now).1 (proc_view c.args.body.now) c.args.over c.in_ok-list_child.field-0 c.if-over.false
-    c.in_ok-list_child.ensures.sides c.in_ok-body_of_turn.ensures c.in_ok-list_child.ensures.over c.if-branch.true
+    c.in_ok-list_child.ensures.sides c.in_ok-body_of_turn.ensures.number c.in_ok-list_child.ensures.over c.if-branch.true
     (c.in_ok-list_again.ensures
     ∙ ap (λ g. added (again_at c.args.values.now c.in_ok-next.next (puts_guard c.list_child.new.around.received g)) c.list_child.new.around) (sym (repeat-guard c.args.repeat.now)))
     c.in_ok-next.ensures
