@@ -48,8 +48,8 @@ pub fn read(alloc: Global, text: &[u8]) -> Result<Option<Address>, AllocError>
     Ok(Some(Address::from_vec(entries)))
 }
 
-/// The entry at the start of the text, and what follows it; `None` where the text does not begin with `.` or `/` and a number
-/// below 2^32 without leading zeros. It takes no memory.
+/// The entry at the start of the text, and what follows it; `None` where the text does not begin with `.` or `/` and a
+/// number below 2^32 without leading zeros. It takes no memory.
 pub fn read_entry(text: &[u8]) -> Option<(Entry, &[u8])>
     ensures { MatchOption result (BeginsNoEntry text.entry.now) (λ r. ReadsEntry text.entry.now r.0 r.1.now) }
 {

@@ -8,8 +8,8 @@ use crate::uses::Uses;
 use runs::Event;
 use std::alloc::{AllocError, Global};
 
-/// Whether the lists have the same events, and any two on one variable, one of them writing it, stand in one order. (That a
-/// variable is shared need not be asked: on the others a run has one order.)
+/// Whether the lists have the same events, and any two on one variable, one of them writing it, stand in one order.
+/// (That a variable is shared need not be asked: on the others a run has one order.)
 pub(crate) fn are_alike(alloc: Global, a: &[Event], b: &[Event]) -> Result<bool, AllocError>
     requires first { ActsOnce a.now }
     requires second { ActsOnce b.now }

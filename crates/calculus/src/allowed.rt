@@ -27,7 +27,8 @@ impl Plain {
     /// want of memory: a description that has one, or a run that gets to one, takes more than there is.
     pub fn allowed(&self, alloc: Global) -> Result<Items<Event>, AllocError>
         ensures computed { IfOk result (λ events. events ≡ model.allowed_events (state_of self.now)) }
-        ensures listed { WellFormed (state_of self.now).residual → IfOk result (λ events. (e : Event) → In e events ↔ Allowed (state_of self.now) e) }
+        ensures listed { WellFormed (state_of self.now).residual →
+            IfOk result (λ events. (e : Event) → In e events ↔ Allowed (state_of self.now) e) }
     {
         events_offered(alloc, self)
     }
@@ -86,7 +87,8 @@ fn add_with(
     others: &[Offer],
     events: &mut Items<Event>,
 ) -> Result<(), AllocError>
-    ensures { IfOk result (λ _. events.new ≡ events.old ++ model.events_with values.now (located_of one.now) (map located_of others.now)) }
+    ensures { IfOk result (λ _.
+        events.new ≡ events.old ++ model.events_with values.now (located_of one.now) (map located_of others.now)) }
 {
     if is_first(one.by.get()) {
         add_meetings(alloc, values, one, others, events)
@@ -103,7 +105,8 @@ fn add_meetings(
     others: &[Offer],
     events: &mut Items<Event>,
 ) -> Result<(), AllocError>
-    ensures { IfOk result (λ _. events.new ≡ events.old ++ model.events_with values.now (located_of one.now) (map located_of others.now)) }
+    ensures { IfOk result (λ _.
+        events.new ≡ events.old ++ model.events_with values.now (located_of one.now) (map located_of others.now)) }
 {
     for other in others {
         add(event_of_two(alloc, values, one, other)?, events)?;
@@ -118,7 +121,9 @@ fn event_of_two(
     one: &Offer,
     other: &Offer,
 ) -> Result<Option<Event>, AllocError>
-    ensures { IfOk result (λ r. r ≡ made.event_of values.now (located_of one.now ∷ model.meets values.now (located_of one.now) (located_of other.now) ∷ [])) }
+    ensures { IfOk result (λ r.
+        r ≡ made.event_of values.now
+        (located_of one.now ∷ model.meets values.now (located_of one.now) (located_of other.now) ∷ [])) }
 {
     let by = one.by.get();
     let met = other.by.get();
@@ -141,7 +146,9 @@ fn event_of_open(
     arm: u32,
     received: Value,
 ) -> Result<Option<Event>, AllocError>
-    ensures { IfOk result (λ r. r ≡ made.event_of values.now (located_of one.now ∷ at place.now (moves.opens channel arm (Some received)) ∷ [])) }
+    ensures { IfOk result (λ r.
+        r ≡ made.event_of values.now
+        (located_of one.now ∷ at place.now (moves.opens channel arm (Some received)) ∷ [])) }
 {
     let opens = Move::Opens(channel, arm, Some(received));
     made_apart(alloc, values, &one.place, one.by.get(), place, &opens)

@@ -35,7 +35,8 @@ pub(crate) fn inside(
     answer: Option<Moved>,
     next: &Shared<Left>,
 ) -> Result<Option<Moved>, AllocError>
-    ensures { IfOk result (λ r. answer_of r ≡ model.around (λ t. residual.within number t (residual_of_left next.now)) (answer_of answer)) }
+    ensures { IfOk result (λ r.
+        answer_of r ≡ model.around (λ t. residual.within number t (residual_of_left next.now)) (answer_of answer)) }
 {
     match answer {
         Some(moved) => {
@@ -54,7 +55,8 @@ pub(crate) fn in_branch(
     answer: Option<Moved>,
     rest: &Shared<Left>,
 ) -> Result<Option<Moved>, AllocError>
-    ensures { IfOk result (λ r. answer_of r ≡ model.around (λ t. residual.along number t (residual_of_left rest.now)) (answer_of answer)) }
+    ensures { IfOk result (λ r.
+        answer_of r ≡ model.around (λ t. residual.along number t (residual_of_left rest.now)) (answer_of answer)) }
 {
     match answer {
         Some(moved) => {
@@ -94,7 +96,8 @@ pub(crate) fn assign(
     width: Width,
     value: &Expression,
 ) -> Result<Option<Moved>, AllocError>
-    ensures { IfOk result (λ r. answer_of r ≡ if_here place.now (model.after_assign variable width (expression_of value.now) ask)) }
+    ensures { IfOk result (λ r.
+        answer_of r ≡ if_here place.now (model.after_assign variable width (expression_of value.now) ask)) }
 {
     if !is_here(place) {
         return Ok(None);
@@ -116,7 +119,8 @@ fn assigned(
     value: &Expression,
     left: Shared<Left>,
 ) -> Result<Option<Moved>, AllocError>
-    ensures { IfOk result (λ r. answer_of r ≡ Some (moves.assigns variable width (expression_of value.now), residual_of_left left)) }
+    ensures { IfOk result (λ r.
+        answer_of r ≡ Some (moves.assigns variable width (expression_of value.now), residual_of_left left)) }
 {
     let value = value.copy(alloc)?;
     moved(alloc, Move::Assigns(variable, width, value), left)
@@ -132,7 +136,8 @@ pub(crate) fn send(
     width: Width,
     value: &Expression,
 ) -> Result<Option<Moved>, AllocError>
-    ensures { IfOk result (λ r. answer_of r ≡ if_act 0 place.now (model.after_send channel width (expression_of value.now) ask)) }
+    ensures { IfOk result (λ r.
+        answer_of r ≡ if_act 0 place.now (model.after_send channel width (expression_of value.now) ask)) }
 {
     if !is_act(place, 0) {
         return Ok(None);
@@ -159,7 +164,8 @@ fn sent(
     held: bool,
     left: Shared<Left>,
 ) -> Result<Option<Moved>, AllocError>
-    ensures { IfOk result (λ r. answer_of r ≡ Some (moves.sends channel width (expression_of value.now) held, residual_of_left left)) }
+    ensures { IfOk result (λ r.
+        answer_of r ≡ Some (moves.sends channel width (expression_of value.now) held, residual_of_left left)) }
 {
     let value = value.copy(alloc)?;
     moved(alloc, Move::Sends(channel, width, value, held), left)
@@ -245,7 +251,8 @@ pub(crate) fn repeat(
     turn: u64,
     body: &Shared<Left>,
 ) -> Result<Option<Moved>, AllocError>
-    ensures { IfOk result (λ r. answer_of r ≡ if_act (2 * turn) place.now (model.after_loop turn (residual_of_left body.now) ask)) }
+    ensures { IfOk result (λ r.
+        answer_of r ≡ if_act (2 * turn) place.now (model.after_loop turn (residual_of_left body.now) ask)) }
 {
     if !is_turn(place, turn) {
         return Ok(None);
@@ -262,7 +269,10 @@ pub(crate) fn repeat(
 /// A loop in a turn.
 fn in_turn(alloc: Global, turn: u64, body: &Shared<Left>) -> Result<Shared<Left>, AllocError>
     requires { turn < 2 ^ 32 }
-    ensures { IfOk result (λ made. residual_of_left made ≡ residual.within (2 * turn + 1) (residual_of_left body.now) (residual.loop (turn + 1) (residual_of_left body.now))) }
+    ensures { IfOk result (λ made.
+        residual_of_left made
+        ≡ residual.within (2 * turn + 1) (residual_of_left body.now)
+        (residual.loop (turn + 1) (residual_of_left body.now))) }
 {
     let again = body.clone()?;
     let next = Shared::new(alloc, Left::Loop(turn + 1, again))?;
@@ -279,7 +289,10 @@ pub(crate) fn repeat_while(
     guard: &Expression,
     body: &Shared<Left>,
 ) -> Result<Option<Moved>, AllocError>
-    ensures { IfOk result (λ r. answer_of r ≡ if_act (2 * turn) place.now (model.after_while turn (expression_of guard.now) (residual_of_left body.now) ask)) }
+    ensures { IfOk result (λ r.
+        answer_of r
+        ≡ if_act (2 * turn) place.now
+        (model.after_while turn (expression_of guard.now) (residual_of_left body.now) ask)) }
 {
     if !is_turn(place, turn) {
         return Ok(None);
@@ -308,7 +321,10 @@ fn in_test(
     body: &Shared<Left>,
 ) -> Result<Shared<Left>, AllocError>
     requires { turn < 2 ^ 32 }
-    ensures { IfOk result (λ made. residual_of_left made ≡ residual.within (2 * turn + 1) (residual_of_left body.now) (residual.while (turn + 1) (expression_of guard.now) (residual_of_left body.now))) }
+    ensures { IfOk result (λ made.
+        residual_of_left made
+        ≡ residual.within (2 * turn + 1) (residual_of_left body.now)
+        (residual.while (turn + 1) (expression_of guard.now) (residual_of_left body.now))) }
 {
     let next = next_test(alloc, turn, guard, body.clone()?)?;
     within(alloc, 2 * turn + 1, body.clone()?, next)
@@ -322,7 +338,8 @@ fn next_test(
     body: Shared<Left>,
 ) -> Result<Shared<Left>, AllocError>
     requires { turn < 2 ^ 32 }
-    ensures { IfOk result (λ made. residual_of_left made ≡ residual.while (turn + 1) (expression_of guard.now) (residual_of_left body)) }
+    ensures { IfOk result (λ made.
+        residual_of_left made ≡ residual.while (turn + 1) (expression_of guard.now) (residual_of_left body)) }
 {
     let guard = guard.copy(alloc)?;
     Shared::new(alloc, Left::While(turn + 1, guard, body))
@@ -335,7 +352,9 @@ fn guard_tested(
     arm: Option<u32>,
     left: Shared<Left>,
 ) -> Result<Option<Moved>, AllocError>
-    ensures { IfOk result (λ r. answer_of r ≡ Some (moves.tests (expression.by_guards (expression_of guard.now ∷ []) false) arm, residual_of_left left)) }
+    ensures { IfOk result (λ r.
+        answer_of r
+        ≡ Some (moves.tests (expression.by_guards (expression_of guard.now ∷ []) false) arm, residual_of_left left)) }
 {
     let decision = one_guard(alloc, guard)?;
     moved(alloc, Move::Tests(decision, arm), left)
@@ -359,7 +378,10 @@ pub(crate) fn test(
     decision: &Decision,
     arms: &Items<Shared<Left>>,
 ) -> Result<Option<Moved>, AllocError>
-    ensures { IfOk result (λ r. answer_of r ≡ if_act 0 place.now (model.after_test (decision_of decision.now) (arms_of (map residual_of_left arms.now) None) ask)) }
+    ensures { IfOk result (λ r.
+        answer_of r
+        ≡ if_act 0 place.now
+        (model.after_test (decision_of decision.now) (arms_of (map residual_of_left arms.now) None) ask)) }
 {
     if !is_act(place, 0) {
         return Ok(None);
@@ -384,7 +406,8 @@ fn tested(
     arm: Option<u32>,
     left: Shared<Left>,
 ) -> Result<Option<Moved>, AllocError>
-    ensures { IfOk result (λ r. answer_of r ≡ Some (moves.tests (decision_of decision.now) arm, residual_of_left left)) }
+    ensures { IfOk result (λ r.
+        answer_of r ≡ Some (moves.tests (decision_of decision.now) arm, residual_of_left left)) }
 {
     let decision = decision.copy(alloc)?;
     moved(alloc, Move::Tests(decision, arm), left)
@@ -396,7 +419,9 @@ fn in_tested_arm(
     arms: &Items<Shared<Left>>,
     arm: u32,
 ) -> Result<Shared<Left>, AllocError>
-    ensures { IfOk result (λ made. residual_of_left made ≡ residual.within 1 (residual.arm_at (arms_of (map residual_of_left arms.now) None) arm) residual.done) }
+    ensures { IfOk result (λ made.
+        residual_of_left made
+        ≡ residual.within 1 (residual.arm_at (arms_of (map residual_of_left arms.now) None) arm) residual.done) }
 {
     let done = Left::done(alloc)?;
     let body = arm_at(alloc, arms, arm)?;
@@ -405,7 +430,8 @@ fn in_tested_arm(
 
 /// The arm of this number; nothing past the last.
 fn arm_at(alloc: Global, arms: &Items<Shared<Left>>, arm: u32) -> Result<Shared<Left>, AllocError>
-    ensures { IfOk result (λ made. residual_of_left made ≡ residual.arm_at (arms_of (map residual_of_left arms.now) None) arm) }
+    ensures { IfOk result (λ made.
+        residual_of_left made ≡ residual.arm_at (arms_of (map residual_of_left arms.now) None) arm) }
 {
     match arms.get(arm as usize) {
         Some(body) => body.clone(),
@@ -422,7 +448,9 @@ pub(crate) fn choose(
     channels: &[u32],
     arms: &Items<Shared<Left>>,
 ) -> Result<Option<Moved>, AllocError>
-    ensures { IfOk result (λ r. answer_of r ≡ if_act 0 place.now (model.after_choose channels.now (arms_of (map residual_of_left arms.now) None) ask)) }
+    ensures { IfOk result (λ r.
+        answer_of r
+        ≡ if_act 0 place.now (model.after_choose channels.now (arms_of (map residual_of_left arms.now) None) ask)) }
 {
     if !is_act(place, 0) {
         return Ok(None);
@@ -441,7 +469,9 @@ fn open(
     arm: u32,
     received: Option<Value>,
 ) -> Result<Option<Moved>, AllocError>
-    ensures { IfOk result (λ r. answer_of r ≡ model.after_open (slice_get channels.now arm) (arms_of (map residual_of_left arms.now) None) arm received) }
+    ensures { IfOk result (λ r.
+        answer_of r
+        ≡ model.after_open (slice_get channels.now arm) (arms_of (map residual_of_left arms.now) None) arm received) }
 {
     match channels.get(arm as usize) {
         None => Ok(None),
@@ -457,7 +487,8 @@ fn open_on(
     arm: u32,
     received: Option<Value>,
 ) -> Result<Option<Moved>, AllocError>
-    ensures { IfOk result (λ r. answer_of r ≡ model.after_open (Some channel) (arms_of (map residual_of_left arms.now) None) arm received) }
+    ensures { IfOk result (λ r.
+        answer_of r ≡ model.after_open (Some channel) (arms_of (map residual_of_left arms.now) None) arm received) }
 {
     let left = in_arm(alloc, channel, arms, arm, &received)?;
     moved(alloc, Move::Opens(channel, arm, received), left)
@@ -471,7 +502,11 @@ fn in_arm(
     arm: u32,
     received: &Option<Value>,
 ) -> Result<Shared<Left>, AllocError>
-    ensures { IfOk result (λ made. residual_of_left made ≡ residual.within 1 (residual.opened channel received.now (residual.arm_at (arms_of (map residual_of_left arms.now) None) arm)) (residual.closing channel)) }
+    ensures { IfOk result (λ made.
+        residual_of_left made
+        ≡ residual.within 1
+        (residual.opened channel received.now (residual.arm_at (arms_of (map residual_of_left arms.now) None) arm))
+        (residual.closing channel)) }
 {
     let body = arm_at(alloc, arms, arm)?;
     let body = opened(alloc, channel, received, body)?;
@@ -486,7 +521,8 @@ fn opened(
     received: &Option<Value>,
     body: Shared<Left>,
 ) -> Result<Shared<Left>, AllocError>
-    ensures { IfOk result (λ made. residual_of_left made ≡ residual.opened channel received.now (residual_of_left body)) }
+    ensures { IfOk result (λ made.
+        residual_of_left made ≡ residual.opened channel received.now (residual_of_left body)) }
 {
     match received {
         None => Ok(body),

@@ -11,8 +11,8 @@ use syntax::{Items, Shared};
 use system::{Decision, Expression};
 use value::{Value, Width};
 
-/// What is still to do at a place: a tree without its finished parts, with a copy of every expression in it. Trees share
-/// their parts.
+/// What is still to do at a place: a tree without its finished parts, with a copy of every expression in it. Trees
+/// share their parts.
 pub(crate) enum Left {
     Done,
     Halted,
@@ -78,7 +78,8 @@ impl Left {
         decision: Decision,
         arms: Items<Shared<Left>>,
     ) -> Result<Shared<Left>, AllocError>
-        ensures { IfOk result (λ made. residual_of_left made ≡ model.test (decision_of decision) (arms_of (map residual_of_left arms) None)) }
+        ensures { IfOk result (λ made.
+            residual_of_left made ≡ model.test (decision_of decision) (arms_of (map residual_of_left arms) None)) }
     {
         let arms = Shared::new(alloc, arms)?;
         Shared::new(alloc, Left::Test(decision, arms))
@@ -127,7 +128,8 @@ pub(crate) fn with_received(
     channel: u32,
     value: Value,
 ) -> Result<Shared<Left>, AllocError>
-    ensures { IfOk result (λ made. residual_of_left made ≡ model.put_residual channel value (residual_of_left left.now)) }
+    ensures { IfOk result (λ made.
+        residual_of_left made ≡ model.put_residual channel value (residual_of_left left.now)) }
 {
     let mut passed = Items::new(alloc);
     let mut left = left;
@@ -159,7 +161,8 @@ fn last_with_received(
     value: Value,
 ) -> Result<Shared<Left>, AllocError>
     requires { IsFalse (goes_on (residual_of_left left.now)) }
-    ensures { IfOk result (λ made. residual_of_left made ≡ model.put_residual channel value (residual_of_left left.now)) }
+    ensures { IfOk result (λ made.
+        residual_of_left made ≡ model.put_residual channel value (residual_of_left left.now)) }
 {
     match left {
         Left::Inside(_, _, _) => unreachable!(),
@@ -203,7 +206,8 @@ fn assign_received(
     channel: u32,
     value: Value,
 ) -> Result<Shared<Left>, AllocError>
-    ensures { IfOk result (λ made. residual_of_left made ≡ model.assign variable width (put_value channel value (expression_of written.now))) }
+    ensures { IfOk result (λ made.
+        residual_of_left made ≡ model.assign variable width (put_value channel value (expression_of written.now))) }
 {
     let written = written.with_received(alloc, channel, value)?;
     Shared::new(alloc, Left::Assign(variable, width, written))
@@ -218,7 +222,8 @@ fn send_received(
     channel: u32,
     value: Value,
 ) -> Result<Shared<Left>, AllocError>
-    ensures { IfOk result (λ made. residual_of_left made ≡ model.send on width (put_value channel value (expression_of sent.now))) }
+    ensures { IfOk result (λ made.
+        residual_of_left made ≡ model.send on width (put_value channel value (expression_of sent.now))) }
 {
     let sent = sent.with_received(alloc, channel, value)?;
     Shared::new(alloc, Left::Send(on, width, sent))
@@ -233,7 +238,9 @@ fn while_received(
     channel: u32,
     value: Value,
 ) -> Result<Shared<Left>, AllocError>
-    ensures { IfOk result (λ made. residual_of_left made ≡ model.while turn (put_value channel value (expression_of guard.now)) (residual_of_left body)) }
+    ensures { IfOk result (λ made.
+        residual_of_left made
+        ≡ model.while turn (put_value channel value (expression_of guard.now)) (residual_of_left body)) }
 {
     let guard = guard.with_received(alloc, channel, value)?;
     Shared::new(alloc, Left::While(turn, guard, body))
@@ -247,7 +254,10 @@ fn test_received(
     channel: u32,
     value: Value,
 ) -> Result<Shared<Left>, AllocError>
-    ensures { IfOk result (λ made. residual_of_left made ≡ model.test (put_decision channel value (decision_of decision.now)) (arms_of (map residual_of_left arms) None)) }
+    ensures { IfOk result (λ made.
+        residual_of_left made
+        ≡ model.test (put_decision channel value (decision_of decision.now))
+        (arms_of (map residual_of_left arms) None)) }
 {
     let decision = decision.with_received(alloc, channel, value)?;
     Shared::new(alloc, Left::Test(decision, arms))
@@ -259,7 +269,8 @@ fn choose_again(
     channels: &[u32],
     arms: Shared<Items<Shared<Left>>>,
 ) -> Result<Shared<Left>, AllocError>
-    ensures { IfOk result (λ made. residual_of_left made ≡ model.choose channels.now (arms_of (map residual_of_left arms) None)) }
+    ensures { IfOk result (λ made.
+        residual_of_left made ≡ model.choose channels.now (arms_of (map residual_of_left arms) None)) }
 {
     let channels = Vec::from_slice(alloc, channels)?;
     Shared::new(alloc, Left::Choose(Items::from_vec(channels), arms))
@@ -273,7 +284,9 @@ fn all_with_received(
     channel: u32,
     value: Value,
 ) -> Result<Shared<Items<Shared<Left>>>, AllocError>
-    ensures { IfOk result (λ made. arms_of (map residual_of_left made) None ≡ model.put_arms channel value (arms_of (map residual_of_left arms.now) None)) }
+    ensures { IfOk result (λ made.
+        arms_of (map residual_of_left made) None
+        ≡ model.put_arms channel value (arms_of (map residual_of_left arms.now) None)) }
 {
     let mut copies = Items::with_capacity(alloc, arms.len())?;
     for arm in arms {
@@ -317,7 +330,8 @@ pub(crate) fn within(
     child: Shared<Left>,
     next: Shared<Left>,
 ) -> Result<Shared<Left>, AllocError>
-    ensures { IfOk result (λ made. residual_of_left made ≡ model.within number (residual_of_left child) (residual_of_left next)) }
+    ensures { IfOk result (λ made.
+        residual_of_left made ≡ model.within number (residual_of_left child) (residual_of_left next)) }
 {
     if child.get().is_done() {
         Ok(next)
@@ -334,7 +348,8 @@ pub(crate) fn along(
     child: Shared<Left>,
     rest: Shared<Left>,
 ) -> Result<Shared<Left>, AllocError>
-    ensures { IfOk result (λ made. residual_of_left made ≡ model.along number (residual_of_left child) (residual_of_left rest)) }
+    ensures { IfOk result (λ made.
+        residual_of_left made ≡ model.along number (residual_of_left child) (residual_of_left rest)) }
 {
     if child.get().is_done() {
         Ok(rest)

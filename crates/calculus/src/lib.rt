@@ -1,6 +1,6 @@
-//! The slow replay, which runs a list of events step by step and is the run; and whether two lists of events are one run: the
-//! same events, taken in orders that differ only where nothing depends on it. What a run is stands in crate `runs`, all of
-//! which is handed on here.
+//! The slow replay, which runs a list of events step by step and is the run; and whether two lists of events are one
+//! run: the same events, taken in orders that differ only where nothing depends on it. What a run is stands in crate
+//! `runs`, all of which is handed on here.
 #![tactic(auto)]
 
 mod alike;

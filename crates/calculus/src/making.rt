@@ -55,7 +55,8 @@ fn assigned(
     width: Width,
     value: &Expression,
 ) -> Result<Option<Event>, AllocError>
-    ensures { IfOk result (λ r. r ≡ model.made_alone values.now place.now (moves.assigns variable width (expression_of value.now))) }
+    ensures { IfOk result (λ r.
+        r ≡ model.made_alone values.now place.now (moves.assigns variable width (expression_of value.now))) }
 {
     let read = value.variables(alloc)?;
     let value = sent(values, width, value);
@@ -70,7 +71,8 @@ fn tested(
     decision: &Decision,
     arm: Option<u32>,
 ) -> Result<Option<Event>, AllocError>
-    ensures { IfOk result (λ r. r ≡ model.made_alone values.now place.now (moves.tests (decision_of decision.now) arm)) }
+    ensures { IfOk result (λ r.
+        r ≡ model.made_alone values.now place.now (moves.tests (decision_of decision.now) arm)) }
 {
     if !same_arms(decision.decide(values), arm) {
         return Ok(None);
@@ -111,7 +113,8 @@ pub(crate) fn made_together(
     second: &Address,
     other: &Move,
 ) -> Result<Option<Event>, AllocError>
-    ensures { IfOk result (λ r. r ≡ model.made_together values.now first.now (move_of one.now) second.now (move_of other.now)) }
+    ensures { IfOk result (λ r.
+        r ≡ model.made_together values.now first.now (move_of one.now) second.now (move_of other.now)) }
 {
     match one {
         Move::Sends(channel, width, value, held) => {

@@ -13,9 +13,9 @@ use runs::Event;
 use sharing_check::Checked;
 use std::alloc::{AllocError, Global};
 
-/// The one state to which both lists lead, where both run, they have the same events, and any two of these that are on one
-/// shared variable, one of them writing it, stand in one order in both. Each list is then a respecting order of the other.
-/// Else `None`. It is an error if there is no memory.
+/// The one state to which both lists lead, where both run, they have the same events, and any two of these that are on
+/// one shared variable, one of them writing it, stand in one order in both. Each list is then a respecting order of the
+/// other. Else `None`. It is an error if there is no memory.
 ///
 /// It replays both lists, and compares them in a number of steps that grows as theirs, each by halves.
 pub fn same_run(
@@ -24,7 +24,11 @@ pub fn same_run(
     a: &[Event],
     b: &[Event],
 ) -> Result<Option<Plain>, AllocError>
-    ensures one { IfOk result (λ r. MatchOption r (OneRun system.now a.now b.now → ⊥) (λ p. OneRun system.now a.now b.now × Run (opening system.now) a.now (state_of p) × Run (opening system.now) b.now (state_of p))) }
+    ensures one { IfOk result (λ r.
+        MatchOption r
+        (OneRun system.now a.now b.now →
+        ⊥) (λ p. OneRun system.now a.now b.now × Run (opening system.now) a.now (state_of p)
+        × Run (opening system.now) b.now (state_of p))) }
     ensures orders { IfOk result (λ r. IfSome r (λ _. Respecting a.now b.now × Respecting b.now a.now)) }
     ensures dependents { IfOk result (λ r. IfSome r (λ _. (e f : any.Event) → Causes a.now e f ↔ Causes b.now e f)) }
 {

@@ -24,9 +24,13 @@ pub fn replay(
     events: &[Event],
 ) -> Result<Option<Plain>, AllocError>
     ensures computed { IfOk result (λ r. option_map state_of r ≡ run_of (opening system.now) events.now) }
-    ensures run { IfOk result (λ r. MatchOption r ((T : State) → Run (opening system.now) events.now T → ⊥) (λ p. Run (opening system.now) events.now (state_of p))) }
+    ensures run { IfOk result (λ r.
+        MatchOption r
+        ((T : State) → Run (opening system.now) events.now T →
+        ⊥) (λ p. Run (opening system.now) events.now (state_of p))) }
     // The system keeps the rule on sharing: what is related is ordered, and a choice means one event.
-    ensures ruled { IfOk result (λ r. IfSome r (λ p. RelatedInOrder system.now events.now × OneForEachChoice (state_of p))) }
+    ensures ruled { IfOk result (λ r.
+        IfSome r (λ p. RelatedInOrder system.now events.now × OneForEachChoice (state_of p))) }
 {
     system.shares_well();
     state_after(alloc, system.system(), events)
@@ -57,7 +61,10 @@ pub fn replay_live(
     live: &[(u64, Event)],
 ) -> Result<Option<Plain>, AllocError>
     ensures computed { IfOk result (λ r. option_map state_of r ≡ run_of (opening system.now) (events live.now)) }
-    ensures run { IfOk result (λ r. MatchOption r ((T : State) → Run (opening system.now) (events live.now) T → ⊥) (λ p. Run (opening system.now) (events live.now) (state_of p))) }
+    ensures run { IfOk result (λ r.
+        MatchOption r
+        ((T : State) → Run (opening system.now) (events live.now) T →
+        ⊥) (λ p. Run (opening system.now) (events live.now) (state_of p))) }
 {
     state_after_live(alloc, system.system(), live)
 }

@@ -26,7 +26,9 @@ pub(crate) fn opening(alloc: Global, system: &System) -> Result<Plain, AllocErro
 
 /// What the root's body is to do, and then what the environment is to do on each port.
 fn branches_of(alloc: Global, system: &System) -> Result<Items<Shared<Left>>, AllocError>
-    ensures { IfOk result (λ made. map residual_of_left made ≡ translation.residual_of system.now.main ∷ map translation.branch_of system.now.environment) }
+    ensures { IfOk result (λ made.
+        map residual_of_left made
+        ≡ translation.residual_of system.now.main ∷ map translation.branch_of system.now.environment) }
 {
     let mut lefts = Items::with_capacity(alloc, 1)?;
     lefts.push(left_of(alloc, &system.main)?)?;
@@ -42,7 +44,8 @@ fn add_branch(
     branch: &Branch,
     lefts: &mut Items<Shared<Left>>,
 ) -> Result<(), AllocError>
-    ensures { IfOk result (λ _. map residual_of_left lefts.new ≡ map residual_of_left lefts.old ++ translation.branch_of branch.now ∷ []) }
+    ensures { IfOk result (λ _.
+        map residual_of_left lefts.new ≡ map residual_of_left lefts.old ++ translation.branch_of branch.now ∷ []) }
 {
     lefts.push(branch_left(alloc, branch)?)
 }
@@ -79,7 +82,8 @@ fn sends_of(
     width: Width,
     values: &[Value],
 ) -> Result<Items<Shared<Left>>, AllocError>
-    ensures { IfOk result (λ made. map residual_of_left made ≡ map (λ v. residual.send channel width (constant v)) values.now) }
+    ensures { IfOk result (λ made.
+        map residual_of_left made ≡ map (λ v. residual.send channel width (constant v)) values.now) }
 {
     let mut sends = Items::with_capacity(alloc, values.len())?;
     for value in values {

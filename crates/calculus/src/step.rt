@@ -29,7 +29,11 @@ impl Plain {
     /// The state after the event. `None` where the event is not allowed.
     pub fn after(&self, alloc: Global, event: &Event) -> Result<Option<Plain>, AllocError>
         ensures computed { IfOk result (λ r. option_map state_of r ≡ step_of (state_of self.now) event.now) }
-        ensures step { WellFormed (state_of self.now).residual → IfOk result (λ r. MatchOption r ((T : State) → Step (state_of self.now) event.now T → ⊥) (λ p. Step (state_of self.now) event.now (state_of p))) }
+        ensures step { WellFormed (state_of self.now).residual →
+            IfOk result (λ r.
+            MatchOption r
+            ((T : State) → Step (state_of self.now) event.now T →
+            ⊥) (λ p. Step (state_of self.now) event.now (state_of p))) }
     {
         step(alloc, self, event)
     }
@@ -75,7 +79,8 @@ fn together(
     first_ask: Ask,
     second_ask: Ask,
 ) -> Result<Option<Plain>, AllocError>
-    ensures { IfOk result (λ r. option_map state_of r ≡ sides.together (state_of state.now) event.now first_ask second_ask) }
+    ensures { IfOk result (λ r.
+        option_map state_of r ≡ sides.together (state_of state.now) event.now first_ask second_ask) }
 {
     match &event.second {
         Some(second) => together_at(alloc, state, event, first_ask, second_ask, second),
@@ -92,7 +97,8 @@ fn together_at(
     second_ask: Ask,
     second: &Address,
 ) -> Result<Option<Plain>, AllocError>
-    ensures { IfOk result (λ r. option_map state_of r ≡ sides.together_at (state_of state.now) event.now first_ask second_ask second.now) }
+    ensures { IfOk result (λ r.
+        option_map state_of r ≡ sides.together_at (state_of state.now) event.now first_ask second_ask second.now) }
 {
     match after(alloc, first_ask, state.left.get(), event.first.entries())? {
         Some(moved) => {
@@ -121,7 +127,13 @@ fn second_side(
     one: &Move,
     left: &Left,
 ) -> Result<Option<Plain>, AllocError>
-    ensures { IfOk result (λ r. option_map state_of r ≡ option_and_then (λ y. agreed (state_of state.now) event.now y.1 (cond (apart event.now.first second.now) (made_together (state_of state.now).store event.now.first (move_of one.now) second.now y.0) None)) (after.after ask (residual_of_left left.now) second.now)) }
+    ensures { IfOk result (λ r.
+        option_map state_of r
+        ≡ option_and_then (λ y.
+        agreed (state_of state.now) event.now y.1
+        (cond (apart event.now.first second.now)
+        (made_together (state_of state.now).store event.now.first (move_of one.now) second.now y.0) None))
+        (after.after ask (residual_of_left left.now) second.now)) }
 {
     match after(alloc, ask, left, second.entries())? {
         Some(moved) => {
@@ -149,7 +161,9 @@ pub(crate) fn made_apart(
     second: &Address,
     other: &Move,
 ) -> Result<Option<Event>, AllocError>
-    ensures { IfOk result (λ r. r ≡ cond (apart first.now second.now) (made_together values.now first.now (move_of one.now) second.now (move_of other.now)) None) }
+    ensures { IfOk result (λ r.
+        r ≡ cond (apart first.now second.now)
+        (made_together values.now first.now (move_of one.now) second.now (move_of other.now)) None) }
 {
     if are_apart(first.entries(), second.entries()) {
         made_together(alloc, values, first, one, second, other)
@@ -166,7 +180,8 @@ fn agreed(
     left: Shared<Left>,
     made: Option<Event>,
 ) -> Result<Option<Plain>, AllocError>
-    ensures { IfOk result (λ r. option_map state_of r ≡ agreed (state_of state.now) event.now (residual_of_left left) made) }
+    ensures { IfOk result (λ r.
+        option_map state_of r ≡ agreed (state_of state.now) event.now (residual_of_left left) made) }
 {
     match made {
         Some(made) => {
@@ -187,7 +202,10 @@ fn taken(
     event: &Event,
     left: Shared<Left>,
 ) -> Result<Option<Plain>, AllocError>
-    ensures { IfOk result (λ r. option_map state_of r ≡ Some (record { residual = residual_of_left left; store = store_after event.now (state_of state.now).store })) }
+    ensures { IfOk result (λ r.
+        option_map state_of r
+        ≡ Some
+        (record { residual = residual_of_left left; store = store_after event.now (state_of state.now).store })) }
 {
     let values = values_after(alloc, event, state.values.as_slice())?;
     Ok(Some(Plain { left, values }))

@@ -122,7 +122,9 @@ fn with_last(
     last: &Option<Command>,
     arms: Items<Shared<Left>>,
 ) -> Result<Items<Shared<Left>>, AllocError>
-    ensures { IfOk result (λ made. translation.arms_of (map residual_of_left made) None ≡ translation.arms_of (map residual_of_left arms) (option_map translation.residual_of last.now)) }
+    ensures { IfOk result (λ made.
+        translation.arms_of (map residual_of_left made) None
+        ≡ translation.arms_of (map residual_of_left arms) (option_map translation.residual_of last.now)) }
 {
     match last {
         Some(last) => {
@@ -141,7 +143,8 @@ fn assign_left(
     width: Width,
     value: &Expression,
 ) -> Result<Shared<Left>, AllocError>
-    ensures { IfOk result (λ made. residual_of_left made ≡ residual.assign variable width (translation.expression_of value.now)) }
+    ensures { IfOk result (λ made.
+        residual_of_left made ≡ residual.assign variable width (translation.expression_of value.now)) }
 {
     let value = value.copy(alloc)?;
     Shared::new(alloc, Left::Assign(variable, width, value))
@@ -154,7 +157,8 @@ fn send_left(
     width: Width,
     value: &Expression,
 ) -> Result<Shared<Left>, AllocError>
-    ensures { IfOk result (λ made. residual_of_left made ≡ residual.send channel width (translation.expression_of value.now)) }
+    ensures { IfOk result (λ made.
+        residual_of_left made ≡ residual.send channel width (translation.expression_of value.now)) }
 {
     let value = value.copy(alloc)?;
     Shared::new(alloc, Left::Send(channel, width, value))
@@ -166,7 +170,8 @@ fn while_left(
     guard: &Expression,
     body: Shared<Left>,
 ) -> Result<Shared<Left>, AllocError>
-    ensures { IfOk result (λ made. residual_of_left made ≡ residual.while 0 (translation.expression_of guard.now) (residual_of_left body)) }
+    ensures { IfOk result (λ made.
+        residual_of_left made ≡ residual.while 0 (translation.expression_of guard.now) (residual_of_left body)) }
 {
     let guard = guard.copy(alloc)?;
     Shared::new(alloc, Left::While(0, guard, body))
@@ -208,7 +213,10 @@ fn if_left(
     ends: bool,
     bodies: Items<Shared<Left>>,
 ) -> Result<Shared<Left>, AllocError>
-    ensures { IfOk result (λ made. residual_of_left made ≡ residual.test (expression.by_guards (map (λ a. a.guard) (map guarded_of arms.now)) ends) (translation.arms_of (map residual_of_left bodies) None)) }
+    ensures { IfOk result (λ made.
+        residual_of_left made
+        ≡ residual.test (expression.by_guards (map (λ a. a.guard) (map guarded_of arms.now)) ends)
+        (translation.arms_of (map residual_of_left bodies) None)) }
 {
     let guards = guards_of(alloc, arms)?;
     Left::test(alloc, Decision::Guards(guards, ends), bodies)
@@ -222,7 +230,12 @@ fn case_left(
     ends: bool,
     bodies: Items<Shared<Left>>,
 ) -> Result<Shared<Left>, AllocError>
-    ensures { IfOk result (λ made. residual_of_left made ≡ residual.test (expression.by_labels (translation.expression_of subject.now) (map (λ a. a.labels) (map labelled_of arms.now)) ends) (translation.arms_of (map residual_of_left bodies) None)) }
+    ensures { IfOk result (λ made.
+        residual_of_left made
+        ≡ residual.test
+        (expression.by_labels (translation.expression_of subject.now)
+        (map (λ a. a.labels) (map labelled_of arms.now)) ends)
+        (translation.arms_of (map residual_of_left bodies) None)) }
 {
     let decision = labels_of_case(alloc, subject, arms, ends)?;
     Left::test(alloc, decision, bodies)
@@ -235,7 +248,10 @@ fn labels_of_case(
     arms: &[Labelled],
     ends: bool,
 ) -> Result<Decision, AllocError>
-    ensures { IfOk result (λ made. decision_of made ≡ expression.by_labels (translation.expression_of subject.now) (map (λ a. a.labels) (map labelled_of arms.now)) ends) }
+    ensures { IfOk result (λ made.
+        decision_of made
+        ≡ expression.by_labels (translation.expression_of subject.now)
+        (map (λ a. a.labels) (map labelled_of arms.now)) ends) }
 {
     let labels = labels_of(alloc, arms)?;
     Ok(Decision::Labels(subject.copy(alloc)?, labels, ends))
@@ -243,7 +259,9 @@ fn labels_of_case(
 
 /// A command that waits for the channel to enclose it.
 fn input_left(alloc: Global, channel: u32, body: Shared<Left>) -> Result<Shared<Left>, AllocError>
-    ensures { IfOk result (λ made. residual_of_left made ≡ residual.choose (channel ∷ []) (residual.arm (residual_of_left body) residual.no_arms)) }
+    ensures { IfOk result (λ made.
+        residual_of_left made
+        ≡ residual.choose (channel ∷ []) (residual.arm (residual_of_left body) residual.no_arms)) }
 {
     let mut channels = Items::with_capacity(alloc, 1)?;
     channels.push(channel)?;
@@ -259,7 +277,10 @@ fn choose_left(
     arms: &[Arm],
     bodies: Items<Shared<Left>>,
 ) -> Result<Shared<Left>, AllocError>
-    ensures { IfOk result (λ made. residual_of_left made ≡ residual.choose (map (λ a. a.channel) (map arm_of arms.now)) (translation.arms_of (map residual_of_left bodies) None)) }
+    ensures { IfOk result (λ made.
+        residual_of_left made
+        ≡ residual.choose (map (λ a. a.channel) (map arm_of arms.now))
+        (translation.arms_of (map residual_of_left bodies) None)) }
 {
     let bodies = Shared::new(alloc, bodies)?;
     let channels = channels_of(alloc, arms)?;

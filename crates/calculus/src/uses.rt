@@ -25,7 +25,8 @@ impl Uses {
         }
     }
 
-    /// Whether all that used a variable of the event, where one of the two writes it, stand before this place of `count`.
+    /// Whether all that used a variable of the event, where one of the two writes it, stand before this place of
+    /// `count`.
     pub(crate) fn all_before(&self, event: &Event, place: u64, count: u64) -> bool
         requires { place ≤ count }
         ensures { IsTrue result ↔ AllBefore self.now event.now place count }
@@ -66,7 +67,8 @@ fn none_from(table: &UseTable, variables: &[u32], place: u64, count: u64) -> boo
 
 /// Puts a use of each of the variables at this place.
 fn put_all(table: &mut UseTable, variables: &[u32], place: u64) -> Result<(), AllocError>
-    ensures { IfOk result (λ _. (x t : ℕ) → last.Uses table.new x t ↔ (last.Uses table.old x t ⊎ (In x variables.now × (t ≡ place)))) }
+    ensures { IfOk result (λ _. (x t : ℕ) →
+        last.Uses table.new x t ↔ (last.Uses table.old x t ⊎ (In x variables.now × (t ≡ place)))) }
 {
     for variable in variables {
         table.put(*variable, place)?;

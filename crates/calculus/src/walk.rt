@@ -35,7 +35,9 @@ pub(crate) fn add_offers(
     place: &Address,
     found: &mut Items<Offer>,
 ) -> Result<(), AllocError>
-    ensures { IfOk result (λ _. map located_of found.new ≡ map located_of found.old ++ below place.now (model.offers values.now (residual_of_left left.now))) }
+    ensures { IfOk result (λ _.
+        map located_of found.new
+        ≡ map located_of found.old ++ below place.now (model.offers values.now (residual_of_left left.now))) }
 {
     let mut left = left;
     'passing: loop {
@@ -64,7 +66,9 @@ fn add_own(
     found: &mut Items<Offer>,
 ) -> Result<(), AllocError>
     requires { IsFalse (goes_on (residual_of_left left.now)) }
-    ensures { IfOk result (λ _. map located_of found.new ≡ map located_of found.old ++ below place.now (model.offers values.now (residual_of_left left.now))) }
+    ensures { IfOk result (λ _.
+        map located_of found.new
+        ≡ map located_of found.old ++ below place.now (model.offers values.now (residual_of_left left.now))) }
 {
     match left {
         Left::Inside(_, _, _) | Left::Beside(_, _, _) => unreachable!(),
@@ -108,7 +112,9 @@ fn add_act(
     by: Move,
     found: &mut Items<Offer>,
 ) -> Result<(), AllocError>
-    ensures { IfOk result (λ _. map located_of found.new ≡ map located_of found.old ++ at (place.now ++ Entry.Ordered act ∷ []) (move_of by) ∷ []) }
+    ensures { IfOk result (λ _.
+        map located_of found.new
+        ≡ map located_of found.old ++ at (place.now ++ Entry.Ordered act ∷ []) (move_of by) ∷ []) }
 {
     let inner = ordered(alloc, place, act)?;
     add(alloc, inner, by, found)
@@ -123,7 +129,9 @@ fn add_assign(
     value: &Expression,
     found: &mut Items<Offer>,
 ) -> Result<(), AllocError>
-    ensures { IfOk result (λ _. map located_of found.new ≡ map located_of found.old ++ at place.now (moves.assigns variable width (expression_of value.now)) ∷ []) }
+    ensures { IfOk result (λ _.
+        map located_of found.new
+        ≡ map located_of found.old ++ at place.now (moves.assigns variable width (expression_of value.now)) ∷ []) }
 {
     let here = place.copy(alloc)?;
     let value = value.copy(alloc)?;
@@ -139,7 +147,11 @@ fn add_sends(
     value: &Expression,
     found: &mut Items<Offer>,
 ) -> Result<(), AllocError>
-    ensures { IfOk result (λ _. map located_of found.new ≡ map located_of found.old ++ at (place.now ++ Entry.Ordered 0 ∷ []) (moves.sends channel width (expression_of value.now) false) ∷ at (place.now ++ Entry.Ordered 0 ∷ []) (moves.sends channel width (expression_of value.now) true) ∷ []) }
+    ensures { IfOk result (λ _.
+        map located_of found.new
+        ≡ map located_of found.old
+        ++ at (place.now ++ Entry.Ordered 0 ∷ []) (moves.sends channel width (expression_of value.now) false)
+        ∷ at (place.now ++ Entry.Ordered 0 ∷ []) (moves.sends channel width (expression_of value.now) true) ∷ []) }
 {
     add_send(alloc, place, channel, width, value, found, false)?;
     add_send(alloc, place, channel, width, value, found, true)
@@ -155,7 +167,10 @@ fn add_send(
     found: &mut Items<Offer>,
     held: bool,
 ) -> Result<(), AllocError>
-    ensures { IfOk result (λ _. map located_of found.new ≡ map located_of found.old ++ at (place.now ++ Entry.Ordered 0 ∷ []) (moves.sends channel width (expression_of value.now) held) ∷ []) }
+    ensures { IfOk result (λ _.
+        map located_of found.new
+        ≡ map located_of found.old
+        ++ at (place.now ++ Entry.Ordered 0 ∷ []) (moves.sends channel width (expression_of value.now) held) ∷ []) }
 {
     let value = value.copy(alloc)?;
     add_act(
@@ -175,7 +190,9 @@ fn add_receive(
     variable: u32,
     found: &mut Items<Offer>,
 ) -> Result<(), AllocError>
-    ensures { IfOk result (λ _. map located_of found.new ≡ map located_of found.old ++ at place.now (moves.receives channel (Some variable)) ∷ []) }
+    ensures { IfOk result (λ _.
+        map located_of found.new
+        ≡ map located_of found.old ++ at place.now (moves.receives channel (Some variable)) ∷ []) }
 {
     let here = place.copy(alloc)?;
     add(alloc, here, Move::Receives(channel, Some(variable)), found)
@@ -188,7 +205,10 @@ fn add_syncs(
     channel: u32,
     found: &mut Items<Offer>,
 ) -> Result<(), AllocError>
-    ensures { IfOk result (λ _. map located_of found.new ≡ map located_of found.old ++ at (place.now ++ Entry.Ordered 0 ∷ []) (moves.syncs channel false) ∷ at (place.now ++ Entry.Ordered 0 ∷ []) (moves.syncs channel true) ∷ []) }
+    ensures { IfOk result (λ _.
+        map located_of found.new
+        ≡ map located_of found.old ++ at (place.now ++ Entry.Ordered 0 ∷ []) (moves.syncs channel false)
+        ∷ at (place.now ++ Entry.Ordered 0 ∷ []) (moves.syncs channel true) ∷ []) }
 {
     add_act(alloc, place, 0, Move::Syncs(channel, false), found)?;
     add_act(alloc, place, 0, Move::Syncs(channel, true), found)
@@ -201,7 +221,9 @@ fn add_turn(
     turn: u64,
     found: &mut Items<Offer>,
 ) -> Result<(), AllocError>
-    ensures { IfOk result (λ _. map located_of found.new ≡ map located_of found.old ++ at (place.now ++ Entry.Ordered (2 * turn) ∷ []) moves.turns ∷ []) }
+    ensures { IfOk result (λ _.
+        map located_of found.new
+        ≡ map located_of found.old ++ at (place.now ++ Entry.Ordered (2 * turn) ∷ []) moves.turns ∷ []) }
 {
     let act = act_of_turn(turn)?;
     add_act(alloc, place, act, Move::Turns, found)
@@ -216,7 +238,12 @@ fn add_guard(
     guard: &Expression,
     found: &mut Items<Offer>,
 ) -> Result<(), AllocError>
-    ensures { IfOk result (λ _. map located_of found.new ≡ map located_of found.old ++ at (place.now ++ Entry.Ordered (2 * turn) ∷ []) (moves.tests (expression.by_guards (expression_of guard.now ∷ []) false) (expression.decide values.now (expression.by_guards (expression_of guard.now ∷ []) false))) ∷ []) }
+    ensures { IfOk result (λ _.
+        map located_of found.new
+        ≡ map located_of found.old
+        ++ at (place.now ++ Entry.Ordered (2 * turn) ∷ [])
+        (moves.tests (expression.by_guards (expression_of guard.now ∷ []) false)
+        (expression.decide values.now (expression.by_guards (expression_of guard.now ∷ []) false))) ∷ []) }
 {
     let act = act_of_turn(turn)?;
     let decision = one_guard(alloc, guard)?;
@@ -232,7 +259,11 @@ fn add_test(
     decision: Decision,
     found: &mut Items<Offer>,
 ) -> Result<(), AllocError>
-    ensures { IfOk result (λ _. map located_of found.new ≡ map located_of found.old ++ at (place.now ++ Entry.Ordered act ∷ []) (moves.tests (decision_of decision) (expression.decide values.now (decision_of decision))) ∷ []) }
+    ensures { IfOk result (λ _.
+        map located_of found.new
+        ≡ map located_of found.old
+        ++ at (place.now ++ Entry.Ordered act ∷ [])
+        (moves.tests (decision_of decision) (expression.decide values.now (decision_of decision))) ∷ []) }
 {
     let arm = match decision.decide(values) {
         Some(arm) => Some(small(arm)?),
@@ -248,7 +279,8 @@ fn add_opens(
     channels: &[u32],
     found: &mut Items<Offer>,
 ) -> Result<(), AllocError>
-    ensures { IfOk result (λ _. map located_of found.new ≡ map located_of found.old ++ below place.now (model.opens_from 0 channels.now)) }
+    ensures { IfOk result (λ _.
+        map located_of found.new ≡ map located_of found.old ++ below place.now (model.opens_from 0 channels.now)) }
 {
     for (arm, channel) in channels.iter().enumerate() {
         let arm = small(arm as u64)?;

@@ -29,4 +29,6 @@ on c (r ∷ rs) = cond (is_on c r.side) (r ∷ on c rs) (on c rs)
 
 -- a process that stems from a command which does not use channel e offers nothing on it
 abbrev pub OffersNothingUnused : Type 0
-OffersNothingUnused = (s : Store) (p : Proc) (env : Received) (c : Code) (e : ℕ) → StemsFrom p c → (In e (used c) → ⊥) → on e (sides_of_residual s (left env p)) ≡ []
+OffersNothingUnused =
+    (s : Store) (p : Proc) (env : Received) (c : Code) (e : ℕ) → StemsFrom p c → (In e (used c) → ⊥) →
+    on e (sides_of_residual s (left env p)) ≡ []

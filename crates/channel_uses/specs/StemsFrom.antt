@@ -25,8 +25,10 @@ abbrev mutual
   StemsFrom (skipped d cs) c = c ≡ decides d cs
   StemsFrom (took d cs j q) c = (c ≡ decides d cs) × StemsFrom q (code_at cs j)
   StemsFrom (unopened ds cs) c = c ≡ awaits ds cs
-  StemsFrom (entered ds cs e v q) c = (c ≡ awaits ds cs) × (j : ℕ) × (slice_get ds j ≡ Some e) × StemsFrom q (code_at cs j)
-  StemsFrom (closed ds cs e v q) c = (c ≡ awaits ds cs) × (j : ℕ) × (slice_get ds j ≡ Some e) × StemsFrom q (code_at cs j)
+  StemsFrom (entered ds cs e v q) c =
+      (c ≡ awaits ds cs) × (j : ℕ) × (slice_get ds j ≡ Some e) × StemsFrom q (code_at cs j)
+  StemsFrom (closed ds cs e v q) c =
+      (c ≡ awaits ds cs) × (j : ℕ) × (slice_get ds j ≡ Some e) × StemsFrom q (code_at cs j)
   StemsFrom (sequence ps) c = (cs : Codes) × (c ≡ in_turn cs) × AllStemFrom ps cs
   StemsFrom (parallel ps) c = (cs : Codes) × (c ≡ side_by_side cs) × AllStemFrom ps cs
   StemsFrom (drained e n) c = c ≡ drains e
@@ -43,8 +45,11 @@ StartedStems = (c : Code) → StemsFrom (started c) c
 
 -- a move keeps what a process stems from
 abbrev pub MovesKeepOrigin : Type 0
-MovesKeepOrigin = (p : Proc) (c : Code) (a : Place) (k : Ask) (x : Moved) → StemsFrom p c → advanced p a k ≡ Some x → StemsFrom x.0 c
+MovesKeepOrigin =
+    (p : Proc) (c : Code) (a : Place) (k : Ask) (x : Moved) → StemsFrom p c → advanced p a k ≡ Some x → StemsFrom x.0 c
 
 -- what stands for a run of a system stems from the command of the system
 abbrev pub RunsKeepOrigin : Type 0
-RunsKeepOrigin = (system : System) (h : List Event) (T : TreeAndStore) (records : Records) → StandFor system h T records → StemsFrom T.proc (system_code system)
+RunsKeepOrigin =
+    (system : System) (h : List Event) (T : TreeAndStore) (records : Records) → StandFor system h T records →
+    StemsFrom T.proc (system_code system)

@@ -95,7 +95,8 @@ fn phase_on(
     values: &[Value],
     around: &mut Around,
 ) -> Result<(), AllocError>
-    ensures { OnOk result (around.new ≡ finds channel values.now (model.sender (sender_view sender.now) (phase_view phase)) around.old) }
+    ensures { OnOk result (around.new
+        ≡ finds channel values.now (model.sender (sender_view sender.now) (phase_view phase)) around.old) }
 {
     match phase {
         Phase::Waiting => waiting_on(alloc, sender, channel, values, around),
@@ -115,7 +116,8 @@ fn loop_on(
     values: &[Value],
     around: &mut Around,
 ) -> Result<(), AllocError>
-    ensures { (g : Option model_expression.Expression) (c : model_code.Code) → LocatedProc table.now part.entry (turns_view turns.now g c) →
+    ensures { (g : Option model_expression.Expression) (c : model_code.Code) →
+        LocatedProc table.now part.entry (turns_view turns.now g c) →
         OnOk result (around.new ≡ finds channel values.now (turns_view turns.now g c) around.old) }
 {
     match turns {
@@ -141,7 +143,8 @@ fn turn_on(
     values: &[Value],
     around: &mut Around,
 ) -> Result<(), AllocError>
-    ensures { (g : Option model_expression.Expression) (c : model_code.Code) → LocatedProc table.now part.entry (turn_of over g c turn (proc_view body.now)) →
+    ensures { (g : Option model_expression.Expression) (c : model_code.Code) →
+        LocatedProc table.now part.entry (turn_of over g c turn (proc_view body.now)) →
         OnOk result (around.new ≡ finds channel values.now (turn_of over g c turn (proc_view body.now)) around.old) }
 {
     if over {
@@ -162,7 +165,8 @@ fn test_on(
     values: &[Value],
     around: &mut Around,
 ) -> Result<(), AllocError>
-    ensures { (d : model_expression.Decision) (cs : model_code.Codes) → LocatedProc table.now part.entry (tested_view tested.now d cs) →
+    ensures { (d : model_expression.Decision) (cs : model_code.Codes) →
+        LocatedProc table.now part.entry (tested_view tested.now d cs) →
         OnOk result (around.new ≡ finds channel values.now (tested_view tested.now d cs) around.old) }
 {
     match tested {
@@ -186,8 +190,12 @@ fn gate_on(
     values: &[Value],
     around: &mut Around,
 ) -> Result<(), AllocError>
-    ensures { LocatedProc table.now part.entry (gate_view gate.now (await_view waiting.now).0 (await_view waiting.now).1) →
-        OnOk result (around.new ≡ finds channel values.now (gate_view gate.now (await_view waiting.now).0 (await_view waiting.now).1) around.old) }
+    ensures { LocatedProc table.now part.entry
+        (gate_view gate.now (await_view waiting.now).0 (await_view waiting.now).1) →
+        OnOk result
+        (around.new
+        ≡ finds channel values.now
+        (gate_view gate.now (await_view waiting.now).0 (await_view waiting.now).1) around.old) }
 {
     let channels = waiting.channels.as_slice();
     match gate {
@@ -216,7 +224,8 @@ fn opened_on(
     around: &mut Around,
 ) -> Result<(), AllocError>
     ensures { (ds : List ℕ) (cs : model_code.Codes) → LocatedProc table.now part.entry (proc_view body.now) →
-        OnOk result (around.new ≡ finds channel values.now (opened_of over ds cs opened value (proc_view body.now)) around.old) }
+        OnOk result
+        (around.new ≡ finds channel values.now (opened_of over ds cs opened value (proc_view body.now)) around.old) }
 {
     if over {
         return Ok(());
@@ -241,7 +250,12 @@ fn body_on(
     around: &mut Around,
 ) -> Result<(), AllocError>
     ensures { LocatedProc table.now part.entry (proc_view body.now) →
-        OnOk result (around.new ≡ added (behind (IsOrdered 1) (on channel (listed values.now (with_value opened value around.old.received) (proc_view body.now)).sides)) around.old) }
+        OnOk result
+        (around.new
+        ≡ added
+        (behind (IsOrdered 1)
+        (on channel (listed values.now (with_value opened value around.old.received) (proc_view body.now)).sides))
+        around.old) }
 {
     around.receive(opened, value)?;
     child_on(alloc, body, part, 1, table, channel, values, around)?;
@@ -270,8 +284,8 @@ fn close_on(
     Ok(())
 }
 
-/// Lists what a sequence offers on the channel. Whether a child is finished is asked only where it offers nothing on the channel
-/// and a later one uses it.
+/// Lists what a sequence offers on the channel. Whether a child is finished is asked only where it offers nothing on
+/// the channel and a later one uses it.
 #[cycle(list_on)]
 fn sequence_on(
     alloc: Global,
@@ -284,7 +298,10 @@ fn sequence_on(
     around: &mut Around,
 ) -> Result<(), AllocError>
     ensures { LocatedProcs table.now part.entry (begun_of (map proc_view begun.now) (row_view row.now)) →
-        OnOk result (around.new ≡ finds channel values.now (model.sequence (begun_of (map proc_view begun.now) (row_view row.now))) around.old) }
+        OnOk result
+        (around.new
+        ≡ finds channel values.now
+        (model.sequence (begun_of (map proc_view begun.now) (row_view row.now))) around.old) }
 {
     let count = row.codes.len();
     let end = begun.len().min(count);
@@ -351,7 +368,8 @@ fn parallel_on(
     around: &mut Around,
 ) -> Result<(), AllocError>
     ensures { LocatedProcs table.now part.entry (procs_of (map proc_view procs.now)) →
-        OnOk result (around.new ≡ finds channel values.now (model.parallel (procs_of (map proc_view procs.now))) around.old) }
+        OnOk result
+        (around.new ≡ finds channel values.now (model.parallel (procs_of (map proc_view procs.now))) around.old) }
 {
     let mut number = 0;
     'branches: while let Some(next) = next_user(table, channel, part, number, procs.len()) {

@@ -19,8 +19,8 @@ use process_tree::Code;
 use std::alloc::{AllocError, Global};
 use value::Value;
 
-/// Lists what the command offers on the channel before its first move. Of a parallel only the branches are looked at that use
-/// the channel.
+/// Lists what the command offers on the channel before its first move. Of a parallel only the branches are looked at
+/// that use the channel.
 #[cycle(fresh_on)]
 pub(crate) fn fresh_on(
     alloc: Global,
@@ -63,7 +63,12 @@ fn fresh_side_by_side_on(
     around: &mut Around,
 ) -> Result<(), AllocError>
     ensures { LocatedRow table.now part.entry (row_of (map code_view codes.now)) →
-        OnOk result (around.new ≡ added (on channel (listed_parallel values.now around.old.received 0 (all_started (row_of (map code_view codes.now)))).sides) around.old) }
+        OnOk result
+        (around.new
+        ≡ added
+        (on channel
+        (listed_parallel values.now around.old.received 0 (all_started (row_of (map code_view codes.now)))).sides)
+        around.old) }
 {
     let mut number = 0;
     'branches: while let Some(next) = next_user(table, channel, part, number, codes.len()) {
@@ -96,7 +101,8 @@ fn fresh_branch_on(
     around: &mut Around,
 ) -> Result<(), AllocError>
     ensures { LocatedCode table.now part.entry (code_view code.now) →
-        OnOk result (around.new ≡ finds_at (IsBranch number) channel values.now (started (code_view code.now)) around.old) }
+        OnOk result
+        (around.new ≡ finds_at (IsBranch number) channel values.now (started (code_view code.now)) around.old) }
 {
     around.enter_branch(number)?;
     fresh_on(alloc, code, part, table, channel, values, around)?;
@@ -104,8 +110,8 @@ fn fresh_branch_on(
     Ok(())
 }
 
-/// Lists what the commands offer on the channel one after another, from the one of this number on: the first that has anything
-/// to do.
+/// Lists what the commands offer on the channel one after another, from the one of this number on: the first that has
+/// anything to do.
 #[cycle(fresh_on)]
 pub(crate) fn fresh_in_turn_on(
     alloc: Global,
@@ -118,7 +124,12 @@ pub(crate) fn fresh_in_turn_on(
     around: &mut Around,
 ) -> Result<(), AllocError>
     ensures { (cs : Codes) → LocatedRow table.now part.entry cs → AgreeFrom from cs (row_of (map code_view codes.now)) →
-        OnOk result (around.new ≡ added (on channel (listed_sequence values.now around.old.received from 0 (all_started (row_of (map code_view codes.now)))).sides) around.old) }
+        OnOk result
+        (around.new
+        ≡ added
+        (on channel
+        (listed_sequence values.now around.old.received from 0 (all_started (row_of (map code_view codes.now)))).sides)
+        around.old) }
 {
     let mut number = from;
     'children: while number < codes.len() {
@@ -154,7 +165,8 @@ fn fresh_child_on(
     around: &mut Around,
 ) -> Result<(), AllocError>
     ensures { LocatedCode table.now part.entry (code_view code.now) →
-        OnOk result (around.new ≡ finds_at (IsOrdered number) channel values.now (started (code_view code.now)) around.old) }
+        OnOk result
+        (around.new ≡ finds_at (IsOrdered number) channel values.now (started (code_view code.now)) around.old) }
 {
     around.enter_child(number)?;
     fresh_on(alloc, code, part, table, channel, values, around)?;

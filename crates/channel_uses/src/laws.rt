@@ -2,8 +2,8 @@
 ghost use Rattle.channel_uses.specs.OnChannel.{OffersNothingUnused};
 ghost use Rattle.channel_uses.specs.StemsFrom.{StartedStems, MovesKeepOrigin, RunsKeepOrigin};
 
-/// A command that has made no move stems from itself, and a move keeps what a process stems from. So what stands for a run of
-/// a system stems from the command of the system.
+/// A command that has made no move stems from itself, and a move keeps what a process stems from. So what stands for a
+/// run of a system stems from the command of the system.
 pub fn moves_keep_origin()
     ensures started { StartedStems }
     ensures moves { MovesKeepOrigin }

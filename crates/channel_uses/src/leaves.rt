@@ -25,7 +25,10 @@ pub(crate) fn once_on(
     values: &[Value],
     around: &mut Around,
 ) -> Result<(), AllocError>
-    ensures { OnOk result (around.new ≡ added (on channel (sides_of_residual values.now (residual_once (puts_once around.old.received (once_view once.now))))) around.old) }
+    ensures { OnOk result (around.new
+        ≡ added
+        (on channel (sides_of_residual values.now (residual_once (puts_once around.old.received (once_view once.now)))))
+        around.old) }
 {
     match once {
         Once::Receive(on, _) => {
@@ -46,7 +49,11 @@ pub(crate) fn waiting_on(
     values: &[Value],
     around: &mut Around,
 ) -> Result<(), AllocError>
-    ensures { OnOk result (around.new ≡ added (on channel (sides_of_residual values.now (residual_sender (puts_sender around.old.received (sender_view sender.now))))) around.old) }
+    ensures { OnOk result (around.new
+        ≡ added
+        (on channel
+        (sides_of_residual values.now (residual_sender (puts_sender around.old.received (sender_view sender.now)))))
+        around.old) }
 {
     if channel_of(sender) == channel {
         return list_sender(alloc, sender, values, around);
@@ -61,7 +68,9 @@ pub(crate) fn held_on(
     channel: u32,
     around: &mut Around,
 ) -> Result<(), AllocError>
-    ensures { OnOk result (around.new ≡ added (on channel (side_at (Ordered 1 ∷ []) (Releases (channel_of (sender_view sender.now))) ∷ [])) around.old) }
+    ensures { OnOk result (around.new
+        ≡ added
+        (on channel (side_at (Ordered 1 ∷ []) (Releases (channel_of (sender_view sender.now))) ∷ [])) around.old) }
 {
     if channel_of(sender) == channel {
         return list_held(alloc, sender, around);
@@ -77,7 +86,8 @@ pub(crate) fn drain_on(
     channel: u32,
     around: &mut Around,
 ) -> Result<(), AllocError>
-    ensures { (s : model.Store) → OnOk result (around.new ≡ added (on channel (sides_of_residual s (drain port count))) around.old) }
+    ensures { (s : model.Store) →
+        OnOk result (around.new ≡ added (on channel (sides_of_residual s (drain port count))) around.old) }
 {
     if port == channel {
         return list_drain(alloc, port, count, around);

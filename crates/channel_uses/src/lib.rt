@@ -1,4 +1,5 @@
-//! Which commands of a system use which channel, so that what a tree offers on a channel is found without a look at what does not use it.
+//! Which commands of a system use which channel, so that what a tree offers on a channel is found without a look at
+//! what does not use it.
 #![tactic(auto)]
 
 mod at_work;

@@ -11,7 +11,8 @@ use last_events::UseTable;
 
 /// The part of the child of this number, where it is known.
 pub(crate) fn part_at(part: Option<&Part>, child: usize) -> Option<&Part>
-    ensures { (table : UseTable) (cs : Codes) → LocatedRow table part.entry cs → LocatedCode table result (code_at cs child) }
+    ensures { (table : UseTable) (cs : Codes) → LocatedRow table part.entry cs →
+        LocatedCode table result (code_at cs child) }
 {
     match part {
         None => None,
@@ -19,7 +20,8 @@ pub(crate) fn part_at(part: Option<&Part>, child: usize) -> Option<&Part>
     }
 }
 
-/// The number of the next of so many children, from this one on, that uses the channel, or may use it where the part is not known.
+/// The number of the next of so many children, from this one on, that uses the channel, or may use it where the part is
+/// not known.
 pub(crate) fn next_user(
     table: &UseTable,
     channel: u32,
@@ -28,7 +30,8 @@ pub(crate) fn next_user(
     count: usize,
 ) -> Option<usize>
     ensures within { IfSome result (λ k. (child ≤ k) × (k < count)) }
-    ensures unused { (cs : Codes) → LocatedRow table.now part.entry cs → MatchOption result (UnusedBetween channel cs child count) (λ k. UnusedBetween channel cs child k) }
+    ensures unused { (cs : Codes) → LocatedRow table.now part.entry cs →
+        MatchOption result (UnusedBetween channel cs child count) (λ k. UnusedBetween channel cs child k) }
 {
     let next = match part {
         None => child,
@@ -55,7 +58,8 @@ pub(crate) fn none_later(
 
 /// The part of the child of this number, if it is the only one and the part is known.
 pub(crate) fn part_of_only(part: Option<&Part>, only: Option<usize>) -> Option<&Part>
-    ensures { (table : UseTable) (cs : Codes) (j : ℕ) → LocatedRow table part.entry cs → IfSome only (λ k. j ≡ k) → LocatedCode table result (code_at cs j) }
+    ensures { (table : UseTable) (cs : Codes) (j : ℕ) → LocatedRow table part.entry cs → IfSome only (λ k. j ≡ k) →
+        LocatedCode table result (code_at cs j) }
 {
     match only {
         Some(child) => part_at(part, child),
@@ -77,7 +81,8 @@ pub(crate) fn only_arm(channels: &[u32], channel: u32) -> Option<usize>
 /// The number of the first arm, from this one on, that waits on the channel.
 fn arm_from(channels: &[u32], from: usize, channel: u32) -> Option<usize>
     ensures within { IfSome result (λ k. k < length channels.now) }
-    ensures first { MatchOption result (NoneBetween channel channels.now from (length channels.now)) (λ k. NoneBetween channel channels.now from k) }
+    ensures first { MatchOption result (NoneBetween channel channels.now from (length channels.now)) (λ k.
+        NoneBetween channel channels.now from k) }
 {
     let mut arm = from;
     'arms: while arm < channels.len() {

@@ -10,7 +10,8 @@ use process_tree::{Code, Once, Sender};
 use std::alloc::{AllocError, Global};
 use syntax::Items;
 
-/// Which uses are those of a command: from the number of the first to that behind the last. A loop has the part of its body.
+/// Which uses are those of a command: from the number of the first to that behind the last. A loop has the part of its
+/// body.
 #[cycle(part)]
 #[derive(Drop)]
 pub struct Part {
@@ -50,7 +51,8 @@ fn part_of_row(
     codes: &[Code],
     uses: &mut Vec<u32>,
 ) -> Result<Part, AllocError>
-    ensures { IfOk result (λ part. NumberedRow (row_of (map code_view codes.now)) first uses.old.items uses.new.items part) }
+    ensures { IfOk result (λ part.
+        NumberedRow (row_of (map code_view codes.now)) first uses.old.items uses.new.items part) }
 {
     let mut parts = Items::with_capacity(alloc, codes.len())?;
     for code in codes {

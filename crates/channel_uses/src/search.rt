@@ -22,7 +22,8 @@ pub(crate) fn table_of(alloc: Global, channels: &[u32]) -> Result<UseTable, Allo
 
 /// The number of the first use of the channel, from one number on and less than another.
 fn first_use(table: &UseTable, channel: u32, from: usize, below: usize) -> Option<u64>
-    ensures { MatchOption result ((u : ℕ) → Uses table.now channel u → from ≤ u → u < below → ⊥) (FirstUse table.now channel from below) }
+    ensures { MatchOption result ((u : ℕ) → Uses table.now channel u → from ≤ u → u < below →
+        ⊥) (FirstUse table.now channel from below) }
 {
     if from > below {
         return None;
@@ -45,9 +46,11 @@ fn ended_before(parts: &[Part], found: u64) -> usize
 /// The number of the next child, from this one on, that uses the channel. It is found by two searches, by halves.
 pub(crate) fn next_child(table: &UseTable, channel: u32, part: &Part, child: usize) -> Option<usize>
     ensures later { IfSome result (λ k. child ≤ k) }
-    ensures unused { (cs : Codes) (n : ℕ) → InTable table.now n (all_used cs) → AreParts cs n (parts_of part.now) → end_of part.now ≡ n + length (all_used cs) →
+    ensures unused { (cs : Codes) (n : ℕ) → InTable table.now n (all_used cs) → AreParts cs n (parts_of part.now) →
+        end_of part.now ≡ n + length (all_used cs) →
         MatchOption result (UnusedFrom channel cs child) (λ k. UnusedBetween channel cs child k) }
-    ensures used { (cs : Codes) (n : ℕ) → AreParts cs n (parts_of part.now) → end_of part.now ≡ n + length (all_used cs) →
+    ensures used { (cs : Codes) (n : ℕ) → AreParts cs n (parts_of part.now) →
+        end_of part.now ≡ n + length (all_used cs) →
         IfSome result (λ k. UsedIn table.now channel (parts_of part.now) k) }
 {
     let from = part.parts.get(child)?.first;

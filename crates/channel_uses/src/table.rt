@@ -25,8 +25,8 @@ use store::Store;
 use syntax::Items;
 use value::Value;
 
-/// Which commands use which channel: for each channel the numbers of its uses in order, and for each command between which
-/// numbers its uses are.
+/// Which commands use which channel: for each channel the numbers of its uses in order, and for each command between
+/// which numbers its uses are.
 #[derive(Drop)]
 pub struct ChannelUses {
     table: UseTable,
@@ -62,9 +62,9 @@ impl ChannelUses {
         fresh_on(alloc, code, part, &self.table, channel, values, around)
     }
 
-    /// Exactly the sides that the tree offers on the channel over the values of the store, where the tree stems from the command
-    /// whose table this is, and is tidy, as each is that stands for a run. Of a parallel only the branches are looked at that
-    /// use the channel. It is an error if there is no memory.
+    /// Exactly the sides that the tree offers on the channel over the values of the store, where the tree stems from
+    /// the command whose table this is, and is tidy, as each is that stands for a run. Of a parallel only the branches
+    /// are looked at that use the channel. It is an error if there is no memory.
     pub fn sides_on(
         &self,
         alloc: Global,
@@ -72,8 +72,10 @@ impl ChannelUses {
         store: &Store,
         channel: u32,
     ) -> Result<Items<OfferedSide>, AllocError>
-        ensures { (code : model.Code) → IsTableOf code self.now → StemsFrom (tree_view tree.now) code → Tidy (tree_view tree.now) →
-            IfOk result (λ sides. (x : any.OfferedSide) → In x sides ↔ (Offered (state_of tree.now store.now) x × (is_on channel x.side ≡ true))) }
+        ensures { (code : model.Code) → IsTableOf code self.now → StemsFrom (tree_view tree.now) code →
+            Tidy (tree_view tree.now) →
+            IfOk result (λ sides. (x : any.OfferedSide) →
+            In x sides ↔ (Offered (state_of tree.now store.now) x × (is_on channel x.side ≡ true))) }
     {
         let mut around = Around::new(alloc);
         let part = Some(&self.whole);

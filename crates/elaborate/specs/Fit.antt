@@ -39,7 +39,8 @@ port_takes (Some kind) given = kind_takes kind given
 
 -- the entry names a port that takes what it gives, and no entry before is for that port
 abbrev pub entry_fits : List Port → List Entry → Entry → Bool
-entry_fits ports before entry = port_takes (kind_named ports entry.name) entry.given && not (is_some (entry_named before entry.name))
+entry_fits ports before entry =
+    port_takes (kind_named ports entry.name) entry.given && not (is_some (entry_named before entry.name))
 
 -- the line of the first entry that does not fit, behind the entries before
 abbrev pub first_misfit : List Port → List Entry → List Entry → Option ℕ

@@ -24,7 +24,8 @@ fn command_of(
     earlier: &[Procedure],
     made: &mut Made,
 ) -> Result<Command, AllocError>
-    ensures tree { IfOk result (λ tree. tree ≡ (body.maker_of (body.makers earlier.now) command.now instance.now made.old).0) }
+    ensures tree { IfOk result (λ tree.
+        tree ≡ (body.maker_of (body.makers earlier.now) command.now instance.now made.old).0) }
     ensures made { OnOk result (made.new ≡ (body.maker_of (body.makers earlier.now) command.now instance.now made.old).1) }
 {
     let line = command.line;
@@ -98,8 +99,11 @@ fn commands_of(
     earlier: &[Procedure],
     made: &mut Made,
 ) -> Result<Items<Command>, AllocError>
-    ensures tree { IfOk result (λ tree. tree ≡ (body.all_onto [] (map (body.maker_of (body.makers earlier.now)) commands.now) instance.now made.old).0) }
-    ensures made { OnOk result (made.new ≡ (body.all_onto [] (map (body.maker_of (body.makers earlier.now)) commands.now) instance.now made.old).1) }
+    ensures tree { IfOk result (λ tree.
+        tree
+        ≡ (body.all_onto [] (map (body.maker_of (body.makers earlier.now)) commands.now) instance.now made.old).0) }
+    ensures made { OnOk result (made.new
+        ≡ (body.all_onto [] (map (body.maker_of (body.makers earlier.now)) commands.now) instance.now made.old).1) }
 {
     let mut children = Items::with_capacity(alloc, commands.len())?;
     for command in commands {
@@ -117,8 +121,10 @@ fn guarded_of(
     earlier: &[Procedure],
     made: &mut Made,
 ) -> Result<Items<Guarded>, AllocError>
-    ensures tree { IfOk result (λ tree. tree ≡ (body.all_onto [] (map (maker_of_guarded (body.makers earlier.now)) arms.now) instance.now made.old).0) }
-    ensures made { OnOk result (made.new ≡ (body.all_onto [] (map (maker_of_guarded (body.makers earlier.now)) arms.now) instance.now made.old).1) }
+    ensures tree { IfOk result (λ tree.
+        tree ≡ (body.all_onto [] (map (maker_of_guarded (body.makers earlier.now)) arms.now) instance.now made.old).0) }
+    ensures made { OnOk result (made.new
+        ≡ (body.all_onto [] (map (maker_of_guarded (body.makers earlier.now)) arms.now) instance.now made.old).1) }
 {
     let mut children = Items::with_capacity(alloc, arms.len())?;
     for arm in arms {
@@ -138,8 +144,11 @@ fn labelled_of(
     earlier: &[Procedure],
     made: &mut Made,
 ) -> Result<Items<Labelled>, AllocError>
-    ensures tree { IfOk result (λ tree. tree ≡ (body.all_onto [] (map (maker_of_labelled (body.makers earlier.now)) arms.now) instance.now made.old).0) }
-    ensures made { OnOk result (made.new ≡ (body.all_onto [] (map (maker_of_labelled (body.makers earlier.now)) arms.now) instance.now made.old).1) }
+    ensures tree { IfOk result (λ tree.
+        tree
+        ≡ (body.all_onto [] (map (maker_of_labelled (body.makers earlier.now)) arms.now) instance.now made.old).0) }
+    ensures made { OnOk result (made.new
+        ≡ (body.all_onto [] (map (maker_of_labelled (body.makers earlier.now)) arms.now) instance.now made.old).1) }
 {
     let mut children = Items::with_capacity(alloc, arms.len())?;
     for arm in arms {
@@ -159,8 +168,10 @@ fn arms_of(
     earlier: &[Procedure],
     made: &mut Made,
 ) -> Result<Items<Arm>, AllocError>
-    ensures tree { IfOk result (λ tree. tree ≡ (body.all_onto [] (map (maker_of_arm (body.makers earlier.now)) arms.now) instance.now made.old).0) }
-    ensures made { OnOk result (made.new ≡ (body.all_onto [] (map (maker_of_arm (body.makers earlier.now)) arms.now) instance.now made.old).1) }
+    ensures tree { IfOk result (λ tree.
+        tree ≡ (body.all_onto [] (map (maker_of_arm (body.makers earlier.now)) arms.now) instance.now made.old).0) }
+    ensures made { OnOk result (made.new
+        ≡ (body.all_onto [] (map (maker_of_arm (body.makers earlier.now)) arms.now) instance.now made.old).1) }
 {
     let mut children = Items::with_capacity(alloc, arms.len())?;
     for arm in arms {
@@ -180,8 +191,10 @@ fn last_of(
     earlier: &[Procedure],
     made: &mut Made,
 ) -> Result<Option<Command>, AllocError>
-    ensures tree { IfOk result (λ tree. tree ≡ (body.last_of (option_map (body.maker_of (body.makers earlier.now)) last.now) instance.now made.old).0) }
-    ensures made { OnOk result (made.new ≡ (body.last_of (option_map (body.maker_of (body.makers earlier.now)) last.now) instance.now made.old).1) }
+    ensures tree { IfOk result (λ tree.
+        tree ≡ (body.last_of (option_map (body.maker_of (body.makers earlier.now)) last.now) instance.now made.old).0) }
+    ensures made { OnOk result (made.new
+        ≡ (body.last_of (option_map (body.maker_of (body.makers earlier.now)) last.now) instance.now made.old).1) }
 {
     match last {
         Some(body) => Ok(Some(command_of(alloc, body, instance, earlier, made)?)),
@@ -199,8 +212,10 @@ pub fn called_body(
     earlier: &[Procedure],
     made: &mut Made,
 ) -> Result<Command, AllocError>
-    ensures tree { IfOk result (λ tree. tree ≡ (body.after_call 0 (body.called (body.makers earlier.now) procedure entrance made.old)).0) }
-    ensures made { OnOk result (made.new ≡ (body.after_call 0 (body.called (body.makers earlier.now) procedure entrance made.old)).1) }
+    ensures tree { IfOk result (λ tree.
+        tree ≡ (body.after_call 0 (body.called (body.makers earlier.now) procedure entrance made.old)).0) }
+    ensures made { OnOk result (made.new
+        ≡ (body.after_call 0 (body.called (body.makers earlier.now) procedure entrance made.old)).1) }
 {
     let mut earlier = earlier;
     let mut called = procedure;

@@ -215,8 +215,8 @@ fn last_of(sizes: &[Size]) -> Size
     }
 }
 
-/// The size of the last procedure, with the branches of the environment for its ports and the values that they send. Each
-/// number is cut above its limit.
+/// The size of the last procedure, with the branches of the environment for its ports and the values that they send.
+/// Each number is cut above its limit.
 fn size_of_system(
     alloc: Global,
     procedures: &[Procedure],
@@ -238,7 +238,8 @@ pub fn is_small(
     ports: usize,
     values: usize,
 ) -> Result<bool, AllocError>
-    ensures { IfOk result (λ small. IsTrue small ↔ IsSmall (model.system_size model.whole procedures.now ports values)) }
+    ensures { IfOk result (λ small. IsTrue small
+        ↔ IsSmall (model.system_size model.whole procedures.now ports values)) }
 {
     let size = size_of_system(alloc, procedures, ports, values)?;
     Ok(within_limits(size))

@@ -37,7 +37,8 @@ fn branch_of(
     port: &Port,
     entries: &NamedEntries<'_>,
 ) -> Result<Branch, AllocError>
-    ensures { IfOk result (λ made. made ≡ environment.branch_on (capped_number place) port.now.kind (fit.entry_named entries.now port.now.name)) }
+    ensures { IfOk result (λ made.
+        made ≡ environment.branch_on (capped_number place) port.now.kind (fit.entry_named entries.now port.now.name)) }
 {
     let channel = capped_number(place);
     let entry = entries.find(port.name.text());
@@ -53,7 +54,8 @@ fn branch_of(
 
 /// The values that the entry gives, at the width.
 fn values_of(alloc: Global, width: Width, entry: Option<&Entry>) -> Result<Items<Value>, AllocError>
-    ensures { IfOk result (λ made. made ≡ environment.at_width width (environment.values_of (option_copied entry.entry))) }
+    ensures { IfOk result (λ made.
+        made ≡ environment.at_width width (environment.values_of (option_copied entry.entry))) }
 {
     match entry {
         Some(entry) => given_values(alloc, width, &entry.given),

@@ -1,4 +1,5 @@
-// Commands made of their parts. Each is a function of its own, so that the recursion that calls them takes little stack.
+// Commands made of their parts. Each is a function of its own, so that the recursion that calls them takes little
+// stack.
 ghost use Rattle.std.specs.Prelude.{◌≡◌, IfOk};
 
 use crate::instance::Instance;
@@ -97,7 +98,8 @@ impl Instance {
         guard: &typed::Expression,
         body: Command,
     ) -> Result<Command, AllocError>
-        ensures { IfOk result (λ made. made ≡ record { line = line; action = Action.While (instances.expression_in self.now guard.now) body }) }
+        ensures { IfOk result (λ made.
+            made ≡ record { line = line; action = Action.While (instances.expression_in self.now guard.now) body }) }
     {
         let guard = self.expression(alloc, guard)?;
         Command::new(alloc, line, Action::While(guard, body))
@@ -113,7 +115,9 @@ impl Instance {
         arms: Items<Labelled>,
         last: Option<Command>,
     ) -> Result<Command, AllocError>
-        ensures { IfOk result (λ made. made ≡ record { line = line; action = Action.Case (instances.expression_in self.now subject.now) arms last }) }
+        ensures { IfOk result (λ made.
+            made
+            ≡ record { line = line; action = Action.Case (instances.expression_in self.now subject.now) arms last }) }
     {
         let subject = self.expression(alloc, subject)?;
         Command::new(alloc, line, Action::Case(subject, arms, last))
@@ -128,7 +132,8 @@ impl Instance {
         channel: ChannelUse,
         body: Command,
     ) -> Result<Command, AllocError>
-        ensures { IfOk result (λ made. made ≡ record { line = line; action = Action.Input (instances.channel_use self.now channel) body }) }
+        ensures { IfOk result (λ made.
+            made ≡ record { line = line; action = Action.Input (instances.channel_use self.now channel) body }) }
     {
         Command::new(alloc, line, Action::Input(self.channel_use(channel), body))
     }
@@ -143,7 +148,14 @@ impl Instance {
         width: Width,
         value: &typed::Expression,
     ) -> Result<Command, AllocError>
-        ensures { IfOk result (λ made. made ≡ record { line = line; action = Action.Assign (instances.variable_use self.now variable) width (instances.expression_in self.now value.now) }) }
+        ensures { IfOk result (λ made.
+            made
+            ≡ record {
+              line = line;
+              action =
+                  Action.Assign (instances.variable_use self.now variable) width
+                  (instances.expression_in self.now value.now);
+            }) }
     {
         let value = self.expression(alloc, value)?;
         Command::new(
@@ -163,7 +175,13 @@ impl Instance {
         width: Width,
         value: &typed::Expression,
     ) -> Result<Command, AllocError>
-        ensures { IfOk result (λ made. made ≡ record { line = line; action = Action.Send (instances.channel_use self.now channel) width (instances.expression_in self.now value.now) }) }
+        ensures { IfOk result (λ made.
+            made
+            ≡ record {
+              line = line;
+              action =
+                  Action.Send (instances.channel_use self.now channel) width (instances.expression_in self.now value.now);
+            }) }
     {
         let value = self.expression(alloc, value)?;
         Command::new(
@@ -182,7 +200,13 @@ impl Instance {
         channel: ChannelUse,
         variable: VariableUse,
     ) -> Result<Command, AllocError>
-        ensures { IfOk result (λ made. made ≡ record { line = line; action = Action.Receive (instances.channel_use self.now channel) (instances.variable_use self.now variable) }) }
+        ensures { IfOk result (λ made.
+            made
+            ≡ record {
+              line = line;
+              action =
+                  Action.Receive (instances.channel_use self.now channel) (instances.variable_use self.now variable);
+            }) }
     {
         Command::new(
             alloc,
@@ -199,7 +223,8 @@ impl Instance {
         line: u64,
         channel: ChannelUse,
     ) -> Result<Command, AllocError>
-        ensures { IfOk result (λ made. made ≡ record { line = line; action = Action.Sync (instances.channel_use self.now channel) }) }
+        ensures { IfOk result (λ made.
+            made ≡ record { line = line; action = Action.Sync (instances.channel_use self.now channel) }) }
     {
         Command::new(alloc, line, Action::Sync(self.channel_use(channel)))
     }

@@ -16,7 +16,8 @@ use typed::Typed;
 /// `elaborate` says: it refuses that line, whatever entries stand behind.
 pub fn refuse_front(alloc: Global, typed: &Typed, front: &Stimulus) -> Result<(), Fault>
     ensures fits { OnOk result (fit.first_misfit (model.root_ports typed.now) [] front.now.entries ≡ None) }
-    ensures fault { IfErr result (λ fault. (fault ≡ Memory) ⊎ ((later : List Entry) → model.IsRefused typed.now (front.now.entries ++ later) fault)) }
+    ensures fault { IfErr result (λ fault. (fault ≡ Memory)
+        ⊎ ((later : List Entry) → model.IsRefused typed.now (front.now.entries ++ later) fault)) }
 {
     let ports = NamedPorts::new(alloc, root_ports(typed.procedures()))?;
     let entries = NamedEntries::new(alloc, front.entries.as_slice())?;

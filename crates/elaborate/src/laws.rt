@@ -1,8 +1,8 @@
 // The laws of the definitions that the contracts cite, each the contract of a function that does nothing.
 ghost use Rattle.elaborate.specs.Laws.{NamesAreDistinct, BranchesAreInPortOrder, CallsAddNoPlace, WithoutCallsIsItself, NodesAreOfTheSystem};
 
-/// The variables and channels of an accepted system have names of their own, where each procedure declares distinct names
-/// without `:`, as every typed description does.
+/// The variables and channels of an accepted system have names of their own, where each procedure declares distinct
+/// names without `:`, as every typed description does.
 pub fn name_law()
     ensures { NamesAreDistinct }
 {}

@@ -110,7 +110,8 @@ impl Made {
         locals: &[Local],
         prefix: &Prefix,
     ) -> Result<Items<u32>, AllocError>
-        ensures numbers { IfOk result (λ numbers. numbers ≡ (making.locals_onto [] prefix.now self.old locals.now).numbers) }
+        ensures numbers { IfOk result (λ numbers.
+            numbers ≡ (making.locals_onto [] prefix.now self.old locals.now).numbers) }
         ensures made { OnOk result (self.new ≡ (making.locals_onto [] prefix.now self.old locals.now).made) }
     {
         let mut numbers = Items::with_capacity(alloc, locals.len())?;
@@ -129,7 +130,8 @@ impl Made {
         entrance: Entrance,
         locals: &[Local],
     ) -> Result<Instance, AllocError>
-        ensures instance { IfOk result (λ instance. instance ≡ instance_of entrance (making.locals_onto [] entrance.prefix self.old locals.now)) }
+        ensures instance { IfOk result (λ instance.
+            instance ≡ instance_of entrance (making.locals_onto [] entrance.prefix self.old locals.now)) }
         ensures made { OnOk result (self.new ≡ entered (making.locals_onto [] entrance.prefix self.old locals.now)) }
     {
         let Entrance { ports, prefix } = entrance;

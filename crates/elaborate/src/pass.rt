@@ -20,9 +20,9 @@ use typed::{Port, Procedure, Typed};
 /// The one system that the description and the stimulus give: its last procedure is the root, whose body is the main
 /// part, and the environment has a branch for each port of it.
 ///
-/// Refused is, first, the least line of the stimulus that names no port of the root or one of another kind, names a port
-/// again, or has a value that its port does not hold; and then a system of more than 16,384 nodes, or with a command
-/// inside more than 1,024 others. That is counted before the system is made.
+/// Refused is, first, the least line of the stimulus that names no port of the root or one of another kind, names a
+/// port again, or has a value that its port does not hold; and then a system of more than 16,384 nodes, or with a
+/// command inside more than 1,024 others. That is counted before the system is made.
 pub fn elaborate(alloc: Global, typed: &Typed, stimulus: &Stimulus) -> Result<System, Fault>
     ensures system { IfOk result (λ system. system ≡ model.system_of typed.now stimulus.now.entries) }
     ensures accepted { OnOk result (model.IsAccepted typed.now stimulus.now.entries) }
@@ -46,8 +46,8 @@ pub(crate) fn system_of(
     system_by_names(alloc, procedures, &named_ports, &named_entries)
 }
 
-/// The same, where ports and entries are found by their names. (It owns nothing that an early end would drop, which keeps
-/// its proof cheap.)
+/// The same, where ports and entries are found by their names. (It owns nothing that an early end would drop, which
+/// keeps its proof cheap.)
 fn system_by_names(
     alloc: Global,
     procedures: &[Procedure],

@@ -21,7 +21,8 @@ pub record TreeAndStore : Type 0 where
   pub proc : Proc
   pub store : Store
 
--- what an event leaves for its undo: what it took out of the tree at each of its places, and the value that it overwrote
+-- what an event leaves for its undo: what it took out of the tree at each of its places, and the value that it
+-- overwrote
 pub record Taken : Type 0 where
   pub procs : List (Option Proc)
   pub old : Option Word
@@ -37,13 +38,18 @@ opening_tree system = record { proc = started (system_code system); store = open
 -- the process after the moves that are asked for in turn, and what each took out
 abbrev pub all_advanced : Proc → List (Place × Ask) → Option (Proc × List (Option Proc))
 all_advanced p [] = Some (p, [])
-all_advanced p (k ∷ ks) = option_and_then (λ x. option_map (λ y. (y.0, x.1 ∷ y.1)) (all_advanced x.0 ks)) (advanced p k.0 k.1)
+all_advanced p (k ∷ ks) =
+    option_and_then (λ x. option_map (λ y. (y.0, x.1 ∷ y.1)) (all_advanced x.0 ks)) (advanced p k.0 k.1)
 
 -- the tree and the record after an event, whose moves lead to this process and take these processes out
 abbrev pub after_moves : TreeAndStore → Event → Proc × List (Option Proc) → TreeAndStore × Taken
-after_moves T e x = (record { proc = x.0; store = store_after e T.store }, record { procs = x.1; old = option_map (get T.store) e.written })
+after_moves T e x = (
+  record { proc = x.0; store = store_after e T.store },
+  record { procs = x.1; old = option_map (get T.store) e.written },
+)
 
--- the tree after an event, and its record, where the moves that the event asks for are possible; its value is taken as it is
+-- the tree after an event, and its record, where the moves that the event asks for are possible; its value is taken as
+-- it is
 abbrev pub applied : TreeAndStore → Event → Option (TreeAndStore × Taken)
 applied T e = option_and_then (λ ks. option_map (after_moves T e) (all_advanced T.proc ks)) (asked e)
 
@@ -56,8 +62,8 @@ abbrev pub grown : TreeAndStore → List Event → Option (TreeAndStore × Recor
 grown T [] = Some (T, [])
 grown T (e ∷ h) = option_and_then (λ x. option_map (λ y. (y.0, (e, x.1) ∷ y.1)) (grown x.0 h)) (applied T e)
 
--- the tree and the records stand for the run of the list h: it runs to the state of the tree, and tree and records are what its events
--- leave, the finished processes as they were left
+-- the tree and the records stand for the run of the list h: it runs to the state of the tree, and tree and records are
+-- what its events leave, the finished processes as they were left
 pub record StandFor (system : System) (h : List Event) (T : TreeAndStore) (records : Records) : Type 0 where
   pub runs : Run (opening system) h (state_of_tree T)
   pub grows : grown (opening_tree system) h ≡ Some (T, records)

@@ -26,8 +26,10 @@ pub fn apply(
 ) -> Result<Record, AllocError>
     requires possible { IsSome (applied (both_view tree.old store.old) event) }
     ensures event { IfOk result (λ r. (record_view r).0 ≡ event) }
-    ensures made { IfOk result (λ r. applied (both_view tree.old store.old) event ≡ Some (both_view tree.new store.new, (record_view r).1)) }
-    ensures back { IfOk result (λ r. reverted (both_view tree.new store.new) event (record_view r).1 ≡ Some (both_view tree.old store.old)) }
+    ensures made { IfOk result (λ r.
+        applied (both_view tree.old store.old) event ≡ Some (both_view tree.new store.new, (record_view r).1)) }
+    ensures back { IfOk result (λ r.
+        reverted (both_view tree.new store.new) event (record_view r).1 ≡ Some (both_view tree.old store.old)) }
     ensures without_memory { OnErr result (both_view tree.new store.new ≡ both_view tree.old store.old) }
 {
     match make(alloc, tree, &event) {
@@ -40,8 +42,8 @@ pub fn apply(
     }
 }
 
-/// Writes what the event writes. The value that it overwrites, if it writes a variable; of no variable that is a zero of one
-/// bit, and nothing is written.
+/// Writes what the event writes. The value that it overwrites, if it writes a variable; of no variable that is a zero
+/// of one bit, and nothing is written.
 fn write(store: &mut Store, event: &Event) -> Option<Value>
     ensures written { store.new ≡ store_after event.now store.old }
     ensures old { result ≡ option_map (get store.old) event.now.written }

@@ -16,7 +16,8 @@ use value::Value;
 pub fn invert(tree: &mut Tree, store: &mut Store, kept: Record) -> Event
     requires possible { IsSome (reverted (both_view tree.old store.old) (record_view kept).0 (record_view kept).1) }
     ensures event { result ≡ (record_view kept).0 }
-    ensures back { reverted (both_view tree.old store.old) (record_view kept).0 (record_view kept).1 ≡ Some (both_view tree.new store.new) }
+    ensures back { reverted (both_view tree.old store.old) (record_view kept).0 (record_view kept).1
+        ≡ Some (both_view tree.new store.new) }
     ensures undone { UndoneBy (both_view tree.old store.old) (record_view kept) (both_view tree.new store.new) }
     ensures made_last { LastUndone (both_view tree.old store.old) (record_view kept) (both_view tree.new store.new) }
 {
@@ -28,9 +29,11 @@ pub fn invert(tree: &mut Tree, store: &mut Store, kept: Record) -> Event
 /// Takes an event back by its inverse, which stays where it is and is of no use any more. It takes no memory.
 pub fn invert_by(tree: &mut Tree, store: &mut Store, event: &Event, inverse: &mut Inverse)
     requires possible { IsSome (reverted (both_view tree.old store.old) event.now (inverse_view inverse.old)) }
-    ensures back { reverted (both_view tree.old store.old) event.now (inverse_view inverse.old) ≡ Some (both_view tree.new store.new) }
+    ensures back { reverted (both_view tree.old store.old) event.now (inverse_view inverse.old)
+        ≡ Some (both_view tree.new store.new) }
     ensures undone { UndoneBy (both_view tree.old store.old) (event.now, inverse_view inverse.old) (both_view tree.new store.new) }
-    ensures made_last { LastUndone (both_view tree.old store.old) (event.now, inverse_view inverse.old) (both_view tree.new store.new) }
+    ensures made_last { LastUndone (both_view tree.old store.old) (event.now, inverse_view inverse.old)
+        (both_view tree.new store.new) }
 {
     let outs = mem::replace(&mut inverse.outs, Outs::One(None));
     take_back(tree, event, outs);

@@ -15,7 +15,8 @@ use std::alloc::{AllocError, Global};
 /// Makes the moves that the event asks for. Without memory none is made.
 pub(crate) fn make(alloc: Global, tree: &mut Tree, event: &Event) -> Result<Outs, AllocError>
     requires { IsSome (moved (tree_view tree.old) event.now) }
-    ensures made { IfOk result (λ outs. moved (tree_view tree.old) event.now ≡ Some (tree_view tree.new, outs_view outs)) }
+    ensures made { IfOk result (λ outs.
+        moved (tree_view tree.old) event.now ≡ Some (tree_view tree.new, outs_view outs)) }
     ensures without_memory { OnErr result (tree_view tree.new ≡ tree_view tree.old) }
 {
     match asks_of(event) {
@@ -38,7 +39,8 @@ pub(crate) fn make(alloc: Global, tree: &mut Tree, event: &Event) -> Result<Outs
 /// Makes the move that is asked for at the place.
 fn make_one(alloc: Global, tree: &mut Tree, place: &[Entry], ask: Ask) -> Result<Outs, AllocError>
     requires { IsSome (all_advanced (tree_view tree.old) ((place.now, ask) ∷ [])) }
-    ensures made { IfOk result (λ outs. all_advanced (tree_view tree.old) ((place.now, ask) ∷ []) ≡ Some (tree_view tree.new, outs_view outs)) }
+    ensures made { IfOk result (λ outs.
+        all_advanced (tree_view tree.old) ((place.now, ask) ∷ []) ≡ Some (tree_view tree.new, outs_view outs)) }
     ensures without_memory { OnErr result (tree_view tree.new ≡ tree_view tree.old) }
 {
     match tree.advance(alloc, place, ask) {
@@ -57,7 +59,8 @@ fn make_two(
     second_ask: Ask,
 ) -> Result<Outs, AllocError>
     requires { IsSome (all_advanced (tree_view tree.old) ((first.now, first_ask) ∷ (second.now, second_ask) ∷ [])) }
-    ensures made { IfOk result (λ outs. all_advanced (tree_view tree.old) ((first.now, first_ask) ∷ (second.now, second_ask) ∷ [])
+    ensures made { IfOk result (λ outs.
+        all_advanced (tree_view tree.old) ((first.now, first_ask) ∷ (second.now, second_ask) ∷ [])
         ≡ Some (tree_view tree.new, outs_view outs)) }
     ensures without_memory { OnErr result (tree_view tree.new ≡ tree_view tree.old) }
 {
@@ -99,7 +102,8 @@ fn take_two_back(
     other: Option<Box<Proc>>,
 )
     requires { IsSome (both_back (tree_view tree.old) first.now (out_view out) second.now (out_view other)) }
-    ensures { both_back (tree_view tree.old) first.now (out_view out) second.now (out_view other) ≡ Some (tree_view tree.new) }
+    ensures { both_back (tree_view tree.old) first.now (out_view out) second.now (out_view other)
+        ≡ Some (tree_view tree.new) }
 {
     tree.retreat(second, other);
     tree.retreat(first, out);

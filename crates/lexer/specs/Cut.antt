@@ -17,7 +17,8 @@ joined (piece ∷ pieces) = piece.text ++ joined pieces
 -- the piece is a spelling, and together with more of what stands behind it it is none
 pub record IsLongest (piece : Piece) (after : Text) : Type 0 where
   pub spelled : Spells piece.class piece.text
-  pub longest : (more beyond : Text) → after ≡ more ++ beyond → more ≢ [] → (class : Class) → ¬ Spells class (piece.text ++ more)
+  pub longest : (more beyond : Text) → after ≡ more ++ beyond → more ≢ [] → (class : Class) →
+      ¬ Spells class (piece.text ++ more)
 
 -- each piece is the longest spelling at its position, where `rest` stands behind the last one
 abbrev pub IsCut : List Piece → Text → Type 0

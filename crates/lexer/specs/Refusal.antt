@@ -25,4 +25,5 @@ IsDueAt at rest (NumberTooLarge offset) = (offset ≡ at) × BeginsTooLarge rest
 
 -- the source is cut into readable pieces up to where the fault is due
 abbrev pub IsRefused : Text → Fault → Type 0
-IsRefused source fault = (pieces : List Piece) × (rest : Text) × IsReadTo source pieces rest × IsDueAt (length (joined pieces)) rest fault
+IsRefused source fault =
+    (pieces : List Piece) × (rest : Text) × IsReadTo source pieces rest × IsDueAt (length (joined pieces)) rest fault

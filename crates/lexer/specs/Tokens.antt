@@ -56,7 +56,8 @@ token_at position kind text number = record {
 
 -- the token of a piece at the position, or none for blanks and comments
 abbrev pub token_of : Position → Class → Text → Option Token
-token_of position class text = option_map (λ kind. token_at position kind text (token_number class text)) (kind_of class text)
+token_of position class text =
+    option_map (λ kind. token_at position kind text (token_number class text)) (kind_of class text)
 
 -- whether a piece is no fault in itself: no open comment, and no number of 2^64 or more
 abbrev pub IsReadable : Class → Text → Type 0
@@ -82,7 +83,8 @@ pub record IsReadTo (source : Text) (pieces : List Piece) (rest : Text) : Type 0
 -- the tokens of pieces of which the first is at the position, and behind them the end
 abbrev pub tokens_from : Position → List Piece → List Token
 tokens_from position [] = token_at position End [] 0 ∷ []
-tokens_from position (piece ∷ pieces) = option_to_list (token_of position piece.class piece.text) ++ tokens_from (behind position piece.text) pieces
+tokens_from position (piece ∷ pieces) =
+    option_to_list (token_of position piece.class piece.text) ++ tokens_from (behind position piece.text) pieces
 
 -- the first position of a source
 abbrev pub first_position : Position
@@ -90,4 +92,5 @@ first_position = record { offset = 0; line = 1 }
 
 -- the source is cut into readable pieces, and these are its tokens
 abbrev pub AreTokens : Text → List Token → Type 0
-AreTokens source tokens = (pieces : List Piece) × IsReadTo source pieces [] × (tokens ≡ tokens_from first_position pieces)
+AreTokens source tokens =
+    (pieces : List Piece) × IsReadTo source pieces [] × (tokens ≡ tokens_from first_position pieces)

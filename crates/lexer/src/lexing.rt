@@ -58,7 +58,9 @@ impl<'a> Lexing<'a> {
     /// Cuts off the longest piece at the front. None: nothing is left.
     #[inline(always)]
     pub(crate) fn cut(&mut self) -> Result<Option<Found<'a>>, Fault>
-        ensures ok { IfOk result (λ found. MatchOption found ((self.old.rest.now ≡ []) × (self.new ≡ self.old)) (λ found. IsCutOff self.old found self.new)) }
+        ensures ok { IfOk result (λ found.
+            MatchOption found
+            ((self.old.rest.now ≡ []) × (self.new ≡ self.old)) (λ found. IsCutOff self.old found self.new)) }
         ensures err { IfErr result (λ fault. Refuses self.old fault) }
     {
         if self.rest.is_empty() {
@@ -91,12 +93,15 @@ impl<'a> Lexing<'a> {
     /// already, or all up to the end of the source with one of the kind `End`.
     ///
     /// A `procedure` that `part` held before counts too; other tokens that it held do not count against `most`.
-    /// `Memory` may come at any token. At an error `part` has the tokens before the fault, and this source stands behind
+    /// `Memory` may come at any token. At an error `part` has the tokens before the fault, and this source stands
+    /// behind
     /// the last of them.
     pub fn add_part(&mut self, part: &mut Vec<Token<'a>>, most: usize) -> Result<Stop, Fault>
-        ensures part { IfOk result (λ stop. (added : List Token) × (part.new.items ≡ part.old.items ++ added) × IsPart stop most self.old added self.new) }
+        ensures part { IfOk result (λ stop. (added : List Token) × (part.new.items ≡ part.old.items ++ added)
+            × IsPart stop most self.old added self.new) }
         // A part that is begun where the one before it stopped at a `procedure` begins with that word.
-        ensures begins { IfOk result (λ _. IsAtProcedure self.old → part.old.items ≡ [] → 1 ≤ most → BeginsProcedure part.new.items) }
+        ensures begins { IfOk result (λ _. IsAtProcedure self.old → part.old.items ≡ [] → 1 ≤ most →
+            BeginsProcedure part.new.items) }
         ensures fault { IfErr result (λ fault. (fault ≡ Memory) ⊎ Refuses self.old fault) }
         ensures kept { IfErr result (λ _. IsKept self.old part.old.items self.new part.new.items) }
     {

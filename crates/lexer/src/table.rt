@@ -61,7 +61,9 @@ const WORDS_OF_X: [(&[u8], Kind); 1] = [(b"xor", Kind::XorWord)];
 
 /// Among which of the reserved words a text that begins with `first` is to be looked up.
 fn words_of(first: u8) -> &'static [(&'static [u8], Kind)]
-    ensures { (rest : List ℕ) → spec.lookup (map (λ entry. (entry.0.now, entry.1)) result.now) (first ∷ rest) ≡ spec.reserved_word (first ∷ rest) }
+    ensures { (rest : List ℕ) →
+        spec.lookup (map (λ entry. (entry.0.now, entry.1)) result.now) (first ∷ rest)
+        ≡ spec.reserved_word (first ∷ rest) }
 {
     match first {
         b'a' => &WORDS_OF_A,

@@ -66,8 +66,8 @@ impl Around {
         self.found.len()
     }
 
-    /// Goes to the child of this number in a sequence. A number of 2^32 and more has no place: it takes more memory to get
-    /// there than there is, and the answer is the same.
+    /// Goes to the child of this number in a sequence. A number of 2^32 and more has no place: it takes more memory to
+    /// get there than there is, and the answer is the same.
     pub fn enter_child(&mut self, number: u64) -> Result<(), AllocError>
         ensures { OnOk result (self.new ≡ down (Entry.Ordered number) self.old) }
     {
@@ -88,7 +88,8 @@ impl Around {
         self.entries.pop();
     }
 
-    /// Goes into an arm that opened on this channel, and received this if anything. It is an error if there is no memory.
+    /// Goes into an arm that opened on this channel, and received this if anything. It is an error if there is no
+    /// memory.
     #[tactic(auto, using(crate::proofs::Walks::received_last))]
     pub fn receive(&mut self, channel: u32, value: Option<Value>) -> Result<(), AllocError>
         ensures { OnOk result (self.new ≡ within_arm (with_value channel value self.old.received) self.old) }
@@ -113,7 +114,8 @@ impl Around {
         alloc: Global,
         expression: &Expression,
     ) -> Result<Expression, AllocError>
-        ensures { IfOk result (λ made. expression_of made ≡ puts_value self.now.received (expression_of expression.now)) }
+        ensures { IfOk result (λ made.
+            expression_of made ≡ puts_value self.now.received (expression_of expression.now)) }
     {
         put_in(alloc, expression, self.arrived.as_slice())
     }

@@ -31,8 +31,8 @@ use store::Store;
 use syntax::Items;
 use value::Value;
 
-/// Exactly the sides that the tree offers at this place over the values of the store, where the tree is tidy, as each is that
-/// stands for a run. It looks for those at the place and below it. It is an error if there is no memory.
+/// Exactly the sides that the tree offers at this place over the values of the store, where the tree is tidy, as each
+/// is that stands for a run. It looks for those at the place and below it. It is an error if there is no memory.
 pub fn sides_at(
     alloc: Global,
     tree: &Tree,
@@ -40,15 +40,16 @@ pub fn sides_at(
     place: &Address,
 ) -> Result<Items<OfferedSide>, AllocError>
     ensures { Tidy (tree_view tree.now) →
-        IfOk result (λ sides. (x : any.OfferedSide) → In x sides ↔ (Offered (state_of tree.now store.now) x × (x.place ≡ place.now))) }
+        IfOk result (λ sides. (x : any.OfferedSide) →
+        In x sides ↔ (Offered (state_of tree.now store.now) x × (x.place ≡ place.now))) }
 {
     let sides = sides_below(alloc, tree, store, place.entries())?;
     Ok(those_at(sides, place))
 }
 
-/// Exactly the sides that the tree offers at this place and below it over the values of the store, where the tree is tidy. It
-/// goes down along the place, and into no branch beside it but to see whether what comes first is finished.
-/// It is an error if there is no memory.
+/// Exactly the sides that the tree offers at this place and below it over the values of the store, where the tree is
+/// tidy. It goes down along the place, and into no branch beside it but to see whether what comes first is finished. It
+/// is an error if there is no memory.
 pub fn sides_below(
     alloc: Global,
     tree: &Tree,
@@ -56,7 +57,8 @@ pub fn sides_below(
     place: &[Entry],
 ) -> Result<Items<OfferedSide>, AllocError>
     ensures { Tidy (tree_view tree.now) →
-        IfOk result (λ sides. (x : any.OfferedSide) → In x sides ↔ (Offered (state_of tree.now store.now) x × Under place.now x.place)) }
+        IfOk result (λ sides. (x : any.OfferedSide) →
+        In x sides ↔ (Offered (state_of tree.now store.now) x × Under place.now x.place)) }
 {
     let mut around = Around::new(alloc);
     list_down(alloc, tree.root(), place, store.as_slice(), &mut around)?;
@@ -95,7 +97,8 @@ fn is_below(side: &OfferedSide, place: &[Entry]) -> bool
     is_under(place, side.place.entries())
 }
 
-/// Goes down along the place, and lists what the process offers where it ends: at the place and below it, and perhaps beside it.
+/// Goes down along the place, and lists what the process offers where it ends: at the place and below it, and perhaps
+/// beside it.
 #[cycle(list_down)]
 fn list_down(
     alloc: Global,
@@ -104,7 +107,8 @@ fn list_down(
     values: &[Value],
     around: &mut Around,
 ) -> Result<(), AllocError>
-    ensures { OnOk result (SameBelow around.old.place place.now around.new (lists values.now (proc_view proc.now) around.old)) }
+    ensures { OnOk result
+        (SameBelow around.old.place place.now around.new (lists values.now (proc_view proc.now) around.old)) }
 {
     if place.is_empty() {
         list(alloc, proc, values, around)?;
@@ -136,7 +140,9 @@ fn loop_down(
     around: &mut Around,
 ) -> Result<(), AllocError>
     requires { 0 < length place.now }
-    ensures { OnOk result (SameBelow around.old.place place.now around.new (lists values.now (turns_view turns.now (repeat_view repeat.now).0 (repeat_view repeat.now).1) around.old)) }
+    ensures { OnOk result
+        (SameBelow around.old.place place.now around.new
+        (lists values.now (turns_view turns.now (repeat_view repeat.now).0 (repeat_view repeat.now).1) around.old)) }
 {
     match turns {
         Turns::Turn(turn, over, body) => {
@@ -162,7 +168,10 @@ fn turn_down(
     around: &mut Around,
 ) -> Result<(), AllocError>
     requires { 0 < length place.now }
-    ensures { OnOk result (SameBelow around.old.place place.now around.new (lists values.now (turn_of over (repeat_view repeat.now).0 (repeat_view repeat.now).1 turn (proc_view body.now)) around.old)) }
+    ensures { OnOk result
+        (SameBelow around.old.place place.now around.new
+        (lists values.now
+        (turn_of over (repeat_view repeat.now).0 (repeat_view repeat.now).1 turn (proc_view body.now)) around.old)) }
 {
     if over {
         return Ok(());
@@ -189,7 +198,9 @@ fn test_down(
     around: &mut Around,
 ) -> Result<(), AllocError>
     requires { 0 < length place.now }
-    ensures { OnOk result (SameBelow around.old.place place.now around.new (lists values.now (tested_view tested.now (decide_view decide.now).0 (decide_view decide.now).1) around.old)) }
+    ensures { OnOk result
+        (SameBelow around.old.place place.now around.new
+        (lists values.now (tested_view tested.now (decide_view decide.now).0 (decide_view decide.now).1) around.old)) }
 {
     match tested {
         Tested::Took(_, body) => match below_child(place, 1) {
@@ -214,7 +225,9 @@ fn arms_down(
     around: &mut Around,
 ) -> Result<(), AllocError>
     requires { 0 < length place.now }
-    ensures { OnOk result (SameBelow around.old.place place.now around.new (lists values.now (gate_view gate.now (await_view waiting.now).0 (await_view waiting.now).1) around.old)) }
+    ensures { OnOk result
+        (SameBelow around.old.place place.now around.new
+        (lists values.now (gate_view gate.now (await_view waiting.now).0 (await_view waiting.now).1) around.old)) }
 {
     match gate {
         Gate::Opened(channel, value, over, body) => {
@@ -240,7 +253,10 @@ fn opened_down(
     around: &mut Around,
 ) -> Result<(), AllocError>
     requires { 0 < length place.now }
-    ensures { (ds : List ℕ) (cs : model_code.Codes) → OnOk result (SameBelow around.old.place place.now around.new (lists values.now (opened_of over ds cs channel value (proc_view body.now)) around.old)) }
+    ensures { (ds : List ℕ) (cs : model_code.Codes) →
+        OnOk result
+        (SameBelow around.old.place place.now around.new
+        (lists values.now (opened_of over ds cs channel value (proc_view body.now)) around.old)) }
 {
     if over {
         return Ok(());
@@ -266,7 +282,9 @@ fn sequence_down(
     around: &mut Around,
 ) -> Result<(), AllocError>
     requires { 0 < length place.now }
-    ensures { OnOk result (SameBelow around.old.place place.now around.new (lists values.now (model.sequence (begun_of (map proc_view begun.now) (row_view row.now))) around.old)) }
+    ensures { OnOk result
+        (SameBelow around.old.place place.now around.new
+        (lists values.now (model.sequence (begun_of (map proc_view begun.now) (row_view row.now))) around.old)) }
 {
     let Some((number, below)) = ordered_step(place) else {
         return Ok(());
@@ -294,7 +312,9 @@ fn child_down(
     values: &[Value],
     around: &mut Around,
 ) -> Result<(), AllocError>
-    ensures { OnOk result (SameBelow around.old.place (Entry.Ordered number ∷ place.now) around.new (lists_at (Entry.Ordered number) values.now (proc_view child.now) around.old)) }
+    ensures { OnOk result
+        (SameBelow around.old.place (Entry.Ordered number ∷ place.now) around.new
+        (lists_at (Entry.Ordered number) values.now (proc_view child.now) around.old)) }
 {
     around.enter_child(number)?;
     list_down(alloc, child, place, values, around)
@@ -310,7 +330,9 @@ fn parallel_down(
     around: &mut Around,
 ) -> Result<(), AllocError>
     requires { 0 < length place.now }
-    ensures { OnOk result (SameBelow around.old.place place.now around.new (lists values.now (model.parallel (procs_of (map proc_view procs.now))) around.old)) }
+    ensures { OnOk result
+        (SameBelow around.old.place place.now around.new
+        (lists values.now (model.parallel (procs_of (map proc_view procs.now))) around.old)) }
 {
     let Some((number, below)) = branch_step(place) else {
         return Ok(());
@@ -332,7 +354,8 @@ fn fresh_down(
     values: &[Value],
     around: &mut Around,
 ) -> Result<(), AllocError>
-    ensures { OnOk result (SameBelow around.old.place place.now around.new (lists values.now (started (code_view code.now)) around.old)) }
+    ensures { OnOk result
+        (SameBelow around.old.place place.now around.new (lists values.now (started (code_view code.now)) around.old)) }
 {
     if place.is_empty() {
         list_fresh(alloc, code, values, around)?;
@@ -364,7 +387,11 @@ fn fresh_in_turn_down(
     around: &mut Around,
 ) -> Result<(), AllocError>
     requires { 0 < length place.now }
-    ensures { OnOk result (SameBelow around.old.place place.now around.new (added (listed_sequence values.now around.old.received 0 0 (all_started (row_of (map code_view codes.now)))).sides around.old)) }
+    ensures { OnOk result
+        (SameBelow around.old.place place.now around.new
+        (added
+        (listed_sequence values.now around.old.received 0 0 (all_started (row_of (map code_view codes.now)))).sides
+        around.old)) }
 {
     let Some((number, below)) = ordered_step(place) else {
         return Ok(());
@@ -389,7 +416,9 @@ fn fresh_child_down(
     values: &[Value],
     around: &mut Around,
 ) -> Result<(), AllocError>
-    ensures { OnOk result (SameBelow around.old.place (Entry.Ordered number ∷ place.now) around.new (lists_at (Entry.Ordered number) values.now (started (code_view code.now)) around.old)) }
+    ensures { OnOk result
+        (SameBelow around.old.place (Entry.Ordered number ∷ place.now) around.new
+        (lists_at (Entry.Ordered number) values.now (started (code_view code.now)) around.old)) }
 {
     around.enter_child(number)?;
     fresh_down(alloc, code, place, values, around)
@@ -405,7 +434,11 @@ fn fresh_side_by_side_down(
     around: &mut Around,
 ) -> Result<(), AllocError>
     requires { 0 < length place.now }
-    ensures { OnOk result (SameBelow around.old.place place.now around.new (added (listed_parallel values.now around.old.received 0 (all_started (row_of (map code_view codes.now)))).sides around.old)) }
+    ensures { OnOk result
+        (SameBelow around.old.place place.now around.new
+        (added
+        (listed_parallel values.now around.old.received 0 (all_started (row_of (map code_view codes.now)))).sides
+        around.old)) }
 {
     let Some((number, below)) = branch_step(place) else {
         return Ok(());

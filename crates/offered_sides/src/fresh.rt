@@ -23,7 +23,8 @@ pub fn list_fresh(
     around: &mut Around,
 ) -> Result<bool, AllocError>
     ensures sides { OnOk result (around.new ≡ lists values.now (started (code_view code.now)) around.old) }
-    ensures over { IfOk result (λ over. over ≡ (listed values.now around.old.received (started (code_view code.now))).over) }
+    ensures over { IfOk result (λ over.
+        over ≡ (listed values.now around.old.received (started (code_view code.now))).over) }
 {
     match code {
         Code::Continue => return Ok(true),
@@ -44,7 +45,8 @@ pub fn list_fresh(
     Ok(false)
 }
 
-/// Lists what the commands offer one after another, from the one of this number on. Whether none of them has anything to do.
+/// Lists what the commands offer one after another, from the one of this number on. Whether none of them has anything
+/// to do.
 #[cycle(list_fresh)]
 pub(crate) fn list_fresh_from(
     alloc: Global,
@@ -53,8 +55,14 @@ pub(crate) fn list_fresh_from(
     values: &[Value],
     around: &mut Around,
 ) -> Result<bool, AllocError>
-    ensures sides { OnOk result (around.new ≡ added (listed_sequence values.now around.old.received from 0 (all_started (row_of (map code_view codes.now)))).sides around.old) }
-    ensures over { IfOk result (λ over. over ≡ (listed_sequence values.now around.old.received from 0 (all_started (row_of (map code_view codes.now)))).over) }
+    ensures sides { OnOk result (around.new
+        ≡ added
+        (listed_sequence values.now around.old.received from 0 (all_started (row_of (map code_view codes.now)))).sides
+        around.old) }
+    ensures over { IfOk result (λ over.
+        over
+        ≡ (listed_sequence values.now around.old.received from 0
+        (all_started (row_of (map code_view codes.now)))).over) }
 {
     let mut number = from;
     'children: while number < codes.len() {
@@ -76,8 +84,10 @@ fn list_fresh_child(
     values: &[Value],
     around: &mut Around,
 ) -> Result<bool, AllocError>
-    ensures sides { OnOk result (around.new ≡ lists_at (Entry.Ordered number) values.now (started (code_view code.now)) around.old) }
-    ensures over { IfOk result (λ over. over ≡ (listed values.now around.old.received (started (code_view code.now))).over) }
+    ensures sides { OnOk result (around.new
+        ≡ lists_at (Entry.Ordered number) values.now (started (code_view code.now)) around.old) }
+    ensures over { IfOk result (λ over.
+        over ≡ (listed values.now around.old.received (started (code_view code.now))).over) }
 {
     around.enter_child(number)?;
     let over = list_fresh(alloc, code, values, around)?;
@@ -93,8 +103,13 @@ fn list_fresh_all(
     values: &[Value],
     around: &mut Around,
 ) -> Result<bool, AllocError>
-    ensures sides { OnOk result (around.new ≡ added (listed_parallel values.now around.old.received 0 (all_started (row_of (map code_view codes.now)))).sides around.old) }
-    ensures over { IfOk result (λ over. over ≡ (listed_parallel values.now around.old.received 0 (all_started (row_of (map code_view codes.now)))).over) }
+    ensures sides { OnOk result (around.new
+        ≡ added
+        (listed_parallel values.now around.old.received 0 (all_started (row_of (map code_view codes.now)))).sides
+        around.old) }
+    ensures over { IfOk result (λ over.
+        over
+        ≡ (listed_parallel values.now around.old.received 0 (all_started (row_of (map code_view codes.now)))).over) }
 {
     let mut over = true;
     for (number, code) in codes.iter().enumerate() {
@@ -115,8 +130,10 @@ fn list_fresh_branch(
     values: &[Value],
     around: &mut Around,
 ) -> Result<bool, AllocError>
-    ensures sides { OnOk result (around.new ≡ lists_at (Entry.Branch number) values.now (started (code_view code.now)) around.old) }
-    ensures over { IfOk result (λ over. over ≡ (listed values.now around.old.received (started (code_view code.now))).over) }
+    ensures sides { OnOk result (around.new
+        ≡ lists_at (Entry.Branch number) values.now (started (code_view code.now)) around.old) }
+    ensures over { IfOk result (λ over.
+        over ≡ (listed values.now around.old.received (started (code_view code.now))).over) }
 {
     around.enter_branch(number)?;
     let over = list_fresh(alloc, code, values, around)?;

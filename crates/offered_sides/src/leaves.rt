@@ -25,7 +25,10 @@ pub fn list_once(
     values: &[Value],
     around: &mut Around,
 ) -> Result<(), AllocError>
-    ensures { OnOk result (around.new ≡ added (sides_of_residual values.now (residual_once (puts_once around.old.received (once_view once.now)))) around.old) }
+    ensures { OnOk result (around.new
+        ≡ added
+        (sides_of_residual values.now (residual_once (puts_once around.old.received (once_view once.now))))
+        around.old) }
 {
     match once {
         Once::Assign(variable, width, value) => {
@@ -47,7 +50,10 @@ pub fn list_sender(
     values: &[Value],
     around: &mut Around,
 ) -> Result<(), AllocError>
-    ensures { OnOk result (around.new ≡ added (sides_of_residual values.now (residual_sender (puts_sender around.old.received (sender_view sender.now)))) around.old) }
+    ensures { OnOk result (around.new
+        ≡ added
+        (sides_of_residual values.now (residual_sender (puts_sender around.old.received (sender_view sender.now))))
+        around.old) }
 {
     match sender {
         Sender::Send(channel, width, value) => {
@@ -62,7 +68,9 @@ pub fn list_sender(
 
 /// Lists a send or sync that is held. It is an error if there is no memory.
 pub fn list_held(alloc: Global, sender: &Sender, around: &mut Around) -> Result<(), AllocError>
-    ensures { OnOk result (around.new ≡ added (side_at (Entry.Ordered 1 ∷ []) (Side.Releases (channel_of (sender_view sender.now))) ∷ []) around.old) }
+    ensures { OnOk result (around.new
+        ≡ added
+        (side_at (Entry.Ordered 1 ∷ []) (Side.Releases (channel_of (sender_view sender.now))) ∷ []) around.old) }
 {
     match sender {
         Sender::Send(channel, _, _) => around.add_act(alloc, 1, Side::Releases(*channel)),
@@ -78,7 +86,9 @@ pub fn list_again(
     values: &[Value],
     around: &mut Around,
 ) -> Result<(), AllocError>
-    ensures { OnOk result (around.new ≡ added (again_at values.now turn (puts_guard around.old.received (option_map expression_of guard.now))) around.old) }
+    ensures { OnOk result (around.new
+        ≡ added
+        (again_at values.now turn (puts_guard around.old.received (option_map expression_of guard.now))) around.old) }
 {
     let act = act_of_turn(turn)?;
     match guard {
@@ -95,7 +105,10 @@ fn list_guard(
     values: &[Value],
     around: &mut Around,
 ) -> Result<(), AllocError>
-    ensures { OnOk result (around.new ≡ added (tested_at values.now act (model.by_guards (puts_value around.old.received (expression_of guard.now) ∷ []) false)) around.old) }
+    ensures { OnOk result (around.new
+        ≡ added
+        (tested_at values.now act
+        (model.by_guards (puts_value around.old.received (expression_of guard.now) ∷ []) false)) around.old) }
 {
     let decision = one_guard(alloc, guard)?;
     list_test(alloc, &decision, act, values, around)
@@ -109,7 +122,8 @@ pub fn list_test(
     values: &[Value],
     around: &mut Around,
 ) -> Result<(), AllocError>
-    ensures { OnOk result (around.new ≡ added (tested_at values.now act (puts_decision around.old.received (decision_of decision.now))) around.old) }
+    ensures { OnOk result (around.new
+        ≡ added (tested_at values.now act (puts_decision around.old.received (decision_of decision.now))) around.old) }
 {
     let decision = around.decision_with_received(alloc, decision)?;
     let arm = arm_of(&decision, values)?;
@@ -142,7 +156,8 @@ pub fn list_drain(
     count: u64,
     around: &mut Around,
 ) -> Result<(), AllocError>
-    ensures { OnOk result (around.new ≡ added (side_at (Entry.Ordered count ∷ []) (Side.Receives channel None) ∷ []) around.old) }
+    ensures { OnOk result (around.new
+        ≡ added (side_at (Entry.Ordered count ∷ []) (Side.Receives channel None) ∷ []) around.old) }
 {
     around.add_act(alloc, count, Side::Receives(channel, None))
 }
@@ -157,7 +172,8 @@ fn sent(values: &[Value], width: Width, value: &Expression) -> Value
 /// The arm that a test takes, if it takes one. It is an error if that is arm 2^32 or a later one.
 fn arm_of(decision: &Decision, values: &[Value]) -> Result<Option<u32>, AllocError>
     ensures arm { IfOk result (λ arm. arm ≡ model.decide values.now (decision_of decision.now)) }
-    ensures large { OnErr result ((k : ℕ) × (model.decide values.now (decision_of decision.now) ≡ Some k) × (2 ^ 32 ≤ k)) }
+    ensures large { OnErr result ((k : ℕ) × (model.decide values.now (decision_of decision.now) ≡ Some k)
+        × (2 ^ 32 ≤ k)) }
 {
     match decision.decide(values) {
         Some(arm) => Ok(Some(small(arm)?)),

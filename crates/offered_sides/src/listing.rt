@@ -58,7 +58,8 @@ fn list_unmade(
     around: &mut Around,
 ) -> Result<bool, AllocError>
     ensures sides { OnOk result (around.new ≡ lists values.now (model.once (once_view once.now) made) around.old) }
-    ensures over { IfOk result (λ over. over ≡ (listed values.now around.old.received (model.once (once_view once.now) made)).over) }
+    ensures over { IfOk result (λ over.
+        over ≡ (listed values.now around.old.received (model.once (once_view once.now) made)).over) }
 {
     if made {
         return Ok(true);
@@ -75,8 +76,11 @@ fn list_phase(
     values: &[Value],
     around: &mut Around,
 ) -> Result<bool, AllocError>
-    ensures sides { OnOk result (around.new ≡ lists values.now (model.sender (sender_view sender.now) (phase_view phase)) around.old) }
-    ensures over { IfOk result (λ over. over ≡ (listed values.now around.old.received (model.sender (sender_view sender.now) (phase_view phase))).over) }
+    ensures sides { OnOk result (around.new
+        ≡ lists values.now (model.sender (sender_view sender.now) (phase_view phase)) around.old) }
+    ensures over { IfOk result (λ over.
+        over
+        ≡ (listed values.now around.old.received (model.sender (sender_view sender.now) (phase_view phase))).over) }
 {
     match phase {
         Phase::Waiting => {
@@ -100,8 +104,12 @@ pub(crate) fn list_loop(
     values: &[Value],
     around: &mut Around,
 ) -> Result<bool, AllocError>
-    ensures sides { OnOk result (around.new ≡ lists values.now (turns_view turns.now (repeat_view repeat.now).0 (repeat_view repeat.now).1) around.old) }
-    ensures over { IfOk result (λ over. over ≡ (listed values.now around.old.received (turns_view turns.now (repeat_view repeat.now).0 (repeat_view repeat.now).1)).over) }
+    ensures sides { OnOk result (around.new
+        ≡ lists values.now (turns_view turns.now (repeat_view repeat.now).0 (repeat_view repeat.now).1) around.old) }
+    ensures over { IfOk result (λ over.
+        over
+        ≡ (listed values.now around.old.received
+        (turns_view turns.now (repeat_view repeat.now).0 (repeat_view repeat.now).1)).over) }
 {
     match turns {
         Turns::Fresh => {
@@ -126,8 +134,13 @@ fn list_turn(
     values: &[Value],
     around: &mut Around,
 ) -> Result<bool, AllocError>
-    ensures sides { OnOk result (around.new ≡ lists values.now (turn_of over (repeat_view repeat.now).0 (repeat_view repeat.now).1 turn (proc_view body.now)) around.old) }
-    ensures over { IfOk result (λ ended. ended ≡ (listed values.now around.old.received (turn_of over (repeat_view repeat.now).0 (repeat_view repeat.now).1 turn (proc_view body.now))).over) }
+    ensures sides { OnOk result (around.new
+        ≡ lists values.now
+        (turn_of over (repeat_view repeat.now).0 (repeat_view repeat.now).1 turn (proc_view body.now)) around.old) }
+    ensures over { IfOk result (λ ended.
+        ended
+        ≡ (listed values.now around.old.received
+        (turn_of over (repeat_view repeat.now).0 (repeat_view repeat.now).1 turn (proc_view body.now))).over) }
 {
     if over {
         return Ok(true);
@@ -148,8 +161,12 @@ pub(crate) fn list_tested(
     values: &[Value],
     around: &mut Around,
 ) -> Result<bool, AllocError>
-    ensures sides { OnOk result (around.new ≡ lists values.now (tested_view tested.now (decide_view decide.now).0 (decide_view decide.now).1) around.old) }
-    ensures over { IfOk result (λ over. over ≡ (listed values.now around.old.received (tested_view tested.now (decide_view decide.now).0 (decide_view decide.now).1)).over) }
+    ensures sides { OnOk result (around.new
+        ≡ lists values.now (tested_view tested.now (decide_view decide.now).0 (decide_view decide.now).1) around.old) }
+    ensures over { IfOk result (λ over.
+        over
+        ≡ (listed values.now around.old.received
+        (tested_view tested.now (decide_view decide.now).0 (decide_view decide.now).1)).over) }
 {
     match tested {
         Tested::Untested => {
@@ -170,8 +187,12 @@ pub(crate) fn list_gate(
     values: &[Value],
     around: &mut Around,
 ) -> Result<bool, AllocError>
-    ensures sides { OnOk result (around.new ≡ lists values.now (gate_view gate.now (await_view waiting.now).0 (await_view waiting.now).1) around.old) }
-    ensures over { IfOk result (λ over. over ≡ (listed values.now around.old.received (gate_view gate.now (await_view waiting.now).0 (await_view waiting.now).1)).over) }
+    ensures sides { OnOk result (around.new
+        ≡ lists values.now (gate_view gate.now (await_view waiting.now).0 (await_view waiting.now).1) around.old) }
+    ensures over { IfOk result (λ over.
+        over
+        ≡ (listed values.now around.old.received
+        (gate_view gate.now (await_view waiting.now).0 (await_view waiting.now).1)).over) }
 {
     match gate {
         Gate::Unopened => {
@@ -195,8 +216,13 @@ fn list_opened(
     values: &[Value],
     around: &mut Around,
 ) -> Result<bool, AllocError>
-    ensures sides { (ds : List ℕ) (cs : model_code.Codes) → OnOk result (around.new ≡ lists values.now (opened_of over ds cs channel value (proc_view body.now)) around.old) }
-    ensures over { (ds : List ℕ) (cs : model_code.Codes) → IfOk result (λ closed. closed ≡ (listed values.now around.old.received (opened_of over ds cs channel value (proc_view body.now))).over) }
+    ensures sides { (ds : List ℕ) (cs : model_code.Codes) →
+        OnOk result
+        (around.new ≡ lists values.now (opened_of over ds cs channel value (proc_view body.now)) around.old) }
+    ensures over { (ds : List ℕ) (cs : model_code.Codes) →
+        IfOk result (λ closed.
+        closed
+        ≡ (listed values.now around.old.received (opened_of over ds cs channel value (proc_view body.now))).over) }
 {
     if over {
         return Ok(true);
@@ -207,7 +233,8 @@ fn list_opened(
     Ok(false)
 }
 
-/// Lists what the body of an arm offers that opened on this channel and received this, if anything. Whether it is finished.
+/// Lists what the body of an arm offers that opened on this channel and received this, if anything. Whether it is
+/// finished.
 #[cycle(list)]
 fn list_arm(
     alloc: Global,
@@ -217,8 +244,12 @@ fn list_arm(
     values: &[Value],
     around: &mut Around,
 ) -> Result<bool, AllocError>
-    ensures sides { OnOk result (around.new ≡ added (behind (Entry.Ordered 1) (listed values.now (with_value channel value around.old.received) (proc_view body.now)).sides) around.old) }
-    ensures over { IfOk result (λ over. over ≡ (listed values.now (with_value channel value around.old.received) (proc_view body.now)).over) }
+    ensures sides { OnOk result (around.new
+        ≡ added
+        (behind (Entry.Ordered 1)
+        (listed values.now (with_value channel value around.old.received) (proc_view body.now)).sides) around.old) }
+    ensures over { IfOk result (λ over.
+        over ≡ (listed values.now (with_value channel value around.old.received) (proc_view body.now)).over) }
 {
     around.receive(channel, value)?;
     let over = list_child(alloc, body, 1, values, around)?;
@@ -228,8 +259,8 @@ fn list_arm(
     Ok(over)
 }
 
-/// Lists what a sequence offers: the first child that is not finished, from the last on that has made a move. Whether it is
-/// finished.
+/// Lists what a sequence offers: the first child that is not finished, from the last on that has made a move. Whether
+/// it is finished.
 #[cycle(list)]
 fn list_sequence(
     alloc: Global,
@@ -238,8 +269,12 @@ fn list_sequence(
     values: &[Value],
     around: &mut Around,
 ) -> Result<bool, AllocError>
-    ensures sides { OnOk result (around.new ≡ lists values.now (model.sequence (begun_of (map proc_view begun.now) (row_view row.now))) around.old) }
-    ensures over { IfOk result (λ over. over ≡ (listed values.now around.old.received (model.sequence (begun_of (map proc_view begun.now) (row_view row.now)))).over) }
+    ensures sides { OnOk result (around.new
+        ≡ lists values.now (model.sequence (begun_of (map proc_view begun.now) (row_view row.now))) around.old) }
+    ensures over { IfOk result (λ over.
+        over
+        ≡ (listed values.now around.old.received
+        (model.sequence (begun_of (map proc_view begun.now) (row_view row.now)))).over) }
 {
     let end = begun.len().min(row.codes.len());
     let mut number = first_at_work(begun, row);
@@ -280,7 +315,8 @@ fn list_parallel(
     around: &mut Around,
 ) -> Result<bool, AllocError>
     ensures sides { OnOk result (around.new ≡ lists values.now (model.parallel (procs_of (map proc_view procs.now))) around.old) }
-    ensures over { IfOk result (λ over. over ≡ (listed values.now around.old.received (model.parallel (procs_of (map proc_view procs.now)))).over) }
+    ensures over { IfOk result (λ over.
+        over ≡ (listed values.now around.old.received (model.parallel (procs_of (map proc_view procs.now)))).over) }
 {
     let mut over = true;
     for (number, child) in procs.iter().enumerate() {

@@ -97,8 +97,8 @@ fn last_moved(begun: &[Proc], row: &Row) -> Option<usize>
     None
 }
 
-/// The number of the child from which on a sequence is at work: all before it are finished, where behind the first that is
-/// not finished none has made a move.
+/// The number of the child from which on a sequence is at work: all before it are finished, where behind the first that
+/// is not finished none has made a move.
 pub fn first_at_work(begun: &[Proc], row: &Row) -> usize
     ensures { result ≡ last_moved (begun_of (map proc_view begun.now) (row_view row.now)) }
 {

@@ -15,8 +15,8 @@ ghost use Rattle.offered_sides.specs.walking.Over.{AllOver, HasOver, HasNoneOver
 use crate::moved::first_at_work;
 use process_tree::{Code, Gate, Phase, Proc, Row, Tested, Turns};
 
-/// Whether the process is finished, where it is tidy. Of the children of a sequence it looks at the last that has moved and
-/// those behind it, and nowhere further than the first that is not finished.
+/// Whether the process is finished, where it is tidy. Of the children of a sequence it looks at the last that has moved
+/// and those behind it, and nowhere further than the first that is not finished.
 pub fn is_over(proc: &Proc) -> bool
     ensures finished { Tidy (proc_view proc.now) → result ≡ finished (proc_view proc.now) }
     ensures walked { (s : model.Store) (env : Received) → result ≡ (listed s env (proc_view proc.now)).over }
@@ -44,7 +44,8 @@ fn over(proc: &Proc) -> bool
 
 /// Whether a send or sync is past.
 fn is_past(phase: Phase) -> bool
-    ensures { (s : model.Store) (env : Received) (x : model_code.Sender) → result ≡ (listed s env (model_proc.sender x (phase_view phase))).over }
+    ensures { (s : model.Store) (env : Received) (x : model_code.Sender) →
+        result ≡ (listed s env (model_proc.sender x (phase_view phase))).over }
 {
     match phase {
         Phase::Waiting | Phase::Holding => false,
@@ -54,7 +55,8 @@ fn is_past(phase: Phase) -> bool
 
 /// Whether a loop has ended.
 fn loop_over(turns: &Turns) -> bool
-    ensures { (s : model.Store) (env : Received) (g : Option model.Expression) (c : model_code.Code) → result ≡ (listed s env (turns_view turns.now g c)).over }
+    ensures { (s : model.Store) (env : Received) (g : Option model.Expression) (c : model_code.Code) →
+        result ≡ (listed s env (turns_view turns.now g c)).over }
 {
     match turns {
         Turns::Fresh => false,
@@ -66,7 +68,8 @@ fn loop_over(turns: &Turns) -> bool
 /// Whether an `if` or `case` is finished.
 #[cycle(over)]
 fn test_over(tested: &Tested) -> bool
-    ensures { (s : model.Store) (env : Received) (d : model.Decision) (cs : model_code.Codes) → result ≡ (listed s env (tested_view tested.now d cs)).over }
+    ensures { (s : model.Store) (env : Received) (d : model.Decision) (cs : model_code.Codes) →
+        result ≡ (listed s env (tested_view tested.now d cs)).over }
 {
     match tested {
         Tested::Untested => false,
@@ -77,7 +80,8 @@ fn test_over(tested: &Tested) -> bool
 
 /// Whether an arm has been closed.
 fn arms_over(gate: &Gate) -> bool
-    ensures { (s : model.Store) (env : Received) (ds : List ℕ) (cs : model_code.Codes) → result ≡ (listed s env (gate_view gate.now ds cs)).over }
+    ensures { (s : model.Store) (env : Received) (ds : List ℕ) (cs : model_code.Codes) →
+        result ≡ (listed s env (gate_view gate.now ds cs)).over }
 {
     match gate {
         Gate::Unopened => false,
@@ -88,7 +92,8 @@ fn arms_over(gate: &Gate) -> bool
 /// Whether all children of a sequence are finished.
 #[cycle(over)]
 fn sequence_over(begun: &[Proc], row: &Row) -> bool
-    ensures { (s : model.Store) (env : Received) → result ≡ (listed s env (model_proc.sequence (begun_of (map proc_view begun.now) (row_view row.now)))).over }
+    ensures { (s : model.Store) (env : Received) →
+        result ≡ (listed s env (model_proc.sequence (begun_of (map proc_view begun.now) (row_view row.now)))).over }
 {
     let mut number = first_at_work(begun, row);
     'children: while number < row.codes.len() {

@@ -9,7 +9,8 @@ use address::Entry;
 
 /// The number of the child or act of a sequence, and the place below it.
 pub(crate) fn ordered_step(place: &[Entry]) -> Option<(u32, &[Entry])>
-    ensures { MatchOption result ((n : ℕ) (a : Place) → place.now ≡ IsOrdered n ∷ a → ⊥) (λ step. place.now ≡ IsOrdered step.0 ∷ step.1.now) }
+    ensures { MatchOption result ((n : ℕ) (a : Place) → place.now ≡ IsOrdered n ∷ a →
+        ⊥) (λ step. place.now ≡ IsOrdered step.0 ∷ step.1.now) }
 {
     let (first, below) = place.split_first()?;
     match first {
@@ -20,7 +21,8 @@ pub(crate) fn ordered_step(place: &[Entry]) -> Option<(u32, &[Entry])>
 
 /// The number of the branch of a parallel, and the place below it.
 pub(crate) fn branch_step(place: &[Entry]) -> Option<(u32, &[Entry])>
-    ensures { MatchOption result ((n : ℕ) (a : Place) → place.now ≡ IsBranch n ∷ a → ⊥) (λ step. place.now ≡ IsBranch step.0 ∷ step.1.now) }
+    ensures { MatchOption result ((n : ℕ) (a : Place) → place.now ≡ IsBranch n ∷ a →
+        ⊥) (λ step. place.now ≡ IsBranch step.0 ∷ step.1.now) }
 {
     let (first, below) = place.split_first()?;
     match first {
@@ -31,7 +33,8 @@ pub(crate) fn branch_step(place: &[Entry]) -> Option<(u32, &[Entry])>
 
 /// The place below the child of this number.
 pub(crate) fn below_child(place: &[Entry], number: u64) -> Option<&[Entry]>
-    ensures { MatchOption result ((a : Place) → place.now ≡ IsOrdered number ∷ a → ⊥) (λ below. place.now ≡ IsOrdered number ∷ below.now) }
+    ensures { MatchOption result ((a : Place) → place.now ≡ IsOrdered number ∷ a →
+        ⊥) (λ below. place.now ≡ IsOrdered number ∷ below.now) }
 {
     let (first, below) = ordered_step(place)?;
     if u64::from(first) == number {

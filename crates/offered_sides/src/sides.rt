@@ -15,10 +15,11 @@ use store::Store;
 use syntax::Items;
 
 /// Exactly the sides that the tree offers over the values of the store, in the order of their places, where the tree is
-/// tidy, as each is that stands for a run. Of the finished children of a sequence it looks at the last that has moved and
-/// those behind it alone. It is an error if there is no memory.
+/// tidy, as each is that stands for a run. Of the finished children of a sequence it looks at the last that has moved
+/// and those behind it alone. It is an error if there is no memory.
 pub fn sides_of(alloc: Global, tree: &Tree, store: &Store) -> Result<Items<OfferedSide>, AllocError>
-    ensures exactly { Tidy (tree_view tree.now) → IfOk result (λ sides. OffersExactly (state_of tree.now store.now) sides) }
+    ensures exactly { Tidy (tree_view tree.now) →
+        IfOk result (λ sides. OffersExactly (state_of tree.now store.now) sides) }
     ensures in_order { Tidy (tree_view tree.now) → IfOk result (λ sides. InOrder NotBehind sides) }
 {
     let mut around = Around::new(alloc);

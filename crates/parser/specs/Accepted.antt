@@ -23,12 +23,14 @@ Begins tokens = GoesOn description most_levels tokens
 -- At the offset stands the first token with which no description goes on, or there the tokens end too soon.
 abbrev pub FirstUnexpected : List Token → ℕ → Type 0
 FirstUnexpected tokens offset =
-    (front : List Token) × (rest : List Token) × StopsForGood description most_levels tokens front rest × (offset ≡ offset_at tokens rest)
+    (front : List Token) × (rest : List Token) × StopsForGood description most_levels tokens front rest
+    × (offset ≡ offset_at tokens rest)
 
 -- At the offset stands the first token with which no description goes on, and with one level more one does.
 abbrev pub FirstTooDeep : List Token → ℕ → Type 0
 FirstTooDeep tokens offset =
-    (front : List Token) × (rest : List Token) × StopsForLevels description most_levels tokens front rest × (offset ≡ offset_at tokens rest)
+    (front : List Token) × (rest : List Token) × StopsForLevels description most_levels tokens front rest
+    × (offset ≡ offset_at tokens rest)
 
 -- the fault that is due for the tokens
 abbrev pub IsRefused : List Token → Fault → Type 0

@@ -108,7 +108,9 @@ abbrev pub sum_signs : List Kind
 sum_signs = kind.PlusSign ∷ kind.MinusSign ∷ []
 
 abbrev pub comparison_signs : List Kind
-comparison_signs = kind.EqualSign ∷ kind.NotEqualSign ∷ kind.LessSign ∷ kind.GreaterSign ∷ kind.LessOrEqualSign ∷ kind.GreaterOrEqualSign ∷ []
+comparison_signs =
+    kind.EqualSign ∷ kind.NotEqualSign ∷ kind.LessSign ∷ kind.GreaterSign ∷ kind.LessOrEqualSign
+    ∷ kind.GreaterOrEqualSign ∷ []
 
 abbrev pub conjunct_words : List Kind
 conjunct_words = kind.AndWord ∷ []
@@ -325,7 +327,8 @@ module _ (command : Rule Command) (expression : Rule Expr) where
     chosen ← body
     pure (roll-Arm (record { channel = channel; body = chosen }))
 
--- What a command begins with, over what an expression is beside it, and a command and an expression in the level that it opens.
+-- What a command begins with, over what an expression is beside it, and a command and an expression in the level that
+-- it opens.
 module _ (depth : ℕ) (expression : Rule Expr) (inner_command : Rule Command) (inner_expression : Rule Expr) where
   -- "[" command "]"
   unfoldable pub bracketed : Rule Command
@@ -400,7 +403,8 @@ module _ (depth : ℕ) (expression : Rule Expr) (inner_command : Rule Command) (
   unfoldable pub any_simple : Rule Command
   any_simple =
       either bracketed (either looping (either branching (either casing (either selecting (either arbitrating
-      (either synchronisation (either named (either (word kind.ContinueWord action.Continue) (word kind.HaltWord action.Halt)))))))))
+      (either synchronisation
+      (either named (either (word kind.ContinueWord action.Continue) (word kind.HaltWord action.Halt)))))))))
 
   unfoldable pub simple_of : Rule Command
   simple_of = inside any_simple

@@ -32,7 +32,8 @@ take kinds = λ i token j. (is_one_of kinds token.kind ≡ true) × (i ≡ input
 -- this one counted. A whole sentence is spelled at a depth of as many levels as may be opened (`Spells`).
 unfoldable pub take_open : ℕ → List Kind → Rule Token
 take_open zero kinds = λ i token j. ⊥
-take_open (suc depth) kinds = λ i token j. (is_one_of kinds token.kind ≡ true) × (i ≡ input (suc j.levels) (token ∷ j.tokens))
+take_open (suc depth) kinds =
+    λ i token j. (is_one_of kinds token.kind ≡ true) × (i ≡ input (suc j.levels) (token ∷ j.tokens))
 
 -- the one or the other
 unfoldable pub either : {A : Type 0} → Rule A → Rule A → Rule A

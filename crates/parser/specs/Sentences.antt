@@ -20,12 +20,14 @@ pub record GoesOn {A : Type 0} (rule : ℕ → Rule A) (levels : ℕ) (front : L
   pub whole : A
   pub spells : Spells rule levels (front ++ tail) whole
 
--- something begins with the tokens of `front` and the first one of `rest`; where there is none, the tokens of `front` are something whole
+-- something begins with the tokens of `front` and the first one of `rest`; where there is none, the tokens of `front`
+-- are something whole
 abbrev pub GoesOnWith : {A : Type 0} → (ℕ → Rule A) → ℕ → List Token → List Token → Type 0
 GoesOnWith {A} rule levels front [] = (a : A) × Spells rule levels front a
 GoesOnWith rule levels front (token ∷ rest) = GoesOn rule levels (front ++ token ∷ [])
 
--- The tokens before `rest` can be gone on with, and no longer with the first one of `rest`, or with an end where there is none.
+-- The tokens before `rest` can be gone on with, and no longer with the first one of `rest`, or with an end where there
+-- is none.
 pub record StopsAt {A : Type 0} (rule : ℕ → Rule A) (levels : ℕ) (tokens front rest : List Token) : Type 0 where
   pub whole : tokens ≡ front ++ rest
   pub goes_on : GoesOn rule levels front

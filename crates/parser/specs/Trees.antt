@@ -61,7 +61,8 @@ operator_of kind.LessOrEqualSign = operator.LessOrEqual
 operator_of _ = operator.GreaterOrEqual
 
 abbrev pub binary : Token → Expr → Expr → Expr
-binary sign left right = expression_at (through (span_of left) (span_of right)) (shape.Binary (operator_of sign.kind) left right)
+binary sign left right =
+    expression_at (through (span_of left) (span_of right)) (shape.Binary (operator_of sign.kind) left right)
 
 abbrev pub command_span : Command → Span
 command_span command = (out-Command command).span

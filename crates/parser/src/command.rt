@@ -85,7 +85,8 @@ fn give(
     depth: usize,
     name: Identifier,
 ) -> Result<Command, Halt>
-    ensures { Reads (reading.giving sign (by_sign.given_by sign) (expression_in depth) name (place cursor.old)) result (place cursor.new) }
+    ensures { Reads (reading.giving sign (by_sign.given_by sign) (expression_in depth) name (place cursor.old)) result
+        (place cursor.new) }
 {
     cursor.take(sign)?;
     let value = expression(cursor, depth)?;
@@ -161,7 +162,9 @@ impl<R: Rule<Tree = Command>> Joined<'_, R> {
     #[tactic(auto, unfolding(crate::specs::walking::Reading::joined, crate::specs::walking::Reading::one_more, crate::specs::walking::Readers::bind, crate::specs::walking::Readers::pure))]
     fn joined(&self, cursor: &mut Cursor<'_, '_>, first: Command) -> Result<Command, Halt>
         requires { R.can_read self.now.item.now }
-        ensures { Reads (reading.joined self.now.sign (by_sign.made_of self.now.sign) (R.reader self.now.item.now) first (place cursor.old)) result (place cursor.new) }
+        ensures { Reads
+            (reading.joined self.now.sign (by_sign.made_of self.now.sign) (R.reader self.now.item.now) first
+            (place cursor.old)) result (place cursor.new) }
     {
         let start = first.span;
         let mut children = one(cursor.alloc(), first)?;
@@ -225,7 +228,10 @@ impl<R: Rule<Tree = Command>> Parts<R> {
     #[tactic(auto, unfolding(crate::specs::walking::Reading::bracketed, crate::specs::walking::Readers::bind, crate::specs::walking::Readers::pure))]
     fn bracketed(&self, cursor: &mut Cursor<'_, '_>) -> Result<Command, Halt>
         requires { R.can_read self.now.simple }
-        ensures { Reads (reading.bracketed self.now.depth (expression_in (self.now.depth + 1)) (command_of (R.reader self.now.simple)) (expression_in self.now.depth) (place cursor.old)) result (place cursor.new) }
+        ensures { Reads
+            (reading.bracketed self.now.depth (expression_in (self.now.depth + 1))
+            (command_of (R.reader self.now.simple)) (expression_in self.now.depth) (place cursor.old)) result
+            (place cursor.new) }
     {
         cursor.open(self.depth, Kind::LeftBracket)?;
         let inner = self.command(cursor)?;
@@ -237,7 +243,9 @@ impl<R: Rule<Tree = Command>> Parts<R> {
     #[tactic(auto, unfolding(crate::specs::walking::Reading::body, crate::specs::walking::Readers::bind, crate::specs::walking::Readers::pure))]
     fn body(&self, cursor: &mut Cursor<'_, '_>) -> Result<Command, Halt>
         requires { R.can_read self.now.simple }
-        ensures { Reads (reading.body (command_of (R.reader self.now.simple)) (expression_in self.now.depth) (place cursor.old)) result (place cursor.new) }
+        ensures { Reads
+            (reading.body (command_of (R.reader self.now.simple)) (expression_in self.now.depth) (place cursor.old))
+            result (place cursor.new) }
     {
         cursor.take(Kind::ThenWord)?;
         self.command(cursor)
@@ -247,7 +255,9 @@ impl<R: Rule<Tree = Command>> Parts<R> {
     #[tactic(auto, unfolding(crate::specs::walking::Reading::while_loop, crate::specs::walking::Readers::bind, crate::specs::walking::Readers::pure))]
     fn while_loop(&self, cursor: &mut Cursor<'_, '_>, start: Span) -> Result<Command, Halt>
         requires { R.can_read self.now.simple }
-        ensures { Reads (reading.while_loop (command_of (R.reader self.now.simple)) (expression_in self.now.depth) start (place cursor.old)) result (place cursor.new) }
+        ensures { Reads
+            (reading.while_loop (command_of (R.reader self.now.simple)) (expression_in self.now.depth) start
+            (place cursor.old)) result (place cursor.new) }
     {
         cursor.take(Kind::WhileWord)?;
         let guard = expression(cursor, self.depth)?;
@@ -259,7 +269,9 @@ impl<R: Rule<Tree = Command>> Parts<R> {
     #[tactic(auto, unfolding(crate::specs::walking::Reading::endless, crate::specs::walking::Readers::bind, crate::specs::walking::Readers::pure))]
     fn endless(&self, cursor: &mut Cursor<'_, '_>, start: Span) -> Result<Command, Halt>
         requires { R.can_read self.now.simple }
-        ensures { Reads (reading.endless (command_of (R.reader self.now.simple)) (expression_in self.now.depth) start (place cursor.old)) result (place cursor.new) }
+        ensures { Reads
+            (reading.endless (command_of (R.reader self.now.simple)) (expression_in self.now.depth) start
+            (place cursor.old)) result (place cursor.new) }
     {
         let body = self.command(cursor)?;
         ended(cursor, start, Action::Loop(body))
@@ -269,7 +281,9 @@ impl<R: Rule<Tree = Command>> Parts<R> {
     #[tactic(auto, unfolding(crate::specs::walking::Reading::looping, crate::specs::walking::Readers::branch, crate::specs::walking::Readers::bind, crate::specs::walking::Readers::pure))]
     fn repeated(&self, cursor: &mut Cursor<'_, '_>) -> Result<Command, Halt>
         requires { R.can_read self.now.simple }
-        ensures { Reads (reading.looping self.now.depth (expression_in (self.now.depth + 1)) (command_of (R.reader self.now.simple)) (expression_in self.now.depth) (place cursor.old)) result (place cursor.new) }
+        ensures { Reads
+            (reading.looping self.now.depth (expression_in (self.now.depth + 1)) (command_of (R.reader self.now.simple))
+            (expression_in self.now.depth) (place cursor.old)) result (place cursor.new) }
     {
         let start = cursor.open(self.depth, Kind::LoopWord)?;
         if cursor.sees(Kind::WhileWord) {
@@ -283,7 +297,9 @@ impl<R: Rule<Tree = Command>> Parts<R> {
     #[tactic(auto, unfolding(crate::specs::walking::Reading::otherwise, crate::specs::walking::Reading::last_body, crate::specs::walking::Readers::branch, crate::specs::walking::Readers::bind, crate::specs::walking::Readers::pure))]
     fn otherwise(&self, cursor: &mut Cursor<'_, '_>) -> Result<Option<Command>, Halt>
         requires { R.can_read self.now.simple }
-        ensures { Reads (reading.otherwise (command_of (R.reader self.now.simple)) (expression_in self.now.depth) (place cursor.old)) result (place cursor.new) }
+        ensures { Reads
+            (reading.otherwise (command_of (R.reader self.now.simple)) (expression_in self.now.depth)
+            (place cursor.old)) result (place cursor.new) }
     {
         if cursor.sees(Kind::ElseWord) {
             cursor.take(Kind::ElseWord)?;
@@ -298,7 +314,10 @@ impl<R: Rule<Tree = Command>> Parts<R> {
     #[tactic(auto, unfolding(crate::specs::walking::Reading::branching, crate::specs::walking::Readers::bind, crate::specs::walking::Readers::pure))]
     fn branching(&self, cursor: &mut Cursor<'_, '_>) -> Result<Command, Halt>
         requires { R.can_read self.now.simple }
-        ensures { Reads (reading.branching self.now.depth (expression_in (self.now.depth + 1)) (command_of (R.reader self.now.simple)) (expression_in self.now.depth) (place cursor.old)) result (place cursor.new) }
+        ensures { Reads
+            (reading.branching self.now.depth (expression_in (self.now.depth + 1))
+            (command_of (R.reader self.now.simple)) (expression_in self.now.depth) (place cursor.old)) result
+            (place cursor.new) }
     {
         let start = cursor.open(self.depth, Kind::IfWord)?;
         let arms = separated(&GuardedRule { parts: self }, cursor, Kind::Bar)?;
@@ -311,7 +330,9 @@ impl<R: Rule<Tree = Command>> Parts<R> {
     #[tactic(auto, unfolding(crate::specs::walking::Readers::bind, crate::specs::walking::Readers::pure))]
     fn cases(&self, cursor: &mut Cursor<'_, '_>, start: Span, value: Expr) -> Result<Command, Halt>
         requires { R.can_read self.now.simple }
-        ensures { Reads (reading.cases (command_of (R.reader self.now.simple)) (expression_in self.now.depth) start value (place cursor.old)) result (place cursor.new) }
+        ensures { Reads
+            (reading.cases (command_of (R.reader self.now.simple)) (expression_in self.now.depth) start value
+            (place cursor.old)) result (place cursor.new) }
     {
         cursor.take(Kind::OfWord)?;
         let arms = separated(&CaseArmRule { parts: self }, cursor, Kind::Bar)?;
@@ -324,7 +345,9 @@ impl<R: Rule<Tree = Command>> Parts<R> {
     #[tactic(auto, unfolding(crate::specs::walking::Reading::casing, crate::specs::walking::Readers::bind, crate::specs::walking::Readers::pure))]
     fn case(&self, cursor: &mut Cursor<'_, '_>) -> Result<Command, Halt>
         requires { R.can_read self.now.simple }
-        ensures { Reads (reading.casing self.now.depth (expression_in (self.now.depth + 1)) (command_of (R.reader self.now.simple)) (expression_in self.now.depth) (place cursor.old)) result (place cursor.new) }
+        ensures { Reads
+            (reading.casing self.now.depth (expression_in (self.now.depth + 1)) (command_of (R.reader self.now.simple))
+            (expression_in self.now.depth) (place cursor.old)) result (place cursor.new) }
     {
         let start = cursor.open(self.depth, Kind::CaseWord)?;
         let value = expression(cursor, self.depth)?;
@@ -335,7 +358,10 @@ impl<R: Rule<Tree = Command>> Parts<R> {
     #[tactic(auto, unfolding(crate::specs::walking::Reading::selecting, crate::specs::walking::Readers::bind, crate::specs::walking::Readers::pure))]
     fn select(&self, cursor: &mut Cursor<'_, '_>) -> Result<Command, Halt>
         requires { R.can_read self.now.simple }
-        ensures { Reads (reading.selecting self.now.depth (expression_in (self.now.depth + 1)) (command_of (R.reader self.now.simple)) (expression_in self.now.depth) (place cursor.old)) result (place cursor.new) }
+        ensures { Reads
+            (reading.selecting self.now.depth (expression_in (self.now.depth + 1))
+            (command_of (R.reader self.now.simple)) (expression_in self.now.depth) (place cursor.old)) result
+            (place cursor.new) }
     {
         let start = cursor.open(self.depth, Kind::SelectWord)?;
         let arms = separated(&ArmRule { parts: self }, cursor, Kind::Bar)?;
@@ -346,7 +372,9 @@ impl<R: Rule<Tree = Command>> Parts<R> {
     #[tactic(auto, unfolding(crate::specs::walking::Readers::bind, crate::specs::walking::Readers::pure))]
     fn against(&self, cursor: &mut Cursor<'_, '_>, start: Span, first: Arm) -> Result<Command, Halt>
         requires { R.can_read self.now.simple }
-        ensures { Reads (reading.against (command_of (R.reader self.now.simple)) (expression_in self.now.depth) start first (place cursor.old)) result (place cursor.new) }
+        ensures { Reads
+            (reading.against (command_of (R.reader self.now.simple)) (expression_in self.now.depth) start first
+            (place cursor.old)) result (place cursor.new) }
     {
         cursor.take(Kind::Bar)?;
         let second = ArmRule { parts: self }.read(cursor)?;
@@ -357,7 +385,10 @@ impl<R: Rule<Tree = Command>> Parts<R> {
     #[tactic(auto, unfolding(crate::specs::walking::Reading::arbitrating, crate::specs::walking::Readers::bind, crate::specs::walking::Readers::pure))]
     fn arbitrate(&self, cursor: &mut Cursor<'_, '_>) -> Result<Command, Halt>
         requires { R.can_read self.now.simple }
-        ensures { Reads (reading.arbitrating self.now.depth (expression_in (self.now.depth + 1)) (command_of (R.reader self.now.simple)) (expression_in self.now.depth) (place cursor.old)) result (place cursor.new) }
+        ensures { Reads
+            (reading.arbitrating self.now.depth (expression_in (self.now.depth + 1))
+            (command_of (R.reader self.now.simple)) (expression_in self.now.depth) (place cursor.old)) result
+            (place cursor.new) }
     {
         let start = cursor.open(self.depth, Kind::ArbitrateWord)?;
         let first = ArmRule { parts: self }.read(cursor)?;
@@ -368,7 +399,10 @@ impl<R: Rule<Tree = Command>> Parts<R> {
     #[tactic(auto, unfolding(crate::specs::walking::Reading::enclosing, crate::specs::walking::Readers::bind, crate::specs::walking::Readers::pure))]
     fn input(&self, cursor: &mut Cursor<'_, '_>, channel: Identifier) -> Result<Command, Halt>
         requires { R.can_read self.now.simple }
-        ensures { Reads (reading.enclosing self.now.depth (expression_in (self.now.depth + 1)) (command_of (R.reader self.now.simple)) (expression_in self.now.depth) channel (place cursor.old)) result (place cursor.new) }
+        ensures { Reads
+            (reading.enclosing self.now.depth (expression_in (self.now.depth + 1))
+            (command_of (R.reader self.now.simple)) (expression_in self.now.depth) channel (place cursor.old)) result
+            (place cursor.new) }
     {
         cursor.open(self.depth, Kind::ThenWord)?;
         let body = self.command(cursor)?;
@@ -379,7 +413,10 @@ impl<R: Rule<Tree = Command>> Parts<R> {
     #[tactic(auto, unfolding(crate::specs::walking::Reading::incoming, crate::specs::walking::Readers::branch, crate::specs::walking::Readers::bind, crate::specs::walking::Readers::pure))]
     fn incoming(&self, cursor: &mut Cursor<'_, '_>, channel: Identifier) -> Result<Command, Halt>
         requires { R.can_read self.now.simple }
-        ensures { Reads (reading.incoming self.now.depth (expression_in (self.now.depth + 1)) (command_of (R.reader self.now.simple)) (expression_in self.now.depth) channel (place cursor.old)) result (place cursor.new) }
+        ensures { Reads
+            (reading.incoming self.now.depth (expression_in (self.now.depth + 1))
+            (command_of (R.reader self.now.simple)) (expression_in self.now.depth) channel (place cursor.old)) result
+            (place cursor.new) }
     {
         cursor.take(Kind::ReceiveSign)?;
         if cursor.sees(Kind::ThenWord) {
@@ -393,7 +430,9 @@ impl<R: Rule<Tree = Command>> Parts<R> {
     #[tactic(auto, unfolding(crate::specs::walking::Reading::named, crate::specs::walking::Reading::assignment, crate::specs::walking::Reading::sending, crate::specs::walking::Readers::branch, crate::specs::walking::Readers::bind, crate::specs::walking::Readers::pure))]
     fn named(&self, cursor: &mut Cursor<'_, '_>) -> Result<Command, Halt>
         requires { R.can_read self.now.simple }
-        ensures { Reads (reading.named self.now.depth (expression_in (self.now.depth + 1)) (command_of (R.reader self.now.simple)) (expression_in self.now.depth) (place cursor.old)) result (place cursor.new) }
+        ensures { Reads
+            (reading.named self.now.depth (expression_in (self.now.depth + 1)) (command_of (R.reader self.now.simple))
+            (expression_in self.now.depth) (place cursor.old)) result (place cursor.new) }
     {
         let name = cursor.identifier()?;
         if cursor.sees(Kind::AssignSign) {
@@ -411,7 +450,10 @@ impl<R: Rule<Tree = Command>> Parts<R> {
     #[tactic(auto, unfolding(crate::specs::walking::Reading::any_simple, crate::specs::walking::Readers::branch))]
     fn choice(&self, cursor: &mut Cursor<'_, '_>) -> Result<Command, Halt>
         requires { R.can_read self.now.simple }
-        ensures { Reads (reading.any_simple self.now.depth (expression_in (self.now.depth + 1)) (command_of (R.reader self.now.simple)) (expression_in self.now.depth) (place cursor.old)) result (place cursor.new) }
+        ensures { Reads
+            (reading.any_simple self.now.depth (expression_in (self.now.depth + 1))
+            (command_of (R.reader self.now.simple)) (expression_in self.now.depth) (place cursor.old)) result
+            (place cursor.new) }
     {
         if cursor.sees(Kind::LeftBracket) {
             self.bracketed(cursor)
@@ -440,7 +482,10 @@ impl<R: Rule<Tree = Command>> Parts<R> {
     #[tactic(auto, using(crate::proofs::Closed::closes), unfolding(crate::specs::walking::Reading::simple_of, crate::specs::walking::Readers::inside))]
     fn whole(&self, cursor: &mut Cursor<'_, '_>) -> Result<Command, Halt>
         requires { R.can_read self.now.simple }
-        ensures { Reads (reading.simple_of self.now.depth (expression_in (self.now.depth + 1)) (command_of (R.reader self.now.simple)) (expression_in self.now.depth) (place cursor.old)) result (place cursor.new) }
+        ensures { Reads
+            (reading.simple_of self.now.depth (expression_in (self.now.depth + 1))
+            (command_of (R.reader self.now.simple)) (expression_in self.now.depth) (place cursor.old)) result
+            (place cursor.new) }
     {
         let levels = cursor.levels();
         let whole = self.choice(cursor);
@@ -481,7 +526,8 @@ impl<R: Rule<Tree = Command>> Rule for CaseArmRule<'_, R> {
 
     ghost can_read = { λ arm. R.can_read arm.parts.now.simple };
 
-    ghost reader = { λ arm. reading.case_arm (command_of (R.reader arm.parts.now.simple)) (expression_in arm.parts.now.depth) };
+    ghost reader = { λ arm.
+        reading.case_arm (command_of (R.reader arm.parts.now.simple)) (expression_in arm.parts.now.depth) };
 
     #[tactic(auto, unfolding(crate::specs::walking::Reading::case_arm, crate::specs::walking::Readers::bind, crate::specs::walking::Readers::pure))]
     fn read(&self, cursor: &mut Cursor<'_, '_>) -> Result<CaseArm, Halt> {

@@ -95,7 +95,8 @@ fn operation<R: Rule<Tree = Expr>>(
     left: Expr,
 ) -> Result<Expr, Halt>
     requires { R.can_read operand.now }
-    ensures { Reads (reading.operation depth signs.now (R.reader operand.now) left (place cursor.old)) result (place cursor.new) }
+    ensures { Reads (reading.operation depth signs.now (R.reader operand.now) left (place cursor.old)) result
+        (place cursor.new) }
 {
     let sign = cursor.open_any(depth, signs)?;
     let right = operand.read(cursor)?;
@@ -168,7 +169,8 @@ impl<R: Rule<Tree = Expr>> Operands<R> {
     #[tactic(auto, using(crate::proofs::Closed::closes), unfolding(crate::specs::walking::Reading::expression_of, crate::specs::walking::Reading::sum_of, crate::specs::walking::Reading::comparison_of, crate::specs::walking::Reading::conjunct_of, crate::specs::walking::Readers::inside))]
     fn expression(&self, cursor: &mut Cursor<'_, '_>) -> Result<Expr, Halt>
         requires { R.can_read self.now.factor }
-        ensures { Reads (reading.expression_of self.now.depth (R.reader self.now.factor) (place cursor.old)) result (place cursor.new) }
+        ensures { Reads (reading.expression_of self.now.depth (R.reader self.now.factor) (place cursor.old)) result
+            (place cursor.new) }
     {
         let depth = self.depth;
         let sum = Grouped {
@@ -200,7 +202,10 @@ impl<R: Rule<Tree = Expr>> Operands<R> {
     #[tactic(auto, unfolding(crate::specs::walking::Reading::negation, crate::specs::walking::Readers::bind, crate::specs::walking::Readers::pure))]
     fn negated(&self, cursor: &mut Cursor<'_, '_>) -> Result<Expr, Halt>
         requires { R.can_read self.now.factor }
-        ensures { Reads (reading.negation self.now.depth (R.reader self.now.factor) (reading.expression_of self.now.depth (R.reader self.now.factor)) (place cursor.old)) result (place cursor.new) }
+        ensures { Reads
+            (reading.negation self.now.depth (R.reader self.now.factor)
+            (reading.expression_of self.now.depth (R.reader self.now.factor)) (place cursor.old)) result
+            (place cursor.new) }
     {
         let start = cursor.open(self.depth, Kind::NotWord)?;
         let operand = self.factor.read(cursor)?;
@@ -212,7 +217,10 @@ impl<R: Rule<Tree = Expr>> Operands<R> {
     #[tactic(auto, unfolding(crate::specs::walking::Reading::parenthesised, crate::specs::walking::Readers::branch, crate::specs::walking::Readers::bind, crate::specs::walking::Readers::pure))]
     fn parenthesised(&self, cursor: &mut Cursor<'_, '_>) -> Result<Expr, Halt>
         requires { R.can_read self.now.factor }
-        ensures { Reads (reading.parenthesised self.now.depth (R.reader self.now.factor) (reading.expression_of self.now.depth (R.reader self.now.factor)) (place cursor.old)) result (place cursor.new) }
+        ensures { Reads
+            (reading.parenthesised self.now.depth (R.reader self.now.factor)
+            (reading.expression_of self.now.depth (R.reader self.now.factor)) (place cursor.old)) result
+            (place cursor.new) }
     {
         let start = cursor.open(self.depth, Kind::LeftParenthesis)?;
         let inner = self.expression(cursor)?;
@@ -227,7 +235,10 @@ impl<R: Rule<Tree = Expr>> Operands<R> {
     #[tactic(auto, unfolding(crate::specs::walking::Reading::any_factor, crate::specs::walking::Readers::branch))]
     fn choice(&self, cursor: &mut Cursor<'_, '_>) -> Result<Expr, Halt>
         requires { R.can_read self.now.factor }
-        ensures { Reads (reading.any_factor self.now.depth (R.reader self.now.factor) (reading.expression_of self.now.depth (R.reader self.now.factor)) (place cursor.old)) result (place cursor.new) }
+        ensures { Reads
+            (reading.any_factor self.now.depth (R.reader self.now.factor)
+            (reading.expression_of self.now.depth (R.reader self.now.factor)) (place cursor.old)) result
+            (place cursor.new) }
     {
         if cursor.sees(Kind::NotWord) {
             self.negated(cursor)
@@ -244,7 +255,10 @@ impl<R: Rule<Tree = Expr>> Operands<R> {
     #[tactic(auto, using(crate::proofs::Closed::closes), unfolding(crate::specs::walking::Reading::factor_of, crate::specs::walking::Readers::inside))]
     fn whole(&self, cursor: &mut Cursor<'_, '_>) -> Result<Expr, Halt>
         requires { R.can_read self.now.factor }
-        ensures { Reads (reading.factor_of self.now.depth (R.reader self.now.factor) (reading.expression_of self.now.depth (R.reader self.now.factor)) (place cursor.old)) result (place cursor.new) }
+        ensures { Reads
+            (reading.factor_of self.now.depth (R.reader self.now.factor)
+            (reading.expression_of self.now.depth (R.reader self.now.factor)) (place cursor.old)) result
+            (place cursor.new) }
     {
         let levels = cursor.levels();
         let whole = self.choice(cursor);

@@ -52,7 +52,8 @@ fn offset_at(tokens: &[Token<'_>], rest: &[Token<'_>]) -> u64
 
 /// What `parse` answers.
 fn answer(alloc: Global, tokens: &[Token<'_>]) -> Result<Description, Fault>
-    ensures { IsAnswer tokens.now (readers.whole (reading.description most_levels) (input most_levels tokens.now)) result }
+    ensures { IsAnswer tokens.now
+        (readers.whole (reading.description most_levels) (input most_levels tokens.now)) result }
 {
     let mut cursor = Cursor::new(alloc, LEVELS, tokens);
     match whole(&mut cursor) {

@@ -53,7 +53,8 @@ pub fn next<R: Rule>(
     items: &mut Items<R::Tree>,
 ) -> Result<(), Halt>
     requires { R.can_read rule.now }
-    ensures { Builds (reading.one_more (R.reader rule.now) items.old (place cursor.old)) items.new result (place cursor.new) }
+    ensures { Builds (reading.one_more (R.reader rule.now) items.old (place cursor.old)) items.new result
+        (place cursor.new) }
 {
     let item = rule.read(cursor)?;
     items.push(item)?;
@@ -68,7 +69,8 @@ pub fn several<R: Rule>(
     items: &mut Items<R::Tree>,
 ) -> Result<(), Halt>
     requires { R.can_read rule.now }
-    ensures { Builds (reading.several kinds.now (R.reader rule.now) items.old (place cursor.old)) items.new result (place cursor.new) }
+    ensures { Builds (reading.several kinds.now (R.reader rule.now) items.old (place cursor.old)) items.new result
+        (place cursor.new) }
 {
     for _turn in 0..cursor.rest().len() {
         if !cursor.sees_any(kinds) {
@@ -103,7 +105,8 @@ pub fn one_or_more<A: Rule, B: Rule<Tree = A::Tree>>(
 ) -> Result<Items<A::Tree>, Halt>
     requires first { A.can_read first.now }
     requires more { B.can_read more.now }
-    ensures { Reads (reading.one_or_more kinds.now (A.reader first.now) (B.reader more.now) (place cursor.old)) result (place cursor.new) }
+    ensures { Reads (reading.one_or_more kinds.now (A.reader first.now) (B.reader more.now) (place cursor.old)) result
+        (place cursor.new) }
 {
     let item = first.read(cursor)?;
     let mut items = one(cursor.alloc(), item)?;

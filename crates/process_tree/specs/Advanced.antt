@@ -90,7 +90,8 @@ abbrev mutual
   advanced (took d cs j q) a k = cond (finished q) None (if_child 1 a (λ b. wrap (took d cs j) (advanced q b k)))
   advanced (unopened ds cs) a k = if_act 0 a (open_after ds cs k)
   advanced (entered ds cs c v q) a k =
-      cond (finished q) (if_act 2 a (close_after ds cs c v q k)) (if_child 1 a (λ b. wrap (entered ds cs c v) (advanced q b k)))
+      cond (finished q) (if_act 2 a (close_after ds cs c v q k))
+      (if_child 1 a (λ b. wrap (entered ds cs c v) (advanced q b k)))
   advanced (closed ds cs c v q) a k = None
   advanced (sequence ps) a k = wrap sequence (advanced_sequence 0 ps a k)
   advanced (parallel ps) a k = wrap parallel (advanced_parallel 0 ps a k)
@@ -100,7 +101,8 @@ abbrev mutual
   pub advanced_sequence : ℕ → Procs → Place → Ask → Option MovedIn
   advanced_sequence n no_procs a k = None
   advanced_sequence n (proc p ps) a k =
-      cond (finished p) (wrap (proc p) (advanced_sequence (n + 1) ps a k)) (if_child n a (λ b. wrap (λ q. proc q ps) (advanced p b k)))
+      cond (finished p) (wrap (proc p) (advanced_sequence (n + 1) ps a k))
+      (if_child n a (λ b. wrap (λ q. proc q ps) (advanced p b k)))
 
   -- of children side by side, the first in branch n: that in the branch of the place moves
   pub advanced_parallel : ℕ → Procs → Place → Ask → Option MovedIn

@@ -45,14 +45,17 @@ MovesInOneChild =
 -- a move at a place in branch i of a parallel is one of that branch
 abbrev pub MovesInOneBranch : Type 0
 MovesInOneBranch =
-    (row : Procs) (i : ℕ) (b : Place) (k : Ask) (x : MovedIn) → advanced_parallel 0 row (Branch i ∷ b) k ≡ Some x → MovedChild row i b k x
+    (row : Procs) (i : ℕ) (b : Place) (k : Ask) (x : MovedIn) → advanced_parallel 0 row (Branch i ∷ b) k ≡ Some x →
+    MovedChild row i b k x
 
 -- a move in child i of a sequence is taken back in that child
 abbrev pub BackInOneChild : Type 0
 BackInOneChild =
-    (row : Procs) (i : ℕ) (b : Place) (old : Option Proc) (x : Procs) → retreated_sequence 0 row (Ordered i ∷ b) old ≡ Some x → BackChild row i b old x
+    (row : Procs) (i : ℕ) (b : Place) (old : Option Proc) (x : Procs) →
+    retreated_sequence 0 row (Ordered i ∷ b) old ≡ Some x → BackChild row i b old x
 
 -- of a branch of a parallel likewise
 abbrev pub BackInOneBranch : Type 0
 BackInOneBranch =
-    (row : Procs) (i : ℕ) (b : Place) (old : Option Proc) (x : Procs) → retreated_parallel 0 row (Branch i ∷ b) old ≡ Some x → BackChild row i b old x
+    (row : Procs) (i : ℕ) (b : Place) (old : Option Proc) (x : Procs) →
+    retreated_parallel 0 row (Branch i ∷ b) old ≡ Some x → BackChild row i b old x

@@ -17,8 +17,10 @@ use Rattle.process_tree.specs.Left.{Received, puts, residual, left}
 use Rattle.process_tree.specs.Translation.{code_of, system_code}
 
 -- two moves made the other way round lead to the same, and each takes out what it took out
-abbrev pub Swapped : {Y : Type 0} → (Y → Place → Ask → Option (Y × Option Proc)) → Y → Place → Ask → Y × Option Proc → Place → Ask → Y × Option Proc → Type 0
-Swapped {Y = Y} step p a k x b l y = (z : Y × Option Proc) × (step p b l ≡ Some z) × (step z.0 a k ≡ Some (y.0, x.1)) × (z.1 ≡ y.1)
+abbrev pub Swapped : {Y : Type 0} → (Y → Place → Ask → Option (Y × Option Proc)) → Y → Place → Ask → Y × Option Proc →
+    Place → Ask → Y × Option Proc → Type 0
+Swapped {Y = Y} step p a k x b l y =
+    (z : Y × Option Proc) × (step p b l ≡ Some z) × (step z.0 a k ≡ Some (y.0, x.1)) × (z.1 ≡ y.1)
 
 -- what is left of any process is well formed
 abbrev pub LeftIsFormed : Type 0

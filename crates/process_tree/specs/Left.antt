@@ -1,4 +1,5 @@
--- What a process still has to do, as a residual: finished processes are erased, and received values stand in place of their names.
+-- What a process still has to do, as a residual: finished processes are erased, and received values stand in place of
+-- their names.
 use Rattle.std.specs.Prelude.{ℕ, ◌+◌, ◌*◌, true, false, List, [], ◌∷◌, Option, Some, None}
 use Rattle.value.specs.Word.{Word}
 use Rattle.system.specs.Expression.{Expression}

@@ -1,4 +1,5 @@
--- The tree that is changed in place, as contracts see it: each command with what it has done, the finished processes kept.
+-- The tree that is changed in place, as contracts see it: each command with what it has done, the finished processes
+-- kept.
 use Rattle.std.specs.Prelude.{ℕ, Bool, true, false, ◌&&◌, List, Option}
 use Rattle.value.specs.Word.{Word}
 use Rattle.system.specs.Expression.{Expression, Decision}

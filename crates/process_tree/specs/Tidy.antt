@@ -1,6 +1,6 @@
 -- Trees in which a sequence is at work in one child: behind the first child that is not finished none has made a move.
--- After an undo children stay that have begun and made no move again. So the last child that has made one tells where the work is: it is
--- there, or behind it where it is finished, and all before it are finished.
+-- After an undo children stay that have begun and made no move again. So the last child that has made one tells where
+-- the work is: it is there, or behind it where it is finished, and all before it are finished.
 use Rattle.std.specs.Prelude.{◌≡◌, ℕ, zero, suc, Bool, true, false, ◌||◌, cond, nat_lt, Some}
 use Rattle.runs.specs.Moves.{Place}
 use Rattle.runs.specs.declared.ask.Ask.{Ask}

@@ -79,23 +79,31 @@ row_layer r = row_of r.codes
 
 -- the command that a handle stands for
 abbrev pub code_view : Code → model.Code
-code_view = fold-Code model.Code Awaiting Testing Looping model.Codes code_layer await_layer decide_layer repeat_layer row_layer
+code_view =
+    fold-Code model.Code Awaiting Testing Looping model.Codes code_layer await_layer decide_layer repeat_layer row_layer
 
 -- the channels and arms that wait
 abbrev pub await_view : Await → Awaiting
-await_view = fold-Await model.Code Awaiting Testing Looping model.Codes code_layer await_layer decide_layer repeat_layer row_layer
+await_view =
+    fold-Await model.Code Awaiting Testing Looping model.Codes code_layer await_layer decide_layer repeat_layer
+    row_layer
 
 -- the decision and arms of a test
 abbrev pub decide_view : Decide → Testing
-decide_view = fold-Decide model.Code Awaiting Testing Looping model.Codes code_layer await_layer decide_layer repeat_layer row_layer
+decide_view =
+    fold-Decide model.Code Awaiting Testing Looping model.Codes code_layer await_layer decide_layer repeat_layer
+    row_layer
 
 -- the guard and body of a loop
 abbrev pub repeat_view : Repeat → Looping
-repeat_view = fold-Repeat model.Code Awaiting Testing Looping model.Codes code_layer await_layer decide_layer repeat_layer row_layer
+repeat_view =
+    fold-Repeat model.Code Awaiting Testing Looping model.Codes code_layer await_layer decide_layer repeat_layer
+    row_layer
 
 -- the commands in a row
 abbrev pub row_view : Row → model.Codes
-row_view = fold-Row model.Code Awaiting Testing Looping model.Codes code_layer await_layer decide_layer repeat_layer row_layer
+row_view =
+    fold-Row model.Code Awaiting Testing Looping model.Codes code_layer await_layer decide_layer repeat_layer row_layer
 
 -- how far a send or sync is
 abbrev pub phase_view : Phase → model_proc.Phase

@@ -20,8 +20,8 @@ use std::mem;
 use syntax::Items;
 use value::Value;
 
-/// Makes the move that is asked for at the place. What it gives is the body of the turn before it, where a loop turns again.
-/// Without memory no move is made.
+/// Makes the move that is asked for at the place. What it gives is the body of the turn before it, where a loop turns
+/// again. Without memory no move is made.
 #[cycle(advance)]
 pub(crate) fn advance(
     alloc: Global,
@@ -30,7 +30,8 @@ pub(crate) fn advance(
     ask: Ask,
 ) -> Result<Option<Box<Proc>>, AllocError>
     requires { IsSome (advanced (proc_view proc.old) place.now ask) }
-    ensures ok { IfOk result (λ out. advanced (proc_view proc.old) place.now ask ≡ Some (proc_view proc.new, out_view out)) }
+    ensures ok { IfOk result (λ out.
+        advanced (proc_view proc.old) place.now ask ≡ Some (proc_view proc.new, out_view out)) }
     ensures err { OnErr result (proc_view proc.new ≡ proc_view proc.old) }
 {
     match proc {
@@ -113,8 +114,10 @@ fn in_loop(
     place: &[Entry],
     ask: Ask,
 ) -> Result<Option<Box<Proc>>, AllocError>
-    requires { IsSome (advanced (turns_view turns.old (repeat_view repeat.now).0 (repeat_view repeat.now).1) place.now ask) }
-    ensures ok { IfOk result (λ out. advanced (turns_view turns.old (repeat_view repeat.now).0 (repeat_view repeat.now).1) place.now ask
+    requires { IsSome
+        (advanced (turns_view turns.old (repeat_view repeat.now).0 (repeat_view repeat.now).1) place.now ask) }
+    ensures ok { IfOk result (λ out.
+        advanced (turns_view turns.old (repeat_view repeat.now).0 (repeat_view repeat.now).1) place.now ask
         ≡ Some (turns_view turns.new (repeat_view repeat.now).0 (repeat_view repeat.now).1, out_view out)) }
     ensures err { OnErr result (turns_view turns.new ≡ turns_view turns.old) }
 {
@@ -131,7 +134,8 @@ fn in_loop(
 /// A loop after its first turn began, or its first test ended it.
 fn first_turn(alloc: Global, repeat: &Repeat, ask: Ask) -> Result<Turns, AllocError>
     ensures { IfOk result (λ made.
-        IsSome (again_after (repeat_view repeat.now).0 (repeat_view repeat.now).1 0 (ended_at_once (repeat_view repeat.now).0 (repeat_view repeat.now).1) None ask) →
+        IsSome (again_after (repeat_view repeat.now).0 (repeat_view repeat.now).1 0
+        (ended_at_once (repeat_view repeat.now).0 (repeat_view repeat.now).1) None ask) →
         again_after (repeat_view repeat.now).0 (repeat_view repeat.now).1 0 (ended_at_once (repeat_view repeat.now).0 (repeat_view repeat.now).1) None ask
         ≡ Some (turns_view made (repeat_view repeat.now).0 (repeat_view repeat.now).1, None)) }
 {
@@ -152,10 +156,21 @@ fn in_turn(
     place: &[Entry],
     ask: Ask,
 ) -> Result<Option<Box<Proc>>, AllocError>
-    requires { IsSome (advanced (turn_of over.old (repeat_view repeat.now).0 (repeat_view repeat.now).1 turn.old (proc_view body.old.value)) place.now ask) }
-    ensures ok { IfOk result (λ out. advanced (turn_of over.old (repeat_view repeat.now).0 (repeat_view repeat.now).1 turn.old (proc_view body.old.value)) place.now ask
-        ≡ Some (turn_of over.new (repeat_view repeat.now).0 (repeat_view repeat.now).1 turn.new (proc_view body.new.value), out_view out)) }
-    ensures err { OnErr result (turn_of over.new (repeat_view repeat.now).0 (repeat_view repeat.now).1 turn.new (proc_view body.new.value)
+    requires { IsSome
+        (advanced
+        (turn_of over.old (repeat_view repeat.now).0 (repeat_view repeat.now).1 turn.old (proc_view body.old.value))
+        place.now ask) }
+    ensures ok { IfOk result (λ out.
+        advanced
+        (turn_of over.old (repeat_view repeat.now).0 (repeat_view repeat.now).1 turn.old (proc_view body.old.value))
+        place.now ask
+        ≡ Some (
+          turn_of over.new (repeat_view repeat.now).0 (repeat_view repeat.now).1 turn.new
+              (proc_view body.new.value),
+          out_view out,
+        )) }
+    ensures err { OnErr result
+        (turn_of over.new (repeat_view repeat.now).0 (repeat_view repeat.now).1 turn.new (proc_view body.new.value)
         ≡ turn_of over.old (repeat_view repeat.now).0 (repeat_view repeat.now).1 turn.old (proc_view body.old.value)) }
 {
     match ordered_step(place) {
@@ -183,8 +198,10 @@ fn in_test(
     place: &[Entry],
     ask: Ask,
 ) -> Result<Option<Box<Proc>>, AllocError>
-    requires { IsSome (advanced (tested_view tested.old (decide_view decide.now).0 (decide_view decide.now).1) place.now ask) }
-    ensures ok { IfOk result (λ out. advanced (tested_view tested.old (decide_view decide.now).0 (decide_view decide.now).1) place.now ask
+    requires { IsSome
+        (advanced (tested_view tested.old (decide_view decide.now).0 (decide_view decide.now).1) place.now ask) }
+    ensures ok { IfOk result (λ out.
+        advanced (tested_view tested.old (decide_view decide.now).0 (decide_view decide.now).1) place.now ask
         ≡ Some (tested_view tested.new (decide_view decide.now).0 (decide_view decide.now).1, out_view out)) }
     ensures err { OnErr result (tested_view tested.new ≡ tested_view tested.old) }
 {
@@ -207,9 +224,16 @@ fn in_taken(
     place: &[Entry],
     ask: Ask,
 ) -> Result<Option<Box<Proc>>, AllocError>
-    requires { IsSome (advanced (took (decide_view decide.now).0 (decide_view decide.now).1 arm (proc_view body.old.value)) place.now ask) }
-    ensures ok { IfOk result (λ out. advanced (took (decide_view decide.now).0 (decide_view decide.now).1 arm (proc_view body.old.value)) place.now ask
-        ≡ Some (took (decide_view decide.now).0 (decide_view decide.now).1 arm (proc_view body.new.value), out_view out)) }
+    requires { IsSome
+        (advanced
+        (took (decide_view decide.now).0 (decide_view decide.now).1 arm (proc_view body.old.value)) place.now ask) }
+    ensures ok { IfOk result (λ out.
+        advanced
+        (took (decide_view decide.now).0 (decide_view decide.now).1 arm (proc_view body.old.value)) place.now ask
+        ≡ Some (
+          took (decide_view decide.now).0 (decide_view decide.now).1 arm (proc_view body.new.value),
+          out_view out,
+        )) }
     ensures err { OnErr result (proc_view body.new.value ≡ proc_view body.old.value) }
 {
     match ordered_step(place) {
@@ -242,10 +266,13 @@ fn in_arms(
     place: &[Entry],
     ask: Ask,
 ) -> Result<Option<Box<Proc>>, AllocError>
-    requires { IsSome (advanced (gate_view gate.old (await_view waiting.now).0 (await_view waiting.now).1) place.now ask) }
-    ensures ok { IfOk result (λ out. advanced (gate_view gate.old (await_view waiting.now).0 (await_view waiting.now).1) place.now ask
+    requires { IsSome
+        (advanced (gate_view gate.old (await_view waiting.now).0 (await_view waiting.now).1) place.now ask) }
+    ensures ok { IfOk result (λ out.
+        advanced (gate_view gate.old (await_view waiting.now).0 (await_view waiting.now).1) place.now ask
         ≡ Some (gate_view gate.new (await_view waiting.now).0 (await_view waiting.now).1, out_view out)) }
-    ensures err { OnErr result (gate_view gate.new (await_view waiting.now).0 (await_view waiting.now).1 ≡ gate_view gate.old (await_view waiting.now).0 (await_view waiting.now).1) }
+    ensures err { OnErr result (gate_view gate.new (await_view waiting.now).0 (await_view waiting.now).1
+        ≡ gate_view gate.old (await_view waiting.now).0 (await_view waiting.now).1) }
 {
     match gate {
         Gate::Unopened => {
@@ -269,11 +296,24 @@ fn in_opened(
     place: &[Entry],
     ask: Ask,
 ) -> Result<Option<Box<Proc>>, AllocError>
-    requires { IsSome (advanced (opened_of over.old (await_view waiting.now).0 (await_view waiting.now).1 channel value (proc_view body.old.value)) place.now ask) }
-    ensures ok { IfOk result (λ out. advanced (opened_of over.old (await_view waiting.now).0 (await_view waiting.now).1 channel value (proc_view body.old.value)) place.now ask
-        ≡ Some (opened_of over.new (await_view waiting.now).0 (await_view waiting.now).1 channel value (proc_view body.new.value), out_view out)) }
-    ensures err { OnErr result (opened_of over.new (await_view waiting.now).0 (await_view waiting.now).1 channel value (proc_view body.new.value)
-        ≡ opened_of over.old (await_view waiting.now).0 (await_view waiting.now).1 channel value (proc_view body.old.value)) }
+    requires { IsSome
+        (advanced
+        (opened_of over.old (await_view waiting.now).0 (await_view waiting.now).1 channel value
+        (proc_view body.old.value)) place.now ask) }
+    ensures ok { IfOk result (λ out.
+        advanced
+        (opened_of over.old (await_view waiting.now).0 (await_view waiting.now).1 channel value
+        (proc_view body.old.value)) place.now ask
+        ≡ Some (
+          opened_of over.new (await_view waiting.now).0 (await_view waiting.now).1 channel value
+              (proc_view body.new.value),
+          out_view out,
+        )) }
+    ensures err { OnErr result
+        (opened_of over.new (await_view waiting.now).0 (await_view waiting.now).1 channel value
+        (proc_view body.new.value)
+        ≡ opened_of over.old (await_view waiting.now).0 (await_view waiting.now).1 channel value
+        (proc_view body.old.value)) }
 {
     match ordered_step(place) {
         None => Ok(None),
@@ -314,10 +354,13 @@ fn in_child(
     place: &[Entry],
     ask: Ask,
 ) -> Result<Option<Box<Proc>>, AllocError>
-    requires { IsSome (advanced (sequence (begun_of (map proc_view begun.old.items) (row_view row.now))) place.now ask) }
-    ensures ok { IfOk result (λ out. advanced (sequence (begun_of (map proc_view begun.old.items) (row_view row.now))) place.now ask
+    requires { IsSome
+        (advanced (sequence (begun_of (map proc_view begun.old.items) (row_view row.now))) place.now ask) }
+    ensures ok { IfOk result (λ out.
+        advanced (sequence (begun_of (map proc_view begun.old.items) (row_view row.now))) place.now ask
         ≡ Some (sequence (begun_of (map proc_view begun.new.items) (row_view row.now)), out_view out)) }
-    ensures err { OnErr result (begun_of (map proc_view begun.new.items) (row_view row.now) ≡ begun_of (map proc_view begun.old.items) (row_view row.now)) }
+    ensures err { OnErr result (begun_of (map proc_view begun.new.items) (row_view row.now)
+        ≡ begun_of (map proc_view begun.old.items) (row_view row.now)) }
 {
     match ordered_step(place) {
         None => Ok(None),
@@ -338,8 +381,10 @@ fn begin_to(
     begun: &mut Vec<Proc>,
     number: usize,
 ) -> Result<(), AllocError>
-    ensures same { begun_of (map proc_view begun.new.items) (row_view row.now) ≡ begun_of (map proc_view begun.old.items) (row_view row.now) }
-    ensures ok { OnOk result (IsSome (proc_at (begun_of (map proc_view begun.old.items) (row_view row.now)) number) → number < length begun.new.items) }
+    ensures same { begun_of (map proc_view begun.new.items) (row_view row.now)
+        ≡ begun_of (map proc_view begun.old.items) (row_view row.now) }
+    ensures ok { OnOk result (IsSome (proc_at (begun_of (map proc_view begun.old.items) (row_view row.now)) number) →
+        number < length begun.new.items) }
 {
     'children: while begun.len() <= number {
         match row.codes.get(begun.len()) {

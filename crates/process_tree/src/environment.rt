@@ -23,7 +23,8 @@ pub fn system_code(alloc: Global, system: &System) -> Result<Code, AllocError>
 
 /// The body, and then the environment at each port.
 fn branches_of(alloc: Global, system: &System) -> Result<Items<Code>, AllocError>
-    ensures { IfOk result (λ made. map code_view made ≡ translation.code_of system.now.main ∷ map translation.port_of system.now.environment) }
+    ensures { IfOk result (λ made.
+        map code_view made ≡ translation.code_of system.now.main ∷ map translation.port_of system.now.environment) }
 {
     let mut codes = Items::with_capacity(alloc, 1)?;
     codes.push(code_of(alloc, &system.main)?)?;
@@ -35,7 +36,8 @@ fn branches_of(alloc: Global, system: &System) -> Result<Items<Code>, AllocError
 
 /// Adds the environment at one port.
 fn add_port(alloc: Global, branch: &Branch, codes: &mut Items<Code>) -> Result<(), AllocError>
-    ensures { IfOk result (λ _. map code_view codes.new ≡ map code_view codes.old ++ translation.port_of branch.now ∷ []) }
+    ensures { IfOk result (λ _.
+        map code_view codes.new ≡ map code_view codes.old ++ translation.port_of branch.now ∷ []) }
 {
     codes.push(port(alloc, branch)?)
 }
@@ -67,7 +69,8 @@ fn sends_of(
     width: Width,
     values: &[Value],
 ) -> Result<Items<Code>, AllocError>
-    ensures { IfOk result (λ made. map code_view made ≡ map (λ v. model.may_be_held (model.sending channel width (constant v))) values.now) }
+    ensures { IfOk result (λ made.
+        map code_view made ≡ map (λ v. model.may_be_held (model.sending channel width (constant v))) values.now) }
 {
     let mut sends = Items::with_capacity(alloc, values.len())?;
     for value in values {

@@ -75,8 +75,11 @@ fn count_before(place: &[Entry]) -> u64
 
 #[cycle(retreat)]
 fn from_loop(repeat: &Repeat, turns: &mut Turns, place: &[Entry], out: Option<Box<Proc>>)
-    requires { IsSome (retreated (turns_view turns.old (repeat_view repeat.now).0 (repeat_view repeat.now).1) place.now (out_view out)) }
-    ensures { retreated (turns_view turns.old (repeat_view repeat.now).0 (repeat_view repeat.now).1) place.now (out_view out)
+    requires { IsSome
+        (retreated (turns_view turns.old (repeat_view repeat.now).0 (repeat_view repeat.now).1) place.now
+        (out_view out)) }
+    ensures { retreated (turns_view turns.old (repeat_view repeat.now).0 (repeat_view repeat.now).1) place.now
+        (out_view out)
         ≡ Some (turns_view turns.new (repeat_view repeat.now).0 (repeat_view repeat.now).1) }
 {
     match turns {
@@ -100,8 +103,13 @@ fn from_turn(
     place: &[Entry],
     out: Option<Box<Proc>>,
 ) -> bool
-    requires { IsSome (retreated (turn_of over.old (repeat_view repeat.now).0 (repeat_view repeat.now).1 turn.old (proc_view body.old.value)) place.now (out_view out)) }
-    ensures { retreated (turn_of over.old (repeat_view repeat.now).0 (repeat_view repeat.now).1 turn.old (proc_view body.old.value)) place.now (out_view out)
+    requires { IsSome
+        (retreated
+        (turn_of over.old (repeat_view repeat.now).0 (repeat_view repeat.now).1 turn.old (proc_view body.old.value))
+        place.now (out_view out)) }
+    ensures { retreated
+        (turn_of over.old (repeat_view repeat.now).0 (repeat_view repeat.now).1 turn.old (proc_view body.old.value))
+        place.now (out_view out)
         ≡ Some (cond result (fresh (repeat_view repeat.now).0 (repeat_view repeat.now).1)
         (turn_of over.new (repeat_view repeat.now).0 (repeat_view repeat.now).1 turn.new (proc_view body.new.value))) }
 {
@@ -127,7 +135,8 @@ fn from_turn(
 /// The body of the turn before this one is put back, if there was one. The answer is whether there was none.
 fn put_back(turn: &mut u64, body: &mut Box<Proc>, old: Box<Proc>) -> bool
     ensures { (g : Option Expression) (c : Code) →
-        before_turn g c turn.old (Some (proc_view old.value)) ≡ Some (cond result (fresh g c) (model.turn g c turn.new (proc_view body.new.value))) }
+        before_turn g c turn.old (Some (proc_view old.value))
+        ≡ Some (cond result (fresh g c) (model.turn g c turn.new (proc_view body.new.value))) }
 {
     if *turn == 0 {
         return true;
@@ -139,8 +148,11 @@ fn put_back(turn: &mut u64, body: &mut Box<Proc>, old: Box<Proc>) -> bool
 
 #[cycle(retreat)]
 fn from_test(decide: &Decide, tested: &mut Tested, place: &[Entry], out: Option<Box<Proc>>)
-    requires { IsSome (retreated (tested_view tested.old (decide_view decide.now).0 (decide_view decide.now).1) place.now (out_view out)) }
-    ensures { retreated (tested_view tested.old (decide_view decide.now).0 (decide_view decide.now).1) place.now (out_view out)
+    requires { IsSome
+        (retreated (tested_view tested.old (decide_view decide.now).0 (decide_view decide.now).1) place.now
+        (out_view out)) }
+    ensures { retreated (tested_view tested.old (decide_view decide.now).0 (decide_view decide.now).1) place.now
+        (out_view out)
         ≡ Some (tested_view tested.new (decide_view decide.now).0 (decide_view decide.now).1) }
 {
     match tested {
@@ -163,8 +175,12 @@ fn from_taken(
     place: &[Entry],
     out: Option<Box<Proc>>,
 ) -> bool
-    requires { IsSome (retreated (took (decide_view decide.now).0 (decide_view decide.now).1 arm (proc_view body.old.value)) place.now (out_view out)) }
-    ensures { retreated (took (decide_view decide.now).0 (decide_view decide.now).1 arm (proc_view body.old.value)) place.now (out_view out)
+    requires { IsSome
+        (retreated (took (decide_view decide.now).0 (decide_view decide.now).1 arm (proc_view body.old.value)) place.now
+        (out_view out)) }
+    ensures { retreated
+        (took (decide_view decide.now).0 (decide_view decide.now).1 arm (proc_view body.old.value)) place.now
+        (out_view out)
         ≡ Some (cond result (untested (decide_view decide.now).0 (decide_view decide.now).1)
         (took (decide_view decide.now).0 (decide_view decide.now).1 arm (proc_view body.new.value))) }
 {
@@ -182,8 +198,11 @@ fn from_taken(
 
 #[cycle(retreat)]
 fn from_arms(waiting: &Await, gate: &mut Gate, place: &[Entry], out: Option<Box<Proc>>)
-    requires { IsSome (retreated (gate_view gate.old (await_view waiting.now).0 (await_view waiting.now).1) place.now (out_view out)) }
-    ensures { retreated (gate_view gate.old (await_view waiting.now).0 (await_view waiting.now).1) place.now (out_view out)
+    requires { IsSome
+        (retreated (gate_view gate.old (await_view waiting.now).0 (await_view waiting.now).1) place.now
+        (out_view out)) }
+    ensures { retreated (gate_view gate.old (await_view waiting.now).0 (await_view waiting.now).1) place.now
+        (out_view out)
         ≡ Some (gate_view gate.new (await_view waiting.now).0 (await_view waiting.now).1) }
 {
     match gate {
@@ -207,8 +226,13 @@ fn from_opened(
     place: &[Entry],
     out: Option<Box<Proc>>,
 ) -> bool
-    requires { IsSome (retreated (opened_of over.old (await_view waiting.now).0 (await_view waiting.now).1 channel value (proc_view body.old.value)) place.now (out_view out)) }
-    ensures { retreated (opened_of over.old (await_view waiting.now).0 (await_view waiting.now).1 channel value (proc_view body.old.value)) place.now (out_view out)
+    requires { IsSome
+        (retreated
+        (opened_of over.old (await_view waiting.now).0 (await_view waiting.now).1 channel value
+        (proc_view body.old.value)) place.now (out_view out)) }
+    ensures { retreated
+        (opened_of over.old (await_view waiting.now).0 (await_view waiting.now).1 channel value
+        (proc_view body.old.value)) place.now (out_view out)
         ≡ Some (cond result (unopened (await_view waiting.now).0 (await_view waiting.now).1)
         (opened_of over.new (await_view waiting.now).0 (await_view waiting.now).1 channel value (proc_view body.new.value))) }
 {
@@ -231,8 +255,10 @@ fn from_opened(
 /// A child that has not begun has made no move, so there is nothing to take back.
 #[cycle(retreat)]
 fn from_child(row: &Row, begun: &mut Vec<Proc>, place: &[Entry], out: Option<Box<Proc>>)
-    requires { IsSome (retreated (sequence (begun_of (map proc_view begun.old.items) (row_view row.now))) place.now (out_view out)) }
-    ensures { retreated (sequence (begun_of (map proc_view begun.old.items) (row_view row.now))) place.now (out_view out)
+    requires { IsSome
+        (retreated (sequence (begun_of (map proc_view begun.old.items) (row_view row.now))) place.now (out_view out)) }
+    ensures { retreated (sequence (begun_of (map proc_view begun.old.items) (row_view row.now))) place.now
+        (out_view out)
         ≡ Some (sequence (begun_of (map proc_view begun.new.items) (row_view row.now))) }
 {
     match ordered_step(place) {

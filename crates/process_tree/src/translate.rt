@@ -122,7 +122,8 @@ fn with_last(
     last: &Option<Command>,
     arms: Items<Code>,
 ) -> Result<Items<Code>, AllocError>
-    ensures { IfOk result (λ made. row_with (map code_view made) None ≡ row_with (map code_view arms) (option_map translation.code_of last.now)) }
+    ensures { IfOk result (λ made.
+        row_with (map code_view made) None ≡ row_with (map code_view arms) (option_map translation.code_of last.now)) }
 {
     match last {
         Some(last) => {
@@ -149,7 +150,8 @@ fn assign(
     width: Width,
     value: &Expression,
 ) -> Result<Code, AllocError>
-    ensures { IfOk result (λ made. code_view made ≡ model.moves_once (model.assigning variable width (expression_of value.now))) }
+    ensures { IfOk result (λ made.
+        code_view made ≡ model.moves_once (model.assigning variable width (expression_of value.now))) }
 {
     let value = value.copy(alloc)?;
     once(alloc, Once::Assign(variable, width, value))
@@ -165,7 +167,8 @@ pub(crate) fn sender(alloc: Global, sender: Sender) -> Result<Code, AllocError>
 
 /// A send.
 fn send(alloc: Global, channel: u32, width: Width, value: &Expression) -> Result<Code, AllocError>
-    ensures { IfOk result (λ made. code_view made ≡ model.may_be_held (model.sending channel width (expression_of value.now))) }
+    ensures { IfOk result (λ made.
+        code_view made ≡ model.may_be_held (model.sending channel width (expression_of value.now))) }
 {
     let value = value.copy(alloc)?;
     sender(alloc, Sender::Send(channel, width, value))
@@ -219,7 +222,8 @@ fn labels_of(alloc: Global, arms: &[Labelled]) -> Result<Items<Items<u64>>, Allo
 /// A test with these arms, the else last.
 #[tactic(auto, using(crate::proofs::Views::code_decide))]
 fn decide(alloc: Global, decision: Decision, arms: Items<Code>) -> Result<Code, AllocError>
-    ensures { IfOk result (λ made. code_view made ≡ model.decides (decision_of decision) (row_with (map code_view arms) None)) }
+    ensures { IfOk result (λ made.
+        code_view made ≡ model.decides (decision_of decision) (row_with (map code_view arms) None)) }
 {
     Ok(Code::Decide(Shared::new(alloc, Decide { decision, arms })?))
 }
@@ -231,7 +235,10 @@ fn decide_if(
     ends: bool,
     bodies: Items<Code>,
 ) -> Result<Code, AllocError>
-    ensures { IfOk result (λ made. code_view made ≡ model.decides (expression.by_guards (map (λ a. a.0) (map guarded_of arms.now)) ends) (row_with (map code_view bodies) None)) }
+    ensures { IfOk result (λ made.
+        code_view made
+        ≡ model.decides (expression.by_guards (map (λ a. a.0) (map guarded_of arms.now)) ends)
+        (row_with (map code_view bodies) None)) }
 {
     let guards = guards_of(alloc, arms)?;
     decide(alloc, Decision::Guards(guards, ends), bodies)
@@ -245,7 +252,11 @@ fn decide_case(
     ends: bool,
     bodies: Items<Code>,
 ) -> Result<Code, AllocError>
-    ensures { IfOk result (λ made. code_view made ≡ model.decides (expression.by_labels (expression_of subject.now) (map (λ a. a.0) (map labelled_of arms.now)) ends) (row_with (map code_view bodies) None)) }
+    ensures { IfOk result (λ made.
+        code_view made
+        ≡ model.decides
+        (expression.by_labels (expression_of subject.now) (map (λ a. a.0) (map labelled_of arms.now)) ends)
+        (row_with (map code_view bodies) None)) }
 {
     let decision = by_labels(alloc, subject, arms, ends)?;
     decide(alloc, decision, bodies)
@@ -258,7 +269,9 @@ fn by_labels(
     arms: &[Labelled],
     ends: bool,
 ) -> Result<Decision, AllocError>
-    ensures { IfOk result (λ made. decision_of made ≡ expression.by_labels (expression_of subject.now) (map (λ a. a.0) (map labelled_of arms.now)) ends) }
+    ensures { IfOk result (λ made.
+        decision_of made
+        ≡ expression.by_labels (expression_of subject.now) (map (λ a. a.0) (map labelled_of arms.now)) ends) }
 {
     let labels = labels_of(alloc, arms)?;
     Ok(Decision::Labels(subject.copy(alloc)?, labels, ends))
@@ -274,7 +287,8 @@ fn wait(alloc: Global, channels: Items<u32>, arms: Items<Code>) -> Result<Code, 
 
 /// A command that waits for the channel to enclose it.
 fn input(alloc: Global, channel: u32, body: Code) -> Result<Code, AllocError>
-    ensures { IfOk result (λ made. code_view made ≡ model.awaits (channel ∷ []) (model.code (code_view body) model.no_code)) }
+    ensures { IfOk result (λ made.
+        code_view made ≡ model.awaits (channel ∷ []) (model.code (code_view body) model.no_code)) }
 {
     let mut channels = Items::with_capacity(alloc, 1)?;
     channels.push(channel)?;
@@ -285,7 +299,8 @@ fn input(alloc: Global, channel: u32, body: Code) -> Result<Code, AllocError>
 
 /// Arms that wait on their channels, with these bodies.
 fn choose(alloc: Global, arms: &[Arm], bodies: Items<Code>) -> Result<Code, AllocError>
-    ensures { IfOk result (λ made. code_view made ≡ model.awaits (map (λ a. a.0) (map arm_of arms.now)) (row_with (map code_view bodies) None)) }
+    ensures { IfOk result (λ made.
+        code_view made ≡ model.awaits (map (λ a. a.0) (map arm_of arms.now)) (row_with (map code_view bodies) None)) }
 {
     let channels = channels_of(alloc, arms)?;
     wait(alloc, channels, bodies)

@@ -49,14 +49,15 @@ impl Tree {
         ask: Ask,
     ) -> Result<Option<Box<Proc>>, AllocError>
         requires { IsSome (advanced (tree_view self.old) place.now ask) }
-        ensures made { IfOk result (λ out. advanced (tree_view self.old) place.now ask ≡ Some (tree_view self.new, out_view out)) }
+        ensures made { IfOk result (λ out.
+            advanced (tree_view self.old) place.now ask ≡ Some (tree_view self.new, out_view out)) }
         ensures without_memory { OnErr result (tree_view self.new ≡ tree_view self.old) }
     {
         advance(alloc, &mut self.proc, place, ask)
     }
 
-    /// Takes the move at the place back, and puts what it took out where it was. It costs the depth of the place and what
-    /// began with the move, and takes no memory.
+    /// Takes the move at the place back, and puts what it took out where it was. It costs the depth of the place and
+    /// what began with the move, and takes no memory.
     pub fn retreat(&mut self, place: &[Entry], out: Option<Box<Proc>>)
         requires { IsSome (retreated (tree_view self.old) place.now (out_view out)) }
         ensures { retreated (tree_view self.old) place.now (out_view out) ≡ Some (tree_view self.new) }

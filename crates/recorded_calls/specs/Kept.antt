@@ -12,7 +12,8 @@ use Rattle.recorded_calls.specs.declared.view.Keeping.{Keeping}
 use Rattle.recorded_calls.specs.declared.view.Passing.{Passing}
 use Rattle.recorded_calls.specs.declared.view.Claimed.{Claimed}
 
--- what there is: the history, the keeper's seat, how many passes, the seat of each, and all that each has made or announced
+-- what there is: the history, the keeper's seat, how many passes, the seat of each, and all that each has made or
+-- announced
 pub record Account (C R : Type 0) : Type 0 where
   pub log : List (Entry C R)
   pub keeper : ℕ
@@ -34,8 +35,8 @@ module _ {O C R : Type 0} (opening : O) (a : Account C R) where
     pub notes : k.noted ≡ a.log
     pub claim_holds : ClaimHolds k.claim
 
-  -- each number has one seat. It has seen a beginning of the history, and the history has of its number its own calls, or
-  -- these and the one that it has announced
+  -- each number has one seat. It has seen a beginning of the history, and the history has of its number its own calls,
+  -- or these and the one that it has announced
   pub record SpeakerFits (j : ℕ) (p : Passing O C R) : Type 0 where
     pub opened : p.opening ≡ opening
     pub one : j ≡ a.seat p.number
@@ -54,7 +55,8 @@ module _ {O C R : Type 0} (opening : O) (a : Account C R) where
   Fits j (Claim c) = ClaimHolds c
 
 -- The word is the length of one legal history, which the keeper's seat notes. It has calls of the passes alone
-pub record Kept {O C R : Type 0} (performs : O → ℕ → C → R → O → Type 0) (opening : O) (s : State ℕ (View O C R)) : Type 0 where
+pub record Kept {O C R : Type 0} (performs : O → ℕ → C → R → O → Type 0) (opening : O)
+    (s : State ℕ (View O C R)) : Type 0 where
   pub account : Account C R
   pub word : s.words ≡ length account.log ∷ []
   pub legal : IsLegal performs opening account.log

@@ -42,7 +42,8 @@ module _ {O C R : Type 0} where
   abbrev pub own : Pass O C R → List (Entry C R)
   own p = own_in p.seat.me.0
 
-  -- a beginning of the history that it was told of and has not looked at: the whole history, where its last call was not recorded
+  -- a beginning of the history that it was told of and has not looked at: the whole history, where its last call was
+  -- not recorded
   abbrev pub told : Pass O C R → List (Entry C R)
   told p = told_in p.seat.me.0
 
@@ -57,13 +58,15 @@ module _ {O C R : Type 0} where
   abbrev pub made : Scribe O C R → ℕ
   made s = made_in s.seat.me.0
 
-  -- a pass of this table between its calls: it has announced nothing, and what it has seen has of its number just its own calls
+  -- a pass of this table between its calls: it has announced nothing, and what it has seen has of its number just its
+  -- own calls
   pub record IsPassOf (table : TableId) (opening : O) (p : Pass O C R) : Type 0 where
     pub of_table : p.seat.table_id ≡ table
     pub rests : p.seat.me ≡ (pass_at opening (number p) (seen p) (own p) (told p), [])
     pub own_calls : calls_by (number p) (seen p) ≡ own p
 
-  -- the keeper's seat of this table between calls: it has heard no claim, and what it notes has calls of the passes alone that it has made
+  -- the keeper's seat of this table between calls: it has heard no claim, and what it notes has calls of the passes
+  -- alone that it has made
   pub record IsScribeOf (table : TableId) (opening : O) (s : Scribe O C R) : Type 0 where
     pub of_table : s.seat.table_id ≡ table
     pub rests : s.seat.me ≡ (keeper_at opening (made s) (noted s), [])

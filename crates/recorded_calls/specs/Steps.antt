@@ -21,7 +21,8 @@ module _ {O C R : Type 0} where
 
   -- a pass between its calls: it has announced nothing
   abbrev pub pass_at : O → ℕ → List (Entry C R) → List (Entry C R) → List (Entry C R) → View O C R
-  pass_at opening n seen own told = Speaker (record { opening = opening; number = n; seen = seen; own = own; announced = []; told = told })
+  pass_at opening n seen own told =
+      Speaker (record { opening = opening; number = n; seen = seen; own = own; announced = []; told = told })
 
   -- a further pass, which the keeper's seat makes
   abbrev pub one_more : View O C R → View O C R
@@ -39,7 +40,16 @@ module _ {O C R : Type 0} where
   letter_of v = Nobody
 
   abbrev pub with_letter : Passing O C R → View O C R → View O C R
-  with_letter p (Letter told) = Speaker (record { opening = p.opening; number = p.number; seen = p.seen; own = p.own; announced = p.announced; told = told })
+  with_letter p (Letter told) =
+      Speaker
+      (record {
+        opening = p.opening;
+        number = p.number;
+        seen = p.seen;
+        own = p.own;
+        announced = p.announced;
+        told = told;
+      })
   with_letter p u = Speaker p
 
   abbrev pub reads : View O C R → View O C R → View O C R
@@ -61,7 +71,16 @@ module _ {O C R : Type 0} where
 
   -- announce: the pass names its entry
   abbrev pub announced : List (Entry C R) → View O C R → View O C R
-  announced entries (Speaker p) = Speaker (record { opening = p.opening; number = p.number; seen = p.seen; own = p.own; announced = entries; told = p.told })
+  announced entries (Speaker p) =
+      Speaker
+      (record {
+        opening = p.opening;
+        number = p.number;
+        seen = p.seen;
+        own = p.own;
+        announced = entries;
+        told = p.told;
+      })
   announced entries v = v
 
   -- record: the noted list grows by the entry

@@ -39,7 +39,8 @@ impl<O, C, R, P: Sequential<O, C, R>> Board<O, C, R, P> {
         opening: &O,
     ) -> Result<(Board<O, C, R, P>, Scribe<O, C, R>), AllocError>
         ensures opening { IfOk result (λ b. b.0.table.shared.key ≡ opening.now) }
-        ensures scribe { IfOk result (λ b. IsScribeOf b.0.table.shared.table_id opening.now b.1 × (noted b.1 ≡ []) × (made b.1 ≡ 0)) }
+        ensures scribe { IfOk result (λ b. IsScribeOf b.0.table.shared.table_id opening.now b.1 × (noted b.1 ≡ [])
+            × (made b.1 ≡ 0)) }
     {
         let (table, seat) = Table::of_words(alloc, &[0], opening)?;
         Ok((Board { table }, Scribe { seat }))
@@ -48,15 +49,18 @@ impl<O, C, R, P: Sequential<O, C, R>> Board<O, C, R, P> {
     /// A further pass, which has seen nothing. Passes are numbered from 0.
     pub fn newcomer(&self, scribe: &mut Scribe<O, C, R>) -> Pass<O, C, R>
         requires { IsScribeOf self.now.table.shared.table_id self.now.table.shared.key scribe.old }
-        ensures scribe { IsScribeOf self.now.table.shared.table_id self.now.table.shared.key scribe.new × (noted scribe.new ≡ noted scribe.old) × (made scribe.new ≡ made scribe.old + 1) }
-        ensures pass { IsPassOf self.now.table.shared.table_id self.now.table.shared.key result × (number result ≡ made scribe.old) × (seen result ≡ []) × (own result ≡ []) }
+        ensures scribe { IsScribeOf self.now.table.shared.table_id self.now.table.shared.key scribe.new
+            × (noted scribe.new ≡ noted scribe.old) × (made scribe.new ≡ made scribe.old + 1) }
+        ensures pass { IsPassOf self.now.table.shared.table_id self.now.table.shared.key result
+            × (number result ≡ made scribe.old) × (seen result ≡ []) × (own result ≡ []) }
     {
         Pass {
             seat: self.table.shared.split_seat::<Makes>(&mut scribe.seat),
         }
     }
 
-    /// Records a call of the pass: what it asked, and what the object has replied from the state after the noted history.
+    /// Records a call of the pass: what it asked, and what the object has replied from the state after the noted
+    /// history.
     pub fn record(
         &self,
         scribe: &mut Scribe<O, C, R>,
@@ -66,11 +70,14 @@ impl<O, C, R, P: Sequential<O, C, R>> Board<O, C, R, P> {
     )
         requires scribe { IsScribeOf self.now.table.shared.table_id self.now.table.shared.key scribe.old }
         requires pass { IsPassOf self.now.table.shared.table_id self.now.table.shared.key pass.old }
-        requires legal { IsLegal P.performs self.now.table.shared.key (noted scribe.old ++ entry_of (number pass.old) command.now reply.now ∷ []) }
+        requires legal { IsLegal P.performs self.now.table.shared.key
+            (noted scribe.old ++ entry_of (number pass.old) command.now reply.now ∷ []) }
         requires room { length (noted scribe.old) < 2 ^ 63 }
-        ensures scribe { IsScribeOf self.now.table.shared.table_id self.now.table.shared.key scribe.new × (made scribe.new ≡ made scribe.old) }
+        ensures scribe { IsScribeOf self.now.table.shared.table_id self.now.table.shared.key scribe.new
+            × (made scribe.new ≡ made scribe.old) }
         ensures noted { noted scribe.new ≡ noted scribe.old ++ entry_of (number pass.old) command.now reply.now ∷ [] }
-        ensures pass { IsPassOf self.now.table.shared.table_id self.now.table.shared.key pass.new × (number pass.new ≡ number pass.old) }
+        ensures pass { IsPassOf self.now.table.shared.table_id self.now.table.shared.key pass.new
+            × (number pass.new ≡ number pass.old) }
         ensures seen { seen pass.new ≡ noted scribe.new }
         ensures own { own pass.new ≡ own pass.old ++ entry_of (number pass.old) command.now reply.now ∷ [] }
         ensures before { IsPrefix (seen pass.old) (noted scribe.old) }
@@ -91,9 +98,11 @@ impl<O, C, R, P: Sequential<O, C, R>> Board<O, C, R, P> {
         requires named { (e : Entry C R) × (J.entries ≡ e ∷ []) × (e.pass ≡ number pass.old) }
         requires legal { IsLegal P.performs self.now.table.shared.key (noted scribe.old ++ J.entries) }
         requires room { length (noted scribe.old) < 2 ^ 63 }
-        ensures scribe { IsScribeOf self.now.table.shared.table_id self.now.table.shared.key scribe.new × (made scribe.new ≡ made scribe.old) }
+        ensures scribe { IsScribeOf self.now.table.shared.table_id self.now.table.shared.key scribe.new
+            × (made scribe.new ≡ made scribe.old) }
         ensures noted { noted scribe.new ≡ noted scribe.old ++ J.entries }
-        ensures pass { IsPassOf self.now.table.shared.table_id self.now.table.shared.key pass.new × (number pass.new ≡ number pass.old) }
+        ensures pass { IsPassOf self.now.table.shared.table_id self.now.table.shared.key pass.new
+            × (number pass.new ≡ number pass.old) }
         ensures seen { seen pass.new ≡ noted scribe.old ++ J.entries }
         ensures own { own pass.new ≡ own pass.old ++ J.entries }
         ensures before { IsPrefix (seen pass.old) (noted scribe.old) }
@@ -117,8 +126,10 @@ impl<O, C, R, P: Sequential<O, C, R>> Board<O, C, R, P> {
     pub fn tell(&self, scribe: &mut Scribe<O, C, R>, pass: &mut Pass<O, C, R>)
         requires scribe { IsScribeOf self.now.table.shared.table_id self.now.table.shared.key scribe.old }
         requires pass { IsPassOf self.now.table.shared.table_id self.now.table.shared.key pass.old }
-        ensures scribe { IsScribeOf self.now.table.shared.table_id self.now.table.shared.key scribe.new × (noted scribe.new ≡ noted scribe.old) × (made scribe.new ≡ made scribe.old) }
-        ensures pass { IsPassOf self.now.table.shared.table_id self.now.table.shared.key pass.new × (number pass.new ≡ number pass.old) }
+        ensures scribe { IsScribeOf self.now.table.shared.table_id self.now.table.shared.key scribe.new
+            × (noted scribe.new ≡ noted scribe.old) × (made scribe.new ≡ made scribe.old) }
+        ensures pass { IsPassOf self.now.table.shared.table_id self.now.table.shared.key pass.new
+            × (number pass.new ≡ number pass.old) }
         ensures same { (seen pass.new ≡ seen pass.old) × (own pass.new ≡ own pass.old) }
         ensures told { told pass.new ≡ noted scribe.old }
         ensures before { IsPrefix (seen pass.old) (noted scribe.old) }
@@ -138,8 +149,10 @@ impl<O, C, R, P: Sequential<O, C, R>> Board<O, C, R, P> {
     pub fn show(&self, scribe: &mut Scribe<O, C, R>, pass: &mut Pass<O, C, R>)
         requires scribe { IsScribeOf self.now.table.shared.table_id self.now.table.shared.key scribe.old }
         requires pass { IsPassOf self.now.table.shared.table_id self.now.table.shared.key pass.old }
-        ensures scribe { IsScribeOf self.now.table.shared.table_id self.now.table.shared.key scribe.new × (noted scribe.new ≡ noted scribe.old) × (made scribe.new ≡ made scribe.old) }
-        ensures pass { IsPassOf self.now.table.shared.table_id self.now.table.shared.key pass.new × (number pass.new ≡ number pass.old) × (own pass.new ≡ own pass.old) }
+        ensures scribe { IsScribeOf self.now.table.shared.table_id self.now.table.shared.key scribe.new
+            × (noted scribe.new ≡ noted scribe.old) × (made scribe.new ≡ made scribe.old) }
+        ensures pass { IsPassOf self.now.table.shared.table_id self.now.table.shared.key pass.new
+            × (number pass.new ≡ number pass.old) × (own pass.new ≡ own pass.old) }
         ensures seen { seen pass.new ≡ noted scribe.old }
         ensures before { IsPrefix (seen pass.old) (noted scribe.old) }
     {
@@ -150,7 +163,8 @@ impl<O, C, R, P: Sequential<O, C, R>> Board<O, C, R, P> {
     /// The number of recorded calls, by one load. The pass has then seen the history of that length.
     pub fn length(&self, pass: &mut Pass<O, C, R>) -> u64
         requires { IsPassOf self.now.table.shared.table_id self.now.table.shared.key pass.old }
-        ensures pass { IsPassOf self.now.table.shared.table_id self.now.table.shared.key pass.new × (number pass.new ≡ number pass.old) × (own pass.new ≡ own pass.old) }
+        ensures pass { IsPassOf self.now.table.shared.table_id self.now.table.shared.key pass.new
+            × (number pass.new ≡ number pass.old) × (own pass.new ≡ own pass.old) }
         ensures length { length (seen pass.new) ≡ result }
         ensures legal { IsLegal P.performs self.now.table.shared.key (seen pass.new) }
         ensures before { IsPrefix (seen pass.old) (seen pass.new) }
@@ -163,8 +177,10 @@ impl<O, C, R, P: Sequential<O, C, R>> Board<O, C, R, P> {
     pub fn meet(&self, one: &mut Pass<O, C, R>, other: &mut Pass<O, C, R>) -> u64
         requires one { IsPassOf self.now.table.shared.table_id self.now.table.shared.key one.old }
         requires other { IsPassOf self.now.table.shared.table_id self.now.table.shared.key other.old }
-        ensures one { IsPassOf self.now.table.shared.table_id self.now.table.shared.key one.new × (number one.new ≡ number one.old) × (own one.new ≡ own one.old) }
-        ensures other { IsPassOf self.now.table.shared.table_id self.now.table.shared.key other.new × (number other.new ≡ number other.old) × (own other.new ≡ own other.old) }
+        ensures one { IsPassOf self.now.table.shared.table_id self.now.table.shared.key one.new
+            × (number one.new ≡ number one.old) × (own one.new ≡ own one.old) }
+        ensures other { IsPassOf self.now.table.shared.table_id self.now.table.shared.key other.new
+            × (number other.new ≡ number other.old) × (own other.new ≡ own other.old) }
         ensures same { seen one.new ≡ seen other.new }
         ensures length { length (seen one.new) ≡ result }
         ensures legal { IsLegal P.performs self.now.table.shared.key (seen one.new) }

@@ -1,5 +1,5 @@
-//! The word of recorded calls: several passes, each in a thread of its own, speak to one object under a lock, and what each
-//! has seen is a beginning of one legal history.
+//! The word of recorded calls: several passes, each in a thread of its own, speak to one object under a lock, and what
+//! each has seen is a beginning of one legal history.
 #![tactic(auto)]
 
 mod board;

@@ -18,7 +18,8 @@ pub struct Keeping<O, C, R> {
     pub claim: Claimed<C, R>,
 }
 
-/// A pass: the history that it has seen, its own calls, what it has announced, and a beginning of the history that it was told.
+/// A pass: the history that it has seen, its own calls, what it has announced, and a beginning of the history that it
+/// was told.
 pub struct Passing<O, C, R> {
     pub opening: O,
     pub number: u64,

@@ -32,7 +32,8 @@ pub(crate) fn acted_by(
     store: &Store,
     acting: &[OfferedSide],
 ) -> Result<Items<Event>, AllocError>
-    ensures { (code : Code) → IsTableOf code uses.now → StemsFrom (tree_view tree.now) code → Tidy (tree_view tree.now) →
+    ensures { (code : Code) → IsTableOf code uses.now → StemsFrom (tree_view tree.now) code →
+        Tidy (tree_view tree.now) →
         IfOk result (λ events. (e : any.Event) → In e events ↔ ActedByOne (state_of tree.now store.now) acting.now e) }
 {
     let mut events = Items::new(alloc);
@@ -42,7 +43,8 @@ pub(crate) fn acted_by(
     Ok(events)
 }
 
-/// Adds the events in which the side acts, alone or with another that the tree offers. It looks at those on its channel alone.
+/// Adds the events in which the side acts, alone or with another that the tree offers. It looks at those on its channel
+/// alone.
 fn add_acted(
     alloc: Global,
     uses: &ChannelUses,
@@ -51,8 +53,10 @@ fn add_acted(
     one: &OfferedSide,
     events: &mut Items<Event>,
 ) -> Result<(), AllocError>
-    ensures { (code : Code) → IsTableOf code uses.now → StemsFrom (tree_view tree.now) code → Tidy (tree_view tree.now) →
-        OnOk result ((e : any.Event) → In e events.new ↔ (In e events.old ⊎ ActedBy (state_of tree.now store.now) one.now e)) }
+    ensures { (code : Code) → IsTableOf code uses.now → StemsFrom (tree_view tree.now) code →
+        Tidy (tree_view tree.now) →
+        OnOk result
+        ((e : any.Event) → In e events.new ↔ (In e events.old ⊎ ActedBy (state_of tree.now store.now) one.now e)) }
 {
     let alone = solo(alloc, &one.place, &one.side)?;
     add(alone, events)?;
@@ -94,7 +98,8 @@ fn add(made: Option<Event>, events: &mut Items<Event>) -> Result<(), AllocError>
 /// The channel on which the side looks for another, if it acts with one.
 fn channel_of(side: &Side) -> Option<u32>
     ensures { MatchOption result ((b a : Place) (y : any_side.Side) → model.met b side.now a y ≡ None)
-        (λ c. (b a : Place) (y : any_side.Side) (e : any.Event) → model.met b side.now a y ≡ Some e → is_on c y ≡ true) }
+        (λ c. (b a : Place) (y : any_side.Side) (e : any.Event) → model.met b side.now a y ≡ Some e →
+        is_on c y ≡ true) }
 {
     match side {
         Side::Receives(channel, _) => Some(*channel),

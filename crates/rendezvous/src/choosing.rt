@@ -22,11 +22,12 @@ use std::alloc::{AllocError, Global};
 use store::Store;
 use syntax::Items;
 
-/// The event that the choice means in the state of the tree and the store: of those that are allowed and have the choice the
-/// one whose other address is the least. `None` where there is none. The tree is to be tidy and to stem from the command
-/// whose uses of channels these are.
+/// The event that the choice means in the state of the tree and the store: of those that are allowed and have the
+/// choice the one whose other address is the least. `None` where there is none. The tree is to be tidy and to stem from
+/// the command whose uses of channels these are.
 ///
-/// It goes down along the place, and for the other side into what uses its channel alone. It is an error if there is no memory.
+/// It goes down along the place, and for the other side into what uses its channel alone. It is an error if there is no
+/// memory.
 pub fn event_with(
     alloc: Global,
     uses: &ChannelUses,
@@ -34,8 +35,12 @@ pub fn event_with(
     store: &Store,
     choice: &Choice,
 ) -> Result<Option<Event>, AllocError>
-    ensures { (code : Code) → IsTableOf code uses.now → StemsFrom (tree_view tree.now) code → Tidy (tree_view tree.now) →
-        IfOk result (λ found. MatchOption found (ChoiceAllowed (state_of tree.now store.now) choice.now → ⊥) (λ event. Chosen (state_of tree.now store.now) choice.now event)) }
+    ensures { (code : Code) → IsTableOf code uses.now → StemsFrom (tree_view tree.now) code →
+        Tidy (tree_view tree.now) →
+        IfOk result (λ found.
+        MatchOption found
+        (ChoiceAllowed (state_of tree.now store.now) choice.now →
+        ⊥) (λ event. Chosen (state_of tree.now store.now) choice.now event)) }
 {
     let acting = sides_at(alloc, tree, store, &choice.place)?;
     let made = acted_by(alloc, uses, tree, store, acting.as_slice())?;
@@ -45,7 +50,8 @@ pub fn event_with(
 
 /// The first of the events that has the choice.
 fn first_with(events: Items<Event>, choice: &Choice) -> Option<Event>
-    ensures { (S : State) → ReadyWith S choice.now events → MatchOption result (ChoiceAllowed S choice.now → ⊥) (λ event. Chosen S choice.now event) }
+    ensures { (S : State) → ReadyWith S choice.now events →
+        MatchOption result (ChoiceAllowed S choice.now → ⊥) (λ event. Chosen S choice.now event) }
 {
     let mut events = events.into_vec();
     match index_with(events.as_slice(), choice) {

@@ -51,7 +51,9 @@ fn order_of(one: &[Entry], two: &[Entry]) -> Ordering
 
 /// The order of two events in a list that has the latest first.
 pub(crate) fn latest_first(one: &Event, other: &Event) -> Ordering
-    ensures { result ≡ cond (is_sooner other.now one.now) Ordering.Less (cond (is_sooner one.now other.now) Ordering.Greater Ordering.Equal) }
+    ensures { result
+        ≡ cond (is_sooner other.now one.now) Ordering.Less
+        (cond (is_sooner one.now other.now) Ordering.Greater Ordering.Equal) }
 {
     if is_sooner(other, one) {
         Ordering::Less

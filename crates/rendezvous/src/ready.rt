@@ -28,23 +28,24 @@ use std::alloc::{AllocError, Global};
 use store::Store;
 use syntax::Items;
 
-/// Exactly the events that are allowed in the state of the tree and the store: in the order of their acting addresses, then
-/// of their arms, then of their other addresses. The tree is to be tidy and to stem from the command whose uses of channels
-/// these are. It is an error if there is no memory.
+/// Exactly the events that are allowed in the state of the tree and the store: in the order of their acting addresses,
+/// then of their arms, then of their other addresses. The tree is to be tidy and to stem from the command whose uses of
+/// channels these are. It is an error if there is no memory.
 pub fn ready_events(
     alloc: Global,
     uses: &ChannelUses,
     tree: &Tree,
     store: &Store,
 ) -> Result<Items<Event>, AllocError>
-    ensures { (code : Code) → IsTableOf code uses.now → StemsFrom (tree_view tree.now) code → Tidy (tree_view tree.now) →
+    ensures { (code : Code) → IsTableOf code uses.now → StemsFrom (tree_view tree.now) code →
+        Tidy (tree_view tree.now) →
         IfOk result (λ events. ReadyList (state_of tree.now store.now) events) }
 {
     ready_below(alloc, uses, tree, store, &[])
 }
 
-/// Those of them that act at the place or below it. It goes down along the place, and for each side that is found there looks at
-/// those on its channel alone. It is an error if there is no memory.
+/// Those of them that act at the place or below it. It goes down along the place, and for each side that is found there
+/// looks at those on its channel alone. It is an error if there is no memory.
 pub fn ready_below(
     alloc: Global,
     uses: &ChannelUses,
@@ -52,7 +53,8 @@ pub fn ready_below(
     store: &Store,
     place: &[Entry],
 ) -> Result<Items<Event>, AllocError>
-    ensures { (code : Code) → IsTableOf code uses.now → StemsFrom (tree_view tree.now) code → Tidy (tree_view tree.now) →
+    ensures { (code : Code) → IsTableOf code uses.now → StemsFrom (tree_view tree.now) code →
+        Tidy (tree_view tree.now) →
         IfOk result (λ events. ReadyBelow (state_of tree.now store.now) place.now events) }
 {
     let acting = sides_below(alloc, tree, store, place)?;
@@ -60,9 +62,11 @@ pub fn ready_below(
     in_order(alloc, made)
 }
 
-/// The same events in the order of their acting addresses, then of their arms, then of their other addresses; each stands once.
+/// The same events in the order of their acting addresses, then of their arms, then of their other addresses; each
+/// stands once.
 pub(crate) fn in_order(alloc: Global, events: Items<Event>) -> Result<Items<Event>, AllocError>
-    ensures { (S : State) → WellFormed S.residual → ((e : any.Event) → In e events → Allowed S e) → IfOk result (λ sorted. SortedOf events sorted) }
+    ensures { (S : State) → WellFormed S.residual → ((e : any.Event) → In e events → Allowed S e) →
+        IfOk result (λ sorted. SortedOf events sorted) }
 {
     let mut left = events.into_vec();
     left.sort_unstable_by(|one, other| latest_first(one, other));
@@ -87,8 +91,10 @@ fn insert(sorted: &mut Vec<Event>, event: Event) -> Result<(), AllocError>
 
 /// Whether the event stands at this index.
 fn is_there(sorted: &[Event], index: usize, event: &Event) -> bool
-    ensures there { IsTrue result → ((f : Event) × (slice_get sorted.now index ≡ Some f) × (same_event f event.now ≡ true)) }
-    ensures elsewhere { result ≡ false → (f : Event) → slice_get sorted.now index ≡ Some f → same_event f event.now ≡ false }
+    ensures there { IsTrue result →
+        ((f : Event) × (slice_get sorted.now index ≡ Some f) × (same_event f event.now ≡ true)) }
+    ensures elsewhere { result ≡ false → (f : Event) → slice_get sorted.now index ≡ Some f →
+        same_event f event.now ≡ false }
 {
     match sorted.get(index) {
         Some(found) => found.equals(event),

@@ -45,7 +45,8 @@ pub data Without {X : Type 0} (D : X → Type 0) : List X → List X → Type 0 
 -- g is a rearrangement of h
 abbrev pub Rearranged : List Event → List Event → Type 0
 Rearranged [] g = g ≡ []
-Rearranged (e ∷ h) g = (before : List Event) × (after : List Event) × (g ≡ before ++ e ∷ after) × Rearranged h (before ++ after)
+Rearranged (e ∷ h) g =
+    (before : List Event) × (after : List Event) × (g ≡ before ++ e ∷ after) × Rearranged h (before ++ after)
 
 -- g is a rearrangement of h that keeps the order of each directly dependent pair
 pub record Respecting (h g : List Event) : Type 0 where

@@ -45,7 +45,8 @@ Undoes o t _ o' = ⊥
 
 -- the event of ticket t and the live events that depend on it, n in number, are taken out
 abbrev pub TakesOut : Object → ℕ → ℕ → Object → Type 0
-TakesOut o t n o' = (k : Live) × WithoutTickets (DependsOn o.live t) o.live k × (n + length k ≡ length o.live) × (o' ≡ with_live o k)
+TakesOut o t n o' =
+    (k : Live) × WithoutTickets (DependsOn o.live t) o.live k × (n + length k ≡ length o.live) × (o' ≡ with_live o k)
 
 -- why a command on the live event of ticket t is refused
 abbrev pub RefusesTicket : Object → ℕ → Refusal → Type 0
@@ -115,8 +116,8 @@ Does o (Command.Consequences t) reply o' = ListsConsequences o t reply o'
 Does o Command.Live reply o' = ListsLive o reply o'
 Does o (Command.Value x) reply o' = TellsValue o x reply o'
 
--- there may be no memory for the command: what takes back, blame and the value of a variable take none, and a command on an event
--- takes none where there is no such event
+-- there may be no memory for the command: what takes back, blame and the value of a variable take none, and a command
+-- on an event takes none where there is no such event
 abbrev pub MayWantMemory : Object → Command → Type 0
 MayWantMemory o (Command.Undo t) = ⊥
 MayWantMemory o (Command.Roll t) = ⊥
@@ -128,4 +129,5 @@ MayWantMemory o _ = Unit {0}
 
 -- the same, or there was no memory for it and nothing changed
 abbrev pub Answers : Object → Command → Reply → Object → Type 0
-Answers o command reply o' = Does o command reply o' ⊎ (MayWantMemory o command × (reply ≡ Reply.Refused Memory) × (o' ≡ o))
+Answers o command reply o' =
+    Does o command reply o' ⊎ (MayWantMemory o command × (reply ≡ Reply.Refused Memory) × (o' ≡ o))

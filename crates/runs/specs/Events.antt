@@ -27,28 +27,100 @@ sent s w e = resized (value s e) w
 pub data Makes (s : Store) : List Located → Event → Type 0 where
   assigning : (a : Place) (x w : ℕ) (e : Expression) →
       Makes s (at a (assigns x w e) ∷ [])
-      (record { kind = Assign; first = a; second = None; arm = None; channel = None; value = Some (sent s w e); written = Some x; read = ascending (variables e) })
+      (record {
+        kind = Assign;
+        first = a;
+        second = None;
+        arm = None;
+        channel = None;
+        value = Some (sent s w e);
+        written = Some x;
+        read = ascending (variables e);
+      })
   testing : (a : Place) (d : Decision) (k : Option ℕ) → decide s d ≡ k →
       Makes s (at a (tests d k) ∷ [])
-      (record { kind = Test; first = a; second = None; arm = k; channel = None; value = None; written = None; read = ascending (decision_variables d) })
+      (record {
+        kind = Test;
+        first = a;
+        second = None;
+        arm = k;
+        channel = None;
+        value = None;
+        written = None;
+        read = ascending (decision_variables d);
+      })
   turning : (a : Place) →
       Makes s (at a turns ∷ [])
-      (record { kind = Turn; first = a; second = None; arm = None; channel = None; value = None; written = None; read = [] })
+      (record {
+        kind = Turn;
+        first = a;
+        second = None;
+        arm = None;
+        channel = None;
+        value = None;
+        written = None;
+        read = [];
+      })
   meeting : (a b : Place) (c w : ℕ) (e : Expression) (x : Option ℕ) → Apart a b →
       Makes s (at a (sends c w e false) ∷ at b (receives c x) ∷ [])
-      (record { kind = Meet; first = a; second = Some b; arm = None; channel = Some c; value = Some (sent s w e); written = x; read = ascending (variables e) })
+      (record {
+        kind = Meet;
+        first = a;
+        second = Some b;
+        arm = None;
+        channel = Some c;
+        value = Some (sent s w e);
+        written = x;
+        read = ascending (variables e);
+      })
   opening : (a b : Place) (c w k : ℕ) (e : Expression) → Apart a b →
       Makes s (at a (sends c w e true) ∷ at b (opens c k (Some (sent s w e))) ∷ [])
-      (record { kind = Open; first = a; second = Some b; arm = Some k; channel = Some c; value = Some (sent s w e); written = None; read = ascending (variables e) })
+      (record {
+        kind = Open;
+        first = a;
+        second = Some b;
+        arm = Some k;
+        channel = Some c;
+        value = Some (sent s w e);
+        written = None;
+        read = ascending (variables e);
+      })
   opening_without_data : (a b : Place) (c k : ℕ) → Apart a b →
       Makes s (at a (syncs c true) ∷ at b (opens c k None) ∷ [])
-      (record { kind = Open; first = a; second = Some b; arm = Some k; channel = Some c; value = None; written = None; read = [] })
+      (record {
+        kind = Open;
+        first = a;
+        second = Some b;
+        arm = Some k;
+        channel = Some c;
+        value = None;
+        written = None;
+        read = [];
+      })
   shutting : (a b : Place) (c : ℕ) → Apart a b →
       Makes s (at a (releases c) ∷ at b (closes c) ∷ [])
-      (record { kind = Close; first = a; second = Some b; arm = None; channel = Some c; value = None; written = None; read = [] })
+      (record {
+        kind = Close;
+        first = a;
+        second = Some b;
+        arm = None;
+        channel = Some c;
+        value = None;
+        written = None;
+        read = [];
+      })
   syncing : (a b : Place) (c : ℕ) → Apart a b → order_of a b ≡ Less →
       Makes s (at a (syncs c false) ∷ at b (syncs c false) ∷ [])
-      (record { kind = Sync; first = a; second = Some b; arm = None; channel = Some c; value = None; written = None; read = [] })
+      (record {
+        kind = Sync;
+        first = a;
+        second = Some b;
+        arm = None;
+        channel = Some c;
+        value = None;
+        written = None;
+        read = [];
+      })
 
 -- the second address, if there is one
 abbrev pub places_of : Option Place → List Place

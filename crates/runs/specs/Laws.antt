@@ -21,7 +21,8 @@ NeighboursSwap =
     (system : System) (h k : List Event) (e f : Event) (T : State) →
     Run (opening system) (h ++ e ∷ f ∷ k) T → (Directly e f → ⊥) → Run (opening system) (h ++ f ∷ e ∷ k) T
 
--- a list that runs still runs without an event on which nothing after it depends directly, and that event then leads on to the same state
+-- a list that runs still runs without an event on which nothing after it depends directly, and that event then leads on
+-- to the same state
 abbrev pub RunsWithout : Type 0
 RunsWithout =
     (system : System) (h k : List Event) (e : Event) (T : State) →
@@ -90,7 +91,8 @@ OrdersDependAlike =
     (system : System) (h g : List Event) (T : State) (e f : Event) →
     Run (opening system) h T → Respecting h g → (Causes h e f ↔ Causes g e f)
 
--- and so have two lists that run and have the same events, with any two that are on one shared variable in the same order
+-- and so have two lists that run and have the same events, with any two that are on one shared variable in the same
+-- order
 abbrev pub RunsDependAlike : Type 0
 RunsDependAlike =
     (system : System) (h g : List Event) (T U : State) (e f : Event) → SharesWell system →
@@ -122,5 +124,6 @@ ApartMovesMeet =
 -- of two moves that are made one after the other at places apart, the second was offered before the first
 abbrev pub ApartMovesWereOffered : Type 0
 ApartMovesWereOffered =
-    (r : Residual) (a b : Place) (m n : Move) (s q : Residual) → WellFormed r → Apart a b → Local r a m s → Local s b n q →
+    (r : Residual) (a b : Place) (m n : Move) (s q : Residual) → WellFormed r → Apart a b → Local r a m s →
+    Local s b n q →
     (t : Residual) × Local r b n t

@@ -35,7 +35,8 @@ NoneAt l t = (e : Event) → LiveAt l t e → ⊥
 -- directly on one that depends on it
 pub data DependsOn (l : Live) (t : ℕ) : ℕ → Type 0 where
   same : DependsOn l t t
-  later : {u v : ℕ} (e f : Event) → DependsOn l t u → LiveAt l u e → LiveAt l v f → u < v → Directly e f → DependsOn l t v
+  later : {u v : ℕ} (e f : Event) → DependsOn l t u → LiveAt l u e → LiveAt l v f → u < v → Directly e f →
+      DependsOn l t v
 
 -- k is l without the events of whose tickets D holds
 abbrev pub WithoutTickets : (ℕ → Type 0) → Live → Live → Type 0

@@ -32,12 +32,14 @@ pub data Move : Type 0 where
 abbrev pub Local : Residual → Place → Move → Residual → Type 0
 Local done a m q = ⊥
 Local halted a m q = ⊥
-Local (inside i child next) a m q = (b : Place) × (t : Residual) × (a ≡ Ordered i ∷ b) × Local child b m t × (q ≡ within i t next)
+Local (inside i child next) a m q =
+    (b : Place) × (t : Residual) × (a ≡ Ordered i ∷ b) × Local child b m t × (q ≡ within i t next)
 Local (beside k child rest) a m q =
     ((b : Place) × (t : Residual) × (a ≡ Branch k ∷ b) × Local child b m t × (q ≡ along k t rest))
     ⊎ ((t : Residual) × Local rest a m t × (q ≡ along k child t))
 Local (assign x w e) a m q = (a ≡ []) × (m ≡ assigns x w e) × (q ≡ done)
-Local (send c w e) a m q = (a ≡ Ordered 0 ∷ []) × (((m ≡ sends c w e false) × (q ≡ done)) ⊎ ((m ≡ sends c w e true) × (q ≡ held c)))
+Local (send c w e) a m q =
+    (a ≡ Ordered 0 ∷ []) × (((m ≡ sends c w e false) × (q ≡ done)) ⊎ ((m ≡ sends c w e true) × (q ≡ held c)))
 Local (receive c x) a m q = (a ≡ []) × (m ≡ receives c (Some x)) × (q ≡ done)
 Local (sync c) a m q = (a ≡ Ordered 0 ∷ []) × (((m ≡ syncs c false) × (q ≡ done)) ⊎ ((m ≡ syncs c true) × (q ≡ held c)))
 Local (held c) a m q = (a ≡ Ordered 1 ∷ []) × (m ≡ releases c) × (q ≡ done)

@@ -31,7 +31,8 @@ StaysSound = (o o' : Object) (c : Command) (reply : Reply) → Sound o → Answe
 
 -- and so does each list of commands
 abbrev pub StaysSoundOverLists : Type 0
-StaysSoundOverLists = (o o' : Object) (cs : List Command) (replies : List Reply) → Sound o → Answered o cs replies o' → Sound o'
+StaysSoundOverLists =
+    (o o' : Object) (cs : List Command) (replies : List Reply) → Sound o → Answered o cs replies o' → Sound o'
 
 -- a list that is answered, and then another, is the two joined
 abbrev pub AnsweredJoins : Type 0
@@ -61,7 +62,9 @@ OfSound P = (o : Object) → Sound o → P o
 
 -- the first event of the ready list with a choice is the one that the choice means
 abbrev pub FirstIsChosen : Type 0
-FirstIsChosen = (S : State) (c : Choice) (before after : List Event) (e : Event) → ReadyList S (before ++ e ∷ after) → choice_of e ≡ c →
+FirstIsChosen =
+    (S : State) (c : Choice) (before after : List Event) (e : Event) → ReadyList S (before ++ e ∷ after) →
+    choice_of e ≡ c →
     ((f : Event) → In f before → choice_of f ≡ c → ⊥) → Chosen S c e
 
 -- a step is taken exactly where an event with the choice is allowed, and one more event and one more ticket may be
@@ -149,12 +152,16 @@ pub record Grows (o o' : Object) : Type 0 where
 
 -- and so it is over any commands
 abbrev pub TicketsGrow : Type 0
-TicketsGrow = (o o' : Object) (cs : List Command) (replies : List Reply) → Sound o → Answered o cs replies o' → Grows o o'
+TicketsGrow =
+    (o o' : Object) (cs : List Command) (replies : List Reply) → Sound o → Answered o cs replies o' → Grows o o'
 
 -- after any commands after which a live event is no longer live, no event that depended on it is live
 abbrev pub LeastRollback : Type 0
-LeastRollback = (o o' : Object) (cs : List Command) (replies : List Reply) (t u : ℕ) (e f : Event) → Sound o → Answered o cs replies o' →
-    LiveAt o.live t e → (LiveAt o'.live t e → ⊥) → LiveAt o.live u f → Causes (events o.live) e f → LiveAt o'.live u f → ⊥
+LeastRollback =
+    (o o' : Object) (cs : List Command) (replies : List Reply) (t u : ℕ) (e f : Event) → Sound o →
+    Answered o cs replies o' →
+    LiveAt o.live t e → (LiveAt o'.live t e → ⊥) → LiveAt o.live u f → Causes (events o.live) e f → LiveAt o'.live u f →
+    ⊥
 
 -- in a system that shares its channels and variables as it should, any commands amount to undos from the greatest
 -- ticket down, and then steps in order of tickets, each of which makes that very event: the same events are live, in
@@ -168,7 +175,8 @@ BackThenForth = (system : System) (o o' : Object) (cs : List Command) (replies :
 -- a rollback of a variable leaves it with the value that it had before its last live writer
 abbrev pub RolledValue : Object → Type 0
 RolledValue o = (o' : Object) (x n : ℕ) → Does o (Command.RollValue x) (Reply.Rolled n) o' →
-    (before : Live) × (t : ℕ) × (e : Event) × (after : Live) × (o.live ≡ before ++ (t, e) ∷ after) × (e.written ≡ Some x) × NoWriter after x
+    (before : Live) × (t : ℕ) × (e : Event) × (after : Live) × (o.live ≡ before ++ (t, e) ∷ after)
+    × (e.written ≡ Some x) × NoWriter after x
     × ((S T : State) → Run o.opening (events before) S → Reaches o' T → get T.store x ≡ get S.store x)
 
 -- dependence by tickets is dependence in the list of the live events
@@ -178,13 +186,16 @@ DependsOnIsCauses o = (t u : ℕ) (e f : Event) → LiveAt o.live t e → LiveAt
 
 -- the consequences of an event are the tickets of the live events that depend on it, ascending
 abbrev pub ConsequencesExactly : Object → Type 0
-ConsequencesExactly o = (o' : Object) (t : ℕ) (ts : List ℕ) → Does o (Command.Consequences t) (Reply.Consequences ts) o' →
+ConsequencesExactly o =
+    (o' : Object) (t : ℕ) (ts : List ℕ) → Does o (Command.Consequences t) (Reply.Consequences ts) o' →
     (e : Event) × LiveAt o.live t e × InOrder ◌<◌ ts
     × ((u : ℕ) → In u ts ↔ ((f : Event) × LiveAt o.live u f × Causes (events o.live) e f))
 
 -- a command has at most one reply, and that determines the object after it
 abbrev pub OneReply : Type 0
-OneReply = (o p q : Object) (c : Command) (reply other : Reply) → Sound o → Does o c reply p → Does o c other q → (reply ≡ other) × (p ≡ q)
+OneReply =
+    (o p q : Object) (c : Command) (reply other : Reply) → Sound o → Does o c reply p → Does o c other q →
+    (reply ≡ other) × (p ≡ q)
 
 -- each command has a reply
 abbrev pub SomeReply : Type 0

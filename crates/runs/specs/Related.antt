@@ -14,7 +14,8 @@ Related is_shared e f = OnOneChannel e f ⊎ WritesOwn is_shared e f ⊎ WritesO
 
 -- e writes a variable that is shared, and f reads or writes it
 abbrev pub WritesShared : (ℕ → Bool) → Event → Event → Type 0
-WritesShared is_shared e f = (x : ℕ) × (is_shared x ≡ true) × (e.written ≡ Some x) × (In x f.read ⊎ (f.written ≡ Some x))
+WritesShared is_shared e f =
+    (x : ℕ) × (is_shared x ≡ true) × (e.written ≡ Some x) × (In x f.read ⊎ (f.written ≡ Some x))
 
 -- one writes a variable that is shared and that the other reads or writes
 abbrev pub OnOneShared : (ℕ → Bool) → Event → Event → Type 0

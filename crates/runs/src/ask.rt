@@ -15,7 +15,8 @@ pub enum Ask {
     Hold,
     /// a receive
     Receive,
-    /// an arm of an enclosed input, `select` or `arbitrate` opens: its number, and the value received if the channel has data
+    /// an arm of an enclosed input, `select` or `arbitrate` opens: its number, and the value received if the channel
+    /// has data
     Open(u32, Option<Value>),
     /// a sync that is met at once
     Sync,

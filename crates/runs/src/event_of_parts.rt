@@ -16,7 +16,18 @@ impl Event {
         value: Value,
         read: Variables,
     ) -> Result<Event, AllocError>
-        ensures { IfOk result (λ made. made ≡ record { kind = Kind.Assign; first = place.now; second = None; arm = None; channel = None; value = Some value; written = Some variable; read = read }) }
+        ensures { IfOk result (λ made.
+            made
+            ≡ record {
+              kind = Kind.Assign;
+              first = place.now;
+              second = None;
+              arm = None;
+              channel = None;
+              value = Some value;
+              written = Some variable;
+              read = read;
+            }) }
     {
         let first = place.copy(alloc)?;
         Ok(Event {
@@ -38,7 +49,18 @@ impl Event {
         arm: Option<u32>,
         read: Variables,
     ) -> Result<Event, AllocError>
-        ensures { IfOk result (λ made. made ≡ record { kind = Kind.Test; first = place.now; second = None; arm = arm; channel = None; value = None; written = None; read = read }) }
+        ensures { IfOk result (λ made.
+            made
+            ≡ record {
+              kind = Kind.Test;
+              first = place.now;
+              second = None;
+              arm = arm;
+              channel = None;
+              value = None;
+              written = None;
+              read = read;
+            }) }
     {
         let first = place.copy(alloc)?;
         Ok(Event {
@@ -55,7 +77,18 @@ impl Event {
 
     /// A turn of a loop.
     pub fn turn(alloc: Global, place: &Address) -> Result<Event, AllocError>
-        ensures { IfOk result (λ made. made ≡ record { kind = Kind.Turn; first = place.now; second = None; arm = None; channel = None; value = None; written = None; read = [] }) }
+        ensures { IfOk result (λ made.
+            made
+            ≡ record {
+              kind = Kind.Turn;
+              first = place.now;
+              second = None;
+              arm = None;
+              channel = None;
+              value = None;
+              written = None;
+              read = [];
+            }) }
     {
         let first = place.copy(alloc)?;
         Ok(Event {
@@ -80,7 +113,18 @@ impl Event {
         written: Option<u32>,
         read: Variables,
     ) -> Result<Event, AllocError>
-        ensures { IfOk result (λ made. made ≡ record { kind = Kind.Meet; first = sender.now; second = Some receiver.now; arm = None; channel = Some channel; value = Some value; written = written; read = read }) }
+        ensures { IfOk result (λ made.
+            made
+            ≡ record {
+              kind = Kind.Meet;
+              first = sender.now;
+              second = Some receiver.now;
+              arm = None;
+              channel = Some channel;
+              value = Some value;
+              written = written;
+              read = read;
+            }) }
     {
         let first = sender.copy(alloc)?;
         let second = receiver.copy(alloc)?;
@@ -106,7 +150,18 @@ impl Event {
         value: Option<Value>,
         read: Variables,
     ) -> Result<Event, AllocError>
-        ensures { IfOk result (λ made. made ≡ record { kind = Kind.Open; first = sender.now; second = Some receiver.now; arm = Some arm; channel = Some channel; value = value; written = None; read = read }) }
+        ensures { IfOk result (λ made.
+            made
+            ≡ record {
+              kind = Kind.Open;
+              first = sender.now;
+              second = Some receiver.now;
+              arm = Some arm;
+              channel = Some channel;
+              value = value;
+              written = None;
+              read = read;
+            }) }
     {
         let first = sender.copy(alloc)?;
         let second = receiver.copy(alloc)?;
@@ -129,7 +184,18 @@ impl Event {
         receiver: &Address,
         channel: u32,
     ) -> Result<Event, AllocError>
-        ensures { IfOk result (λ made. made ≡ record { kind = Kind.Close; first = sender.now; second = Some receiver.now; arm = None; channel = Some channel; value = None; written = None; read = [] }) }
+        ensures { IfOk result (λ made.
+            made
+            ≡ record {
+              kind = Kind.Close;
+              first = sender.now;
+              second = Some receiver.now;
+              arm = None;
+              channel = Some channel;
+              value = None;
+              written = None;
+              read = [];
+            }) }
     {
         without_data(alloc, Kind::Close, sender, receiver, channel)
     }
@@ -141,7 +207,18 @@ impl Event {
         greater: &Address,
         channel: u32,
     ) -> Result<Event, AllocError>
-        ensures { IfOk result (λ made. made ≡ record { kind = Kind.Sync; first = lesser.now; second = Some greater.now; arm = None; channel = Some channel; value = None; written = None; read = [] }) }
+        ensures { IfOk result (λ made.
+            made
+            ≡ record {
+              kind = Kind.Sync;
+              first = lesser.now;
+              second = Some greater.now;
+              arm = None;
+              channel = Some channel;
+              value = None;
+              written = None;
+              read = [];
+            }) }
     {
         without_data(alloc, Kind::Sync, lesser, greater, channel)
     }
@@ -155,7 +232,18 @@ fn without_data(
     second: &Address,
     channel: u32,
 ) -> Result<Event, AllocError>
-    ensures { IfOk result (λ made. made ≡ record { kind = kind; first = first.now; second = Some second.now; arm = None; channel = Some channel; value = None; written = None; read = [] }) }
+    ensures { IfOk result (λ made.
+        made
+        ≡ record {
+          kind = kind;
+          first = first.now;
+          second = Some second.now;
+          arm = None;
+          channel = Some channel;
+          value = None;
+          written = None;
+          read = [];
+        }) }
 {
     let first = first.copy(alloc)?;
     let second = second.copy(alloc)?;

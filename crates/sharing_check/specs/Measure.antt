@@ -62,12 +62,45 @@ sum_together a b = a + b
 
 -- the sending side of a data channel
 abbrev pub sending : ℕ → Measure
-sending c = record { together = sum_together; reads = nothing; writes = nothing; sends = only 1 c; holds = only 1 c; receives = nothing; opens = nothing; closes = nothing; syncs = only 1 c }
+sending c =
+    record {
+      together = sum_together;
+      reads = nothing;
+      writes = nothing;
+      sends = only 1 c;
+      holds = only 1 c;
+      receives = nothing;
+      opens = nothing;
+      closes = nothing;
+      syncs = only 1 c;
+    }
 
 -- the receiving side of a data channel: receives, and arms that open
 abbrev pub receiving : ℕ → Measure
-receiving c = record { together = sum_together; reads = nothing; writes = nothing; sends = nothing; holds = nothing; receives = only 1 c; opens = only 1 c; closes = only 1 c; syncs = only 1 c }
+receiving c =
+    record {
+      together = sum_together;
+      reads = nothing;
+      writes = nothing;
+      sends = nothing;
+      holds = nothing;
+      receives = only 1 c;
+      opens = only 1 c;
+      closes = only 1 c;
+      syncs = only 1 c;
+    }
 
 -- all uses of a channel without data
 abbrev pub syncing : ℕ → Measure
-syncing c = record { together = sum_together; reads = nothing; writes = nothing; sends = only 1 c; holds = only 1 c; receives = only 1 c; opens = only 1 c; closes = only 1 c; syncs = only 1 c }
+syncing c =
+    record {
+      together = sum_together;
+      reads = nothing;
+      writes = nothing;
+      sends = only 1 c;
+      holds = only 1 c;
+      receives = only 1 c;
+      opens = only 1 c;
+      closes = only 1 c;
+      syncs = only 1 c;
+    }

@@ -20,7 +20,8 @@ pub record Clash (system : System) (u v : VariableUse) : Type 0 where
 -- a use at this offset takes part in a clash
 abbrev pub ClashesAt : System → ℕ → Type 0
 ClashesAt system offset =
-    (u v : VariableUse) × In u (uses_of system.main) × In v (uses_of system.main) × Clash system u v × (offset ≡ u.offset)
+    (u v : VariableUse) × In u (uses_of system.main) × In v (uses_of system.main) × Clash system u v
+    × (offset ≡ u.offset)
 
 -- the channel c is used by more branches at one time than may use it
 abbrev pub PassesWidth : System → ℕ → Type 0

@@ -34,7 +34,8 @@ is_shared_variable (Some variable) = variable.shared
 abbrev pub is_shared : System → ℕ → Bool
 is_shared system x = is_shared_variable (slice_get system.variables x)
 
--- a branch of the environment as a sender on channel c: a feed counts even if it has no value to send, and syncs count on each side
+-- a branch of the environment as a sender on channel c: a feed counts even if it has no value to send, and syncs count
+-- on each side
 abbrev pub sender_on : ℕ → Branch → ℕ
 sender_on c (Feed d width values) = only 1 c d
 sender_on c (Drain d) = 0

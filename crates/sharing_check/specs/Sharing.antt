@@ -46,7 +46,8 @@ abbrev mutual
   pub OneBranchWrites : ℕ → Residual → Type 0
   OneBranchWrites x (inside i child next) = OneBranchWrites x child × OneBranchWrites x next
   OneBranchWrites x (beside k child rest) =
-      (Writes x child → Mentions x rest → ⊥) × (Writes x rest → Mentions x child → ⊥) × OneBranchWrites x child × OneBranchWrites x rest
+      (Writes x child → Mentions x rest → ⊥) × (Writes x rest → Mentions x child → ⊥) × OneBranchWrites x child
+      × OneBranchWrites x rest
   OneBranchWrites x (loop k body) = OneBranchWrites x body
   OneBranchWrites x (while k e body) = OneBranchWrites x body
   OneBranchWrites x (test d arms) = OneBranchWritesInArms x arms

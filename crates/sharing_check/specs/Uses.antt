@@ -58,7 +58,8 @@ with_last arms None = arms
 with_last arms (Some last) = arms ++ last ∷ []
 
 -- one layer of a command, one line a form
-abbrev pub uses_layer : Action-F (List VariableUse) (List VariableUse) (List VariableUse) (List VariableUse) (List VariableUse) → List VariableUse
+abbrev pub uses_layer : Action-F (List VariableUse) (List VariableUse) (List VariableUse) (List VariableUse)
+    (List VariableUse) → List VariableUse
 uses_layer Action-F.Continue = []
 uses_layer Action-F.Halt = []
 uses_layer (Action-F.Assign x w e) = here x true ∷ reads e
@@ -75,18 +76,24 @@ uses_layer (Action-F.Arbitrate arms) = numbered Ordered 0 arms
 uses_layer (Action-F.Sequence children) = numbered Ordered 0 children
 uses_layer (Action-F.Parallel children) = numbered Branch 0 children
 
-abbrev pub arm_uses : Arm-F (List VariableUse) (List VariableUse) (List VariableUse) (List VariableUse) (List VariableUse) → List VariableUse
+abbrev pub arm_uses : Arm-F (List VariableUse) (List VariableUse) (List VariableUse) (List VariableUse)
+    (List VariableUse) → List VariableUse
 arm_uses a = a.body
 
-abbrev pub command_uses : Command-F (List VariableUse) (List VariableUse) (List VariableUse) (List VariableUse) (List VariableUse) → List VariableUse
+abbrev pub command_uses : Command-F (List VariableUse) (List VariableUse) (List VariableUse) (List VariableUse)
+    (List VariableUse) → List VariableUse
 command_uses c = c.action
 
-abbrev pub guarded_uses : Guarded-F (List VariableUse) (List VariableUse) (List VariableUse) (List VariableUse) (List VariableUse) → List VariableUse
+abbrev pub guarded_uses : Guarded-F (List VariableUse) (List VariableUse) (List VariableUse) (List VariableUse)
+    (List VariableUse) → List VariableUse
 guarded_uses a = reads a.guard ++ a.body
 
-abbrev pub labelled_uses : Labelled-F (List VariableUse) (List VariableUse) (List VariableUse) (List VariableUse) (List VariableUse) → List VariableUse
+abbrev pub labelled_uses : Labelled-F (List VariableUse) (List VariableUse) (List VariableUse) (List VariableUse)
+    (List VariableUse) → List VariableUse
 labelled_uses a = a.body
 
 -- the uses of variables in a command
 abbrev pub uses_of : Command → List VariableUse
-uses_of = fold-Command (List VariableUse) (List VariableUse) (List VariableUse) (List VariableUse) (List VariableUse) uses_layer arm_uses command_uses guarded_uses labelled_uses
+uses_of =
+    fold-Command (List VariableUse) (List VariableUse) (List VariableUse) (List VariableUse)
+    (List VariableUse) uses_layer arm_uses command_uses guarded_uses labelled_uses

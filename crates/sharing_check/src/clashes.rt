@@ -11,7 +11,8 @@ use system::{Action, Arm, Command, Expression, Guarded, Labelled, System, Variab
 
 /// The least offset of a use that clashes with another one.
 pub fn least_clash(alloc: Global, system: &System) -> Result<Option<u64>, AllocError>
-    ensures { IfOk result (λ found. MatchOption found ((o : ℕ) → ClashesAt system.now o → ⊥) (λ o. Least (ClashesAt system.now) o)) }
+    ensures { IfOk result (λ found.
+        MatchOption found ((o : ℕ) → ClashesAt system.now o → ⊥) (λ o. Least (ClashesAt system.now) o)) }
 {
     let mut found = Found::new(alloc);
     add_command(alloc, system.variables.as_slice(), &system.main, &mut found)?;
@@ -88,7 +89,8 @@ fn add_sequence(
     children: &[Command],
     found: &mut Found,
 ) -> Result<(), AllocError>
-    ensures { IfOk result (λ _. found.new ≡ model.in_turn (map (model.gathering variables.now) children.now) found.old) }
+    ensures { IfOk result (λ _.
+        found.new ≡ model.in_turn (map (model.gathering variables.now) children.now) found.old) }
 {
     for child in children {
         add_command(alloc, variables, child, found)?;
@@ -104,7 +106,8 @@ fn add_branches(
     children: &[Command],
     found: &mut Found,
 ) -> Result<(), AllocError>
-    ensures { IfOk result (λ _. found.new ≡ model.all_beside variables.now (map (model.gathering variables.now) children.now) found.old) }
+    ensures { IfOk result (λ _.
+        found.new ≡ model.all_beside variables.now (map (model.gathering variables.now) children.now) found.old) }
 {
     for child in children {
         add_branch(alloc, variables, child, found)?;
@@ -120,7 +123,8 @@ fn add_branch(
     child: &Command,
     found: &mut Found,
 ) -> Result<(), AllocError>
-    ensures { IfOk result (λ _. found.new ≡ model.beside variables.now (model.gathering variables.now child.now) found.old) }
+    ensures { IfOk result (λ _.
+        found.new ≡ model.beside variables.now (model.gathering variables.now child.now) found.old) }
 {
     let earlier = found.take_touches(alloc);
     add_command(alloc, variables, child, found)?;
@@ -135,7 +139,8 @@ fn add_guarded(
     arms: &[Guarded],
     found: &mut Found,
 ) -> Result<(), AllocError>
-    ensures { IfOk result (λ _. found.new ≡ model.in_turn (map (model.gathering_guarded variables.now) arms.now) found.old) }
+    ensures { IfOk result (λ _.
+        found.new ≡ model.in_turn (map (model.gathering_guarded variables.now) arms.now) found.old) }
 {
     for arm in arms {
         add_reads(&arm.guard, found)?;
@@ -152,7 +157,8 @@ fn add_labelled(
     arms: &[Labelled],
     found: &mut Found,
 ) -> Result<(), AllocError>
-    ensures { IfOk result (λ _. found.new ≡ model.in_turn (map (model.gathering_labelled variables.now) arms.now) found.old) }
+    ensures { IfOk result (λ _.
+        found.new ≡ model.in_turn (map (model.gathering_labelled variables.now) arms.now) found.old) }
 {
     for arm in arms {
         add_command(alloc, variables, &arm.body, found)?;
@@ -168,7 +174,8 @@ fn add_arms(
     arms: &[Arm],
     found: &mut Found,
 ) -> Result<(), AllocError>
-    ensures { IfOk result (λ _. found.new ≡ model.in_turn (map (model.gathering_arm variables.now) arms.now) found.old) }
+    ensures { IfOk result (λ _.
+        found.new ≡ model.in_turn (map (model.gathering_arm variables.now) arms.now) found.old) }
 {
     for arm in arms {
         add_command(alloc, variables, &arm.body, found)?;
@@ -184,7 +191,8 @@ fn add_last(
     last: &Option<Command>,
     found: &mut Found,
 ) -> Result<(), AllocError>
-    ensures { IfOk result (λ _. found.new ≡ model.then_last (option_map (model.gathering variables.now) last.now) found.old) }
+    ensures { IfOk result (λ _.
+        found.new ≡ model.then_last (option_map (model.gathering variables.now) last.now) found.old) }
 {
     match last {
         Some(body) => add_command(alloc, variables, body, found),

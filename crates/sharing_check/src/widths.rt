@@ -109,7 +109,8 @@ impl Widths {
 
     /// Adds uses of the channel.
     fn add(&mut self, how: Together, channel: u32, width: Width) -> Result<(), AllocError>
-        ensures { OnOk result (model.noted self.new ≡ model.join how (model.noted self.old) (model.uses channel width)) }
+        ensures { OnOk result (model.noted self.new
+            ≡ model.join how (model.noted self.old) (model.uses channel width)) }
     {
         let width = self.of(channel).join(how, width);
         self.by_channel.insert(channel, width)?;
@@ -184,7 +185,8 @@ fn add_command(alloc: Global, command: &Command, widths: &mut Widths) -> Result<
 /// Adds the uses of commands in one branch.
 #[cycle(widths)]
 fn add_commands(alloc: Global, commands: &[Command], widths: &mut Widths) -> Result<(), AllocError>
-    ensures { OnOk result (model.noted widths.new ≡ model.in_turn (model.noted widths.old) (map residual_of commands.now)) }
+    ensures { OnOk result (model.noted widths.new
+        ≡ model.in_turn (model.noted widths.old) (map residual_of commands.now)) }
 {
     for command in commands {
         add_command(alloc, command, widths)?;
@@ -195,7 +197,8 @@ fn add_commands(alloc: Global, commands: &[Command], widths: &mut Widths) -> Res
 /// Adds the uses of the arms of an `if`.
 #[cycle(widths)]
 fn add_guarded(alloc: Global, arms: &[Guarded], widths: &mut Widths) -> Result<(), AllocError>
-    ensures { OnOk result (model.noted widths.new ≡ model.in_turn (model.noted widths.old) (map (λ a. a.body) (map guarded_of arms.now))) }
+    ensures { OnOk result (model.noted widths.new
+        ≡ model.in_turn (model.noted widths.old) (map (λ a. a.body) (map guarded_of arms.now))) }
 {
     for arm in arms {
         add_command(alloc, &arm.body, widths)?;
@@ -206,7 +209,8 @@ fn add_guarded(alloc: Global, arms: &[Guarded], widths: &mut Widths) -> Result<(
 /// Adds the uses of the arms of a `case`.
 #[cycle(widths)]
 fn add_labelled(alloc: Global, arms: &[Labelled], widths: &mut Widths) -> Result<(), AllocError>
-    ensures { OnOk result (model.noted widths.new ≡ model.in_turn (model.noted widths.old) (map (λ a. a.body) (map labelled_of arms.now))) }
+    ensures { OnOk result (model.noted widths.new
+        ≡ model.in_turn (model.noted widths.old) (map (λ a. a.body) (map labelled_of arms.now))) }
 {
     for arm in arms {
         add_command(alloc, &arm.body, widths)?;
@@ -229,7 +233,8 @@ fn add_arms(alloc: Global, arms: &[Arm], widths: &mut Widths) -> Result<(), Allo
 /// Adds the uses of what stands behind an `else`.
 #[cycle(widths)]
 fn add_last(alloc: Global, last: &Option<Command>, widths: &mut Widths) -> Result<(), AllocError>
-    ensures { OnOk result (model.noted widths.new ≡ model.last_in_turn (model.noted widths.old) (option_map residual_of last.now)) }
+    ensures { OnOk result (model.noted widths.new
+        ≡ model.last_in_turn (model.noted widths.old) (option_map residual_of last.now)) }
 {
     match last {
         Some(body) => add_command(alloc, body, widths),
@@ -240,7 +245,8 @@ fn add_last(alloc: Global, last: &Option<Command>, widths: &mut Widths) -> Resul
 /// The uses of the children of a parallel.
 #[cycle(widths)]
 fn of_branches(alloc: Global, children: &[Command]) -> Result<Widths, AllocError>
-    ensures { IfOk result (λ widths. model.noted widths ≡ model.side_by_side model.nothing (map residual_of children.now)) }
+    ensures { IfOk result (λ widths.
+        model.noted widths ≡ model.side_by_side model.nothing (map residual_of children.now)) }
 {
     let mut widths = Widths::new(alloc);
     for child in children {
@@ -352,7 +358,8 @@ fn least_of(system: &System, widths: &Widths) -> Option<u64>
 
 /// The least offset at which a channel that passes its width is declared.
 pub(crate) fn least_passing(alloc: Global, system: &System) -> Result<Option<u64>, AllocError>
-    ensures { IfOk result (λ found. MatchOption found ((o : ℕ) → PassesAt system.now o → ⊥) (λ o. Least (PassesAt system.now) o)) }
+    ensures { IfOk result (λ found.
+        MatchOption found ((o : ℕ) → PassesAt system.now o → ⊥) (λ o. Least (PassesAt system.now) o)) }
 {
     let widths = of_system(alloc, system)?;
     Ok(least_of(system, &widths))

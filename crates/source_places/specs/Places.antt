@@ -10,8 +10,8 @@ line_end = 10
 abbrev pub ends_before : List ℕ → ℕ → ℕ
 ends_before text offset = count_by (λ b. b == line_end) (take offset text)
 
--- the line of the byte at `offset` begins at `start`: a line ends before it or the text begins there, and none ends from
--- there to the byte
+-- the line of the byte at `offset` begins at `start`: a line ends before it or the text begins there, and none ends
+-- from there to the byte
 pub record BeginsLine (text : List ℕ) (offset start : ℕ) : Type 0 where
   pub before : start ≤ offset
   pub begins : (start ≡ 0) ⊎ (slice_index text (start - 1) ≡ line_end)

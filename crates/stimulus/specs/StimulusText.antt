@@ -36,7 +36,8 @@ abbrev pub AreEntries : ℕ → List Text → List Entry → Type 0
 AreEntries n [] entries = entries ≡ []
 AreEntries n (line ∷ rest) entries =
     ((line ≡ []) × AreEntries (suc n) rest entries)
-    ⊎ ((name : Text) × (given : Given) × (more : List Entry) × (entries ≡ record { line = n; name = name; given = given } ∷ more)
+    ⊎ ((name : Text) × (given : Given) × (more : List Entry)
+    × (entries ≡ record { line = n; name = name; given = given } ∷ more)
     × Gives line name given × AreEntries (suc n) rest more)
 
 -- line m is the first that has no form, where the first of the lines is line n

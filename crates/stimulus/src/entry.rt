@@ -41,14 +41,16 @@ fn read_given(alloc: Global, text: &[u8]) -> Result<Option<Given>, AllocError>
 
 /// What stands behind the mark, where the text begins with it.
 pub fn behind<'a>(text: &'a [u8], mark: &[u8]) -> Option<&'a [u8]>
-    ensures { MatchOption result ((rest : List ℕ) → text.entry.now ≢ mark.entry.now ++ rest) (λ rest. text.entry.now ≡ mark.entry.now ++ rest.now) }
+    ensures { MatchOption result ((rest : List ℕ) →
+        text.entry.now ≢ mark.entry.now ++ rest) (λ rest. text.entry.now ≡ mark.entry.now ++ rest.now) }
 {
     text.strip_prefix(mark)
 }
 
 /// What ` =` and this text give.
 fn read_feed(alloc: Global, text: &[u8]) -> Result<Option<Given>, AllocError>
-    ensures { IfOk result (λ r. MatchOption r (IsNoGiven (32 ∷ 61 ∷ text.now)) (λ given. ReadsGiven (32 ∷ 61 ∷ text.now) given)) }
+    ensures { IfOk result (λ r.
+        MatchOption r (IsNoGiven (32 ∷ 61 ∷ text.now)) (λ given. ReadsGiven (32 ∷ 61 ∷ text.now) given)) }
 {
     match read_values(alloc, text)? {
         Some(values) => Ok(Some(Given::Values(values))),
@@ -58,7 +60,8 @@ fn read_feed(alloc: Global, text: &[u8]) -> Result<Option<Given>, AllocError>
 
 /// What ` * ` and this text give.
 pub fn read_syncs(digits: &[u8]) -> Option<Given>
-    ensures { MatchOption result (IsNoGiven (32 ∷ 42 ∷ 32 ∷ digits.now)) (λ given. ReadsGiven (32 ∷ 42 ∷ 32 ∷ digits.now) given) }
+    ensures { MatchOption result (IsNoGiven (32 ∷ 42 ∷ 32 ∷ digits.now)) (λ given.
+        ReadsGiven (32 ∷ 42 ∷ 32 ∷ digits.now) given) }
 {
     match read_number(digits) {
         Some(number) => {

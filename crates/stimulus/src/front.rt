@@ -39,11 +39,13 @@ impl Front {
     ///
     /// All of the text is read, and refused as `Stimulus::read` refuses it. Of lines behind the front nothing is kept.
     pub fn read(alloc: Global, text: &[u8], most: usize) -> Result<Front, Fault>
-        ensures entries { IfOk result (λ front. (later : List Entry) × AreEntries 1 (lines text.now) (front.stimulus.entries ++ later)
+        ensures entries { IfOk result (λ front. (later : List Entry)
+            × AreEntries 1 (lines text.now) (front.stimulus.entries ++ later)
             × (front.is_cut ≡ false → later ≡ []) × (later ≡ [] → front.is_cut ≡ false)) }
         ensures few { IfOk result (λ front. (length front.stimulus.entries ≤ most)
             × (front.is_cut ≡ true → length front.stimulus.entries ≡ most)) }
-        ensures fault { IfErr result (λ fault. (fault ≡ Memory) ⊎ ((n : ℕ) × (fault ≡ BadStimulus n) × FirstOther 1 (lines text.now) n)) }
+        ensures fault { IfErr result (λ fault. (fault ≡ Memory)
+            ⊎ ((n : ℕ) × (fault ≡ BadStimulus n) × FirstOther 1 (lines text.now) n)) }
     {
         let mut front = Front {
             stimulus: Stimulus {
@@ -65,7 +67,9 @@ impl Front {
     /// Adds the entry of a line that is not empty, as long as there are fewer than `most`. A line of another form is
     /// refused.
     fn pass(&mut self, alloc: Global, most: usize, line: u64, text: &[u8]) -> Result<(), Fault>
-        ensures passed { OnOk result (IsPassed most line text.now self.old.stimulus.entries self.old.is_cut self.new.stimulus.entries self.new.is_cut) }
+        ensures passed { OnOk result
+            (IsPassed most line text.now self.old.stimulus.entries self.old.is_cut self.new.stimulus.entries
+            self.new.is_cut) }
         ensures err { IfErr result (λ fault. (fault ≡ Memory) ⊎ ((fault ≡ BadStimulus line) × ¬ HasForm text.now)) }
     {
         if self.stimulus.entries.len() < most {

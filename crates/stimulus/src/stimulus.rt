@@ -36,11 +36,12 @@ impl Stimulus {
     ghost use Rattle.stimulus.specs.StimulusText.{AreEntries, FirstOther};
 
     /// The stimulus that `text` spells. A line ends with byte 10, which the last one may lack. It is empty, or it is a
-    /// name, ` =` and for each value a space and a number, or a name, ` * ` and a number up to 65,536. The first line of
-    /// another form is refused.
+    /// name, ` =` and for each value a space and a number, or a name, ` * ` and a number up to 65,536. The first line
+    /// of another form is refused.
     pub fn read(alloc: Global, text: &[u8]) -> Result<Stimulus, Fault>
         ensures entries { IfOk result (λ stimulus. AreEntries 1 (lines text.now) stimulus.entries) }
-        ensures fault { IfErr result (λ fault. (fault ≡ Memory) ⊎ ((n : ℕ) × (fault ≡ BadStimulus n) × FirstOther 1 (lines text.now) n)) }
+        ensures fault { IfErr result (λ fault. (fault ≡ Memory)
+            ⊎ ((n : ℕ) × (fault ≡ BadStimulus n) × FirstOther 1 (lines text.now) n)) }
     {
         // Each entry takes bytes, so none is missing.
         let front = Front::read(alloc, text, text.len())?;

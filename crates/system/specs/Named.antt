@@ -16,7 +16,8 @@ as_number place = if nat_le place 4294967295 then Some place else None
 -- the number of the first variable of this name, where the first of them has this place
 abbrev pub variable_from : ℕ → List Variable → List ℕ → Option ℕ
 variable_from place [] name = None
-variable_from place (v ∷ vs) name = if pointwise nat_eq v.name name then as_number place else variable_from (place + 1) vs name
+variable_from place (v ∷ vs) name =
+    if pointwise nat_eq v.name name then as_number place else variable_from (place + 1) vs name
 
 -- the name of the variable of this number
 abbrev pub variable_name_at : List Variable → ℕ → Option (List ℕ)

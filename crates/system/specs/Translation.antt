@@ -71,7 +71,8 @@ if_of arms last = test (by_guards (map (λ a. a.guard) arms) (is_some last)) (ar
 
 -- a `case` before its test
 abbrev pub case_of : model.Expression → List OnLabels → Option Residual → Residual
-case_of e arms last = test (by_labels e (map (λ a. a.labels) arms) (is_some last)) (arms_of (map (λ a. a.body) arms) last)
+case_of e arms last =
+    test (by_labels e (map (λ a. a.labels) arms) (is_some last)) (arms_of (map (λ a. a.body) arms) last)
 
 -- a `select` or `arbitrate` before it opens
 abbrev pub choose_of : List OnChannel → Residual
@@ -113,7 +114,9 @@ labelled_layer a = record { labels = a.labels; body = a.body }
 
 -- what a command is to do
 abbrev pub residual_of : Command → Residual
-residual_of = fold-Command Residual OnChannel Residual OnGuard OnLabels action_layer arm_layer command_layer guarded_layer labelled_layer
+residual_of =
+    fold-Command Residual OnChannel Residual OnGuard OnLabels action_layer arm_layer command_layer guarded_layer
+    labelled_layer
 
 -- the values of a feed that are still to send, the first in act k
 abbrev pub feed_from : ℕ → ℕ → ℕ → List Word → Residual

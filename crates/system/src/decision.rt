@@ -85,7 +85,8 @@ impl Decision {
 
 /// The first arm whose guard is true, or the `else`.
 fn first_true(guards: &[Expression], otherwise: bool, variables: &[Value]) -> Option<u64>
-    ensures { result ≡ model.first_of_tests 0 (model.guards_hold variables.now (map expression_of guards.now)) otherwise }
+    ensures { result
+        ≡ model.first_of_tests 0 (model.guards_hold variables.now (map expression_of guards.now)) otherwise }
 {
     for (arm, guard) in guards.iter().enumerate() {
         if guard.value(variables).bits() == 1 {
@@ -168,7 +169,8 @@ fn all_with_received(
     channel: u32,
     value: Value,
 ) -> Result<Items<Expression>, AllocError>
-    ensures { IfOk result (λ made. map expression_of made ≡ model.put_all channel value (map expression_of guards.now)) }
+    ensures { IfOk result (λ made.
+        map expression_of made ≡ model.put_all channel value (map expression_of guards.now)) }
 {
     let mut copies = Items::with_capacity(alloc, guards.len())?;
     for guard in guards {

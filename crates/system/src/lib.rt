@@ -1,4 +1,5 @@
-//! The elaborated system: a tree of commands without calls, the environment's branches, and variables and channels by number.
+//! The elaborated system: a tree of commands without calls, the environment's branches, and variables and channels by
+//! number.
 //!
 //! Each expression has its widths. Here stand the values of expressions and what tests decide, and in `specs/` the
 //! language's meaning: expressions, the residual (what is still to do), and the residual with which a system begins.

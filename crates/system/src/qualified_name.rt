@@ -8,8 +8,8 @@ use std::alloc::AllocError;
 use std::marker::Model;
 use syntax::Name;
 
-/// The name of a variable or a channel of a system, which contracts see as the list of its bytes: the number of each call
-/// around its declaration, a `:` behind each, and the name that is declared.
+/// The name of a variable or a channel of a system, which contracts see as the list of its bytes: the number of each
+/// call around its declaration, a `:` behind each, and the name that is declared.
 ///
 /// The numbers are kept once for all names of a call, so a name takes little more memory than what is declared.
 #[derive(Drop)]

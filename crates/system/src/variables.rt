@@ -9,7 +9,8 @@ use smallvec::SmallVec;
 use std::alloc::{AllocError, Global};
 use std::marker::Model;
 
-/// Variables by number, ascending and each once as long as they come in by `insert`. Up to 3 take no memory of their own.
+/// Variables by number, ascending and each once as long as they come in by `insert`. Up to 3 take no memory of their
+/// own.
 #[derive(Debug, Drop)]
 pub struct Variables {
     numbers: SmallVec<u32, 3>,
@@ -71,7 +72,8 @@ impl Variables {
 
 /// Where the number is to be inserted, or `None` where it stands already.
 fn place_for(numbers: &[u32], number: u32) -> Option<usize>
-    ensures place { MatchOption result (model.inserted number numbers.now ≡ numbers.now) (λ place. model.inserted number numbers.now ≡ insert numbers.now place number) }
+    ensures place { MatchOption result (model.inserted number numbers.now ≡ numbers.now) (λ place.
+        model.inserted number numbers.now ≡ insert numbers.now place number) }
     ensures within { MatchOption result (Unit {0}) (λ place. place ≤ length numbers.now) }
 {
     for (place, held) in numbers.iter().enumerate() {

@@ -1,10 +1,12 @@
 -- The commands whose places an address may be, and their lines, whichever arms were taken.
 --
--- A place at the command p: an assignment and a receive p itself; a send and a sync p.0 and p.1; a loop and a while p.(2k),
--- with the body at p.(2k + 1), for each turn k; an `if` and a `case` p.0, with the chosen arm at p.1; an enclosed input, a
--- `select` and an `arbitrate` p.0 and p.2, with the body of the opened arm at p.1; child i of a sequence stands at p.i, and
--- child i of a parallel at p/i. So the arms of one choice have the same places, and an address may be a place of several
--- commands. Of which one it is once an arm was taken, `TakenArms` says.
+-- A place at the command p: an assignment and a receive p itself; a send and a sync p.0 and p.1; a loop and a while
+-- p.(2k), with the body at p.(2k + 1), for each turn k; an `if` and a `case` p.0, with the chosen arm at p.1; an
+-- enclosed input, a
+-- `select` and an `arbitrate` p.0 and p.2, with the body of the opened arm at p.1; child i of a sequence stands at p.i,
+-- and
+-- child i of a parallel at p/i. So the arms of one choice have the same places, and an address may be a place of
+-- several commands. Of which one it is once an arm was taken, `TakenArms` says.
 use Rattle.std.specs.Prelude.{ℕ, ◌%◌, ◌==◌, ◌&&◌, ◌||◌, not, if◌then◌else◌, List, [], ◌∷◌, Bool, true, false, Option, None, Some, is_some, nat_lt, slice_get}
 use Rattle.std.specs.Option.{option_or}
 use Rattle.address.specs.declared.Entry.{Entry}
@@ -78,7 +80,8 @@ found_in_last (Some f) way = f way
 -- a place of an `if` or `case` itself, else one in an arm, else one behind `else`
 abbrev pub tested : Bool → ℕ → List Found → Option Found → Found
 tested counts line arms last way =
-    option_or (found_around counts Test line (first_onto None arms) way) (found_below (found_in_last last) (below Test way))
+    option_or (found_around counts Test line (first_onto None arms) way)
+    (found_below (found_in_last last) (below Test way))
 
 -- in the child of this number, if there is one
 abbrev pub found_in_child : List Found → ℕ → Found
@@ -137,7 +140,8 @@ found_labelled a = a.body
 
 -- the line of the command, at or within this one, that has the place to which the way leads
 abbrev pub found_in : Bool → Command → Found
-found_in all = fold-Command FoundOn Found Found Found Found (found_layer all) found_arm found_command found_guarded found_labelled
+found_in all =
+    fold-Command FoundOn Found Found Found Found (found_layer all) found_arm found_command found_guarded found_labelled
 
 -- the same in a system, whose body stands at /0
 abbrev pub found_at : Bool → System → List Entry → Option ℕ

@@ -47,4 +47,5 @@ begun_labelled a = a.body
 
 -- whether a command, or one within it, has the line
 abbrev pub begins : ℕ → Command → Bool
-begins line = fold-Command Bool Bool Bool Bool Bool begun_layer begun_arm (begun_command line) begun_guarded begun_labelled
+begins line =
+    fold-Command Bool Bool Bool Bool Bool begun_layer begun_arm (begun_command line) begun_guarded begun_labelled

@@ -1,5 +1,5 @@
--- The branches of a system: the children of its body where that is a parallel, else the body as one, and behind them the
--- environment's side of each port, in order.
+-- The branches of a system: the children of its body where that is a parallel, else the body as one, and behind them
+-- the environment's side of each port, in order.
 use Rattle.std.specs.Prelude.{ℕ, ◌+◌, ◌-◌, min, ◌==◌, nat_lt, nat_le, if◌then◌else◌, List, [], ◌∷◌, Option, None, Some, length}
 use Rattle.address.specs.declared.Entry.{Entry}
 use Rattle.address.specs.declared.Entry.TheVariants.{Ordered, Branch}
@@ -54,4 +54,5 @@ branch_of_port system n =
 abbrev pub branch_at : System → List Entry → Option ℕ
 branch_at system [] = None
 branch_at system (Ordered n ∷ rest) = None
-branch_at system (Branch n ∷ rest) = if n == 0 then branch_within (parallel_of system.main) rest else branch_of_port system n
+branch_at system (Branch n ∷ rest) =
+    if n == 0 then branch_within (parallel_of system.main) rest else branch_of_port system n

@@ -1,7 +1,7 @@
 -- The command of a place, where it is known which arms were taken.
 --
--- As in `CommandPlaces`, except that of the arms of one choice, which would all stand at p.1, the one that was taken stands
--- there and the others stand nowhere. So a place is one of one command at most.
+-- As in `CommandPlaces`, except that of the arms of one choice, which would all stand at p.1, the one that was taken
+-- stands there and the others stand nowhere. So a place is one of one command at most.
 use Rattle.std.specs.Prelude.{ℕ, ◌-◌, ◌==◌, ◌&&◌, if◌then◌else◌, List, [], ◌∷◌, ◌++◌, Bool, true, false, Option, None, Some, length, option_map, option_and_then, slice_get}
 use Rattle.std.specs.Option.{option_or}
 use Rattle.address.specs.declared.Entry.{Entry}
@@ -16,7 +16,8 @@ use Rattle.system.specs.declared.system.System.{System}
 use Rattle.system_places.specs.CommandPlaces.{is_body_number, is_own}
 use Rattle.system_places.specs.declared.command_places.Form.TheVariants.{Held, Turns, Test, Choice}
 
--- for each place of an `if`, a `case`, a `select` or an `arbitrate` the arm that it took, from 0; none where it took none
+-- for each place of an `if`, a `case`, a `select` or an `arbitrate` the arm that it took, from 0; none where it took
+-- none
 abbrev pub ArmsByPlace : Type 0
 ArmsByPlace = List Entry → Option ℕ
 
@@ -59,11 +60,13 @@ else_at arms last k = if k == arms then last else None
 
 -- arm k of an `if`
 abbrev pub guarded_at : List Guarded → Option Command → ℕ → Option Command
-guarded_at arms last k = option_or (option_map (λ a. (out-Guarded a).body) (slice_get arms k)) (else_at (length arms) last k)
+guarded_at arms last k =
+    option_or (option_map (λ a. (out-Guarded a).body) (slice_get arms k)) (else_at (length arms) last k)
 
 -- arm k of a `case`
 abbrev pub labelled_at : List Labelled → Option Command → ℕ → Option Command
-labelled_at arms last k = option_or (option_map (λ a. (out-Labelled a).body) (slice_get arms k)) (else_at (length arms) last k)
+labelled_at arms last k =
+    option_or (option_map (λ a. (out-Labelled a).body) (slice_get arms k)) (else_at (length arms) last k)
 
 -- arm k of a `select` or an `arbitrate`
 abbrev pub channel_arm_at : List Arm → ℕ → Option Command
@@ -78,7 +81,8 @@ abbrev pub part_at : Option ℕ → Doing → ℕ → Option Command
 part_at arm (Action-F.Loop body) n = body_at (is_body_number Turns n) (Some body)
 part_at arm (Action-F.While e body) n = body_at (is_body_number Turns n) (Some body)
 part_at arm (Action-F.If arms last) n = body_at (is_body_number Test n) (option_and_then (guarded_at arms last) arm)
-part_at arm (Action-F.Case e arms last) n = body_at (is_body_number Test n) (option_and_then (labelled_at arms last) arm)
+part_at arm (Action-F.Case e arms last) n =
+    body_at (is_body_number Test n) (option_and_then (labelled_at arms last) arm)
 part_at arm (Action-F.Input c body) n = body_at (is_body_number Choice n) (Some body)
 part_at arm (Action-F.Select arms) n = body_at (is_body_number Choice n) (option_and_then (channel_arm_at arms) arm)
 part_at arm (Action-F.Arbitrate arms) n = body_at (is_body_number Choice n) (option_and_then (channel_arm_at arms) arm)

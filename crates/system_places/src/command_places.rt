@@ -1,7 +1,7 @@
 // The commands whose places an address may be, and their lines.
 //
-// One walk serves two questions. It goes down the tree along the entries of the address, and where the arms of a choice have
-// the same places it takes the first arm in which it finds something.
+// One walk serves two questions. It goes down the tree along the entries of the address, and where the arms of a choice
+// have the same places it takes the first arm in which it finds something.
 ghost use Rattle.std.specs.Prelude.{◌≡◌, None, map};
 ghost use Rattle.std.specs.Option.{option_map, option_copied, option_or};
 ghost use Rattle.system_places.specs.CommandPlaces as model;
@@ -156,7 +156,9 @@ fn in_body(all: bool, form: Form, body: &Command, way: &[Entry]) -> Option<u64>
 /// What is found in the arms of an `if`, where the way leads into them.
 #[cycle(places)]
 fn in_guarded(all: bool, arms: &[Guarded], way: &[Entry]) -> Option<u64>
-    ensures { result ≡ model.found_below (model.first_onto None (map (parts.found_in_guarded all) arms.now)) (model.below Form.Test way.now) }
+    ensures { result
+        ≡ model.found_below (model.first_onto None (map (parts.found_in_guarded all) arms.now))
+        (model.below Form.Test way.now) }
 {
     let rest = Form::Test.below(way)?;
     first_guarded(all, arms, rest)
@@ -165,7 +167,9 @@ fn in_guarded(all: bool, arms: &[Guarded], way: &[Entry]) -> Option<u64>
 /// What is found in the arms of a `case`, where the way leads into them.
 #[cycle(places)]
 fn in_labelled(all: bool, arms: &[Labelled], way: &[Entry]) -> Option<u64>
-    ensures { result ≡ model.found_below (model.first_onto None (map (parts.found_in_labelled all) arms.now)) (model.below Form.Test way.now) }
+    ensures { result
+        ≡ model.found_below (model.first_onto None (map (parts.found_in_labelled all) arms.now))
+        (model.below Form.Test way.now) }
 {
     let rest = Form::Test.below(way)?;
     first_labelled(all, arms, rest)
@@ -174,7 +178,8 @@ fn in_labelled(all: bool, arms: &[Labelled], way: &[Entry]) -> Option<u64>
 /// What is found in the arms of a `select` or an `arbitrate`, where the way leads into them.
 #[cycle(places)]
 fn in_arms(all: bool, form: Form, arms: &[Arm], way: &[Entry]) -> Option<u64>
-    ensures { result ≡ model.found_below (model.first_onto None (map (parts.found_in_arm all) arms.now)) (model.below form way.now) }
+    ensures { result
+        ≡ model.found_below (model.first_onto None (map (parts.found_in_arm all) arms.now)) (model.below form way.now) }
 {
     let rest = form.below(way)?;
     first_arm(all, arms, rest)
@@ -219,7 +224,9 @@ fn first_arm(all: bool, arms: &[Arm], way: &[Entry]) -> Option<u64>
 /// What is found behind an `else`, where the way leads there.
 #[cycle(places)]
 fn in_last(all: bool, last: &Option<Command>, way: &[Entry]) -> Option<u64>
-    ensures { result ≡ model.found_below (model.found_in_last (option_map (model.found_in all) last.now)) (model.below Form.Test way.now) }
+    ensures { result
+        ≡ model.found_below (model.found_in_last (option_map (model.found_in all) last.now))
+        (model.below Form.Test way.now) }
 {
     let rest = Form::Test.below(way)?;
     match last {
@@ -271,17 +278,17 @@ fn found_at(all: bool, system: &System, place: &[Entry]) -> Option<u64>
     }
 }
 
-/// The line of the command of this place, from 1, whichever arms were taken. None for a place of the environment, and for
-/// an address that is no place of a command. The arms of a choice have the same places: there it is the line in the first
-/// arm that has one, in order, what stands behind `else` as the last. `line_under` knows which arm stands there.
+/// The line of the command of this place, from 1, whichever arms were taken. None for a place of the environment, and
+/// for an address that is no place of a command. The arms of a choice have the same places: there it is the line in the
+/// first arm that has one, in order, what stands behind `else` as the last. `line_under` knows which arm stands there.
 pub fn line_at(system: &System, place: &Address) -> Option<u64>
     ensures { result ≡ model.line_at system.now place.now }
 {
     found_at(true, system, place.entries())
 }
 
-/// Whether the place is one at which a `select` opens, whichever arms were taken. The arms of a choice have the same places:
-/// there it is that of some arm. `is_open_under` knows which arm stands there.
+/// Whether the place is one at which a `select` opens, whichever arms were taken. The arms of a choice have the same
+/// places: there it is that of some arm. `is_open_under` knows which arm stands there.
 pub fn is_open_of_select(system: &System, place: &Address) -> bool
     ensures { result ≡ model.is_open_of_select system.now place.now }
 {

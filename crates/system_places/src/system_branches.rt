@@ -80,9 +80,9 @@ pub fn branch_count(system: &System) -> u32
     count.min(4294967295) as u32
 }
 
-/// The branch in which the place lies, from 0: of a body that is a parallel, branch i lies at `/0/i`, and any other body is
-/// branch 0, at `/0`. The branch of the k-th port lies at `/k`, and comes behind those of the body and those of the ports
-/// before it. None for a place that lies in no branch, or in one whose number has not 32 bits.
+/// The branch in which the place lies, from 0: of a body that is a parallel, branch i lies at `/0/i`, and any other
+/// body is branch 0, at `/0`. The branch of the k-th port lies at `/k`, and comes behind those of the body and those of
+/// the ports before it. None for a place that lies in no branch, or in one whose number has not 32 bits.
 pub fn branch_at(system: &System, place: &Address) -> Option<u32>
     ensures { result ≡ model.branch_at system.now place.now }
 {

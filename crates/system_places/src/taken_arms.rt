@@ -1,7 +1,7 @@
 // The command of a place, where it is known which arms were taken.
 //
-// The walk goes down the tree along the entries of the address. It asks for the arm that was taken only where it comes to a
-// choice, and takes no memory.
+// The walk goes down the tree along the entries of the address. It asks for the arm that was taken only where it comes
+// to a choice, and takes no memory.
 ghost use Rattle.std.specs.Prelude.{◌≡◌, ◌≤◌, ℕ, List, Option, [], ◌∷◌, length, take, drop, option_map, option_and_then};
 ghost use Rattle.std.specs.Option.{option_copied};
 ghost use Rattle.address.specs.declared.Entry.{Entry};
@@ -16,8 +16,8 @@ use system::{Action, Arm, Command, Guarded, Labelled, System};
 pub trait TakenArms {
     ghost taken: { Self → List Entry → Option ℕ };
 
-    /// The arm, from 0, that was taken by the `if`, the `case`, the `select` or the `arbitrate` at this place. None where
-    /// none was, or none is taken now.
+    /// The arm, from 0, that was taken by the `if`, the `case`, the `select` or the `arbitrate` at this place. None
+    /// where none was, or none is taken now.
     fn arm(&self, place: &[Entry]) -> Option<u32>
         ensures { result ≡ taken self.now place.now };
 }
@@ -148,7 +148,8 @@ fn acting_in<'a, T: TakenArms>(
     command: &'a Command,
 ) -> Option<&'a Command>
     requires { depth ≤ length place.now }
-    ensures { option_copied result ≡ model.acting_in (T.taken taken.now) (take depth place.now) command.now (drop depth place.now) }
+    ensures { option_copied result
+        ≡ model.acting_in (T.taken taken.now) (take depth place.now) command.now (drop depth place.now) }
 {
     let (before, way) = place.split_at(depth);
     if is_place(command, way) {
@@ -183,8 +184,8 @@ fn is_select(command: &Command) -> bool
     }
 }
 
-/// The line, from 1, of the command that has this place, where of the arms of each choice the one that was taken stands and
-/// no other. None for a place of the environment, and for an address that is no place of a command.
+/// The line, from 1, of the command that has this place, where of the arms of each choice the one that was taken stands
+/// and no other. None for a place of the environment, and for an address that is no place of a command.
 pub fn line_under<T: TakenArms>(system: &System, taken: &T, place: &Address) -> Option<u64>
     ensures { result ≡ model.line_under (T.taken taken.now) system.now place.now }
 {
@@ -194,8 +195,8 @@ pub fn line_under<T: TakenArms>(system: &System, taken: &T, place: &Address) -> 
     }
 }
 
-/// Whether the place is one at which a `select` opens, where of the arms of each choice the one that was taken stands and no
-/// other.
+/// Whether the place is one at which a `select` opens, where of the arms of each choice the one that was taken stands
+/// and no other.
 pub fn is_open_under<T: TakenArms>(system: &System, taken: &T, place: &Address) -> bool
     ensures { result ≡ model.is_open_under (T.taken taken.now) system.now place.now }
 {

@@ -1,4 +1,5 @@
-//! What is left of a description once its names, kinds and widths are settled: `types` makes it, and `elaborate` reads it.
+//! What is left of a description once its names, kinds and widths are settled: `types` makes it, and `elaborate` reads
+//! it.
 #![tactic(auto)]
 
 mod tree;

@@ -17,7 +17,8 @@ Describes source description = (tokens : List Token) × AreTokens source tokens 
 
 -- the source is a description without a fault, and these are its procedures
 abbrev pub IsTyped : List ℕ → List Procedure → Type 0
-IsTyped source procedures = (description : Description) × Describes source description × (found_description description ≡ Ok procedures)
+IsTyped source procedures =
+    (description : Description) × Describes source description × (found_description description ≡ Ok procedures)
 
 -- the first pass that refuses the source refuses it for this reason; want of memory is `Memory`, whichever pass met it
 abbrev pub IsRefused : List ℕ → Fault → Type 0
@@ -27,4 +28,5 @@ IsRefused source (Fault.Parser fault) =
     (tokens : List Token) × AreTokens source tokens × parser.IsRefused tokens fault
 IsRefused source (Fault.Types fault) =
     (fault ≢ not_typed.Memory)
-    × ((description : Description) × Describes source description × types.IsRefused (found_description description) fault)
+    × ((description : Description) × Describes source description
+    × types.IsRefused (found_description description) fault)

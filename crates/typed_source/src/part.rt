@@ -42,7 +42,8 @@ fn refuse(
     is_last: bool,
     tokens: &[Token<'_>],
 ) -> Result<(), Fault>
-    ensures { (old : Lexing) → ReadsPart is_last old tokens.now lexing.entry → IfErr result (λ fault. RefusesPart old tokens.now fault) }
+    ensures { (old : Lexing) → ReadsPart is_last old tokens.now lexing.entry →
+        IfErr result (λ fault. RefusesPart old tokens.now fault) }
 {
     let Some(fault) = refusal_within(alloc, tokens) else {
         return Ok(());
@@ -53,8 +54,8 @@ fn refuse(
     Err(Fault::from(fault))
 }
 
-/// Adds what is missing of a part that was cut short, and tells whether it is the last. Tokens with which no description
-/// goes on are refused before.
+/// Adds what is missing of a part that was cut short, and tells whether it is the last. Tokens with which no
+/// description goes on are refused before.
 fn read_on<'a>(
     alloc: Global,
     lexing: &mut Lexing<'a>,
@@ -62,7 +63,8 @@ fn read_on<'a>(
 ) -> Result<bool, Fault>
     ensures read { (old : Lexing) → ReadsPart false old tokens.old.items lexing.old
         → IfOk result (λ is_last. ReadsOn is_last old tokens.old.items tokens.new.items lexing.new) }
-    ensures fault { (old : Lexing) → ReadsPart false old tokens.old.items lexing.old → IfErr result (λ fault. RefusesPart old tokens.old.items fault) }
+    ensures fault { (old : Lexing) → ReadsPart false old tokens.old.items lexing.old →
+        IfErr result (λ fault. RefusesPart old tokens.old.items fault) }
 {
     refuse(alloc, *lexing, false, tokens.as_slice())?;
     // A fault of words behind is found before the tokens are made.
@@ -81,7 +83,8 @@ fn read_whole<'a>(
 ) -> Result<bool, Fault>
     ensures read { (old : Lexing) → ReadsPart (is_end stop) old tokens.old.items lexing.old
         → IfOk result (λ is_last. ReadsOn is_last old tokens.old.items tokens.new.items lexing.new) }
-    ensures fault { (old : Lexing) → ReadsPart (is_end stop) old tokens.old.items lexing.old → IfErr result (λ fault. RefusesPart old tokens.old.items fault) }
+    ensures fault { (old : Lexing) → ReadsPart (is_end stop) old tokens.old.items lexing.old →
+        IfErr result (λ fault. RefusesPart old tokens.old.items fault) }
 {
     match stop {
         Stop::Full => read_on(alloc, lexing, tokens),
@@ -90,14 +93,15 @@ fn read_whole<'a>(
     }
 }
 
-/// Refuses these tokens, behind which `lexing` stands, where no description goes on with them and the token that follows:
-/// that a procedure lacks its last `end` shows only at the next one.
+/// Refuses these tokens, behind which `lexing` stands, where no description goes on with them and the token that
+/// follows: that a procedure lacks its last `end` shows only at the next one.
 fn refuse_with_next<'a>(
     alloc: Global,
     mut lexing: Lexing<'a>,
     tokens: &mut Vec<Token<'a>>,
 ) -> Result<(), Fault>
-    ensures { (old : Lexing) → ReadsPart false old tokens.old.items lexing.entry → IfErr result (λ fault. RefusesPart old tokens.old.items fault) }
+    ensures { (old : Lexing) → ReadsPart false old tokens.old.items lexing.entry →
+        IfErr result (λ fault. RefusesPart old tokens.old.items fault) }
 {
     let mut next = Vec::new(alloc);
     let stop = lexing.add_part(&mut next, 1)?;
@@ -117,8 +121,10 @@ fn tree_of<'a>(
     is_last: bool,
     tokens: &mut Vec<Token<'a>>,
 ) -> Result<Option<Part>, Fault>
-    ensures read { IfOk result (λ read. IfSome read (λ part. (part.is_last ≡ is_last) × Parses tokens.old.items part.description)) }
-    ensures fault { (old : Lexing) → ReadsPart is_last old tokens.old.items lexing.entry → IfErr result (λ fault. RefusesPart old tokens.old.items fault) }
+    ensures read { IfOk result (λ read.
+        IfSome read (λ part. (part.is_last ≡ is_last) × Parses tokens.old.items part.description)) }
+    ensures fault { (old : Lexing) → ReadsPart is_last old tokens.old.items lexing.entry →
+        IfErr result (λ fault. RefusesPart old tokens.old.items fault) }
 {
     match parse(alloc, tokens.as_slice()) {
         Ok(description) => Ok(Some(Part {
@@ -134,8 +140,8 @@ fn tree_of<'a>(
     }
 }
 
-/// The next part of the source, up to where a further procedure begins, or to the end. But for the first it begins with a
-/// procedure itself. Its tokens are made in `tokens`, whose room serves part after part.
+/// The next part of the source, up to where a further procedure begins, or to the end. But for the first it begins with
+/// a procedure itself. Its tokens are made in `tokens`, whose room serves part after part.
 ///
 /// None: this part and the token behind it do not tell.
 pub(crate) fn next_part<'a>(

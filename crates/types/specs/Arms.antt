@@ -44,7 +44,8 @@ module _ (k : Keeping) where
 
   unfoldable pub conditional : Findings k (List GuardedArm) → Findings k (Option Command) → Findings k Action
   conditional arms last =
-      if_right (both k arms last) (λ p. becomes (λ _. action.If (map typed_guarded p.0) p.1) (demands k (map one_bit p.0)))
+      if_right (both k arms last) (λ p.
+      becomes (λ _. action.If (map typed_guarded p.0) p.1) (demands k (map one_bit p.0)))
 
 -- ---- `case`
 
@@ -54,7 +55,8 @@ label_value names opened offset (label.Number n) = Ok (least_word n)
 label_value names opened offset (label.Name name) = label_use (find names opened name) offset
 
 abbrev pub judged_label : VisibleNames → List Binding → Label → Verdict LabelUse
-judged_label names opened l = becomes (λ v. record { offset = l.span.start; value = v }) (label_value names opened l.span.start l.value)
+judged_label names opened l =
+    becomes (λ v. record { offset = l.span.start; value = v }) (label_value names opened l.span.start l.value)
 
 -- an arm of `case`
 pub record LabelledArm : Type 0 where
@@ -87,7 +89,8 @@ module _ (k : Keeping) where
   unfoldable pub labelled : Findings k (List LabelUse) → Findings k Command → Findings k LabelledArm
   labelled labels body = becomes (λ p. record { labels = p.0; body = p.1 }) (both k labels body)
 
-  unfoldable pub cased : Findings k Valued → Findings k (List LabelledArm) → Findings k (Option Command) → Findings k Action
+  unfoldable pub cased : Findings k Valued → Findings k (List LabelledArm) → Findings k (Option Command) →
+      Findings k Action
   cased subject arms last =
       if_right (both k subject (both k arms last)) (λ p.
       becomes (λ _. action.Case p.0.expression (map typed_labelled p.1.0) p.1.1)

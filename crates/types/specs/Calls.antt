@@ -48,12 +48,14 @@ abbrev pub all_fit : VisibleNames → List PortKind → List Identifier → Bool
 all_fit names [] [] = true
 all_fit names [] (argument ∷ arguments) = false
 all_fit names (kind ∷ kinds) [] = false
-all_fit names (kind ∷ kinds) (argument ∷ arguments) = fits_port kind (look_up names argument.name) && all_fit names kinds arguments
+all_fit names (kind ∷ kinds) (argument ∷ arguments) =
+    fits_port kind (look_up names argument.name) && all_fit names kinds arguments
 
 -- the call fits the procedure, if there is one, and no channel stands twice
 abbrev pub call_fits : VisibleNames → Option (List PortKind) → List Identifier → List ChannelUse → Bool
 call_fits names None arguments channels = false
-call_fits names (Some kinds) arguments channels = all_fit names kinds arguments && list_all is_ok (new_channels [] channels)
+call_fits names (Some kinds) arguments channels =
+    all_fit names kinds arguments && list_all is_ok (new_channels [] channels)
 
 -- an argument of a call
 abbrev pub judged_argument : VisibleNames → List Binding → Identifier → Verdict ChannelUse
@@ -64,9 +66,12 @@ module _ (k : Keeping) where
   judged_arguments names opened arguments = all k (map (λ a. k.alone (judged_argument names opened a)) arguments)
 
   -- a call of a procedure, where these are the ports of the visible procedures
-  unfoldable pub called : VisibleNames → List (List PortKind) → List Binding → Identifier → List Identifier → Findings k Action
+  unfoldable pub called : VisibleNames → List (List PortKind) → List Binding → Identifier → List Identifier →
+      Findings k Action
   called names procedures opened procedure arguments =
       if_right
-      (both k (k.alone (procedure_use (find names opened procedure.name) procedure.span.start)) (judged_arguments names opened arguments))
+      (both k (k.alone (procedure_use (find names opened procedure.name) procedure.span.start))
+      (judged_arguments names opened arguments))
       (λ p.
-      k.alone (if call_fits names (slice_get procedures p.0) arguments p.1 then Ok (action.Call p.0 p.1) else Err (PortMismatch procedure.span.start)))
+      k.alone (if call_fits names (slice_get procedures p.0) arguments p.1 then Ok (action.Call p.0 p.1) else Err
+      (PortMismatch procedure.span.start)))

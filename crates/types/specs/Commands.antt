@@ -96,44 +96,55 @@ module _ (k : Keeping) where
   each children scope opened = all k (map (λ child. child scope opened) children)
 
   -- one layer of what a command does, one line a form
-  abbrev pub action_layer : Action-F (Judged Action) (Judged Arm) (Judged LabelledArm) (Judged Command) (Judged GuardedArm) → Judged Action
+  abbrev pub action_layer : Action-F (Judged Action) (Judged Arm) (Judged LabelledArm) (Judged Command)
+      (Judged GuardedArm) → Judged Action
   action_layer Action-F.Continue scope opened = Ok typed.Continue
   action_layer Action-F.Halt scope opened = Ok typed.Halt
   action_layer (Action-F.Sync c) scope opened =
       k.alone (becomes (λ u. typed.Sync u) (sync_use (find scope.names opened c.name) c.span.start))
   action_layer (Action-F.Loop body) scope opened = becomes (λ b. typed.Loop b) (body scope opened)
-  action_layer (Action-F.While guard body) scope opened = guarded_loop (value guard scope opened) (start_of guard) (body scope opened)
+  action_layer (Action-F.While guard body) scope opened =
+      guarded_loop (value guard scope opened) (start_of guard) (body scope opened)
   action_layer (Action-F.If arms last) scope opened =
       conditional k (each arms scope opened) (last_of last scope opened)
   action_layer (Action-F.Case subject arms last) scope opened =
       cased k (value subject scope opened) (each arms scope opened) (last_of last scope opened)
-  action_layer (Action-F.Select arms) scope opened = becomes (λ these. typed.Select these) (distinct k (each arms scope opened))
+  action_layer (Action-F.Select arms) scope opened =
+      becomes (λ these. typed.Select these) (distinct k (each arms scope opened))
   action_layer (Action-F.Arbitrate first second) scope opened =
       becomes (λ these. typed.Arbitrate these) (distinct k (each (first ∷ second ∷ []) scope opened))
-  action_layer (Action-F.Assign x e) scope opened = assignment (target x scope opened) (value e scope opened) (start_of e)
+  action_layer (Action-F.Assign x e) scope opened =
+      assignment (target x scope opened) (value e scope opened) (start_of e)
   action_layer (Action-F.Send c e) scope opened = sending (sender c scope opened) (value e scope opened) (start_of e)
   action_layer (Action-F.Receive c x) scope opened = receiving (receiver c scope opened) (target x scope opened)
   action_layer (Action-F.Input c body) scope opened =
       enclosing (receiver c scope opened) (body scope (opened_by opened (channel_alone (receiver c scope opened))))
   action_layer (Action-F.Call p arguments) scope opened = called k scope.names scope.procedures opened p arguments
-  action_layer (Action-F.Sequence children) scope opened = becomes (λ cs. typed.Sequence cs) (each children scope opened)
-  action_layer (Action-F.Parallel children) scope opened = becomes (λ cs. typed.Parallel cs) (each children scope opened)
+  action_layer (Action-F.Sequence children) scope opened =
+      becomes (λ cs. typed.Sequence cs) (each children scope opened)
+  action_layer (Action-F.Parallel children) scope opened =
+      becomes (λ cs. typed.Parallel cs) (each children scope opened)
 
-  abbrev pub arm_layer : Arm-F (Judged Action) (Judged Arm) (Judged LabelledArm) (Judged Command) (Judged GuardedArm) → Judged Arm
+  abbrev pub arm_layer : Arm-F (Judged Action) (Judged Arm) (Judged LabelledArm) (Judged Command) (Judged GuardedArm) →
+      Judged Arm
   arm_layer a scope opened =
       let channel = arm_use (find scope.names opened a.channel.name) a.channel.span.start in
       arm_of k channel (a.body scope (opened_by opened channel))
 
-  abbrev pub case_arm_layer : CaseArm-F (Judged Action) (Judged Arm) (Judged LabelledArm) (Judged Command) (Judged GuardedArm) → Judged LabelledArm
+  abbrev pub case_arm_layer : CaseArm-F (Judged Action) (Judged Arm) (Judged LabelledArm) (Judged Command)
+      (Judged GuardedArm) → Judged LabelledArm
   case_arm_layer a scope opened = labelled k (judged_labels k scope.names opened a.labels) (a.body scope opened)
 
-  abbrev pub command_layer : Command-F (Judged Action) (Judged Arm) (Judged LabelledArm) (Judged Command) (Judged GuardedArm) → Judged Command
+  abbrev pub command_layer : Command-F (Judged Action) (Judged Arm) (Judged LabelledArm) (Judged Command)
+      (Judged GuardedArm) → Judged Command
   command_layer c scope opened = becomes (made c.span.line) (c.action scope opened)
 
-  abbrev pub guarded_layer : Guarded-F (Judged Action) (Judged Arm) (Judged LabelledArm) (Judged Command) (Judged GuardedArm) → Judged GuardedArm
+  abbrev pub guarded_layer : Guarded-F (Judged Action) (Judged Arm) (Judged LabelledArm) (Judged Command)
+      (Judged GuardedArm) → Judged GuardedArm
   guarded_layer a scope opened = guarded k (value a.guard scope opened) (start_of a.guard) (a.body scope opened)
 
   -- what a command is
   abbrev pub judged_command : syntax.Command → Judged Command
   judged_command =
-      fold-Command (Judged Action) (Judged Arm) (Judged LabelledArm) (Judged Command) (Judged GuardedArm) action_layer arm_layer case_arm_layer command_layer guarded_layer
+      fold-Command (Judged Action) (Judged Arm) (Judged LabelledArm) (Judged Command)
+      (Judged GuardedArm) action_layer arm_layer case_arm_layer command_layer guarded_layer

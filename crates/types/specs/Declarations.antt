@@ -101,7 +101,8 @@ module _ (k : Keeping) where
 
   abbrev pub with_definition : SoFar → Identifier → TypeDefinition → SoFar
   with_definition s name (Bits width) =
-      with_demand (with_name s name (meaning.TypeName (width_or_one (declared_width width)))) (demanded (declared_width width))
+      with_demand (with_name s name (meaning.TypeName (width_or_one (declared_width width))))
+      (demanded (declared_width width))
   with_definition s name (Enumeration elements) =
       with_elements (enumeration_width (length elements)) 0
       (with_name s name (meaning.TypeName (enumeration_width (length elements)))) elements
@@ -178,13 +179,19 @@ module _ (k : Keeping) where
   unfoldable pub declarations_right : Scope → tree_procedure.Procedure → Findings k (Unit {0})
   declarations_right scope p =
       and k (k.alone (is_fresh scope.names p.name.name p.name.span.start))
-      (and k (and k (ports_of scope.names p).right (locals_of scope.names p).right) (types_right (scope_inside scope p).names p))
+      (and k (and k (ports_of scope.names p).right (locals_of scope.names p).right)
+      (types_right (scope_inside scope p).names p))
 
   -- a procedure with this scope before it
   unfoldable pub judged_procedure : Scope → tree_procedure.Procedure → Findings k Procedure
   judged_procedure scope p =
       becomes
-      (λ q. record { name = p.name.name; ports = (ports_of scope.names p).made; locals = (locals_of scope.names p).made; body = q.1 })
+      (λ q. record {
+        name = p.name.name;
+        ports = (ports_of scope.names p).made;
+        locals = (locals_of scope.names p).made;
+        body = q.1;
+      })
       (both k (declarations_right scope p) (judged_command k p.body (scope_inside scope p) []))
 
   -- the scope behind the end of a procedure: the procedure, and nothing that it declares
@@ -195,9 +202,11 @@ module _ (k : Keeping) where
   }
 
   -- procedures one after another, behind those that are judged already
-  abbrev pub with_procedures : Scope → Findings k (List Procedure) → List tree_procedure.Procedure → Findings k (List Procedure)
+  abbrev pub with_procedures : Scope → Findings k (List Procedure) → List tree_procedure.Procedure →
+      Findings k (List Procedure)
   with_procedures scope done [] = done
-  with_procedures scope done (p ∷ rest) = with_procedures (after_procedure scope p) (with_next k done (judged_procedure scope p)) rest
+  with_procedures scope done (p ∷ rest) =
+      with_procedures (after_procedure scope p) (with_next k done (judged_procedure scope p)) rest
 
   -- ---- the whole
 
@@ -208,7 +217,8 @@ module _ (k : Keeping) where
   unfoldable pub judged_description : Description → Findings k (List Procedure)
   judged_description d =
       becomes (λ p. p.1)
-      (both k (types_of d).right (with_procedures (record { names = (types_of d).names; procedures = [] }) (Ok []) d.procedures))
+      (both k (types_of d).right
+      (with_procedures (record { names = (types_of d).names; procedures = [] }) (Ok []) d.procedures))
 
 -- a description with all its faults
 unfoldable pub found_description : Description → Findings every (List Procedure)

@@ -22,7 +22,8 @@ use Rattle.syntax.specs.declared.expression.Width.{Width}
 -- a declared width is from 1 to the most bits of a number
 unfoldable pub declared_width : Width → Verdict ℕ
 declared_width declared =
-    if nat_le 1 declared.bits && nat_le declared.bits most_bits then Ok declared.bits else Err (TooWide declared.span.start)
+    if nat_le 1 declared.bits
+    && nat_le declared.bits most_bits then Ok declared.bits else Err (TooWide declared.span.start)
 
 -- the width of a type
 abbrev pub type_width : VisibleNames → List Binding → TypeName → Verdict ℕ
@@ -88,8 +89,10 @@ module _ (k : Keeping) where
   -- one layer of an expression whose own first byte is at `start`
   abbrev pub shape_layer : Shape-F (ℕ → JudgedValue) JudgedValue → ℕ → JudgedValue
   shape_layer (Shape-F.Number n) start names opened = Ok (constant (least_word n))
-  shape_layer (Shape-F.Name name) start names opened = k.alone (becomes of_name (value_use (find names opened name) start))
-  shape_layer (Shape-F.Binary op left right) start names opened = binary op start (left names opened) (right names opened)
+  shape_layer (Shape-F.Name name) start names opened =
+      k.alone (becomes of_name (value_use (find names opened name) start))
+  shape_layer (Shape-F.Binary op left right) start names opened =
+      binary op start (left names opened) (right names opened)
   shape_layer (Shape-F.Not operand) start names opened = becomes complement (operand names opened)
   shape_layer (Shape-F.Cast operand type) start names opened =
       becomes (λ p. cast p.0 p.1) (both k (operand names opened) (k.alone (type_width names opened type)))

@@ -1,5 +1,5 @@
--- What is found of a construct: it is right, with what it becomes, or it has faults, those of the construct itself only where
--- its parts have none. Of all faults one is answered.
+-- What is found of a construct: it is right, with what it becomes, or it has faults, those of the construct itself only
+-- where its parts have none. Of all faults one is answered.
 use Rattle.std.specs.Prelude.{◌≡◌, List, [], ◌∷◌, ◌++◌, Result, Ok, Err}
 use Rattle.types.specs.Refusal.{lesser}
 use Rattle.refusals.specs.declared.types.Fault.{Fault}
@@ -89,7 +89,8 @@ every = record {
   together = λ fs gs. record { first = fs.first; others = fs.others ++ gs.first ∷ gs.others };
 }
 
--- the fault is one of those found, and of all of them it is answered: that of the least offset, at one offset of the least number
+-- the fault is one of those found, and of all of them it is answered: that of the least offset, at one offset of the
+-- least number
 abbrev pub IsRefused : {A : Type 0} → Findings every A → Fault → Type 0
 IsRefused (Ok a) fault = ⊥
 IsRefused (Err faults) fault = In fault (listed faults) × Every (λ other. lesser fault other ≡ fault) (listed faults)

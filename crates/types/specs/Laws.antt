@@ -59,7 +59,8 @@ declared_by t = t.name.name ∷ elements_of t.definition
 -- An accepted description stays accepted without a type that no procedure uses, nor any element of it.
 abbrev pub TypesMayBeLeftOut : Type 0
 TypesMayBeLeftOut =
-    (before : List TypeDeclaration) (t : TypeDeclaration) (behind : List TypeDeclaration) (procedures : List Procedure) →
+    (before : List TypeDeclaration) (t : TypeDeclaration) (behind : List TypeDeclaration)
+    (procedures : List Procedure) →
     IsAccepted (record { types = before ++ t ∷ behind; procedures = procedures }) →
     Apart (declared_by t) (flat_map names_used procedures) →
     IsAccepted (record { types = before ++ behind; procedures = procedures })

@@ -105,7 +105,8 @@ parts_of_guarded a = valued a.guard ∷ a.body
 -- what stands in a command
 abbrev pub parts_of_command : Command → List Part
 parts_of_command =
-    fold-Command (List Part) (List Part) (List Part) (List Part) (List Part) parts_of_action parts_of_arm parts_of_case_arm parts_of_layer parts_of_guarded
+    fold-Command (List Part) (List Part) (List Part) (List Part)
+    (List Part) parts_of_action parts_of_arm parts_of_case_arm parts_of_layer parts_of_guarded
 
 -- ---- procedures
 

@@ -14,7 +14,8 @@ use Rattle.typed.specs.declared.tree.VariableUse.{VariableUse}
 use Rattle.types.specs.declared.uses.Named.{Named}
 use Rattle.types.specs.declared.uses.Named.TheVariants as named
 
--- what a name means; one that is not visible has no meaning, nor has here a channel that is open around it (as a value, `value_use` says what it is)
+-- what a name means; one that is not visible has no meaning, nor has here a channel that is open around it (as a value,
+-- `value_use` says what it is)
 abbrev pub meaning_of : Found → ℕ → Verdict Meaning
 meaning_of Nothing offset = Err (UnknownName offset)
 meaning_of (Opened c) offset = Err (EnclosedTwice offset)

@@ -78,7 +78,8 @@ valued_names widths names = map (λ name. record { name = name.name; as_type = [
 
 -- what is declared outside of procedures before a procedure: the types, and the procedures before it
 abbrev pub outside : List TypeDeclaration → List Procedure → List Declaration
-outside types before = flat_map (λ (t : TypeDeclaration). of_definition t.name.name t.definition) types ++ map of_procedure before
+outside types before =
+    flat_map (λ (t : TypeDeclaration). of_definition t.name.name t.definition) types ++ map of_procedure before
 
 -- what is visible in a procedure, in order of the source: what is declared outside before it, its ports and its locals
 abbrev pub visible_in : List TypeDeclaration → List Procedure → Procedure → List Declaration
@@ -106,7 +107,8 @@ operator_widths GreaterOrEqual left right = 1 ∷ []
 abbrev pub shape_widths : List Declaration → Shape-F (List ℕ) (List ℕ) → List ℕ
 shape_widths declarations (Shape-F.Number n) = least_width_of n ∷ []
 shape_widths declarations (Shape-F.Name name) = of_all (λ d. d.as_value) declarations name
-shape_widths declarations (Shape-F.Binary op left right) = flat_map (λ a. flat_map (λ b. operator_widths op a b) right) left
+shape_widths declarations (Shape-F.Binary op left right) =
+    flat_map (λ a. flat_map (λ b. operator_widths op a b) right) left
 shape_widths declarations (Shape-F.Not operand) = operand
 shape_widths declarations (Shape-F.Cast operand type) = flat_map (λ _. type_widths declarations type) operand
 

@@ -134,7 +134,8 @@ pub(crate) fn new_labels(
 }
 
 fn all_new(seen: &mut IndexSet<u64>, width: u8, labels: &[LabelUse]) -> Settled<()>
-    ensures made { IfOk result (λ made. made ≡ findings.demands least (spec.new_labels width seen.old.keys labels.now)) }
+    ensures made { IfOk result (λ made.
+        made ≡ findings.demands least (spec.new_labels width seen.old.keys labels.now)) }
     ensures seen { OnOk result (seen.new.keys ≡ owed.with_all_seen seen.old.keys labels.now) }
 {
     let mut outcome = Ok(());
@@ -208,7 +209,8 @@ pub(crate) fn distinct(alloc: Global, arms: Verdict<Items<Arm>>) -> Settled<Item
 
 /// That no channel stands in two of the arms.
 fn different_channels(alloc: Global, arms: &[Arm]) -> Settled<()>
-    ensures { IfOk result (λ made. made ≡ findings.demands least (spec.new_channels [] (map spec.channel_of_arm arms.now))) }
+    ensures { IfOk result (λ made.
+        made ≡ findings.demands least (spec.new_channels [] (map spec.channel_of_arm arms.now))) }
 {
     let mut seen = IndexSet::new(alloc);
     different(&mut seen, arms)
@@ -216,7 +218,8 @@ fn different_channels(alloc: Global, arms: &[Arm]) -> Settled<()>
 
 /// That no channel stands in two of the arms, nor was seen before.
 fn different(seen: &mut IndexSet<Binding>, arms: &[Arm]) -> Settled<()>
-    ensures { IfOk result (λ made. made ≡ findings.demands least (spec.new_channels seen.old.keys (map spec.channel_of_arm arms.now))) }
+    ensures { IfOk result (λ made.
+        made ≡ findings.demands least (spec.new_channels seen.old.keys (map spec.channel_of_arm arms.now))) }
 {
     let mut outcome = Ok(());
     for arm in arms {

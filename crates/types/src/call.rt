@@ -24,7 +24,9 @@ pub(crate) fn called(
     procedure: &Identifier,
     arguments: &[Identifier],
 ) -> Settled<Action>
-    ensures { IfOk result (λ made. made ≡ calls.called least (entries scope.now.names) scope.now.signatures opened.now procedure.now arguments.now) }
+    ensures { IfOk result (λ made.
+        made
+        ≡ calls.called least (entries scope.now.names) scope.now.signatures opened.now procedure.now arguments.now) }
 {
     let offset = procedure.span.start;
     let found = uses::procedure_use(scope.names.find(opened, &procedure.name), offset);
@@ -65,7 +67,10 @@ fn call_fits(
     arguments: &[Identifier],
     channels: &[ChannelUse],
 ) -> Result<bool, AllocError>
-    ensures { IfOk result (λ answer. answer ≡ calls.call_fits (entries scope.now.names) (slice_get scope.now.signatures procedure) arguments.now channels.now) }
+    ensures { IfOk result (λ answer.
+        answer
+        ≡ calls.call_fits (entries scope.now.names)
+        (slice_get scope.now.signatures procedure) arguments.now channels.now) }
 {
     match scope.signatures.get(procedure as usize) {
         Some(ports) => {

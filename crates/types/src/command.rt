@@ -111,7 +111,10 @@ fn settled_assign(
     variable: &Identifier,
     value: &Expr,
 ) -> Settled<Action>
-    ensures { IfOk result (λ made. made ≡ spec.assignment least (spec.target variable.now (scope_of scope.now) opened.now) (spec.value least value.now (scope_of scope.now) opened.now) (spec.start_of value.now)) }
+    ensures { IfOk result (λ made.
+        made
+        ≡ spec.assignment least (spec.target variable.now (scope_of scope.now) opened.now)
+        (spec.value least value.now (scope_of scope.now) opened.now) (spec.start_of value.now)) }
 {
     let settled = settled_expression(alloc, &scope.names, opened, value)?;
     let target = target(scope, opened, variable);
@@ -125,7 +128,10 @@ fn settled_send(
     channel: &Identifier,
     value: &Expr,
 ) -> Settled<Action>
-    ensures { IfOk result (λ made. made ≡ spec.sending least (spec.sender channel.now (scope_of scope.now) opened.now) (spec.value least value.now (scope_of scope.now) opened.now) (spec.start_of value.now)) }
+    ensures { IfOk result (λ made.
+        made
+        ≡ spec.sending least (spec.sender channel.now (scope_of scope.now) opened.now)
+        (spec.value least value.now (scope_of scope.now) opened.now) (spec.start_of value.now)) }
 {
     let settled = settled_expression(alloc, &scope.names, opened, value)?;
     let channel = sender(scope, opened, channel);
@@ -152,7 +158,8 @@ fn settled_while(
     body: &syntax::Command,
     guard: &Expr,
 ) -> Settled<Action>
-    ensures { IfOk result (λ made. made ≡ judged_action least (form.While guard.now body.now) (scope_of scope.now) opened.now) }
+    ensures { IfOk result (λ made.
+        made ≡ judged_action least (form.While guard.now body.now) (scope_of scope.now) opened.now) }
 {
     let start = guard.span.start;
     let guard = settled_expression(alloc, &scope.names, opened, guard)?;
@@ -168,7 +175,10 @@ fn settled_if(
     arms: &[syntax::Guarded],
     last: Verdict<Option<Command>>,
 ) -> Settled<Action>
-    ensures { IfOk result (λ made. made ≡ arms_of.conditional least (spec.each least (map (judged_guarded least) arms.now) (scope_of scope.now) opened.now) last) }
+    ensures { IfOk result (λ made.
+        made
+        ≡ arms_of.conditional least
+        (spec.each least (map (judged_guarded least) arms.now) (scope_of scope.now) opened.now) last) }
 {
     let arms = settled_guarded(alloc, scope, opened, arms)?;
     Ok(conditional(arms, last))
@@ -183,7 +193,10 @@ fn settled_case(
     last: Verdict<Option<Command>>,
     subject: &Expr,
 ) -> Settled<Action>
-    ensures { IfOk result (λ made. made ≡ arms_of.cased least (spec.value least subject.now (scope_of scope.now) opened.now) (spec.each least (map (judged_labelled least) arms.now) (scope_of scope.now) opened.now) last) }
+    ensures { IfOk result (λ made.
+        made
+        ≡ arms_of.cased least (spec.value least subject.now (scope_of scope.now) opened.now)
+        (spec.each least (map (judged_labelled least) arms.now) (scope_of scope.now) opened.now) last) }
 {
     let subject = settled_expression(alloc, &scope.names, opened, subject)?;
     let arms = settled_labelled(alloc, scope, opened, width_of(&subject), arms)?;
@@ -198,7 +211,8 @@ fn settled_input(
     body: &syntax::Command,
     channel: &Identifier,
 ) -> Settled<Action>
-    ensures { IfOk result (λ made. made ≡ judged_action least (form.Input channel.now body.now) (scope_of scope.now) opened.now) }
+    ensures { IfOk result (λ made.
+        made ≡ judged_action least (form.Input channel.now body.now) (scope_of scope.now) opened.now) }
 {
     let channel = receiver(scope, opened, channel);
     let inner = opened_by(alloc, opened, &channel_alone(&channel))?;
@@ -227,7 +241,11 @@ fn settled_arbitrate(
     second: &syntax::Arm,
     first: Verdict<Arm>,
 ) -> Settled<Action>
-    ensures { IfOk result (λ made. made ≡ findings.becomes (λ these. typed.Arbitrate these) (arms_of.distinct least (findings.all least (first ∷ judged_arm least second.now (scope_of scope.now) opened.now ∷ [])))) }
+    ensures { IfOk result (λ made.
+        made
+        ≡ findings.becomes (λ these. typed.Arbitrate these)
+        (arms_of.distinct least
+        (findings.all least (first ∷ judged_arm least second.now (scope_of scope.now) opened.now ∷ [])))) }
 {
     let second = settled_arm(alloc, scope, opened, second)?;
     let arms = with_next(with_next(Ok(Items::new(alloc)), first)?, second)?;
@@ -241,7 +259,8 @@ fn settled_sequence(
     opened: &[Binding],
     children: &[syntax::Command],
 ) -> Settled<Action>
-    ensures { IfOk result (λ made. made ≡ judged_action least (form.Sequence children.now) (scope_of scope.now) opened.now) }
+    ensures { IfOk result (λ made.
+        made ≡ judged_action least (form.Sequence children.now) (scope_of scope.now) opened.now) }
 {
     Ok(settled_commands(alloc, scope, opened, children)?.map(Action::Sequence))
 }
@@ -253,7 +272,8 @@ fn settled_parallel(
     opened: &[Binding],
     children: &[syntax::Command],
 ) -> Settled<Action>
-    ensures { IfOk result (λ made. made ≡ judged_action least (form.Parallel children.now) (scope_of scope.now) opened.now) }
+    ensures { IfOk result (λ made.
+        made ≡ judged_action least (form.Parallel children.now) (scope_of scope.now) opened.now) }
 {
     Ok(settled_commands(alloc, scope, opened, children)?.map(Action::Parallel))
 }
@@ -266,7 +286,8 @@ fn settled_commands(
     opened: &[Binding],
     commands: &[syntax::Command],
 ) -> Settled<Items<Command>>
-    ensures { IfOk result (λ made. made ≡ spec.each least (map (judged_command least) commands.now) (scope_of scope.now) opened.now) }
+    ensures { IfOk result (λ made.
+        made ≡ spec.each least (map (judged_command least) commands.now) (scope_of scope.now) opened.now) }
 {
     let mut settled = Ok(Items::new(alloc));
     for command in commands {
@@ -284,7 +305,8 @@ fn settled_last(
     opened: &[Binding],
     last: &Option<syntax::Command>,
 ) -> Settled<Option<Command>>
-    ensures { IfOk result (λ made. made ≡ spec.last_of least (option_map (judged_command least) last.now) (scope_of scope.now) opened.now) }
+    ensures { IfOk result (λ made.
+        made ≡ spec.last_of least (option_map (judged_command least) last.now) (scope_of scope.now) opened.now) }
 {
     match last {
         Some(body) => Ok(settled_command(alloc, scope, opened, body)?.map(Some)),
@@ -300,8 +322,10 @@ fn settled_guarded(
     opened: &[Binding],
     arms: &[syntax::Guarded],
 ) -> Result<Arms<Guarded>, AllocError>
-    ensures arms { IfOk result (λ made. made.arms ≡ findings.all least (map (owed.guarded_arm (scope_of scope.now) opened.now) arms.now)) }
-    ensures own { IfOk result (λ made. made.own ≡ findings.demands least (map (owed.guard_owed (scope_of scope.now) opened.now) arms.now)) }
+    ensures arms { IfOk result (λ made.
+        made.arms ≡ findings.all least (map (owed.guarded_arm (scope_of scope.now) opened.now) arms.now)) }
+    ensures own { IfOk result (λ made.
+        made.own ≡ findings.demands least (map (owed.guard_owed (scope_of scope.now) opened.now) arms.now)) }
 {
     let mut settled = Ok(Items::new(alloc));
     let mut own = Ok(());
@@ -339,8 +363,10 @@ fn settled_labelled(
     width: u8,
     arms: &[syntax::CaseArm],
 ) -> Result<Arms<Labelled>, AllocError>
-    ensures arms { IfOk result (λ made. made.arms ≡ findings.all least (map (owed.labelled_arm (scope_of scope.now) opened.now) arms.now)) }
-    ensures own { IfOk result (λ made. made.own ≡ owed.labels_owed width [] (Ok tt) (map (owed.labels_of (scope_of scope.now) opened.now) arms.now)) }
+    ensures arms { IfOk result (λ made.
+        made.arms ≡ findings.all least (map (owed.labelled_arm (scope_of scope.now) opened.now) arms.now)) }
+    ensures own { IfOk result (λ made.
+        made.own ≡ owed.labels_owed width [] (Ok tt) (map (owed.labels_of (scope_of scope.now) opened.now) arms.now)) }
 {
     let mut seen = IndexSet::new(alloc);
     let mut settled = Ok(Items::new(alloc));
@@ -364,8 +390,10 @@ fn settled_labelled_arm(
     seen: &mut IndexSet<u64>,
 ) -> Result<(Verdict<Labelled>, Verdict<()>), AllocError>
     ensures arm { IfOk result (λ made. made.0 ≡ owed.labelled_arm (scope_of scope.now) opened.now arm.now) }
-    ensures own { IfOk result (λ made. made.1 ≡ owed.labels_owe width seen.old.keys (owed.labels_of (scope_of scope.now) opened.now arm.now)) }
-    ensures seen { OnOk result (seen.new.keys ≡ owed.seen_after seen.old.keys (owed.labels_of (scope_of scope.now) opened.now arm.now)) }
+    ensures own { IfOk result (λ made.
+        made.1 ≡ owed.labels_owe width seen.old.keys (owed.labels_of (scope_of scope.now) opened.now arm.now)) }
+    ensures seen { OnOk result (seen.new.keys
+        ≡ owed.seen_after seen.old.keys (owed.labels_of (scope_of scope.now) opened.now arm.now)) }
 {
     let labels = settled_labels(alloc, scope, opened, arm.labels.as_slice())?;
     let own = new_labels(seen, width, &labels)?;
@@ -381,7 +409,8 @@ fn settled_arms(
     opened: &[Binding],
     arms: &[syntax::Arm],
 ) -> Settled<Items<Arm>>
-    ensures { IfOk result (λ made. made ≡ spec.each least (map (judged_arm least) arms.now) (scope_of scope.now) opened.now) }
+    ensures { IfOk result (λ made.
+        made ≡ spec.each least (map (judged_arm least) arms.now) (scope_of scope.now) opened.now) }
 {
     let mut settled = Ok(Items::new(alloc));
     for arm in arms {

@@ -24,7 +24,9 @@ pub(crate) fn declare_types(
     names: &mut Names,
     types: &[TypeDeclaration],
 ) -> Settled<()>
-    ensures { IfOk result (λ right. record { names = entries names.new; right = right } ≡ spec.with_types least (record { names = entries names.old; right = Ok tt }) types.now) }
+    ensures { IfOk result (λ right.
+        record { names = entries names.new; right = right }
+        ≡ spec.with_types least (record { names = entries names.old; right = Ok tt }) types.now) }
 {
     let mut right = Ok(());
     for declaration in types {
@@ -40,7 +42,10 @@ fn declare_type(
     declaration: &TypeDeclaration,
     right: Verdict<()>,
 ) -> Settled<()>
-    ensures { IfOk result (λ made. record { names = entries names.new; right = made } ≡ spec.with_definition least (record { names = entries names.old; right = right }) declaration.now.name declaration.now.definition) }
+    ensures { IfOk result (λ made.
+        record { names = entries names.new; right = made }
+        ≡ spec.with_definition least
+        (record { names = entries names.old; right = right }) declaration.now.name declaration.now.definition) }
 {
     let name = &declaration.name;
     match &declaration.definition {
@@ -63,7 +68,11 @@ fn declare_bits(
     width: Verdict<Width>,
     right: Verdict<()>,
 ) -> Settled<()>
-    ensures { IfOk result (λ made. record { names = entries names.new; right = made } ≡ spec.with_demand least (spec.with_name least (record { names = entries names.old; right = right }) name.now (meaning.TypeName (spec.width_or_one width))) (spec.demanded width)) }
+    ensures { IfOk result (λ made.
+        record { names = entries names.new; right = made }
+        ≡ spec.with_demand least
+        (spec.with_name least (record { names = entries names.old; right = right }) name.now
+        (meaning.TypeName (spec.width_or_one width))) (spec.demanded width)) }
 {
     let demand = demanded(&width);
     let named = names.declare(alloc, name, Meaning::TypeName(width_or_one(width)))?;
@@ -88,7 +97,9 @@ fn declare_elements(
     right: Verdict<()>,
 ) -> Settled<()>
     requires { length elements.now ≤ 2 ^ width }
-    ensures { IfOk result (λ made. record { names = entries names.new; right = made } ≡ spec.with_elements least width 0 (record { names = entries names.old; right = right }) elements.now) }
+    ensures { IfOk result (λ made.
+        record { names = entries names.new; right = made }
+        ≡ spec.with_elements least width 0 (record { names = entries names.old; right = right }) elements.now) }
 {
     let mut right = right;
     for (number, element) in elements.iter().enumerate() {
@@ -175,7 +186,9 @@ fn whole(
     right: Verdict<()>,
     body: Verdict<Command>,
 ) -> Verdict<Procedure>
-    ensures { result ≡ findings.becomes (λ q. record { name = name; ports = ports; locals = locals; body = q.1 }) (findings.both least right body) }
+    ensures { result
+        ≡ findings.becomes (λ q. record { name = name; ports = ports; locals = locals; body = q.1 })
+        (findings.both least right body) }
 {
     let (_, body) = both(right, body)?;
     Ok(Procedure {
@@ -194,7 +207,8 @@ fn declare_name(
     signature: Items<PortKind>,
 ) -> Settled<()>
     ensures made { IfOk result (λ made. made ≡ is_fresh (entries scope.old.names) name.now.name name.now.span.start) }
-    ensures names { OnOk result (entries scope.new.names ≡ declared (entries scope.old.names) name.now.name (meaning.Procedure (length scope.old.signatures))) }
+    ensures names { OnOk result (entries scope.new.names
+        ≡ declared (entries scope.old.names) name.now.name (meaning.Procedure (length scope.old.signatures))) }
     ensures signatures { OnOk result (scope.new.signatures ≡ scope.old.signatures ++ signature ∷ []) }
 {
     let place = place_of(scope.signatures.len())?;
@@ -230,7 +244,9 @@ fn declare_ports(
     names: &mut Names,
     declarations: &[syntax::Port],
 ) -> Result<(Items<Port>, Verdict<()>), AllocError>
-    ensures { IfOk result (λ made. record { names = entries names.new; made = made.0; right = made.1 } ≡ spec.all_ports least (spec.behind least (entries names.old)) declarations.now) }
+    ensures { IfOk result (λ made.
+        record { names = entries names.new; made = made.0; right = made.1 }
+        ≡ spec.all_ports least (spec.behind least (entries names.old)) declarations.now) }
 {
     let mut ports = Items::new(alloc);
     let mut right = Ok(());
@@ -257,7 +273,10 @@ fn declare_port(
     ports: &mut Items<Port>,
     right: Verdict<()>,
 ) -> Settled<()>
-    ensures { IfOk result (λ made. record { names = entries names.new; made = ports.new; right = made } ≡ spec.with_ports least kind (record { names = entries names.old; made = ports.old; right = right }) declared.now) }
+    ensures { IfOk result (λ made.
+        record { names = entries names.new; made = ports.new; right = made }
+        ≡ spec.with_ports least kind
+        (record { names = entries names.old; made = ports.old; right = right }) declared.now) }
 {
     let mut right = right;
     for name in declared {
@@ -318,7 +337,9 @@ fn declare_locals(
     names: &mut Names,
     declarations: &[syntax::Local],
 ) -> Result<(Items<Local>, Verdict<()>), AllocError>
-    ensures { IfOk result (λ made. record { names = entries names.new; made = made.0; right = made.1 } ≡ spec.all_locals least (spec.behind least (entries names.old)) declarations.now) }
+    ensures { IfOk result (λ made.
+        record { names = entries names.new; made = made.0; right = made.1 }
+        ≡ spec.all_locals least (spec.behind least (entries names.old)) declarations.now) }
 {
     let mut locals = Items::new(alloc);
     let mut right = Ok(());
@@ -345,7 +366,10 @@ fn declare_local(
     locals: &mut Items<Local>,
     right: Verdict<()>,
 ) -> Settled<()>
-    ensures { IfOk result (λ made. record { names = entries names.new; made = locals.new; right = made } ≡ spec.with_locals least kind (record { names = entries names.old; made = locals.old; right = right }) declared.now) }
+    ensures { IfOk result (λ made.
+        record { names = entries names.new; made = locals.new; right = made }
+        ≡ spec.with_locals least kind
+        (record { names = entries names.old; made = locals.old; right = right }) declared.now) }
 {
     let mut right = right;
     for name in declared {

@@ -56,7 +56,8 @@ pub(crate) fn settled_expression(
     opened: &[Binding],
     expression: &syntax::Expr,
 ) -> Settled<Valued>
-    ensures { IfOk result (λ made. made ≡ expressions.judged_expression least expression.now (entries names.now) opened.now) }
+    ensures { IfOk result (λ made.
+        made ≡ expressions.judged_expression least expression.now (entries names.now) opened.now) }
 {
     let start = expression.own_start;
     match expression.shape.get() {
@@ -101,7 +102,9 @@ fn named(
     name: &Name,
     offset: u64,
 ) -> Settled<Valued>
-    ensures { IfOk result (λ made. made ≡ findings.becomes expressions.of_name (uses.value_use (find (entries names.now) opened.now name.now) offset)) }
+    ensures { IfOk result (λ made.
+        made
+        ≡ findings.becomes expressions.of_name (uses.value_use (find (entries names.now) opened.now name.now) offset)) }
 {
     match uses::value_use(names.find(opened, name), offset) {
         Ok(name) => settled_name(alloc, name),
@@ -168,7 +171,8 @@ fn combined(
     right: Boxed<Expression>,
     width: u8,
 ) -> Settled<Valued>
-    ensures { IfOk result (λ made. made ≡ Ok (record { expression = typed.Binary operator left right; width = width })) }
+    ensures { IfOk result (λ made.
+        made ≡ Ok (record { expression = typed.Binary operator left right; width = width })) }
 {
     Ok(Ok(Valued {
         expression: Boxed::new(alloc, Expression::Binary(operator, left, right))?,
@@ -189,7 +193,8 @@ fn complement(alloc: Global, operand: Verdict<Valued>) -> Settled<Valued>
 }
 
 fn cast(alloc: Global, operand: Verdict<Valued>, width: Verdict<Width>) -> Settled<Valued>
-    ensures { IfOk result (λ made. made ≡ findings.becomes (λ p. expressions.cast p.0 p.1) (findings.both least operand width)) }
+    ensures { IfOk result (λ made.
+        made ≡ findings.becomes (λ p. expressions.cast p.0 p.1) (findings.both least operand width)) }
 {
     match both(operand, width) {
         Ok((operand, width)) => Ok(Ok(Valued {

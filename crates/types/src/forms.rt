@@ -76,7 +76,9 @@ pub(crate) fn opened_by(
 
 /// A handshake without data.
 pub(crate) fn sync(scope: &Scope, opened: &[Binding], channel: &Identifier) -> Verdict<Action>
-    ensures { result ≡ becomes (λ u. typed.Sync u) (uses.sync_use (find (entries scope.now.names) opened.now channel.now.name) channel.now.span.start) }
+    ensures { result
+        ≡ becomes (λ u. typed.Sync u)
+        (uses.sync_use (find (entries scope.now.names) opened.now channel.now.name) channel.now.span.start) }
 {
     let found = scope.names.find(opened, &channel.name);
     Ok(Action::Sync(uses::sync_use(found, channel.span.start)?))

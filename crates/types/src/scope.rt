@@ -102,7 +102,8 @@ impl Names {
         declared: &Identifier,
         meaning: Meaning,
     ) -> Settled<()>
-        ensures fresh { IfOk result (λ made. made ≡ names.is_fresh (entries self.old) declared.now.name declared.now.span.start) }
+        ensures fresh { IfOk result (λ made.
+            made ≡ names.is_fresh (entries self.old) declared.now.name declared.now.span.start) }
         ensures declared { OnOk result (entries self.new ≡ names.declared (entries self.old) declared.now.name meaning) }
     {
         if self.meaning(&declared.name).is_some() {

@@ -57,7 +57,8 @@ impl Typing {
     /// Judges the procedures that stand behind those judged before. It is refused for want of memory alone: then the
     /// description is lost, and `finish` answers want of memory, whatever is added before.
     pub fn add(&mut self, alloc: Global, procedures: &[syntax::Procedure]) -> Result<(), AllocError>
-        ensures judged { (d : Description) → Judges self.old d → OnOk result (Judges self.new (record { types = d.types; procedures = d.procedures ++ procedures.now })) }
+        ensures judged { (d : Description) → Judges self.old d →
+            OnOk result (Judges self.new (record { types = d.types; procedures = d.procedures ++ procedures.now })) }
         ensures refused { OnErr result (IsSpent self.new) }
         ensures spent { IsSpent self.old → IsSpent self.new }
     {
@@ -70,7 +71,8 @@ impl Typing {
     /// at one offset that with the least number. Behind an `add` that was refused it is `Memory`.
     pub fn finish(self) -> Result<Typed, Fault>
         ensures typed { (d : Description) → Judges self d → IfOk result (λ typed. found_description d ≡ Ok typed) }
-        ensures fault { (d : Description) → Judges self d → IfErr result (λ fault. IsRefused (found_description d) fault) }
+        ensures fault { (d : Description) → Judges self d →
+            IfErr result (λ fault. IsRefused (found_description d) fault) }
         ensures spent { IsSpent self → result ≡ Err Memory }
     {
         let Typing {

@@ -1,5 +1,6 @@
 -- What is found at the start of a text: the digits of a number, and an entry.
--- But for what `read_entry` says by `ReadsEntry` and `BeginsNoEntry`, no reader has to believe it: `proofs/Finds.antt` ties it to
+-- But for what `read_entry` says by `ReadsEntry` and `BeginsNoEntry`, no reader has to believe it: `proofs/Finds.antt`
+-- ties it to
 -- `IsTextOf` and `HasNoText` of `Reading.antt`.
 use Rattle.std.specs.Prelude.{◌≡◌, ℕ, ◌<◌, ◌≤◌, ◌^◌, List, [], ◌∷◌, ◌++◌, length, take, drop}
 use Rattle.std.specs.Fmt.{decimal}

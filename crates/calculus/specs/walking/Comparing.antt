@@ -1,4 +1,5 @@
--- How two lists of events are compared. (The contract of `same_run`, which cites none of this, is tied to it by the proofs.)
+-- How two lists of events are compared. (The contract of `same_run`, which cites none of this, is tied to it by the
+-- proofs.)
 use Rattle.std.specs.Prelude.{◌≡◌, ◌≢◌, ◌⊎◌, ◌↔◌, ℕ, ◌<◌, List, Vec, Option, Some, MatchOption, slice_get}
 use Rattle.std.specs.Global.{Global}
 use Rattle.std.specs.Map.{lookup}
@@ -34,7 +35,8 @@ pub record PutAt (old : Index) (a : List Entry) (p : ℕ) (new : Index) : Type 0
 -- the index has for each address the place of the event of h that acts there
 abbrev pub Indexes : Index → List Event → Type 0
 Indexes index h = (a : List Entry) →
-    MatchOption (place_at index a) ((e : Event) → In e h → acting e ≡ a → ⊥) (λ p. (e : Event) × (slice_get h p ≡ Some e) × (acting e ≡ a))
+    MatchOption (place_at index a)
+    ((e : Event) → In e h → acting e ≡ a → ⊥) (λ p. (e : Event) × (slice_get h p ≡ Some e) × (acting e ≡ a))
 
 -- nothing has been used
 abbrev pub NoUses : Uses → Type 0
@@ -48,4 +50,5 @@ pub record AllBefore (u : Uses) (e : Event) (p n : ℕ) : Type 0 where
 -- the uses of e are put at the place p
 pub record UsesPut (old : Uses) (e : Event) (p : ℕ) (new : Uses) : Type 0 where
   pub writers : (x t : ℕ) → last.Uses new.writers x t ↔ (last.Uses old.writers x t ⊎ ((e.written ≡ Some x) × (t ≡ p)))
-  pub users : (x t : ℕ) → last.Uses new.users x t ↔ (last.Uses old.users x t ⊎ ((In x e.read ⊎ (e.written ≡ Some x)) × (t ≡ p)))
+  pub users : (x t : ℕ) →
+      last.Uses new.users x t ↔ (last.Uses old.users x t ⊎ ((In x e.read ⊎ (e.written ≡ Some x)) × (t ≡ p)))

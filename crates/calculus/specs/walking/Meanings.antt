@@ -1,5 +1,6 @@
 -- What the moves of the code mean.
--- No reader has to believe it: no public contract cites it, and the second clauses of `replay`, `Plain::after` and `Plain::allowed` say by `Steps.antt` what comes of these moves.
+-- No reader has to believe it: no public contract cites it, and the second clauses of `replay`, `Plain::after` and
+-- `Plain::allowed` say by `Steps.antt` what comes of these moves.
 use Rattle.std.specs.Prelude.{Option, None, Some}
 use Rattle.system.specs.Translation.{expression_of, decision_of}
 use Rattle.runs.specs.Moves as model

@@ -11,7 +11,16 @@ use Rattle.runs.specs.declared.event.Kind.TheVariants.{Meet, Open}
 abbrev pub met : Place → Place → ℕ → Word → List ℕ → Move → Option Event
 met a b c v read (receives d x) =
     cond (c == d)
-    (Some (record { kind = Meet; first = a; second = Some b; arm = None; channel = Some c; value = Some v; written = x; read = read }))
+    (Some (record {
+      kind = Meet;
+      first = a;
+      second = Some b;
+      arm = None;
+      channel = Some c;
+      value = Some v;
+      written = x;
+      read = read;
+    }))
     None
 met a b c v read _ = None
 
@@ -19,7 +28,16 @@ met a b c v read _ = None
 abbrev pub opened_by_send : Place → Place → ℕ → Word → List ℕ → Move → Option Event
 opened_by_send a b c v read (opens d k u) =
     cond ((c == d) && same_option same_word (Some v) u)
-    (Some (record { kind = Open; first = a; second = Some b; arm = Some k; channel = Some c; value = u; written = None; read = read }))
+    (Some (record {
+      kind = Open;
+      first = a;
+      second = Some b;
+      arm = Some k;
+      channel = Some c;
+      value = u;
+      written = None;
+      read = read;
+    }))
     None
 opened_by_send a b c v read _ = None
 

@@ -19,7 +19,8 @@ alone S e k = option_and_then (λ x. agreed S e x.1 (made_alone S.store e.first 
 abbrev pub together_at : State → Event → Ask → Ask → Place → Option State
 together_at S e k j b =
     option_and_then
-    (λ x. option_and_then (λ y. agreed S e y.1 (cond (apart e.first b) (made_together S.store e.first x.0 b y.0) None)) (after j x.1 b))
+    (λ x. option_and_then (λ y.
+    agreed S e y.1 (cond (apart e.first b) (made_together S.store e.first x.0 b y.0) None)) (after j x.1 b))
     (after k S.residual e.first)
 
 -- the state after an event with two sides; none where the second place is missing

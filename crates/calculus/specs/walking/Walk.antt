@@ -1,5 +1,6 @@
 -- The moves that a tree in memory offers, as they are gathered.
--- No reader has to believe it: `proofs/Walking.antt` ties it to `allowed_events`, and the law `AllowedAreListed` that to `Allowed`.
+-- No reader has to believe it: `proofs/Walking.antt` ties it to `allowed_events`, and the law `AllowedAreListed` that
+-- to `Allowed`.
 use Rattle.std.specs.Prelude.{List, [], ◌∷◌, ◌++◌}
 use Rattle.runs.specs.Moves.{Place}
 use Rattle.runs.specs.Events.{Located, at}

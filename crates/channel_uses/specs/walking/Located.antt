@@ -60,4 +60,6 @@ finds_at x e s p w = added (behind x (on e (listed s w.received p).sides)) w
 
 -- on channel e the close of an arm was found that opened on channel d and has this body, if there is one
 abbrev pub ClosesOn : ℕ → ℕ → Proc → Walk → Walk → Type 0
-ClosesOn e d q w v = (s : Store) (env : Received) → v ≡ added (cond (listed s env q).over (on e (side_at (Ordered 2 ∷ []) (Closes d) ∷ [])) []) w
+ClosesOn e d q w v =
+    (s : Store) (env : Received) →
+    v ≡ added (cond (listed s env q).over (on e (side_at (Ordered 2 ∷ []) (Closes d) ∷ [])) []) w

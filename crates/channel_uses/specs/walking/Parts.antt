@@ -1,5 +1,6 @@
 -- The numbers of the uses within each part of a command, as the code keeps them.
--- No reader has to believe it: a part only says where to look, and the contracts of what looks there do not speak of it.
+-- No reader has to believe it: a part only says where to look, and the contracts of what looks there do not speak of
+-- it.
 use Rattle.std.specs.Prelude.{◌≡◌, ℕ, ◌+◌, ◌≤◌, ◌<◌, List, [], ◌∷◌, ◌++◌, Bool, Some, length, slice_get, nat_le}
 use Rattle.syntax.specs.Lists.{In}
 use Rattle.last_events.specs.LastEvents.{Uses}
@@ -54,7 +55,8 @@ pub record Numbered (c : Code) (old new : List ℕ) (p : Part) : Type 0 where
   pub added : new ≡ old ++ used c
   pub is : IsPart c (length old) p
 
--- the uses of commands in a row were added; the part begins where it is said, ends with them, and has the parts of the commands
+-- the uses of commands in a row were added; the part begins where it is said, ends with them, and has the parts of the
+-- commands
 pub record NumberedRow (cs : Codes) (from : ℕ) (old new : List ℕ) (p : Part) : Type 0 where
   pub added : new ≡ old ++ all_used cs
   pub begins : first p ≡ from

@@ -14,17 +14,20 @@ use Rattle.typed.specs.declared.tree.Action.TheFolds.{fold-Guarded, fold-Labelle
 -- an arm of `if`
 abbrev pub maker_of_guarded : List ProcedureMaker → Guarded → Maker tree_guarded.Guarded
 maker_of_guarded ps =
-    fold-Guarded (ℕ → Maker tree_command.Command) (Maker tree_arm.Arm) (Maker tree_command.Command) (Maker tree_guarded.Guarded) (Maker tree_labelled.Labelled)
+    fold-Guarded (ℕ → Maker tree_command.Command) (Maker tree_arm.Arm) (Maker tree_command.Command)
+    (Maker tree_guarded.Guarded) (Maker tree_labelled.Labelled)
     (action_maker ps) arm_maker command_maker guarded_maker labelled_maker
 
 -- an arm of `case`
 abbrev pub maker_of_labelled : List ProcedureMaker → Labelled → Maker tree_labelled.Labelled
 maker_of_labelled ps =
-    fold-Labelled (ℕ → Maker tree_command.Command) (Maker tree_arm.Arm) (Maker tree_command.Command) (Maker tree_guarded.Guarded) (Maker tree_labelled.Labelled)
+    fold-Labelled (ℕ → Maker tree_command.Command) (Maker tree_arm.Arm) (Maker tree_command.Command)
+    (Maker tree_guarded.Guarded) (Maker tree_labelled.Labelled)
     (action_maker ps) arm_maker command_maker guarded_maker labelled_maker
 
 -- an arm of `select` or `arbitrate`
 abbrev pub maker_of_arm : List ProcedureMaker → Arm → Maker tree_arm.Arm
 maker_of_arm ps =
-    fold-Arm (ℕ → Maker tree_command.Command) (Maker tree_arm.Arm) (Maker tree_command.Command) (Maker tree_guarded.Guarded) (Maker tree_labelled.Labelled)
+    fold-Arm (ℕ → Maker tree_command.Command) (Maker tree_arm.Arm) (Maker tree_command.Command)
+    (Maker tree_guarded.Guarded) (Maker tree_labelled.Labelled)
     (action_maker ps) arm_maker command_maker guarded_maker labelled_maker

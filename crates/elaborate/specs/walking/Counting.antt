@@ -55,8 +55,8 @@ abbrev pub last_size : Option Size → Size
 last_size None = nothing
 last_size (Some s) = s
 
--- one layer of a command, where `called` has the size of each procedure: a call is nothing but what it calls, and a procedure
--- that is not there does nothing, which is one command
+-- one layer of a command, where `called` has the size of each procedure: a call is nothing but what it calls, and a
+-- procedure that is not there does nothing, which is one command
 abbrev pub action_size : Cut → List Size → Action-F Size Size Size Size Size → Size
 action_size cut called Action-F.Continue = around cut nothing
 action_size cut called Action-F.Halt = around cut nothing
@@ -95,7 +95,8 @@ labelled_size a = a.body
 -- a command with its calls replaced
 abbrev pub size_of : Cut → List Size → Command → Size
 size_of cut called =
-    fold-Command Size Size Size Size Size (action_size cut called) arm_size command_size (guarded_size cut) labelled_size
+    fold-Command Size Size Size Size Size (action_size cut called) arm_size command_size
+    (guarded_size cut) labelled_size
 
 -- a procedure where it is called: a node for each local, and its body
 abbrev pub procedure_size : Cut → List Size → Procedure → Size

@@ -1,5 +1,6 @@
 -- Sizes cut above the limits, as they are counted.
--- No reader has to believe it: `proofs/Sizes.antt` ties what is counted so to the size that `whole` of `Counting.antt` gives.
+-- No reader has to believe it: `proofs/Sizes.antt` ties what is counted so to the size that `whole` of `Counting.antt`
+-- gives.
 use Rattle.std.specs.Prelude.{◌+◌, min}
 use Rattle.elaborate.specs.Size.{most_nodes, most_nested}
 use Rattle.elaborate.specs.walking.Counting.{Cut}

@@ -1,6 +1,6 @@
--- The body of a procedure with its calls replaced, as it is made: each command means a tree and what is made then. Calls are
--- counted up to the last number of 64 bits.
--- No reader has to believe it: `proofs/Factored.antt` and `proofs/Expanded.antt` tie it to `Body.antt` and `Calls.antt`.
+-- The body of a procedure with its calls replaced, as it is made: each command means a tree and what is made then.
+-- Calls are counted up to the last number of 64 bits. No reader has to believe it: `proofs/Factored.antt` and
+-- `proofs/Expanded.antt` tie it to `Body.antt` and `Calls.antt`.
 use Rattle.std.specs.Prelude.{ℕ, ◌+◌, min, List, [], ◌∷◌, ◌++◌, Option, Some, None, slice_index_or}
 use Rattle.elaborate.specs.walking.Instances.{channel_use, variable_use, expression_in, entrance_of}
 use Rattle.elaborate.specs.walking.Making.{locals_onto, instance_of, entered}
@@ -65,13 +65,15 @@ abbrev pub called : List ProcedureMaker → ℕ → ProcedureMaker
 called procedures p = slice_index_or procedures p missing
 
 -- arms and a last one, one after another
-abbrev pub arms_and_last : {X : Type 0} → List (Maker X) → Option (Maker tree_command.Command) → Maker (List X × Option tree_command.Command)
+abbrev pub arms_and_last : {X : Type 0} → List (Maker X) → Option (Maker tree_command.Command) →
+    Maker (List X × Option tree_command.Command)
 arms_and_last arms last instance made =
     let all = all_onto [] arms instance made in let end = last_of last instance all.1 in ((all.0, end.0), end.1)
 
 -- one layer of a command on a line, where `procedures` has what each procedure before makes
 abbrev pub action_maker : List ProcedureMaker
-    → Action-F (ℕ → Maker tree_command.Command) (Maker tree_arm.Arm) (Maker tree_command.Command) (Maker tree_guarded.Guarded) (Maker tree_labelled.Labelled)
+    → Action-F (ℕ → Maker tree_command.Command) (Maker tree_arm.Arm) (Maker tree_command.Command)
+    (Maker tree_guarded.Guarded) (Maker tree_labelled.Labelled)
     → ℕ → Maker tree_command.Command
 action_maker ps Action-F.Continue line instance made = (command line tree.Continue, made)
 action_maker ps Action-F.Halt line instance made = (command line tree.Halt, made)
@@ -83,45 +85,56 @@ action_maker ps (Action-F.Receive c x) line instance made =
     (command line (tree.Receive (channel_use instance c) (variable_use instance x)), made)
 action_maker ps (Action-F.Sync c) line instance made = (command line (tree.Sync (channel_use instance c)), made)
 action_maker ps (Action-F.Loop body) line instance made = around line action.Loop (body instance made)
-action_maker ps (Action-F.While e body) line instance made = around line (action.While (expression_in instance e)) (body instance made)
+action_maker ps (Action-F.While e body) line instance made =
+    around line (action.While (expression_in instance e)) (body instance made)
 action_maker ps (Action-F.If arms last) line instance made =
     around line (λ r. action.If r.0 r.1) (arms_and_last arms last instance made)
 action_maker ps (Action-F.Case e arms last) line instance made =
     around line (λ r. action.Case (expression_in instance e) r.0 r.1) (arms_and_last arms last instance made)
-action_maker ps (Action-F.Input c body) line instance made = around line (action.Input (channel_use instance c)) (body instance made)
+action_maker ps (Action-F.Input c body) line instance made =
+    around line (action.Input (channel_use instance c)) (body instance made)
 action_maker ps (Action-F.Select arms) line instance made = around line action.Select (all_onto [] arms instance made)
-action_maker ps (Action-F.Arbitrate arms) line instance made = around line action.Arbitrate (all_onto [] arms instance made)
-action_maker ps (Action-F.Sequence children) line instance made = around line action.Sequence (all_onto [] children instance made)
-action_maker ps (Action-F.Parallel children) line instance made = around line action.Parallel (all_onto [] children instance made)
+action_maker ps (Action-F.Arbitrate arms) line instance made =
+    around line action.Arbitrate (all_onto [] arms instance made)
+action_maker ps (Action-F.Sequence children) line instance made =
+    around line action.Sequence (all_onto [] children instance made)
+action_maker ps (Action-F.Parallel children) line instance made =
+    around line action.Parallel (all_onto [] children instance made)
 action_maker ps (Action-F.Call p arguments) line instance made =
     after_call (next_call made) (called ps p (entrance_of instance arguments (next_call made)) made)
 
 -- an arm of `select` or `arbitrate`
-abbrev pub arm_maker : Arm-F (ℕ → Maker tree_command.Command) (Maker tree_arm.Arm) (Maker tree_command.Command) (Maker tree_guarded.Guarded) (Maker tree_labelled.Labelled)
+abbrev pub arm_maker : Arm-F (ℕ → Maker tree_command.Command) (Maker tree_arm.Arm) (Maker tree_command.Command)
+    (Maker tree_guarded.Guarded) (Maker tree_labelled.Labelled)
     → Maker tree_arm.Arm
 arm_maker a instance made =
     let body = a.body instance made in (record { channel = channel_use instance a.channel; body = body.0 }, body.1)
 
 -- a command: its action, on its line
-abbrev pub command_maker : Command-F (ℕ → Maker tree_command.Command) (Maker tree_arm.Arm) (Maker tree_command.Command) (Maker tree_guarded.Guarded) (Maker tree_labelled.Labelled)
+abbrev pub command_maker : Command-F (ℕ → Maker tree_command.Command) (Maker tree_arm.Arm) (Maker tree_command.Command)
+    (Maker tree_guarded.Guarded) (Maker tree_labelled.Labelled)
     → Maker tree_command.Command
 command_maker c instance made = c.action c.line instance made
 
 -- an arm of `if`
-abbrev pub guarded_maker : Guarded-F (ℕ → Maker tree_command.Command) (Maker tree_arm.Arm) (Maker tree_command.Command) (Maker tree_guarded.Guarded) (Maker tree_labelled.Labelled)
+abbrev pub guarded_maker : Guarded-F (ℕ → Maker tree_command.Command) (Maker tree_arm.Arm) (Maker tree_command.Command)
+    (Maker tree_guarded.Guarded) (Maker tree_labelled.Labelled)
     → Maker tree_guarded.Guarded
 guarded_maker a instance made =
     let body = a.body instance made in (record { guard = expression_in instance a.guard; body = body.0 }, body.1)
 
 -- an arm of `case`
-abbrev pub labelled_maker : Labelled-F (ℕ → Maker tree_command.Command) (Maker tree_arm.Arm) (Maker tree_command.Command) (Maker tree_guarded.Guarded) (Maker tree_labelled.Labelled)
+abbrev pub labelled_maker : Labelled-F (ℕ → Maker tree_command.Command) (Maker tree_arm.Arm)
+    (Maker tree_command.Command) (Maker tree_guarded.Guarded) (Maker tree_labelled.Labelled)
     → Maker tree_labelled.Labelled
-labelled_maker a instance made = let body = a.body instance made in (record { labels = a.labels; body = body.0 }, body.1)
+labelled_maker a instance made = let body =
+    a.body instance made in (record { labels = a.labels; body = body.0 }, body.1)
 
 -- what is made of a command
 abbrev pub maker_of : List ProcedureMaker → Command → Maker tree_command.Command
 maker_of ps =
-    fold-Command (ℕ → Maker tree_command.Command) (Maker tree_arm.Arm) (Maker tree_command.Command) (Maker tree_guarded.Guarded) (Maker tree_labelled.Labelled)
+    fold-Command (ℕ → Maker tree_command.Command) (Maker tree_arm.Arm) (Maker tree_command.Command)
+    (Maker tree_guarded.Guarded) (Maker tree_labelled.Labelled)
     (action_maker ps) arm_maker command_maker guarded_maker labelled_maker
 
 -- what is made of a procedure: its locals and then its body, whose calls are counted from 1

@@ -56,13 +56,15 @@ with_local made name declared local.Sync = with_channel made name kind.Sync decl
 abbrev pub locals_onto : List ℕ → List ℕ → Made → List Local → Numbered
 locals_onto numbers prefix made [] = record { numbers = numbers; made = made }
 locals_onto numbers prefix made (l ∷ ls) =
-    locals_onto (numbers ++ number_for made l.kind ∷ []) prefix (with_local made (prefix ++ l.name) l.declared l.kind) ls
+    locals_onto (numbers ++ number_for made l.kind ∷ []) prefix
+    (with_local made (prefix ++ l.name) l.declared l.kind) ls
 
 -- the channels of the root's ports in order
 abbrev pub ports_onto : List ℕ → Made → List Port → Numbered
 ports_onto numbers made [] = record { numbers = numbers; made = made }
 ports_onto numbers made (p ∷ ps) =
-    ports_onto (numbers ++ capped_number (length made.channels) ∷ []) (with_channel made p.name (kind_of_port p.kind) p.declared) ps
+    ports_onto (numbers ++ capped_number (length made.channels) ∷ [])
+    (with_channel made p.name (kind_of_port p.kind) p.declared) ps
 
 -- before anything is made
 abbrev pub nothing_made : Made

@@ -11,12 +11,14 @@ use Rattle.typed.specs.declared.tree.Action.TheFolds.{fold-Guarded, fold-Labelle
 -- an arm of `if`
 abbrev pub size_of_guarded : Cut → List Size → Guarded → Size
 size_of_guarded cut called =
-    fold-Guarded Size Size Size Size Size (action_size cut called) arm_size command_size (guarded_size cut) labelled_size
+    fold-Guarded Size Size Size Size Size (action_size cut called) arm_size command_size
+    (guarded_size cut) labelled_size
 
 -- an arm of `case`
 abbrev pub size_of_labelled : Cut → List Size → Labelled → Size
 size_of_labelled cut called =
-    fold-Labelled Size Size Size Size Size (action_size cut called) arm_size command_size (guarded_size cut) labelled_size
+    fold-Labelled Size Size Size Size Size (action_size cut called) arm_size command_size
+    (guarded_size cut) labelled_size
 
 -- an arm of `select` or `arbitrate`
 abbrev pub size_of_arm : Cut → List Size → Arm → Size

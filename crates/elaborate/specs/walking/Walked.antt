@@ -17,7 +17,8 @@ use Rattle.typed.specs.declared.tree.Procedure.{Procedure}
 abbrev pub walked_branches : List Entry → ℕ → List Port → List Branch
 walked_branches entries place [] = []
 walked_branches entries place (port ∷ ports) =
-    branch_on (capped_number place) port.kind (entry_named entries port.name) ∷ walked_branches entries (place + 1) ports
+    branch_on (capped_number place) port.kind (entry_named entries port.name)
+    ∷ walked_branches entries (place + 1) ports
 
 -- the channels of the root's ports, made first
 abbrev pub root_channels : List Procedure → Numbered
@@ -26,7 +27,9 @@ root_channels ps = ports_onto [] nothing_made (root_ports ps)
 -- what the last procedure makes over the channels of its ports; its names are as they are written
 abbrev pub root_makes : List Procedure → WithMade tree_command.Command
 root_makes ps =
-    after_call 0 (called (makers ps) (length ps - 1) (record { ports = (root_channels ps).numbers; prefix = [] }) (root_channels ps).made)
+    after_call 0
+    (called (makers ps) (length ps - 1) (record { ports = (root_channels ps).numbers; prefix = [] })
+    (root_channels ps).made)
 
 -- the system: what the root makes, and the environment's branch on each of its ports
 abbrev pub walked_system : List Procedure → List Entry → System

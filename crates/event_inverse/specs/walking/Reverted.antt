@@ -1,5 +1,6 @@
 -- An event taken back by its record.
--- No reader has to believe it: the law `records_revert` says that it gives the tree and the store to which the event was applied.
+-- No reader has to believe it: the law `records_revert` says that it gives the tree and the store to which the event
+-- was applied.
 use Rattle.std.specs.Prelude.{ℕ, List, [], ◌∷◌, Option, Some, None, option_map, slice_set}
 use Rattle.std.specs.Option.{option_and_then}
 use Rattle.value.specs.Word.{Word}
@@ -27,4 +28,6 @@ written_back (Some x) (Some v) s = slice_set s x v
 -- the tree before an event that left this record
 abbrev pub reverted : TreeAndStore → Event → Taken → Option TreeAndStore
 reverted T e r =
-    option_and_then (λ ks. option_map (λ p. record { proc = p; store = written_back e.written r.old T.store }) (all_retreated T.proc ks r.procs)) (asked e)
+    option_and_then (λ ks.
+    option_map (λ p. record { proc = p; store = written_back e.written r.old T.store })
+    (all_retreated T.proc ks r.procs)) (asked e)

@@ -1,5 +1,6 @@
 -- The piece at the front of a text, as it is found, and the fault that it is in itself.
--- No reader has to believe it: `proofs/ReadingLemmas.antt` ties it to `IsReadTo` of `Tokens.antt` and to `IsDueAt` of `Refusal.antt`.
+-- No reader has to believe it: `proofs/ReadingLemmas.antt` ties it to `IsReadTo` of `Tokens.antt` and to `IsDueAt` of
+-- `Refusal.antt`.
 use Rattle.std.specs.Prelude.{◌≡◌, ℕ, ◌^◌, ◌<◌, ◌≤◌, if◌then◌else◌, length, take, drop, IsSome}
 use Rattle.syntax.specs.Texts.{Text}
 use Rattle.lexer.specs.Comment.{is_opening}

@@ -1,5 +1,6 @@
 -- A source whose tokens are made part by part.
--- No reader has to believe it: `HasRead` holds of nothing read, and where the source ends the parts together are its tokens by `AreTokens` of
+-- No reader has to believe it: `HasRead` holds of nothing read, and where the source ends the parts together are its
+-- tokens by `AreTokens` of
 -- `Tokens.antt`.
 use Rattle.std.specs.Prelude.{◌≡◌, ◌≢◌, ℕ, ◌+◌, ◌≤◌, List, [], ◌∷◌, ◌++◌, length, take, drop, Some}
 use Rattle.std.specs.List.{All}
@@ -24,11 +25,13 @@ HasRead source tokens lexing = Reaches source tokens lexing.position lexing.rest
 
 -- between the two these tokens are read
 abbrev pub Goes : Lexing → List Token → Lexing → Type 0
-Goes old added new = (source : Text) (before : List Token) → HasRead source before old → HasRead source (before ++ added) new
+Goes old added new =
+    (source : Text) (before : List Token) → HasRead source before old → HasRead source (before ++ added) new
 
 -- these tokens are all that are left
 abbrev pub Ends : Lexing → List Token → Type 0
-Ends lexing added = (source : Text) (before : List Token) → HasRead source before lexing → AreTokens source (before ++ added)
+Ends lexing added =
+    (source : Text) (before : List Token) → HasRead source before lexing → AreTokens source (before ++ added)
 
 -- what is left is refused
 abbrev pub Refuses : Lexing → Fault → Type 0
@@ -36,7 +39,9 @@ Refuses lexing fault = (source : Text) (before : List Token) → HasRead source 
 
 -- what is left can be read to its end
 abbrev pub IsRest : Lexing → Type 0
-IsRest lexing = (source : Text) (before : List Token) → HasRead source before lexing → (later : List Token) × AreTokens source (before ++ later)
+IsRest lexing =
+    (source : Text) (before : List Token) → HasRead source before lexing →
+    (later : List Token) × AreTokens source (before ++ later)
 
 -- none of the tokens is the end of the source
 abbrev pub HasNoEnd : List Token → Type 0
@@ -69,7 +74,8 @@ TakesBytes old added new = length added + length new.rest.now ≤ length old.res
 -- what is read in a part, by where it ends
 abbrev pub IsPart : Stop → ℕ → Lexing → List Token → Lexing → Type 0
 IsPart Full most old added new = Goes old added new × HasNoEnd added × (length added ≡ most) × TakesBytes old added new
-IsPart Procedure most old added new = Goes old added new × HasNoEnd added × (length added ≤ most) × TakesBytes old added new × IsAtProcedure new
+IsPart Procedure most old added new =
+    Goes old added new × HasNoEnd added × (length added ≤ most) × TakesBytes old added new × IsAtProcedure new
 IsPart EndOfSource most old added new = Ends old added × (length added ≤ most)
 
 -- what was read before a fault is behind what the part held

@@ -1,5 +1,6 @@
 -- How far a source is read, told by what it is to read on.
--- No reader has to believe it: `proofs/ReadingLemmas.antt` begins it with nothing read, and ends it with `AreTokens` of `Tokens.antt` or with
+-- No reader has to believe it: `proofs/ReadingLemmas.antt` begins it with nothing read, and ends it with `AreTokens` of
+-- `Tokens.antt` or with
 -- `IsRefused` of `Refusal.antt`.
 use Rattle.std.specs.Prelude.{◌≡◌, ◌+◌, List, ◌++◌, length}
 use Rattle.syntax.specs.Texts.{Text}
@@ -10,7 +11,8 @@ use Rattle.lexer.specs.declared.token.Token.{Token}
 
 -- The source is read to `end`, and its tokens are those given and then those of the later pieces, which begin
 -- at the position.
-pub record Reading (source : Text) (tokens : List Token) (position : Position) (later : List Piece) (end : Text) : Type 0 where
+pub record Reading (source : Text) (tokens : List Token) (position : Position) (later : List Piece)
+    (end : Text) : Type 0 where
   pub pieces : List Piece
   pub read : IsReadTo source pieces end
   pub same : tokens_from first_position pieces ≡ tokens ++ tokens_from position later

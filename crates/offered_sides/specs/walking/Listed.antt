@@ -96,7 +96,8 @@ abbrev mutual
   listed s env (skipped d cs) = nothing
   listed s env (took d cs j q) = one_after 1 (listed s env q) nothing
   listed s env (unopened ds cs) = at_work (open_sides 0 ds)
-  listed s env (entered ds cs c v q) = one_after 1 (listed s (with_value c v env) q) (at_work (sides_of_residual s (closing c)))
+  listed s env (entered ds cs c v q) =
+      one_after 1 (listed s (with_value c v env) q) (at_work (sides_of_residual s (closing c)))
   listed s env (closed ds cs c v q) = nothing
   listed s env (sequence ps) = listed_sequence s env (last_moved ps) 0 ps
   listed s env (parallel ps) = listed_parallel s env 0 ps

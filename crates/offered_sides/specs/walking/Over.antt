@@ -27,5 +27,7 @@ HasNoneOver ps i = (p : Proc) → proc_at ps i ≡ Some p → (s : Store) (env :
 
 -- a sequence has come to the child of this number; or it offers nothing there
 pub record IsReached (b : Bool) (i : ℕ) (ps : Procs) : Type 0 where
-  pub reached : b ≡ true → (s : Store) (env : Received) → listed_sequence s env i 0 ps ≡ listed_sequence s env (last_moved ps) 0 ps
-  pub elsewhere : b ≡ false → (s : Store) (env : Received) (a : Place) → under (Ordered i ∷ a) (listed_sequence s env (last_moved ps) 0 ps).sides ≡ []
+  pub reached : b ≡ true → (s : Store) (env : Received) →
+      listed_sequence s env i 0 ps ≡ listed_sequence s env (last_moved ps) 0 ps
+  pub elsewhere : b ≡ false → (s : Store) (env : Received) (a : Place) →
+      under (Ordered i ∷ a) (listed_sequence s env (last_moved ps) 0 ps).sides ≡ []

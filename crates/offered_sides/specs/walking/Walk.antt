@@ -1,5 +1,6 @@
 -- Where a walk through a process is, and what it has found.
--- No reader has to believe it: `found-is` in `proofs/Walked.antt` ties what a walk from the root finds to the sides that are offered.
+-- No reader has to believe it: `found-is` in `proofs/Walked.antt` ties what a walk from the root finds to the sides
+-- that are offered.
 use Rattle.std.specs.Prelude.{List, [], ◌∷◌, ◌++◌}
 use Rattle.address.specs.declared.Entry.{Entry}
 use Rattle.system.specs.Expression.{Store, Expression, Decision, put_value, put_decision}

@@ -1,5 +1,6 @@
 -- What `parse` answers, by how the description is read.
--- No reader has to believe it: `proofs/Answered.antt` ties it to `Parses` and `IsRefused` of `Accepted.antt`, of which the clauses of `parse` speak.
+-- No reader has to believe it: `proofs/Answered.antt` ties it to `Parses` and `IsRefused` of `Accepted.antt`, of which
+-- the clauses of `parse` speak.
 use Rattle.std.specs.Prelude.{◌≡◌, ℕ, List, [], ◌∷◌, Option, Some, None, Result, Ok, Err}
 use Rattle.lexer.specs.declared.token.Token.{Token}
 use Rattle.refusals.specs.declared.parser.Fault.{Fault}
@@ -14,8 +15,10 @@ use Rattle.parser.specs.walking.Readers.{Outcome, read, unexpected, too_deep}
 abbrev pub IsAnswer : {A : Type 0} → List Token → Outcome A → Result A Fault → Type 0
 IsAnswer tokens outcome (Ok a) = (left : Input) × (outcome ≡ read a left)
 IsAnswer tokens outcome (Err Memory) = Unit {0}
-IsAnswer tokens outcome (Err (Unexpected offset)) = (rest : List Token) × (outcome ≡ unexpected rest) × (offset ≡ offset_at tokens rest)
-IsAnswer tokens outcome (Err (TooDeep offset)) = (rest : List Token) × (outcome ≡ too_deep rest) × (offset ≡ offset_at tokens rest)
+IsAnswer tokens outcome (Err (Unexpected offset)) =
+    (rest : List Token) × (outcome ≡ unexpected rest) × (offset ≡ offset_at tokens rest)
+IsAnswer tokens outcome (Err (TooDeep offset)) =
+    (rest : List Token) × (outcome ≡ too_deep rest) × (offset ≡ offset_at tokens rest)
 
 -- the fault that a reading which stops is, where the offset is this
 abbrev pub fault_at : Halt → ℕ → Fault

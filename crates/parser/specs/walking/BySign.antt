@@ -1,5 +1,6 @@
 -- What the code picks by a sign or a word, where the grammar names the form.
--- No reader has to believe it: `proofs/CommandLaws.antt` and `proofs/DeclarationLaws.antt` tie the readers of `Reading.antt` that use it to the grammar;
+-- No reader has to believe it: `proofs/CommandLaws.antt` and `proofs/DeclarationLaws.antt` tie the readers of
+-- `Reading.antt` that use it to the grammar;
 -- `made_of` stands in the clauses of `Joined` alone, which `command_of` ties to them at its two signs.
 use Rattle.std.specs.Prelude.{List}
 use Rattle.lexer.specs.declared.token.Kind.{Kind}

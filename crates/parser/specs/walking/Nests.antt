@@ -1,5 +1,6 @@
 -- What stands inside a level: the readers there, and the function values that are to be such readers.
--- No reader has to believe it: `proofs/Levels.antt` ties these readers to those of `Reading.antt`, and `proofs/Parsed.antt` those to the grammar.
+-- No reader has to believe it: `proofs/Levels.antt` ties these readers to those of `Reading.antt`, and
+-- `proofs/Parsed.antt` those to the grammar.
 use Rattle.std.specs.Prelude.{ℕ, zero, suc, Result}
 use denote.Ref.{MutBor}
 use Rattle.syntax.specs.declared.expression.Expr.{Expr}

@@ -1,5 +1,6 @@
 -- Parts of a description: each begins with the word `procedure`, and the first one may begin with types.
--- No reader has to believe it: `proofs/PartLaws.antt` ties it to `Parses` and `IsRefused` of `Accepted.antt`, for callers that parse part by part.
+-- No reader has to believe it: `proofs/PartLaws.antt` ties it to `Parses` and `IsRefused` of `Accepted.antt`, for
+-- callers that parse part by part.
 use Rattle.std.specs.Prelude.{List, ◌++◌}
 use Rattle.lexer.specs.declared.token.Token.{Token}
 use Rattle.lexer.specs.walking.Parts.{BeginsProcedure}
@@ -13,5 +14,7 @@ joined first second = record { types = first.types; procedures = first.procedure
 
 -- Behind these tokens, which are the description, a part that begins with `procedure` is what it is alone.
 pub record Opens (before : List Token) (given : Description) : Type 0 where
-  pub parses : (part : List Token) → BeginsProcedure part → (more : Description) → Parses part more → Parses (before ++ part) (joined given more)
-  pub refused : (part : List Token) → BeginsProcedure part → (fault : Fault) → IsRefused part fault → IsRefused (before ++ part) fault
+  pub parses : (part : List Token) → BeginsProcedure part → (more : Description) → Parses part more →
+      Parses (before ++ part) (joined given more)
+  pub refused : (part : List Token) → BeginsProcedure part → (fault : Fault) → IsRefused part fault →
+      IsRefused (before ++ part) fault

@@ -1,6 +1,6 @@
 -- The words in which the grammar is written a second time: how it is read, with one token of lookahead.
--- No reader has to believe it: `proofs/WholeLaws.antt` ties them to the words of `Rules.antt` and `Sentences.antt`, and `proofs/Parsed.antt` what they
--- come to for a whole description to the clauses of `parse`.
+-- No reader has to believe it: `proofs/WholeLaws.antt` ties them to the words of `Rules.antt` and `Sentences.antt`, and
+-- `proofs/Parsed.antt` what they come to for a whole description to the clauses of `parse`.
 use Rattle.std.specs.Prelude.{ℕ, zero, suc, if◌then◌else◌, List, [], ◌∷◌, length}
 use Rattle.lexer.specs.declared.token.Kind.{Kind}
 use Rattle.lexer.specs.declared.token.Kind.TheVariants.{End}
@@ -43,7 +43,8 @@ pure a = λ i. read a i
 
 abbrev pub take_from : List Kind → ℕ → List Token → Outcome Token
 take_from kinds levels [] = unexpected []
-take_from kinds levels (token ∷ rest) = if is_one_of kinds token.kind then read token (input levels rest) else unexpected (token ∷ rest)
+take_from kinds levels (token ∷ rest) =
+    if is_one_of kinds token.kind then read token (input levels rest) else unexpected (token ∷ rest)
 
 -- one token of one of these kinds
 unfoldable pub take : List Kind → Reader Token
@@ -73,7 +74,8 @@ abbrev pub repeat_from : {A : Type 0} → List Kind → (A → Reader A) → ℕ
 repeat_from kinds turn zero a = pure a
 repeat_from kinds turn (suc n) a = branch kinds (bind (turn a) (repeat_from kinds turn n)) (pure a)
 
--- a turn as long as the next token is of one of these kinds. Each turn takes a token, so there are no more turns than tokens.
+-- a turn as long as the next token is of one of these kinds. Each turn takes a token, so there are no more turns than
+-- tokens.
 unfoldable pub repeat : {A : Type 0} → List Kind → (A → Reader A) → A → Reader A
 repeat kinds turn a = λ i. repeat_from kinds turn (length i.tokens) a i
 

@@ -1,5 +1,6 @@
 -- The grammar a second time, word by word: how it is read, where each choice is made by the kind of the next token.
--- No reader has to believe it: `proofs/Parsed.antt` ties it to the grammar, and the contract of `parse` cites that alone.
+-- No reader has to believe it: `proofs/Parsed.antt` ties it to the grammar, and the contract of `parse` cites that
+-- alone.
 use Rattle.std.specs.Prelude.{ℕ, zero, suc, List, [], ◌∷◌, ◌++◌, Option, Some, None}
 use Rattle.lexer.specs.declared.token.Kind.{Kind}
 use Rattle.lexer.specs.declared.token.Kind.TheVariants as kind
@@ -188,7 +189,9 @@ module _ (depth : ℕ) (inner_factor inner_expression : Reader Expr) where
 
   -- "not" factor | "(" expression [ "as" type ] ")" | number | name
   unfoldable pub any_factor : Reader Expr
-  any_factor = branch (kind.NotWord ∷ []) negation (branch (kind.LeftParenthesis ∷ []) parenthesised (branch (kind.Number ∷ []) number variable_name))
+  any_factor =
+      branch (kind.NotWord ∷ []) negation
+      (branch (kind.LeftParenthesis ∷ []) parenthesised (branch (kind.Number ∷ []) number variable_name))
 
   unfoldable pub factor_of : Reader Expr
   factor_of = inside any_factor
@@ -342,7 +345,8 @@ module _ (command : Reader Command) (expression : Reader Expr) where
     second ← arm_of
     ended start (action.Arbitrate first second)
 
--- What a command begins with, over what an expression is beside it, and a command and an expression in the level that it opens.
+-- What a command begins with, over what an expression is beside it, and a command and an expression in the level that
+-- it opens.
 module _ (depth : ℕ) (expression : Reader Expr) (inner_command : Reader Command) (inner_expression : Reader Expr) where
   -- "[" command "]"
   unfoldable pub bracketed : Reader Command
@@ -356,7 +360,8 @@ module _ (depth : ℕ) (expression : Reader Expr) (inner_command : Reader Comman
   unfoldable pub looping : Reader Command
   looping = do
     start ← take_open depth (kind.LoopWord ∷ [])
-    branch (kind.WhileWord ∷ []) (while_loop inner_command inner_expression start.span) (endless inner_command inner_expression start.span)
+    branch (kind.WhileWord ∷ []) (while_loop inner_command inner_expression start.span)
+        (endless inner_command inner_expression start.span)
 
   -- "if" expression "then" command { "|" expression "then" command } [ "else" command ] "end"
   unfoldable pub branching : Reader Command
@@ -402,12 +407,16 @@ module _ (depth : ℕ) (expression : Reader Expr) (inner_command : Reader Comman
   unfoldable pub named : Reader Command
   named = do
     name ← identifier
-    branch (kind.AssignSign ∷ []) (assignment expression name) (branch (kind.SendSign ∷ []) (sending expression name) (branch (kind.ReceiveSign ∷ []) (incoming name) (call name)))
+    branch (kind.AssignSign ∷ []) (assignment expression name)
+        (branch (kind.SendSign ∷ []) (sending expression name)
+        (branch (kind.ReceiveSign ∷ []) (incoming name) (call name)))
 
   unfoldable pub any_simple : Reader Command
   any_simple =
-      branch (kind.LeftBracket ∷ []) bracketed (branch (kind.LoopWord ∷ []) looping (branch (kind.IfWord ∷ []) branching (
-      branch (kind.CaseWord ∷ []) casing (branch (kind.SelectWord ∷ []) selecting (branch (kind.ArbitrateWord ∷ []) arbitrating (
+      branch (kind.LeftBracket ∷ []) bracketed
+      (branch (kind.LoopWord ∷ []) looping (branch (kind.IfWord ∷ []) branching (
+      branch (kind.CaseWord ∷ []) casing
+      (branch (kind.SelectWord ∷ []) selecting (branch (kind.ArbitrateWord ∷ []) arbitrating (
       branch (kind.SyncWord ∷ []) synchronisation (branch (kind.Name ∷ []) named (
       branch (kind.ContinueWord ∷ []) (word kind.ContinueWord action.Continue) (word kind.HaltWord action.Halt)))))))))
 
@@ -512,7 +521,8 @@ syncs = synced synced_local
 
 unfoldable pub local_of : Reader Local
 local_of =
-    branch (kind.VariableWord ∷ []) variables (branch (kind.SharedWord ∷ []) shared_variables (branch (kind.ChannelWord ∷ []) channels syncs))
+    branch (kind.VariableWord ∷ []) variables
+    (branch (kind.SharedWord ∷ []) shared_variables (branch (kind.ChannelWord ∷ []) channels syncs))
 
 -- "begin" command "end"
 unfoldable pub block : ℕ → Reader Command

@@ -1,5 +1,6 @@
 -- What a function that reads says: its answer and its cursor are those of a reader, unless memory fails.
--- No reader has to believe it: contracts of private functions alone speak of it, and `proofs/Parsed.antt` ties the readers to the clauses of `parse`.
+-- No reader has to believe it: contracts of private functions alone speak of it, and `proofs/Parsed.antt` ties the
+-- readers to the clauses of `parse`.
 use Rattle.std.specs.Prelude.{◌≡◌, List, Result, Ok, Err}
 use denote.Ref.{Bor}
 use Rattle.lexer.specs.declared.token.Token.{Token}

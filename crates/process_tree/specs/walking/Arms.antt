@@ -9,11 +9,13 @@ use Rattle.process_tree.specs.Translation.{OnChannel, OnGuard, OnLabels, action_
 
 -- an arm of `if`
 abbrev pub guarded_of : Guarded → OnGuard
-guarded_of = fold-Guarded Code OnChannel Code OnGuard OnLabels action_code arm_code command_code guarded_code labelled_code
+guarded_of =
+    fold-Guarded Code OnChannel Code OnGuard OnLabels action_code arm_code command_code guarded_code labelled_code
 
 -- an arm of `case`
 abbrev pub labelled_of : Labelled → OnLabels
-labelled_of = fold-Labelled Code OnChannel Code OnGuard OnLabels action_code arm_code command_code guarded_code labelled_code
+labelled_of =
+    fold-Labelled Code OnChannel Code OnGuard OnLabels action_code arm_code command_code guarded_code labelled_code
 
 -- an arm of `select` or `arbitrate`
 abbrev pub arm_of : Arm → OnChannel

@@ -1,5 +1,6 @@
 -- What parts of a process in memory stand for, beside what they are parts of.
--- No reader has to believe it: `View.antt` says what a whole process stands for, layer by layer, and these are its layers.
+-- No reader has to believe it: `View.antt` says what a whole process stands for, layer by layer, and these are its
+-- layers.
 use Rattle.process_tree.specs.declared.proc.Gate.{Gate}
 use Rattle.process_tree.specs.declared.proc.Gate.TheFolds.{fold-Gate, fold-Tested, fold-Turns}
 use Rattle.process_tree.specs.declared.proc.Tested.{Tested}

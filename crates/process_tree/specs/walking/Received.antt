@@ -1,5 +1,6 @@
 -- Received values put in the parts of a command.
--- No reader has to believe it: `proofs/Puts.antt` ties it to `puts` of `Left.antt`, which puts them in the whole residual.
+-- No reader has to believe it: `proofs/Puts.antt` ties it to `puts` of `Left.antt`, which puts them in the whole
+-- residual.
 use Rattle.std.specs.Prelude.{[], ◌∷◌, Option, Some, None}
 use Rattle.system.specs.Expression.{Expression, Decision, put_value, put_decision}
 use Rattle.system.specs.Residual.{Arms, put_arms}

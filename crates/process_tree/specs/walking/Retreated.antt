@@ -30,7 +30,8 @@ abbrev mutual
   retreated (sender s past) a old = if_child_or 1 a (λ b. Some (sender s holding)) (Some (sender s waiting))
   retreated (fresh g c) a old = None
   retreated (turn g c n q) a old =
-      if_child_or (2 * n) a (λ b. before_turn g c n old) (if_child (2 * n + 1) a (λ b. option_map (turn g c n) (retreated q b old)))
+      if_child_or (2 * n) a (λ b. before_turn g c n old)
+      (if_child (2 * n + 1) a (λ b. option_map (turn g c n) (retreated q b old)))
   retreated (ended_at_once g c) a old = Some (fresh g c)
   retreated (ended g c n q) a old = Some (turn g c n q)
   retreated (untested d cs) a old = None
@@ -39,7 +40,8 @@ abbrev mutual
       if_child_or 0 a (λ b. Some (untested d cs)) (if_child 1 a (λ b. option_map (took d cs j) (retreated q b old)))
   retreated (unopened ds cs) a old = None
   retreated (entered ds cs c v q) a old =
-      if_child_or 0 a (λ b. Some (unopened ds cs)) (if_child 1 a (λ b. option_map (entered ds cs c v) (retreated q b old)))
+      if_child_or 0 a (λ b. Some (unopened ds cs))
+      (if_child 1 a (λ b. option_map (entered ds cs c v) (retreated q b old)))
   retreated (closed ds cs c v q) a old = Some (entered ds cs c v q)
   retreated (sequence ps) a old = option_map sequence (retreated_sequence 0 ps a old)
   retreated (parallel ps) a old = option_map parallel (retreated_parallel 0 ps a old)
@@ -49,10 +51,12 @@ abbrev mutual
   pub retreated_sequence : ℕ → Procs → Place → Option Proc → Option Procs
   retreated_sequence n no_procs a old = None
   retreated_sequence n (proc p ps) a old =
-      if_child_or n a (λ b. option_map (λ q. proc q ps) (retreated p b old)) (option_map (proc p) (retreated_sequence (n + 1) ps a old))
+      if_child_or n a (λ b. option_map (λ q. proc q ps) (retreated p b old))
+      (option_map (proc p) (retreated_sequence (n + 1) ps a old))
 
   -- the same in the branch of a parallel in which the place is
   pub retreated_parallel : ℕ → Procs → Place → Option Proc → Option Procs
   retreated_parallel n no_procs a old = None
   retreated_parallel n (proc p ps) a old =
-      if_branch n a (λ b. option_map (λ q. proc q ps) (retreated p b old)) (option_map (proc p) (retreated_parallel (n + 1) ps a old))
+      if_branch n a (λ b. option_map (λ q. proc q ps) (retreated p b old))
+      (option_map (proc p) (retreated_parallel (n + 1) ps a old))

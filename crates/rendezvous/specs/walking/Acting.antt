@@ -1,5 +1,6 @@
 -- The events in which sides act that a state offers.
--- No reader has to believe it: the clauses of `ready_below` and `event_with` say what is listed and what is chosen among them.
+-- No reader has to believe it: the clauses of `ready_below` and `event_with` say what is listed and what is chosen
+-- among them.
 use Rattle.std.specs.Prelude.{◌≡◌, ◌⊎◌, ◌↔◌, List, Some}
 use Rattle.syntax.specs.Lists.{In}
 use Rattle.runs.specs.Choices.{choice_of}
@@ -14,7 +15,8 @@ use Rattle.rendezvous.specs.walking.Meeting.{solo, met}
 
 -- the side makes the event alone, or with one that the state offers as its partner
 abbrev pub ActedBy : State → OfferedSide → Event → Type 0
-ActedBy S x e = (solo x.place x.side ≡ Some e) ⊎ ((y : OfferedSide) × Offered S y × (met x.place x.side y.place y.side ≡ Some e))
+ActedBy S x e =
+    (solo x.place x.side ≡ Some e) ⊎ ((y : OfferedSide) × Offered S y × (met x.place x.side y.place y.side ≡ Some e))
 
 -- one of the sides does
 abbrev pub ActedByOne : State → List OfferedSide → Event → Type 0

@@ -14,18 +14,54 @@ use Rattle.offered_sides.specs.declared.side.Side.TheVariants.{Assigns, Tests, T
 -- the event that a side makes alone
 abbrev pub solo : Place → Side → Option Event
 solo a (Assigns x v read) =
-    Some (record { kind = Assign; first = a; second = None; arm = None; channel = None; value = Some v; written = Some x; read = read })
+    Some (record {
+      kind = Assign;
+      first = a;
+      second = None;
+      arm = None;
+      channel = None;
+      value = Some v;
+      written = Some x;
+      read = read;
+    })
 solo a (Tests k read) =
-    Some (record { kind = Test; first = a; second = None; arm = k; channel = None; value = None; written = None; read = read })
+    Some (record {
+      kind = Test;
+      first = a;
+      second = None;
+      arm = k;
+      channel = None;
+      value = None;
+      written = None;
+      read = read;
+    })
 solo a Turns =
-    Some (record { kind = Turn; first = a; second = None; arm = None; channel = None; value = None; written = None; read = [] })
+    Some (record {
+      kind = Turn;
+      first = a;
+      second = None;
+      arm = None;
+      channel = None;
+      value = None;
+      written = None;
+      read = [];
+    })
 solo a _ = None
 
 -- of a receive and its partner
 abbrev pub received : Place → ℕ → Option ℕ → Place → Side → Option Event
 received b c x a (Sends d v read) =
     cond (c == d)
-    (Some (record { kind = Meet; first = a; second = Some b; arm = None; channel = Some c; value = Some v; written = x; read = read }))
+    (Some (record {
+      kind = Meet;
+      first = a;
+      second = Some b;
+      arm = None;
+      channel = Some c;
+      value = Some v;
+      written = x;
+      read = read;
+    }))
     None
 received b c x a _ = None
 
@@ -33,11 +69,29 @@ received b c x a _ = None
 abbrev pub opened : Place → ℕ → ℕ → Place → Side → Option Event
 opened b c k a (Sends d v read) =
     cond (c == d)
-    (Some (record { kind = Open; first = a; second = Some b; arm = Some k; channel = Some c; value = Some v; written = None; read = read }))
+    (Some (record {
+      kind = Open;
+      first = a;
+      second = Some b;
+      arm = Some k;
+      channel = Some c;
+      value = Some v;
+      written = None;
+      read = read;
+    }))
     None
 opened b c k a (Syncs d) =
     cond (c == d)
-    (Some (record { kind = Open; first = a; second = Some b; arm = Some k; channel = Some c; value = None; written = None; read = [] }))
+    (Some (record {
+      kind = Open;
+      first = a;
+      second = Some b;
+      arm = Some k;
+      channel = Some c;
+      value = None;
+      written = None;
+      read = [];
+    }))
     None
 opened b c k a _ = None
 
@@ -45,7 +99,16 @@ opened b c k a _ = None
 abbrev pub closed : Place → ℕ → Place → Side → Option Event
 closed b c a (Releases d) =
     cond (c == d)
-    (Some (record { kind = Close; first = a; second = Some b; arm = None; channel = Some c; value = None; written = None; read = [] }))
+    (Some (record {
+      kind = Close;
+      first = a;
+      second = Some b;
+      arm = None;
+      channel = Some c;
+      value = None;
+      written = None;
+      read = [];
+    }))
     None
 closed b c a _ = None
 
@@ -53,7 +116,16 @@ closed b c a _ = None
 abbrev pub synced : Place → ℕ → Place → Side → Option Event
 synced b c a (Syncs d) =
     cond ((c == d) && is_lt (order_of b a))
-    (Some (record { kind = Sync; first = b; second = Some a; arm = None; channel = Some c; value = None; written = None; read = [] }))
+    (Some (record {
+      kind = Sync;
+      first = b;
+      second = Some a;
+      arm = None;
+      channel = Some c;
+      value = None;
+      written = None;
+      read = [];
+    }))
     None
 synced b c a _ = None
 

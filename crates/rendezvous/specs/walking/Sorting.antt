@@ -19,7 +19,8 @@ sooner_by Equal m n others = cond (nat_lt m n) true (cond (m == n) (is_lt others
 
 -- whether e comes before f
 abbrev pub is_sooner : Event → Event → Bool
-is_sooner e f = sooner_by (order_of (acting e) (acting f)) (choice_of e).arm (choice_of f).arm (order_of (other e) (other f))
+is_sooner e f =
+    sooner_by (order_of (acting e) (acting f)) (choice_of e).arm (choice_of f).arm (order_of (other e) (other f))
 
 -- how many of the first events come before e, up to one that doesn't
 abbrev pub sooner_count : Event → List Event → ℕ

@@ -54,7 +54,8 @@ after_loop k body _ = None
 abbrev pub after_while : ℕ → Expression → Residual → Ask → Answer
 after_while k e body (ask.Test None) = Some (tests (by_guards (e ∷ []) false) None, done)
 after_while k e body (ask.Test (Some j)) =
-    cond (j == 0) (Some (tests (by_guards (e ∷ []) false) (Some j), within (2 * k + 1) body (while (k + 1) e body))) None
+    cond (j == 0)
+    (Some (tests (by_guards (e ∷ []) false) (Some j), within (2 * k + 1) body (while (k + 1) e body))) None
 after_while k e body _ = None
 
 -- the answer of a test with arms

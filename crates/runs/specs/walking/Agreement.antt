@@ -1,5 +1,6 @@
 -- The laws that tie what the code walks through to the definitions.
--- No reader has to believe it: `proofs/FromOpening.antt` ties `allowed_events` to `Allowed`, and `run_of` to `Run`, both of `Steps.antt`, by proving them.
+-- No reader has to believe it: `proofs/FromOpening.antt` ties `allowed_events` to `Allowed`, and `run_of` to `Run`,
+-- both of `Steps.antt`, by proving them.
 use Rattle.std.specs.Prelude.{◌≡◌, ◌↔◌, List, Some}
 use Rattle.runs.specs.walking.StepOf.{run_of}
 use Rattle.runs.specs.walking.AllowedEvents.{allowed_events}

@@ -1,5 +1,6 @@
 -- The events that are allowed in a state, as a list.
--- No reader has to believe it: the law `AllowedAreListed` says that it has exactly the events of which `Allowed` of `Steps.antt` holds.
+-- No reader has to believe it: the law `AllowedAreListed` says that it has exactly the events of which `Allowed` of
+-- `Steps.antt` holds.
 use Rattle.std.specs.Prelude.{ℕ, suc, ◌*◌, List, [], ◌∷◌, ◌++◌, true, false, Option, Some, None}
 use Rattle.address.specs.declared.Entry.{Entry}
 use Rattle.address.specs.declared.Entry.TheVariants.{Ordered, Branch}
@@ -33,7 +34,8 @@ offers s (receive c x) = at [] (receives c (Some x)) ∷ []
 offers s (sync c) = at (Ordered 0 ∷ []) (syncs c false) ∷ at (Ordered 0 ∷ []) (syncs c true) ∷ []
 offers s (held c) = at (Ordered 1 ∷ []) (releases c) ∷ []
 offers s (loop k body) = at (Ordered (2 * k) ∷ []) turns ∷ []
-offers s (while k e body) = at (Ordered (2 * k) ∷ []) (tests (by_guards (e ∷ []) false) (decide s (by_guards (e ∷ []) false))) ∷ []
+offers s (while k e body) =
+    at (Ordered (2 * k) ∷ []) (tests (by_guards (e ∷ []) false) (decide s (by_guards (e ∷ []) false))) ∷ []
 offers s (test d arms) = at (Ordered 0 ∷ []) (tests d (decide s d)) ∷ []
 offers s (choose channels arms) = opens_from 0 channels
 offers s (closing c) = at (Ordered 2 ∷ []) (closes c) ∷ []

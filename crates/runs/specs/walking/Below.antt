@@ -1,5 +1,6 @@
 -- The parts of a place, as the code takes it apart, and whether two places are apart.
--- No reader has to believe it: `proofs/Below.antt` ties it to the answers by places of `ByPlace.antt`, and `proofs/Made.antt` the test to `Apart`.
+-- No reader has to believe it: `proofs/Below.antt` ties it to the answers by places of `ByPlace.antt`, and
+-- `proofs/Made.antt` the test to `Apart`.
 use Rattle.std.specs.Prelude.{ℕ, ◌==◌, [], ◌∷◌, Bool, true, false, cond, Option, Some, None, not, ◌&&◌, ◌||◌}
 use Rattle.address.specs.declared.Entry.TheVariants.{Ordered, Branch}
 use Rattle.runs.specs.Moves.{Place}

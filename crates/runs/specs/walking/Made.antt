@@ -25,20 +25,56 @@ all_ask (l ∷ ls) = asks_at l ∷ all_ask ls
 -- the event of one move, if it makes one
 abbrev pub made_alone : Store → Place → Move → Option Event
 made_alone s a (assigns x w e) =
-    Some (record { kind = Assign; first = a; second = None; arm = None; channel = None; value = Some (sent s w e); written = Some x; read = ascending (variables e) })
+    Some (record {
+      kind = Assign;
+      first = a;
+      second = None;
+      arm = None;
+      channel = None;
+      value = Some (sent s w e);
+      written = Some x;
+      read = ascending (variables e);
+    })
 made_alone s a (tests d k) =
     cond (same_option ◌==◌ (decide s d) k)
-    (Some (record { kind = Test; first = a; second = None; arm = k; channel = None; value = None; written = None; read = ascending (decision_variables d) }))
+    (Some (record {
+      kind = Test;
+      first = a;
+      second = None;
+      arm = k;
+      channel = None;
+      value = None;
+      written = None;
+      read = ascending (decision_variables d);
+    }))
     None
 made_alone s a turns =
-    Some (record { kind = Turn; first = a; second = None; arm = None; channel = None; value = None; written = None; read = [] })
+    Some (record {
+      kind = Turn;
+      first = a;
+      second = None;
+      arm = None;
+      channel = None;
+      value = None;
+      written = None;
+      read = [];
+    })
 made_alone s a _ = None
 
 -- the event of a send and the move that meets it
 abbrev pub made_by_send : Store → Place → ℕ → ℕ → Expression → Place → Move → Option Event
 made_by_send s a c w e b (receives d x) =
     cond (c == d)
-    (Some (record { kind = Meet; first = a; second = Some b; arm = None; channel = Some c; value = Some (sent s w e); written = x; read = ascending (variables e) }))
+    (Some (record {
+      kind = Meet;
+      first = a;
+      second = Some b;
+      arm = None;
+      channel = Some c;
+      value = Some (sent s w e);
+      written = x;
+      read = ascending (variables e);
+    }))
     None
 made_by_send s a c w e b _ = None
 
@@ -46,7 +82,16 @@ made_by_send s a c w e b _ = None
 abbrev pub made_by_held_send : Store → Place → ℕ → ℕ → Expression → Place → Move → Option Event
 made_by_held_send s a c w e b (opens d k v) =
     cond ((c == d) && same_option same_word (Some (sent s w e)) v)
-    (Some (record { kind = Open; first = a; second = Some b; arm = Some k; channel = Some c; value = v; written = None; read = ascending (variables e) }))
+    (Some (record {
+      kind = Open;
+      first = a;
+      second = Some b;
+      arm = Some k;
+      channel = Some c;
+      value = v;
+      written = None;
+      read = ascending (variables e);
+    }))
     None
 made_by_held_send s a c w e b _ = None
 
@@ -54,7 +99,16 @@ made_by_held_send s a c w e b _ = None
 abbrev pub made_by_held_sync : Place → ℕ → Place → Move → Option Event
 made_by_held_sync a c b (opens d k v) =
     cond ((c == d) && same_option same_word None v)
-    (Some (record { kind = Open; first = a; second = Some b; arm = Some k; channel = Some c; value = v; written = None; read = [] }))
+    (Some (record {
+      kind = Open;
+      first = a;
+      second = Some b;
+      arm = Some k;
+      channel = Some c;
+      value = v;
+      written = None;
+      read = [];
+    }))
     None
 made_by_held_sync a c b _ = None
 
@@ -62,7 +116,16 @@ made_by_held_sync a c b _ = None
 abbrev pub made_by_release : Place → ℕ → Place → Move → Option Event
 made_by_release a c b (closes d) =
     cond (c == d)
-    (Some (record { kind = Close; first = a; second = Some b; arm = None; channel = Some c; value = None; written = None; read = [] }))
+    (Some (record {
+      kind = Close;
+      first = a;
+      second = Some b;
+      arm = None;
+      channel = Some c;
+      value = None;
+      written = None;
+      read = [];
+    }))
     None
 made_by_release a c b _ = None
 
@@ -70,7 +133,16 @@ made_by_release a c b _ = None
 abbrev pub made_by_sync : Place → ℕ → Place → Move → Option Event
 made_by_sync a c b (syncs d false) =
     cond ((c == d) && is_lt (order_of a b))
-    (Some (record { kind = Sync; first = a; second = Some b; arm = None; channel = Some c; value = None; written = None; read = [] }))
+    (Some (record {
+      kind = Sync;
+      first = a;
+      second = Some b;
+      arm = None;
+      channel = Some c;
+      value = None;
+      written = None;
+      read = [];
+    }))
     None
 made_by_sync a c b _ = None
 

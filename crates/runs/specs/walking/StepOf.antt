@@ -27,7 +27,8 @@ agreed S e q (Some f) = cond (same_event f e) (Some (record { residual = q; stor
 -- the state after the event e, where e is allowed
 abbrev pub step_of : State → Event → Option State
 step_of S e =
-    option_and_then (λ ks. option_and_then (λ x. agreed S e x.1 (event_of S.store x.0)) (moves_of S.residual ks)) (asked e)
+    option_and_then (λ ks. option_and_then (λ x. agreed S e x.1 (event_of S.store x.0)) (moves_of S.residual ks))
+    (asked e)
 
 -- the state after the events of h in their order, where they are allowed in turn
 abbrev pub run_of : State → List Event → Option State

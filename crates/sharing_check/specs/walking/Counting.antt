@@ -55,8 +55,14 @@ sync = record { senders = 1; receivers = 1; users = 1 }
 
 -- two widths put together, up to 255
 abbrev pub join_widths : Together → Width → Width → Width
-join_widths InOneBranch a b = record { senders = max a.senders b.senders; receivers = max a.receivers b.receivers; users = max a.users b.users }
-join_widths InBranches a b = record { senders = min (a.senders + b.senders) 255; receivers = min (a.receivers + b.receivers) 255; users = min (a.users + b.users) 255 }
+join_widths InOneBranch a b =
+    record { senders = max a.senders b.senders; receivers = max a.receivers b.receivers; users = max a.users b.users }
+join_widths InBranches a b =
+    record {
+      senders = min (a.senders + b.senders) 255;
+      receivers = min (a.receivers + b.receivers) 255;
+      users = min (a.users + b.users) 255;
+    }
 
 abbrev pub of_side : Side → Width → ℕ
 of_side senders w = w.senders
@@ -153,4 +159,5 @@ lesser (Some least) offset = min least offset
 abbrev pub least_onto : System → Option ℕ → List (ℕ × Width) → Option ℕ
 least_onto system least [] = least
 least_onto system least (e ∷ es) =
-    least_onto system (cond (is_passed (is_sync system e.0) e.1) (Some (lesser least (declared_of system e.0))) least) es
+    least_onto system
+    (cond (is_passed (is_sync system e.0) e.1) (Some (lesser least (declared_of system e.0))) least) es

@@ -1,5 +1,6 @@
 -- Where parts of a command touch variables, and the least offset at which two of them clash as branches of a parallel.
--- No reader has to believe it: `proofs/AddsCommand.antt` and `proofs/TableClashes.antt` tie what is found to `ClashesAt` of `Refusal.antt`.
+-- No reader has to believe it: `proofs/AddsCommand.antt` and `proofs/TableClashes.antt` tie what is found to
+-- `ClashesAt` of `Refusal.antt`.
 use Rattle.std.specs.Prelude.{ℕ, min, List, [], ◌∷◌, length, Bool, true, false, cond, nat_eq, nat_lt, Option, None, Some, is_some, unwrap_or, slice_get}
 use Rattle.std.specs.Map.{lookup}
 use Rattle.indexmap.specs.IndexMap.{insert_entry}

@@ -115,16 +115,24 @@ labelled_layer a g = a.body g
 
 -- a command
 abbrev pub gathering : List Variable → Command → Gathers
-gathering variables = fold-Command Gathers Gathers Gathers Gathers Gathers (gathering_layer variables) arm_layer command_layer guarded_layer labelled_layer
+gathering variables =
+    fold-Command Gathers Gathers Gathers Gathers Gathers
+    (gathering_layer variables) arm_layer command_layer guarded_layer labelled_layer
 
 -- an arm of `select` or `arbitrate`
 abbrev pub gathering_arm : List Variable → Arm → Gathers
-gathering_arm variables = fold-Arm Gathers Gathers Gathers Gathers Gathers (gathering_layer variables) arm_layer command_layer guarded_layer labelled_layer
+gathering_arm variables =
+    fold-Arm Gathers Gathers Gathers Gathers Gathers
+    (gathering_layer variables) arm_layer command_layer guarded_layer labelled_layer
 
 -- an arm of `if`
 abbrev pub gathering_guarded : List Variable → Guarded → Gathers
-gathering_guarded variables = fold-Guarded Gathers Gathers Gathers Gathers Gathers (gathering_layer variables) arm_layer command_layer guarded_layer labelled_layer
+gathering_guarded variables =
+    fold-Guarded Gathers Gathers Gathers Gathers Gathers
+    (gathering_layer variables) arm_layer command_layer guarded_layer labelled_layer
 
 -- an arm of `case`
 abbrev pub gathering_labelled : List Variable → Labelled → Gathers
-gathering_labelled variables = fold-Labelled Gathers Gathers Gathers Gathers Gathers (gathering_layer variables) arm_layer command_layer guarded_layer labelled_layer
+gathering_labelled variables =
+    fold-Labelled Gathers Gathers Gathers Gathers Gathers
+    (gathering_layer variables) arm_layer command_layer guarded_layer labelled_layer

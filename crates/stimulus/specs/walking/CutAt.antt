@@ -1,5 +1,6 @@
 -- Texts cut at the first of a byte.
--- No reader has to believe it: `proofs/Lines.antt` ties a cut at byte 10 to `lines`, and `proofs/Entries.antt` one at a space to `Gives`.
+-- No reader has to believe it: `proofs/Lines.antt` ties a cut at byte 10 to `lines`, and `proofs/Entries.antt` one at a
+-- space to `Gives`.
 use Rattle.std.specs.Prelude.{◌≡◌, ℕ, ◌≤◌, List, [], ◌∷◌, length, take, drop}
 
 -- the byte does not stand in the text

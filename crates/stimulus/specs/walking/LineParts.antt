@@ -1,6 +1,6 @@
 -- What reading the parts of a line of a stimulus finds.
--- No reader has to believe it: `proofs/Entries.antt` ties it to `Gives`, and `proofs/Lines.antt` to `AreEntries` and `FirstOther`
--- of `StimulusText.antt`.
+-- No reader has to believe it: `proofs/Entries.antt` ties it to `Gives`, and `proofs/Lines.antt` to `AreEntries` and
+-- `FirstOther` of `StimulusText.antt`.
 use Rattle.std.specs.Prelude.{◌≡◌, ℕ, ◌<◌, ◌≤◌, ◌^◌, List, [], ◌∷◌, ◌++◌, ◌⊎◌, length, Bool, true}
 use Rattle.std.specs.Fmt.{decimal}
 use Rattle.syntax.specs.Lists.{Every}
@@ -57,8 +57,8 @@ IsAdded n line before after =
     ⊎ ((name : Text) × (given : Given) × Gives line name given
     × (after ≡ before ++ record { line = n; name = name; given = given } ∷ []))
 
--- line n is passed by a reader that keeps `most` entries: its entry is added where fewer are kept, else it may be empty, or
--- its entry is missing from then on
+-- line n is passed by a reader that keeps `most` entries: its entry is added where fewer are kept, else it may be
+-- empty, or its entry is missing from then on
 abbrev pub IsPassed : ℕ → ℕ → Text → List Entry → Bool → List Entry → Bool → Type 0
 IsPassed most n line before was_cut after is_cut =
     ((length before < most) × (is_cut ≡ was_cut) × IsAdded n line before after)

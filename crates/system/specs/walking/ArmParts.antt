@@ -9,12 +9,17 @@ use Rattle.system.specs.declared.command.Labelled.{Labelled}
 
 -- what an arm of `if` is to do
 abbrev pub guarded_of : Guarded → OnGuard
-guarded_of = fold-Guarded Residual OnChannel Residual OnGuard OnLabels action_layer arm_layer command_layer guarded_layer labelled_layer
+guarded_of =
+    fold-Guarded Residual OnChannel Residual OnGuard OnLabels action_layer arm_layer command_layer guarded_layer
+    labelled_layer
 
 -- what an arm of `case` is to do
 abbrev pub labelled_of : Labelled → OnLabels
-labelled_of = fold-Labelled Residual OnChannel Residual OnGuard OnLabels action_layer arm_layer command_layer guarded_layer labelled_layer
+labelled_of =
+    fold-Labelled Residual OnChannel Residual OnGuard OnLabels action_layer arm_layer command_layer guarded_layer
+    labelled_layer
 
 -- what an arm of `select` or `arbitrate` is to do
 abbrev pub arm_of : Arm → OnChannel
-arm_of = fold-Arm Residual OnChannel Residual OnGuard OnLabels action_layer arm_layer command_layer guarded_layer labelled_layer
+arm_of = fold-Arm Residual OnChannel Residual OnGuard OnLabels action_layer arm_layer command_layer guarded_layer
+    labelled_layer

@@ -1,5 +1,6 @@
 -- Hashes of bytes, and for each hash of a list the first place at which it stands.
--- No reader has to believe them: what a table finds by them (`VariableTable::number`) is `variable_from` of `Named.antt`.
+-- No reader has to believe them: what a table finds by them (`VariableTable::number`) is `variable_from` of
+-- `Named.antt`.
 use Rattle.std.specs.Prelude.{ℕ, ◌+◌, ◌*◌, ◌%◌, ◌^◌, nat_eq, List, [], ◌∷◌, ◌++◌, Option, Some, None, is_some, if◌then◌else◌}
 
 -- the hash with one byte more

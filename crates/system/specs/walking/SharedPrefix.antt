@@ -9,4 +9,5 @@ use Rattle.system.specs.declared.prefix.Call.{Call}
 -- a call has a text, and the hash up to it
 abbrev pub IsHashed : Option (Arc Call Global) → Type 0
 IsHashed None = Unit {0}
-IsHashed (Some call) = (0 < length call.value.text.items) × (call.value.hash ≡ hash_of (call.value.around ++ call.value.text.items))
+IsHashed (Some call) =
+    (0 < length call.value.text.items) × (call.value.hash ≡ hash_of (call.value.around ++ call.value.text.items))

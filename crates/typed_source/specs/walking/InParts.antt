@@ -51,7 +51,8 @@ RefusesNext is_first old (Fault.Types fault) = ⊥
 -- the part is read between the two, and a first token is known where one has to be
 abbrev pub IsNext : Bool → Lexing → Part → Lexing → Type 0
 IsNext is_first old part new =
-    (tokens : List Token) × (is_first ≡ false → BeginsProcedure tokens) × ReadsPart part.is_last old tokens new × parser.Parses tokens part.description
+    (tokens : List Token) × (is_first ≡ false → BeginsProcedure tokens) × ReadsPart part.is_last old tokens new
+    × parser.Parses tokens part.description
 
 -- the tokens read so far are this description, and its types and procedures are judged
 pub record Stands (source : List ℕ) (is_last : Bool) (lexing : Lexing) (typing : Typing) : Type 0 where

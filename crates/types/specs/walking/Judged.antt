@@ -1,5 +1,6 @@
 -- What `Typing` stands for: a description whose types and first procedures are judged.
--- No reader has to believe it: `check_types` goes through `new`, `add` and `finish`, and its clauses cite `found_description` alone.
+-- No reader has to believe it: `check_types` goes through `new`, `add` and `finish`, and its clauses cite
+-- `found_description` alone.
 use Rattle.std.specs.Prelude.{◌≡◌, List, [], ◌∷◌, Err}
 use Rattle.types.specs.Commands.{Scope}
 use Rattle.types.specs.Declarations.{after_procedure, types_of, judged_description}

@@ -1,5 +1,6 @@
 -- What the arms of `if` and `case` owe, asked of one arm after another before it is known whether all are right.
--- No reader has to believe it: `proofs/Owed.antt` ties it to `conditional` and `cased` of `Arms.antt`, which ask right arms alone.
+-- No reader has to believe it: `proofs/Owed.antt` ties it to `conditional` and `cased` of `Arms.antt`, which ask right
+-- arms alone.
 use Rattle.std.specs.Prelude.{ℕ, List, [], ◌∷◌, map, Option, nat_eq, if◌then◌else◌, Ok, Err}
 use Rattle.types.specs.Arms.{new_labels, with_seen, judged_labels}
 use Rattle.types.specs.Commands.{Scope, start_of, judged_command}
@@ -29,7 +30,8 @@ abbrev pub guard_of : Scope → List Binding → arm_of_if.Guarded → Verdict V
 guard_of scope opened a = judged_expression least (out-Guarded a).guard scope.names opened
 
 abbrev pub guarded_arm : Scope → List Binding → arm_of_if.Guarded → Verdict Guarded
-guarded_arm scope opened a = becomes guarded_by (both least (guard_of scope opened a) (judged_command least (out-Guarded a).body scope opened))
+guarded_arm scope opened a =
+    becomes guarded_by (both least (guard_of scope opened a) (judged_command least (out-Guarded a).body scope opened))
 
 -- what a guard owes; one that has a fault owes nothing more
 abbrev pub guard_owes : Verdict Valued → ℕ → Verdict (Unit {0})
@@ -53,7 +55,8 @@ abbrev pub labels_of : Scope → List Binding → arm_of_case.CaseArm → Verdic
 labels_of scope opened a = judged_labels least scope.names opened (out-CaseArm a).labels
 
 abbrev pub labelled_arm : Scope → List Binding → arm_of_case.CaseArm → Verdict Labelled
-labelled_arm scope opened a = becomes labelled_by (both least (labels_of scope opened a) (judged_command least (out-CaseArm a).body scope opened))
+labelled_arm scope opened a =
+    becomes labelled_by (both least (labels_of scope opened a) (judged_command least (out-CaseArm a).body scope opened))
 
 -- how wide an expression is, if it is right
 abbrev pub width_of : Verdict Valued → ℕ
@@ -78,9 +81,12 @@ labels_owe width seen (Err fault) = Ok tt
 -- what the labels of the arms owe one after another, beside what was owed before
 abbrev pub labels_owed : ℕ → List ℕ → Verdict (Unit {0}) → List (Verdict (List LabelUse)) → Verdict (Unit {0})
 labels_owed width seen own [] = own
-labels_owed width seen own (labels ∷ rest) = labels_owed width (seen_after seen labels) (and least own (labels_owe width seen labels)) rest
+labels_owed width seen own (labels ∷ rest) =
+    labels_owed width (seen_after seen labels) (and least own (labels_owe width seen labels)) rest
 
 -- a `case` whose arms owe this
-abbrev pub case_owing : Verdict Valued → Verdict (List Labelled) → Verdict (Unit {0}) → Verdict (Option Command) → Verdict Action
+abbrev pub case_owing : Verdict Valued → Verdict (List Labelled) → Verdict (Unit {0}) → Verdict (Option Command) →
+    Verdict Action
 case_owing subject arms own last =
-    if_right (both least subject (both least arms last)) (λ p. becomes (λ _. action.Case p.0.expression p.1.0 p.1.1) own)
+    if_right (both least subject (both least arms last)) (λ p.
+    becomes (λ _. action.Case p.0.expression p.1.0 p.1.1) own)

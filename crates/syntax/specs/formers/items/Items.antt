@@ -36,7 +36,8 @@ abbrev pub the_items : (X : Type 0) → List X → List X
 the_items X elements = elements
 
 -- the children of a list are its elements, in order
-pub the_items_listed : (X : Type 0) (elements : List X) → listed _ (children (the_former this) X elements) ≡ the_items X elements
+pub the_items_listed : (X : Type 0) (elements : List X) →
+    listed _ (children (the_former this) X elements) ≡ the_items X elements
 the_items_listed X elements = list-listed X elements
 
 -- what the memory holds: the `Vec`
@@ -53,5 +54,6 @@ module _ (R S : RattleType) (h : R.Denot → S.Denot) where
       (struct_places (inside.the_type R) (inside.the_type S) (vec.mapped h, tt) _ (λ _. refl) refl
       (laid _ _ _ (vec.the_places heap.the_row ghosts R S h alike), tt))
 
-  pub the_codes_placed : Recodes R S h → Recodes (items.the_row R) (items.the_row S) ((the_former this).map R.Denot S.Denot h)
+  pub the_codes_placed : Recodes R S h →
+      Recodes (items.the_row R) (items.the_row S) ((the_former this).map R.Denot S.Denot h)
   the_codes_placed recodes elements = sym (code_map R.coded.code S.coded.code h (λ x. sym (recodes x)) elements)

@@ -52,10 +52,12 @@ module _ (R S : RattleType) (h : R.Denot → S.Denot) where
   arc_places alike = record {
     mir_same = λ i. (heap_arc (one_value R (alike.mir_same i) (λ _. ftrue) (λ _ _. nothing) gnil)).mir;
     own_same = λ old i.
-        (heap_arc (one_value R (alike.mir_same i) (alike.own_same old.value i) (alike.shr_same old.value i) gnil)).own_val
+        (heap_arc
+        (one_value R (alike.mir_same i) (alike.own_same old.value i) (alike.shr_same old.value i) gnil)).own_val
         (refilled old tt);
     shr_same = λ old i.
-        (heap_arc (one_value R (alike.mir_same i) (alike.own_same old.value i) (alike.shr_same old.value i) gnil)).shr_at
+        (heap_arc
+        (one_value R (alike.mir_same i) (alike.own_same old.value i) (alike.shr_same old.value i) gnil)).shr_at
         (refilled old tt);
   }
 
@@ -64,8 +66,10 @@ module _ (R S : RattleType) (h : R.Denot → S.Denot) where
       R.Denot S.Denot h (shared.the_row R).coded (shared.the_row S).coded
       (invariant R.Denot) (invariant S.Denot) (λ _ p q. refl) (λ _ p q. refl) (λ _ _. tt) (λ _ _. tt)
       (over (inside.the_row R)) (over (inside.the_row S))
-      (struct_places (inside.the_type R) (inside.the_type S) ((λ old. refilled old (h old.value)), tt) _ (λ _. refl) refl
+      (struct_places (inside.the_type R) (inside.the_type S) ((λ old. refilled old (h old.value)), tt) _ (λ _.
+      refl) refl
       (laid _ _ _ (arc_places alike), tt))
 
-  pub the_codes_placed : Recodes R S h → Recodes (shared.the_row R) (shared.the_row S) ((the_former this).map R.Denot S.Denot h)
+  pub the_codes_placed : Recodes R S h →
+      Recodes (shared.the_row R) (shared.the_row S) ((the_former this).map R.Denot S.Denot h)
   the_codes_placed recodes value = recodes value
