@@ -1,4 +1,4 @@
-ghost use Rattle.std.specs.Prelude.{◌≡◌, ◌++◌, nat_eq, OnOk};
+ghost use Rattle.std.specs.Prelude.{◌≡◌, ◌++◌, nat_eq, OnOk, OnErr};
 ghost use Rattle.std.specs.Cmp.Lexicographic.{pointwise};
 ghost use Rattle.system.specs.walking.Hashing.{hash_of};
 
@@ -62,9 +62,10 @@ impl QualifiedName {
         hash_onto(self.prefix.hash(), self.own.text())
     }
 
-    /// Adds its bytes. Without memory a part of them may be there.
+    /// Adds its bytes. It is an error if there is no memory; then none is added.
     pub fn write_to(&self, out: &mut Vec<u8>) -> Result<(), AllocError>
-        ensures { OnOk result (out.new.items ≡ out.old.items ++ self.now) }
+        ensures added { OnOk result (out.new.items ≡ out.old.items ++ self.now) }
+        ensures same { OnErr result (out.new.items ≡ out.old.items) }
     {
         let mut text = Vec::new(*out.allocator());
         push_backwards(&mut text, self.own.text())?;

@@ -138,4 +138,4 @@ test_on-returns-in-Took t c = λ d cs h.
 pub turn_on-returns : goal.turn_on-returns
 turn_on-returns t c = λ g d h.
     on_ok_weaker c.child_on.result (λ k. turn-found c.args.channel c.args.values.now g d c.args.turn c.in_ok-number.number (proc_view c.args.body.now) c.args.over c.args.around.now c.child_on.new.around c.if-over.false
-    c.in_ok-number.ensures k) (c.child_on.ensures (turn-located c.args.table.now c.args.part g d c.args.turn (proc_view c.args.body.now) c.args.over c.if-over.false h))
+    c.in_ok-number.ensures.number k) (c.child_on.ensures (turn-located c.args.table.now c.args.part g d c.args.turn (proc_view c.args.body.now) c.args.over c.if-over.false h))

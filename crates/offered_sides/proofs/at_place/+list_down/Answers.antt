@@ -88,9 +88,9 @@ test_down-returns-in-None t c =
 pub turn_down-returns-in-Some : goal.turn_down-returns-in-Some
 turn_down-returns-in-Some t c =
     on_ok_weaker c.child_down.result (λ h. turn-inside c.args.values.now c.args.around.now c.child_down.new.around c.args.place.now c.in-Some.below.now c.in_ok-number.number c.args.turn (repeat_view c.args.repeat.now).0
-    (repeat_view c.args.repeat.now).1 (proc_view c.args.body.now) c.args.over c.if-over.false c.in_ok-number.ensures c.in-Some.ensures h) c.child_down.ensures
+    (repeat_view c.args.repeat.now).1 (proc_view c.args.body.now) c.args.over c.if-over.false c.in_ok-number.ensures.number c.in-Some.ensures h) c.child_down.ensures
 
 pub turn_down-returns : goal.turn_down-returns
 turn_down-returns t c =
     turn-outside c.args.values.now c.args.around.now c.args.place.now c.in_ok-number.number c.args.turn (repeat_view c.args.repeat.now).0 (repeat_view c.args.repeat.now).1 (proc_view c.args.body.now) c.args.over
-    c.is_over.result c.requires c.if-over.false c.in_ok-number.ensures c.in_default.ensures (c.is_over.ensures.walked c.args.values.now c.args.around.now.received) c.if-is_over.false
+    c.is_over.result c.requires c.if-over.false c.in_ok-number.ensures.number c.in_default.ensures (c.is_over.ensures.walked c.args.values.now c.args.around.now.received) c.if-is_over.false

@@ -90,7 +90,7 @@ list_turn-returns-in_ok-list_again-clause-sides t c =
     c.in_ok-list_child.ensures.sides c.in_ok-body_of_turn.ensures.number c.in_ok-list_child.ensures.over c.if-branch.true
     (c.in_ok-list_again.ensures
     ∙ ap (λ g. added (again_at c.args.values.now c.in_ok-next.next (puts_guard c.list_child.new.around.received g)) c.list_child.new.around) (sym (repeat-guard c.args.repeat.now)))
-    c.in_ok-next.ensures
+    c.in_ok-next.ensures.next
 
 pub list_opened-returns-in_ok-list_close-clause-sides : goal.list_opened-returns-in_ok-list_close-clause-sides
 list_opened-returns-in_ok-list_close-clause-sides t c = λ ds cs.
