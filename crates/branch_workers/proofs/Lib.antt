@@ -1,3 +1,0 @@
-pub mod Gathering
-pub mod Numbers
-pub mod Turns

@@ -1,3 +1,0 @@
-pub mod Dealt
-pub mod Runs
-pub mod walking

@@ -6,6 +6,7 @@ pub mod Distinct
 pub mod Edges
 pub mod FollowerLaws
 pub mod Following
+pub mod FromIndex
 pub mod Keeping
 pub mod LastWriters
 pub mod Linking

@@ -174,24 +174,24 @@ module _ (low next : ℕ) (l : Live) (marks : List Bool) (t index : ℕ) (e : Ev
   )
 
 -- nothing was marked, and now t alone is
-pub marked-first : (low next : ℕ) (l : Live) (marks : List Bool) (t index : ℕ) (e : Event) → Rising low l next → length marks ≡ length l → slice_get l index ≡ Some (t, e) →
-    ((i : ℕ) → slice_get marks i ≡ Some true → ⊥) → MarkedBelow l t index (slice_set marks index true)
-marked-first low next l marks t index e r size stands none =
-    let only : (u : ℕ) → MarkedAt l (slice_set marks index true) u → u ≡ t = λ u h.
-    elim ((set-marked low next l marks t index e r size stands u).0 h) [ inl old ↦ absurd (none old.0 old.2) | inr is ↦ is ] in
+pub marked-first : (low next : ℕ) (d l : Live) (marks : List Bool) (t index : ℕ) (e : Event) → Rising low d next → length marks ≡ length d → slice_get d index ≡ Some (t, e) →
+    ((i : ℕ) → slice_get marks i ≡ Some true → ⊥) → MarkedBelow d l t index (slice_set marks index true)
+marked-first low next d l marks t index e r size stands none =
+    let only : (u : ℕ) → MarkedAt d (slice_set marks index true) u → u ≡ t = λ u h.
+    elim ((set-marked low next d marks t index e r size stands u).0 h) [ inl old ↦ absurd (none old.0 old.2) | inr is ↦ is ] in
     record {
       sound = λ u h. subst (λ (v : ℕ). DependsOn l t v) (sym (only u h)) same;
-      start = (set-marked low next l marks t index e r size stands t).1 (inr refl);
+      start = (set-marked low next d marks t index e r size stands t).1 (inr refl);
       onward = λ s u i at low_i h f.
           let is : s ≡ t = only s h in
-          let one : i ≡ index = one-index low next l t at.0 e i index r (subst (λ (v : ℕ). slice_get l i ≡ Some (v, at.0)) is at.1) stands in
+          let one : i ≡ index = one-index low next d t at.0 e i index r (subst (λ (v : ℕ). slice_get d i ≡ Some (v, at.0)) is at.1) stands in
           absurd (omega arith);
     }
 
 -- the index is passed: the followers of its event are marked if it is
-module _ (low next : ℕ) (l : Live) (t index s : ℕ) (e : Event) (old new : List Bool) (r : Rising low l next) (stands : slice_get l index ≡ Some (s, e)) (b : MarkedBelow l t index old) where
+module _ (low next : ℕ) (d l : Live) (t index s : ℕ) (e : Event) (old new : List Bool) (r : Rising low d next) (stands : slice_get d index ≡ Some (s, e)) (b : MarkedBelow d l t index old) where
   pub pass-marked : (followers : List ℕ) → slice_get old index ≡ Some true → ListsFollowers l s followers →
-      ((u : ℕ) → MarkedAt l new u ↔ (MarkedAt l old u ⊎ In u followers)) → MarkedBelow l t (suc index) new
+      ((u : ℕ) → MarkedAt d new u ↔ (MarkedAt d old u ⊎ In u followers)) → MarkedBelow d l t (suc index) new
   pass-marked followers on lists both = record {
     sound = λ u h. elim ((both u).0 h) [
       | inl before ↦ b.sound u before
@@ -203,17 +203,17 @@ module _ (low next : ℕ) (l : Live) (t index s : ℕ) (e : Event) (old new : Li
         | inl before ↦ (both u).1 (inl (b.onward v u i at below before f))
         | inr added ↦
             let up : s < v = ((lists.exactly v).0 added).dependent.less in
-            let above : index < i = lesser-stands low next l index i s v e at.0 r stands at.1 up in
+            let above : index < i = lesser-stands low next d index i s v e at.0 r stands at.1 up in
             absurd (omega arith)
       ]
       | inr high ↦
           let is : i ≡ index = omega arith in
-          let one : v ≡ s = ap (λ (x : ℕ × Event). x.0) (at-one l index (v, at.0) (s, e) (subst (λ (k : ℕ). slice_get l k ≡ Some (v, at.0)) is at.1) stands) in
+          let one : v ≡ s = ap (λ (x : ℕ × Event). x.0) (at-one d index (v, at.0) (s, e) (subst (λ (k : ℕ). slice_get d k ≡ Some (v, at.0)) is at.1) stands) in
           (both u).1 (inr ((lists.exactly u).1 (subst (λ (k : ℕ). Follower l k u) one f)))
     ];
   }
 
-  pub pass-unmarked : slice_get old index ≡ Some false → MarkedBelow l t (suc index) old
+  pub pass-unmarked : slice_get old index ≡ Some false → MarkedBelow d l t (suc index) old
   pass-unmarked off = record {
     sound = b.sound;
     start = b.start;
@@ -221,7 +221,7 @@ module _ (low next : ℕ) (l : Live) (t index s : ℕ) (e : Event) (old new : Li
       | inl below ↦ b.onward v u i at below h f
       | inr high ↦
           let is : i ≡ index = omega arith in
-          let same_place : h.0 ≡ i = one-index low next l v h.1.0 at.0 h.0 i r h.1.1 at.1 in
+          let same_place : h.0 ≡ i = one-index low next d v h.1.0 at.0 h.0 i r h.1.1 at.1 in
           let on : slice_get old index ≡ Some true = subst (λ (k : ℕ). slice_get old k ≡ Some true) (same_place ∙ is) h.2 in
           let both : true ≡ false = at-one old index true false on off in
           cc
@@ -229,24 +229,24 @@ module _ (low next : ℕ) (l : Live) (t index s : ℕ) (e : Event) (old new : Li
   }
 
 -- once all places are passed, the marks are those of all that depends on t
-pub all-passed : (low next : ℕ) (l : Live) (t index : ℕ) (marks : List Bool) → Rising low l next → length l ≤ index → MarkedBelow l t index marks →
-    ConsequencesList l t (tickets_marked l marks)
-all-passed low next l t index marks r past b =
+pub all-passed : (d l : Live) (t index : ℕ) (marks : List Bool) → IsRising d → IsRising l → ((x : ℕ × Event) → In x d → In x l) → length d ≤ index →
+    MarkedBelow d l t index marks → ConsequencesList l t (tickets_marked d marks)
+all-passed d l t index marks r rises inside past b =
     record {
       exactly = λ u. (
         (λ i.
-            let at = (is-marked l marks u).0 i in
-            (at.1.0, in-at l at.0 (u, at.1.0) at.1.1, b.sound u at)),
-        (λ h. (is-marked l marks u).1 (reached u ((reached-through-followers low next l t u r).0 h.2))),
+            let at = (is-marked d marks u).0 i in
+            (at.1.0, inside (u, at.1.0) (in-at d at.0 (u, at.1.0) at.1.1), b.sound u at)),
+        (λ h. (is-marked d marks u).1 (reached u ((reached-through-followers 0 rises.0 l t u rises.1).0 h.2))),
       );
-      ascending = marked-ascend low next l marks r;
+      ascending = marked-ascend 0 r.0 d marks r.1;
     }
   where
-    reached : (u : ℕ) → Reached l t u → MarkedAt l marks u
+    reached : (u : ℕ) → Reached l t u → MarkedAt d marks u
     reached u here = b.start
     reached u (along {u = v} before f) =
         let at = reached v before in
-        let within : at.0 < length l = slice_get_within l at.0 (v, at.1.0) at.1.1 in
+        let within : at.0 < length d = slice_get_within d at.0 (v, at.1.0) at.1.1 in
         b.onward v u at.0 at.1 (omega arith) at f
 
 -- one more ticket is marked
@@ -357,8 +357,8 @@ unmarked-before l marks t index r size at none i less on =
     ]
 
 -- what depends on an event has no lesser ticket
-pub dependents-above : (l : Live) (marks : List Bool) (t : ℕ) → ConsequencesList l t (tickets_marked l marks) → NoneLess l marks t
-dependents-above l marks t all u i = depends-up l t u ((all.exactly u).0 i).2
+pub dependents-above : (d l : Live) (marks : List Bool) (t : ℕ) → ConsequencesList l t (tickets_marked d marks) → NoneLess d marks t
+dependents-above d l marks t all u i = depends-up l t u ((all.exactly u).0 i).2
 
 -- an index more without a mark
 pub cleared-next : (marks : List Bool) (index next : ℕ) → next ≡ suc index → index < length marks → ((k : ℕ) → k < index → slice_get marks k ≡ Some true → ⊥) →

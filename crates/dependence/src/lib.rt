@@ -4,6 +4,7 @@
 mod accesses;
 mod acting;
 mod candidates;
+mod consequences;
 mod count;
 mod entries;
 mod held;

@@ -10,6 +10,7 @@ ghost use Rattle.dependence.specs.Taking.{MarksAllDependents, OneMarkedAt, NoneM
 ghost use Rattle.syntax.specs.Lists.{In};
 
 use crate::acting::acting_at_first_child;
+use crate::consequences::consequences;
 use crate::count::count_direct;
 use crate::held::HeldLinks;
 use crate::indexes::index_of;
@@ -153,6 +154,24 @@ impl Live {
         ensures { CountsDirect self.now.live ticket result }
     {
         count_direct(self.pairs.as_slice(), self.links.as_slice(), ticket) as u64
+    }
+
+    /// The tickets of the live event of this ticket and of all live events that depend on it, ascending. It marks nothing. It takes
+    /// as long as to go through the live events from that event on.
+    ///
+    /// # Errors
+    ///
+    /// `AllocError` without memory.
+    pub fn consequences(&self, ticket: u64) -> Result<Vec<u64>, AllocError>
+        requires { IsLive self.now.live ticket }
+        ensures { IfOk result (λ tickets. ConsequencesList self.now.live ticket tickets.items) }
+    {
+        consequences(
+            self.alloc,
+            self.pairs.as_slice(),
+            self.links.as_slice(),
+            ticket,
+        )
     }
 
     /// Marks the live event of this ticket and all live events that depend on it, and no others; how many they are. The marks

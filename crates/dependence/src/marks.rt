@@ -1,5 +1,5 @@
 // Marks on the events that depend on one.
-ghost use Rattle.std.specs.Prelude.{◌≡◌, ◌<◌, ◌≤◌, ◌⊎◌, ◌↔◌, ℕ, [], length, true, false, Some, slice_get, MatchOption, IfOk};
+ghost use Rattle.std.specs.Prelude.{◌≡◌, ◌+◌, ◌<◌, ◌≤◌, ◌⊎◌, ◌↔◌, ℕ, [], length, drop, true, false, Some, slice_get, MatchOption, IfOk};
 ghost use Rattle.syntax.specs.Lists.{In};
 ghost use Rattle.system.specs.Expression.{is_in};
 ghost use Rattle.runs.specs.Live.{ConsequencesList, IsLive};
@@ -37,25 +37,33 @@ pub(crate) fn mark_and_count(
 {
     let from = first_index(live, marks, first);
     clear(marks, from);
-    mark_dependents(live, links, marks, ticket);
+    mark_dependents(live, links, 0, marks, ticket);
     count_marked(live, marks, ticket)
 }
 
-/// Marks the event of this ticket and all that depend on it, where nothing is marked.
-fn mark_dependents(live: &[LiveEvent], links: &[HeldLinks], marks: &mut [bool], ticket: u64)
+/// Marks the event of this ticket and all that depend on it, where nothing is marked. The marks are those of the live events from
+/// the index `base` on, and the event is one of these.
+pub(crate) fn mark_dependents(
+    live: &[LiveEvent],
+    links: &[HeldLinks],
+    base: usize,
+    marks: &mut [bool],
+    ticket: u64,
+)
     requires rising { IsRising live.now }
     requires linked { Linked live.now links.now }
-    requires live { IsLive live.now ticket }
-    requires size { length marks.old ≡ length live.now }
+    requires size { base + length marks.old ≡ length live.now }
+    requires live { IsLive (drop base live.now) ticket }
     requires none { (i : ℕ) → slice_get marks.old i ≡ Some true → ⊥ }
-    ensures marked { ConsequencesList live.now ticket (tickets_marked live.now marks.new) }
-    ensures lower { NoneLess live.now marks.new ticket }
+    ensures marked { ConsequencesList live.now ticket (tickets_marked (drop base live.now) marks.new) }
+    ensures lower { NoneLess (drop base live.now) marks.new ticket }
 {
-    let first = index_of_live(live, ticket);
+    let rest = &live[base..];
+    let first = index_of_live(rest, ticket);
     marks[first] = true;
-    for index in first..live.len() {
+    for index in first..rest.len() {
         if marks[index] {
-            mark_all(live, marks, links[index].get().followers.as_slice());
+            mark_all(rest, marks, links[base + index].get().followers.as_slice());
         }
     }
 }
@@ -179,7 +187,11 @@ pub(crate) fn copy_marked(
 }
 
 /// The same; each of the events is looked at.
-fn copy_each(alloc: Global, live: &[LiveEvent], marks: &[bool]) -> Result<Vec<u64>, AllocError>
+pub(crate) fn copy_each(
+    alloc: Global,
+    live: &[LiveEvent],
+    marks: &[bool],
+) -> Result<Vec<u64>, AllocError>
     requires { length marks.now ≡ length live.now }
     ensures { IfOk result (λ tickets. tickets.items ≡ tickets_marked live.now marks.now) }
 {

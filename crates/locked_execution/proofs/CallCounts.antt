@@ -6,8 +6,8 @@ use Rattle.std.proofs.lemmas.Bool.{cases_lt}
 use Rattle.syntax.specs.Lists.{Every}
 use Rattle.recorded_calls.specs.declared.entry.Entry.{Entry}
 use Rattle.recorded_calls.specs.History.{kept_if, calls_by, NoCallsFrom}
-use Rattle.branch_workers.specs.Dealt.{total}
-use Rattle.branch_workers.specs.Runs.{steps_in}
+use Rattle.object_workers.specs.Dealt.{total}
+use Rattle.object_workers.specs.Runs.{steps_in}
 
 rest_empty : {X : Type 0} (b : Bool) (x : X) (xs : List X) → kept_if b x xs ≡ [] → xs ≡ []
 rest_empty true x xs is = absurd (cc is)

@@ -12,7 +12,7 @@ use Rattle.recorded_calls.specs.declared.entry.Entry.{Entry}
 use Rattle.recorded_calls.specs.History.{calls_by, NoCallsFrom, Replays}
 use Rattle.locked_object.specs.Passes.{number, own}
 use Rattle.locked_object.specs.declared.pass.Pass.{Pass}
-use Rattle.branch_workers.specs.Runs.{steps_in, AskBranches, PassesRan}
+use Rattle.object_workers.specs.Runs.{steps_in, AskBranches, PassesRan}
 use Rattle.locked_execution.specs.AtDesk.{AtDesk, breaks_of}
 use Rattle.locked_execution.specs.Performs.{Performs, OnBranch, branch_reply}
 use Rattle.locked_execution.specs.Sharing.{History, Keeps, is_step}

@@ -9,9 +9,9 @@ use Rattle.recorded_calls.specs.History.{calls_by}
 use Rattle.locked_object.specs.Passes.{IsPassOf, number, own}
 use Rattle.locked_object.specs.Sharing.{NewPasses}
 use Rattle.locked_object.specs.declared.pass.Pass.{Pass}
-use Rattle.branch_workers.specs.Dealt.{total}
-use Rattle.branch_workers.specs.Runs.{steps_in, PassesFit, PassesRan, WorkersRan}
-use Rattle.branch_workers.proofs.Turns.{steps_few}
+use Rattle.object_workers.specs.Dealt.{total}
+use Rattle.object_workers.specs.Runs.{steps_in, PassesFit, PassesRan, WorkersRan}
+use Rattle.object_workers.proofs.Turns.{steps_few}
 use Rattle.system.specs.declared.system.System.{System}
 use Rattle.system_places.specs.SystemBranches.{branch_count}
 use Rattle.machine.specs.AtMachine.{AtMachine}

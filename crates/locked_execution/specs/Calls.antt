@@ -1,15 +1,17 @@
 -- Calls of a shared execution.
-use Rattle.std.specs.Prelude.{◌≡◌, ◌⊎◌, ◌≤◌, ◌^◌, ℕ, List, length}
+use Rattle.std.specs.Prelude.{◌≡◌, ◌⊎◌, ◌≤◌, ◌^◌, ◌++◌, ◌∷◌, ℕ, List, [], length}
 use mathlib.Core.List.{IsPrefix}
 use Rattle.atomic_table.specs.Seated.{TableId}
 use Rattle.runs.specs.declared.command.Refusal.TheVariants.{Spent}
 use Rattle.machine.specs.AtMachine.{AtMachine}
-use Rattle.recorded_calls.specs.History.{Replays}
+use Rattle.recorded_calls.specs.History.{Replays, entry_of}
 use Rattle.locked_object.specs.Passes as passes
-use Rattle.locked_object.specs.Passes.{number, seen, told}
+use Rattle.locked_object.specs.Keepers.{history}
+use Rattle.locked_object.specs.Passes.{number, seen, own, told}
 use Rattle.locked_object.specs.Sharing.{Recorded, SawNothing}
+use Rattle.locked_object.specs.declared.keeper.Keeper.{Keeper}
 use Rattle.locked_object.specs.declared.pass.Pass.{Pass}
-use Rattle.branch_workers.specs.Runs.{PassesFit}
+use Rattle.object_workers.specs.Runs.{PassesFit}
 use Rattle.locked_execution.specs.AtDesk.{AtDesk}
 use Rattle.locked_execution.specs.Sharing.{History, Keeps, Legal, NotKept}
 use Rattle.locked_execution.specs.declared.command.Command.{Command}
@@ -48,6 +50,20 @@ abbrev pub Answered : AtDesk → Pass AtDesk Command Reply → Command → Reply
 Answered opening before command reply after =
     (Recorded before command reply after × Legal opening (seen after))
     ⊎ (WhyNotRecorded opening (number before) command (told after) reply × SawNothing before after × IsPrefix (seen before) (told after))
+
+-- why a keeper did not record the call: the reply is one that is not recorded, for want of memory or of a ticket; or there is no
+-- room for one call more
+abbrev pub WhyNotKept : Keeper AtDesk Command Reply → ℕ → Command → Reply → Type 0
+WhyNotKept k n command reply = NotKept k.object n command reply ⊎ ((reply ≡ Reply.Refused Spent) × (2 ^ 63 ≤ length (history k)))
+
+-- what a keeper does with the command of a pass: it performs it on its desk, and records it with the reply behind all others, and
+-- the pass has then seen the recorded history; or neither desk nor history has changed, and the pass is told the history that says
+-- why
+abbrev pub PerformedAs : Keeper AtDesk Command Reply → Pass AtDesk Command Reply → Command → Reply → Keeper AtDesk Command Reply → Pass AtDesk Command Reply → Type 0
+PerformedAs k p command reply k' p' =
+    (Keeps k.object (number p) command reply k'.object × (history k' ≡ history k ++ entry_of (number p) command reply ∷ [])
+    × (own p' ≡ own p ++ entry_of (number p) command reply ∷ []) × (seen p' ≡ history k'))
+    ⊎ (WhyNotKept k (number p) command reply × (k'.object ≡ k.object) × (history k' ≡ history k) × SawNothing p p' × (told p' ≡ history k))
 
 -- the machine of the desk after these calls
 abbrev pub Leaves : AtDesk → History → AtMachine → Type 0

@@ -7,7 +7,7 @@ use Rattle.recorded_calls.specs.History.{calls_by, NoCallsFrom, Replays}
 use Rattle.locked_object.specs.Passes.{number, own}
 use Rattle.locked_object.specs.Sharing.{NewPasses}
 use Rattle.locked_object.specs.declared.pass.Pass.{Pass}
-use Rattle.branch_workers.specs.Runs.{WorkersRan}
+use Rattle.object_workers.specs.Runs.{WorkersRan}
 use Rattle.locked_execution.specs.AtDesk.{AtDesk, new_desk}
 use Rattle.locked_execution.specs.Sharing.{History, Keeps, is_step}
 use Rattle.locked_execution.specs.declared.command.Command.{Command}

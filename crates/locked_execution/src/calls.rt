@@ -3,7 +3,7 @@ ghost use Rattle.std.specs.Prelude.{◌≡◌, ◌≤◌, ◌<◌, ◌^◌, leng
 ghost use mathlib.Core.List.{IsPrefix};
 ghost use Rattle.machine.specs.Headline.{Headline};
 ghost use Rattle.recorded_calls.specs.History.{NoCallsFrom};
-ghost use Rattle.branch_workers.specs.Runs.{WorkersRan, AllSawLegal};
+ghost use Rattle.object_workers.specs.Runs.{WorkersRan, AllSawLegal};
 ghost use Rattle.locked_object.specs.Keepers.{IsKeeperOf, passes_made};
 ghost use Rattle.locked_object.specs.Passes.{number, seen, own, told};
 ghost use Rattle.locked_object.specs.Sharing.{NewPasses};
@@ -13,10 +13,11 @@ ghost use Rattle.locked_execution.specs.Calls.{IsPassOf, ArePassesOf, Answered, 
 ghost use Rattle.locked_execution.specs.declared.command.Command as any;
 ghost use Rattle.system_places.specs.SystemBranches.{branch_count};
 
-use crate::{Board, Command, Desk, Fault, Keeper, Pass, Reply, Shared};
-use branch_workers::{Gate, Ran, run_workers};
+use crate::shared::Kept;
+use crate::{Board, Command, Desk, Fault, Pass, Reply, Shared};
 use locked_object::NotRecorded;
 use machine::Machine;
+use object_workers::{Gate, Ran, run_workers};
 use runs::Refusal;
 use std::alloc::Global;
 use std::sync::Wait;
@@ -134,7 +135,7 @@ impl Shared {
     }
 
     /// The word of recorded calls and the keeper, once no pass calls it any more.
-    pub(crate) fn close<W: Wait>(self, rt: &W) -> (Board, Keeper)
+    pub(crate) fn close<W: Wait>(self, rt: &W) -> (Board, Kept)
         ensures board { result.0 ≡ self.object.board }
         ensures keeper { IsKeeperOf Keeps result.0.table.shared.table_id result.0.table.shared.key result.1 }
         ensures passes { passes_made result.1 ≡ passes_of self }

@@ -1,13 +1,14 @@
 // Workers in threads of their own over a system: how many steps they took, and what is live in the end.
 ghost use Rattle.std.specs.Prelude.{◌≡◌, ◌≤◌, ◌<◌, ◌⊎◌, length, IfOk, MatchOption};
-ghost use Rattle.branch_workers.specs.Runs.{PassesFit};
+ghost use Rattle.object_workers.specs.Runs.{PassesFit};
 ghost use Rattle.locked_object.specs.Keepers.{IsKeeperOf, passes_made};
 ghost use Rattle.locked_execution.specs.Sharing.{Keeps};
 ghost use Rattle.locked_execution.specs.Working.{Worked, CountsLive};
 
-use crate::{Board, Keeper, Pass, Shared};
-use branch_workers::Gate;
+use crate::shared::Kept;
+use crate::{Board, Pass, Shared};
 use machine::Machine;
+use object_workers::Gate;
 use runs::MOST_LIVE_EVENTS;
 use sharing_check::Checked;
 use std::alloc::{AllocError, Global};
@@ -85,7 +86,7 @@ impl Crew {
 }
 
 /// How many events are live on the desk behind the calls of these passes, which are all there are.
-fn live_behind(board: &Board, mut keeper: Keeper, passes: Vec<Pass>) -> u64
+fn live_behind(board: &Board, mut keeper: Kept, passes: Vec<Pass>) -> u64
     requires keeper { IsKeeperOf Keeps board.now.table.shared.table_id board.now.table.shared.key keeper }
     requires count { passes_made keeper ≡ length passes.items }
     requires passes { PassesFit board.now.table.shared.table_id board.now.table.shared.key passes.items }

@@ -4,8 +4,8 @@ ghost use Rattle.runs.specs.declared.command.Refusal as refusal;
 ghost use Rattle.locked_execution.specs.declared.command.Reply as any;
 
 use crate::{Command, Desk, Reply};
-use branch_workers::Branches;
 use locked_object::Object;
+use object_workers::Branches;
 use runs::Refusal;
 
 impl Object<Command, Reply> for Desk {

@@ -9,7 +9,7 @@ use locked_object::Replies;
 pub type Pass = locked_object::Pass<Desk, Command, Reply>;
 
 /// What keeps the execution while the lock is held: the desk, its recorded history, and the seat that notes it.
-pub type Keeper = locked_object::Keeper<Desk, Command, Reply>;
+pub(crate) type Kept = locked_object::Keeper<Desk, Command, Reply>;
 
 /// The word of recorded calls.
 pub type Board = recorded_calls::Board<Desk, Command, Reply, Replies<Desk>>;

@@ -14,7 +14,8 @@ use Rattle.runs.specs.declared.command.Reply.{Reply}
 use Rattle.runs.specs.declared.command.Refusal.{Refusal}
 use Rattle.runs.specs.declared.command.Refusal.TheVariants.{NotReady, HistoryFull, Spent, Memory}
 use Rattle.runs.proofs.ReadyLists.{first-chosen}
-use Rattle.machine.specs.walking.Choosing.{NotTaken}
+use Rattle.machine.specs.Results.{step_reply}
+use Rattle.machine.specs.walking.Choosing.{NotTaken, TakesFound}
 use Rattle.machine.proofs.Entries.{parts-at}
 
 -- the first event of the ready list with the choice
@@ -45,6 +46,13 @@ pub step-done : (o o' : Object) (c : Choice) (e : Event) (T : State) (entry : �
     Does o (Command.Step c) (Reply.Stepped entry.0 entry.1) o'
 step-done o o' c e T entry reaches chosen room left is after =
     subst (λ (x : ℕ × Event). Does o (Command.Step c) (Reply.Stepped x.0 x.1) o') (sym is) (refl, room, left, (T, reaches, chosen), after)
+
+-- what is told of what was found
+pub found-done : (o o' : Object) (c : Choice) (T : State) (found : Option Event) (told : Result (ℕ × Event) Refusal) → Reaches o T →
+    MatchOption found (ChoiceAllowed T c → ⊥) (λ e. Chosen T c e) → TakesFound o found told o' → Does o (Command.Step c) (step_reply told) o'
+found-done o o' c T found (Ok entry) reaches sought h =
+    step-done o o' c entry.1 T entry reaches (chosen-of T c found entry.1 sought h.0) h.1 h.2 h.3 h.4
+found-done o o' c T found (Err why) reaches sought h = (not-taken o c found why T reaches sought h.0, h.1)
 
 -- what is answered where a call may want memory, and may be refused for another reason
 pub answers-of : {A E : Type 0} (o o' : Object) (c : Command) (shown : Result A Refusal → Reply) (r : Result (Result A Refusal) E) (told : Result A Refusal) →

@@ -1,10 +1,11 @@
 // A step of a branch: its first ready event whose line has no breakpoint.
-ghost use Rattle.std.specs.Prelude.{◌≡◌, true, false, slice_get, Some, IfOk, OnErr, MatchOption, MatchResult};
+ghost use Rattle.std.specs.Prelude.{◌≡◌, ◌<◌, ◌≤◌, length, true, false, slice_get, Some, IfOk, OnErr, MatchOption, MatchResult};
 ghost use Rattle.std.specs.Option.{option_copied};
 ghost use Rattle.syntax.specs.Lists.{Every};
 ghost use Rattle.system_places.specs.SystemBranches.{branch_at, parallel_of};
 ghost use Rattle.runs.specs.Events.{acting};
 ghost use Rattle.runs.specs.Moves.{Place};
+ghost use Rattle.runs.specs.Object.{most_live, last_ticket};
 ghost use Rattle.event_inverse.specs.Grown.{state_of_tree};
 ghost use Rattle.rendezvous.specs.ReadyBelow.{ReadyBelow};
 ghost use Rattle.machine.specs.Branching.{is_branch, acts_in, in_branch, is_free, StepsBranch};
@@ -96,7 +97,8 @@ impl History {
         ready_below(alloc, uses, &self.tree, &self.store, place)
     }
 
-    /// Takes the event at this index of the list of those that are ready, where the limits leave room for it.
+    /// Takes the event at this index of the list of those that are ready, where the limits leave room for it. There may be no memory
+    /// for an event that is taken, and for no other.
     fn take_ready(
         &mut self,
         alloc: Global,
@@ -108,6 +110,7 @@ impl History {
         requires chosen { IsChosenAt (state_of_tree (tree_of self.old)) events index }
         ensures done { (e : Event) → slice_get events index ≡ Some e → IfOk result (λ reply. Takes (at_machine system.now self.old) e reply (at_machine system.now self.new)) }
         ensures unchanged { OnErr result (at_machine system.now self.new ≡ at_machine system.now self.old) }
+        ensures wanted { OnErr result ((length self.old.live.live < most_live) × (self.old.next ≤ last_ticket)) }
         ensures holds { Holds system.now self.new }
     {
         let mut events = events.into_vec();

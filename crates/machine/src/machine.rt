@@ -194,14 +194,13 @@ impl Machine {
         self.history.tell_blame(variable)
     }
 
-    /// The tickets of the event of this ticket and of all live events that depend on it, ascending. It marks them.
+    /// The tickets of the event of this ticket and of all live events that depend on it, ascending. It marks nothing.
     ///
     /// # Errors
     ///
     /// `NoSuchEvent` where no live event has the ticket. `Memory` without memory, but never in its place.
-    pub fn consequences(&mut self, ticket: Ticket) -> Result<Items<Ticket>, Refusal>
-        ensures answers { Answers (object self.old) (Command.Consequences ticket) (consequences_reply result) (object self.new) }
-        ensures same { self.new ≡ self.old }
+    pub fn consequences(&self, ticket: Ticket) -> Result<Items<Ticket>, Refusal>
+        ensures { Answers (object self.now) (Command.Consequences ticket) (consequences_reply result) (object self.now) }
     {
         or_refused(self.history.tell_consequences(ticket))
     }

@@ -101,35 +101,21 @@ impl History {
         }
     }
 
-    /// Tells the tickets of the live events that depend on the one of this ticket, which it marks.
+    /// Tells the tickets of the event of this ticket and of the live events that depend on it. It marks nothing.
     pub(crate) fn tell_consequences(
-        &mut self,
+        &self,
         ticket: u64,
     ) -> Result<Result<Items<u64>, Refusal>, AllocError>
-        ensures done { (system : Checked) → Holds system self.old → IfOk result (λ told. Does (execution system self.old) (Command.Consequences ticket) (consequences_reply told) (execution system self.old)) }
-        ensures wanted { OnErr result (IsLive self.old.live.live ticket) }
-        ensures same { (system : Checked) → execution system self.new ≡ execution system self.old }
-        ensures holds { (system : Checked) → Holds system self.old → Holds system self.new }
+        ensures done { (system : Checked) → IfOk result (λ told. Does (execution system self.now) (Command.Consequences ticket) (consequences_reply told) (execution system self.now)) }
+        ensures wanted { OnErr result (IsLive self.now.live.live ticket) }
     {
         match self.live.index_of(ticket) {
             Some(_) => {
-                let tickets = self.tell_dependents(ticket)?;
-                Ok(Ok(tickets))
+                let tickets = self.live.consequences(ticket)?;
+                Ok(Ok(Items::from_vec(tickets)))
             }
             None => Ok(Err(Refusal::NoSuchEvent)),
         }
-    }
-
-    /// Tells the tickets of the live events that depend on the live event of this ticket, which it marks.
-    fn tell_dependents(&mut self, ticket: u64) -> Result<Items<u64>, AllocError>
-        requires { IsLive self.old.live.live ticket }
-        ensures done { (system : Checked) → Holds system self.old → IfOk result (λ tickets. Does (execution system self.old) (Command.Consequences ticket) (Reply.Consequences tickets) (execution system self.old)) }
-        ensures same { (system : Checked) → execution system self.new ≡ execution system self.old }
-        ensures holds { (system : Checked) → Holds system self.old → Holds system self.new }
-    {
-        self.live.mark_consequences(ticket);
-        let tickets = self.live.marked()?;
-        Ok(Items::from_vec(tickets))
     }
 }
 

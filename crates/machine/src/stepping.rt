@@ -11,7 +11,7 @@ ghost use Rattle.dependence.specs.Behind.{ComesBehind};
 ghost use Rattle.event_inverse.specs.Grown.{TreeAndStore, state_of_tree, applied};
 ghost use Rattle.event_inverse.specs.View.{inverse_view};
 ghost use Rattle.event_inverse.specs.declared.record.Inverse.{Inverse};
-ghost use Rattle.machine.specs.walking.Choosing.{NotTaken};
+ghost use Rattle.machine.specs.walking.Choosing.{NotTaken, IsAdmitted, TakesFound};
 ghost use Rattle.machine.specs.walking.Histories.{execution, tree_of, Holds, KnowsUses};
 ghost use Rattle.machine.specs.walking.Entering.{Entered, NotEntered};
 
@@ -41,6 +41,24 @@ impl History {
         ensures holds { Holds system.now self.new }
     {
         let found = event_with(alloc, uses, &self.tree, &self.store, choice)?;
+        self.take_found(alloc, system, found)
+    }
+
+    /// Takes the event that was found, where the limits leave room for it. There may be no memory for an event that is taken, and for
+    /// no other.
+    fn take_found(
+        &mut self,
+        alloc: Global,
+        system: &Checked,
+        found: Option<Event>,
+    ) -> Result<Result<(u64, Event), Refusal>, AllocError>
+        requires holds { Holds system.now self.old }
+        requires allowed { (e : Event) → found ≡ Some e → Allowed (state_of_tree (tree_of self.old)) e }
+        ensures taken { IfOk result (λ told. TakesFound (execution system.now self.old) found told (execution system.now self.new)) }
+        ensures unchanged { OnErr result (execution system.now self.new ≡ execution system.now self.old) }
+        ensures wanted { OnErr result (IsAdmitted found (length self.old.live.live) self.old.next) }
+        ensures holds { Holds system.now self.new }
+    {
         match self.admitted(found) {
             Ok(event) => {
                 let entry = self.add(alloc, system, event)?;

@@ -1,5 +1,5 @@
 -- A line with a long place: it is none of an event that acts at a place of fewer entries.
-use Rattle.std.proofs.Common.{◌≡◌, ℕ, ◌+◌, ◌*◌, ◌/◌, ◌<◌, ◌≤◌, List, [], ◌∷◌, ◌++◌, length, take, get_or, refl, sym, ap, ◌∙◌, subst, arith, length-append, Bool, false, ◌↔◌}
+use Rattle.std.proofs.Common.{◌≡◌, ℕ, ◌+◌, ◌*◌, ◌/◌, ◌<◌, ◌≤◌, List, [], ◌∷◌, ◌++◌, length, take, get_or, refl, sym, ap, ◌∙◌, subst, arith, length-append, Bool, false, ◌↔◌, inl, inr}
 use Rattle.std.specs.Prelude.{IsTrue}
 use Rattle.std.specs.Fmt.{decimal}
 use Rattle.std.proofs.lemmas.Bool.{false≢true}
@@ -22,7 +22,7 @@ use Rattle.runs.specs.declared.event.Choice.{Choice}
 use Rattle.runs.specs.declared.event.Event.{Event}
 use Rattle.machine.specs.AtMachine.{AtMachine, object}
 use Rattle.trace_file.specs.declared.fault.Fault.{Fault}
-use Rattle.trace_file.specs.walking.OneStep.{LineStops}
+use Rattle.trace_file.specs.walking.OneStep.{LineStops, RefusesLong}
 use Rattle.trace_file.specs.walking.Fields.{AreFields, IsArm, IsNoArm}
 use Rattle.trace_file.proofs.EventLemmas.{every-more}
 use Rattle.trace_file.proofs.LineLemmas.{a-step, no-step-arm, no-step-place}
@@ -79,16 +79,19 @@ long-place m text place arm after es T n number f long reaches ready shallow is 
       ),
     )
 
--- a line whose arm is none
-pub long-arm : (m : AtMachine) (text place arm after : List ℕ) (number : ℕ) → AreFields text place arm after → IsNoArm arm
-    → LineStops m text number (Fault.BadLine number)
-long-arm m text place arm after number f none = (refl, no-step-arm text place arm after f none)
+-- why a line with a long place is refused, by its fields
+pub long-refused : (m : AtMachine) (text place arm after : List ℕ) (es : List Event) (T : State) (number : ℕ) (fault : Fault) → AreFields text place arm after
+    → 65536 < length place → Reaches (object m) T → ReadyList T es → Every (IsShallow (length place / 11)) es → RefusesLong place arm number fault
+    → LineStops m text number fault
+long-refused m text place arm after es T number (Fault.BadLine n) f long reaches ready shallow (is, inl none) = (is, no-step-arm text place arm after f none)
+long-refused m text place arm after es T number (Fault.BadLine n) f long reaches ready shallow (is, inr none) = (is, no-step-place text place arm after f none)
+long-refused m text place arm after es T number (Fault.NotAStep n) f long reaches ready shallow (is, k, a) =
+    (is, (long-place m text place arm after es T k.0 number f long reaches ready shallow k.1 a).1)
+long-refused m text place arm after es T number _ f long reaches ready shallow h = absurd h
 
--- a line whose place is none
-pub long-other : (m : AtMachine) (text place arm after : List ℕ) (number : ℕ) (r : Bool) → AreFields text place arm after
-    → (IsTrue r ↔ ((a : List Entry) × IsTextOf a place)) → r ≡ false → LineStops m text number (Fault.BadLine number)
-long-other m text place arm after number r f is fails-it =
-    (refl, no-step-place text place arm after f (λ a t. false≢true (sym fails-it ∙ is.1 (a, t))))
+-- a text that is found to be none of a place is none
+pub other-place : (place : List ℕ) (r : Bool) → (IsTrue r ↔ ((a : List Entry) × IsTextOf a place)) → r ≡ false → HasNoText place
+other-place place r is fails-it a t = false≢true (sym fails-it ∙ is.1 (a, t))
 
 -- entries were passed, and an address with this text goes on from them with the rest
 abbrev pub Passed : List ℕ → List ℕ → Type 0

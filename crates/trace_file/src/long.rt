@@ -8,7 +8,7 @@ ghost use Rattle.runs.specs.Object.{Reaches};
 ghost use Rattle.runs.specs.Ready.{ReadyList};
 ghost use Rattle.runs.specs.Steps.{State};
 ghost use Rattle.machine.specs.AtMachine.{object};
-ghost use Rattle.trace_file.specs.walking.OneStep.{LineStops};
+ghost use Rattle.trace_file.specs.walking.OneStep.{LineStops, RefusesLong};
 
 use crate::Fault;
 use crate::line::{fields, read_arm};
@@ -38,13 +38,20 @@ pub(crate) fn refuse_long(machine: &Machine, rest: &[u8], number: u64) -> Result
     if acts_so_deep(ready.as_slice(), place.len() / ENTRY_BYTES) {
         return Ok(());
     }
+    Err(long_fault(place, arm, number))
+}
+
+/// Why the line of this number with this place and this arm is refused, where no event acts at the place. It takes no memory.
+fn long_fault(place: &[u8], arm: &[u8], number: u64) -> Fault
+    ensures { RefusesLong place.now arm.now number result }
+{
     let Some(_) = read_arm(arm) else {
-        return Err(Fault::BadLine(number));
+        return Fault::BadLine(number);
     };
     if !is_place(place) {
-        return Err(Fault::BadLine(number));
+        return Fault::BadLine(number);
     }
-    Err(Fault::NotAStep(number))
+    Fault::NotAStep(number)
 }
 
 /// The events that may be taken now, in order. It is an error if there is no memory.

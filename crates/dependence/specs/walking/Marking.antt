@@ -29,8 +29,9 @@ MarkedNear marks index = (length marks < index + stride) ⊎ SomeMarked marks in
 abbrev pub NoneLess : Live → List Bool → ℕ → Type 0
 NoneLess l marks t = (u : ℕ) → In u (tickets_marked l marks) → t ≤ u
 
--- t and only what depends on it is marked, and the followers of all that is marked below the index
-pub record MarkedBelow (l : Live) (t index : ℕ) (marks : List Bool) : Type 0 where
-  pub sound : (u : ℕ) → MarkedAt l marks u → DependsOn l t u
-  pub start : MarkedAt l marks t
-  pub onward : (s u i : ℕ) → StandsAt l s i → i < index → MarkedAt l marks s → Follower l s u → MarkedAt l marks u
+-- d are the last of the live events l, beside which the marks stand: t and only what depends on it is marked, and the followers of
+-- all that is marked below the index
+pub record MarkedBelow (d l : Live) (t index : ℕ) (marks : List Bool) : Type 0 where
+  pub sound : (u : ℕ) → MarkedAt d marks u → DependsOn l t u
+  pub start : MarkedAt d marks t
+  pub onward : (s u i : ℕ) → StandsAt d s i → i < index → MarkedAt d marks s → Follower l s u → MarkedAt d marks u

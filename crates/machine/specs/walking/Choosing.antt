@@ -1,11 +1,11 @@
 -- The event of a list that is taken, and why none is.
 -- No reader has to believe it: the proofs of `step` and `branch_step` tie it to `Steps` of `runs` and to `StepsBranch` of `Branching.antt`.
-use Rattle.std.specs.Prelude.{◌≡◌, ◌<◌, ◌≤◌, ℕ, List, Option, Some, None, IsSome, take, slice_get, Bool, true, false, [], ◌∷◌, cond}
+use Rattle.std.specs.Prelude.{◌≡◌, ◌<◌, ◌≤◌, ℕ, List, length, Option, Some, None, Result, Ok, Err, IsSome, take, slice_get, Bool, true, false, [], ◌∷◌, cond}
 use Rattle.syntax.specs.Lists.{Every}
 use Rattle.runs.specs.Choices.{choice_of}
 use Rattle.runs.specs.Ready.{Chosen}
 use Rattle.runs.specs.Steps.{State}
-use Rattle.runs.specs.Object.{most_live, last_ticket}
+use Rattle.runs.specs.Object.{Object, most_live, last_ticket, with_event}
 use Rattle.runs.specs.declared.event.Event.{Event}
 use Rattle.runs.specs.declared.command.Refusal.{Refusal}
 use Rattle.runs.specs.declared.command.Refusal.TheVariants.{NotReady, HistoryFull, Spent}
@@ -26,6 +26,16 @@ NotTaken found live next NotReady = found ≡ None
 NotTaken found live next HistoryFull = IsSome found × (most_live ≤ live)
 NotTaken found live next Spent = IsSome found × (live < most_live) × (last_ticket < next)
 NotTaken found live next _ = ⊥
+
+-- an event was found, and the limits leave room for it
+abbrev pub IsAdmitted : Option Event → ℕ → ℕ → Type 0
+IsAdmitted found live next = IsSome found × (live < most_live) × (next ≤ last_ticket)
+
+-- what is told where this was found, and what is left
+abbrev pub TakesFound : Object → Option Event → Result (ℕ × Event) Refusal → Object → Type 0
+TakesFound o found (Ok entry) o' =
+    (found ≡ Some entry.1) × (length o.live < most_live) × (o.next ≤ last_ticket) × (entry ≡ (o.next, entry.1)) × (o' ≡ with_event o entry.1)
+TakesFound o found (Err why) o' = NotTaken found (length o.live) o.next why × (o' ≡ o)
 
 -- the event at index i passes the test, and none before it
 abbrev pub FirstAt : (Event → Bool) → List Event → ℕ → Type 0

@@ -1,6 +1,8 @@
 -- One line of a trace on a machine.
 -- No reader has to believe it: `proofs/LoadLemmas.antt` ties it to `IsLoaded` and `IsRefused` of `Loading.antt`.
-use Rattle.std.specs.Prelude.{ℕ, suc, ◌≡◌, ◌≢◌, ◌<◌, List, length, get_or, Result, Ok, Err}
+use Rattle.std.specs.Prelude.{ℕ, suc, ◌≡◌, ◌≢◌, ◌⊎◌, ◌<◌, List, length, get_or, Result, Ok, Err}
+use Rattle.address.specs.Reading.{IsTextOf, HasNoText}
+use Rattle.address.specs.declared.Entry.{Entry}
 use Rattle.system.specs.declared.system.System.{System}
 use Rattle.runs.specs.Does.{Steps}
 use Rattle.runs.specs.Live.{events}
@@ -14,6 +16,7 @@ use Rattle.trace_file.specs.declared.version.Version.{Version}
 use Rattle.trace_file.specs.TraceText.{header_of, Begins}
 use Rattle.trace_file.specs.Loading.{ticketed, IsFirstLine, IsStep, IsNoStep, DiffersAt}
 use Rattle.trace_file.specs.declared.version.Version.TheVariants.{Second}
+use Rattle.trace_file.specs.walking.Fields.{IsArm, IsNoArm}
 use Rattle.canonical_order.specs.Canonical.{IsCanonicalOrder}
 
 -- the machine has the events of the lines so far, and `rest` is to be read
@@ -41,6 +44,12 @@ LineStops m rest number Fault.Memory = Unit {0}
 LineStops m rest number (Fault.BadLine n) = (n ≡ number) × IsNoStep rest
 LineStops m rest number (Fault.NotAStep n) = (n ≡ number) × ((c : Choice) × (after : List ℕ) × (m' : AtMachine) × IsStep c rest after × NotTaken m c m')
 LineStops m rest number _ = ⊥
+
+-- why the line of this number with this place and this arm is refused, where no event acts at the place
+abbrev pub RefusesLong : List ℕ → List ℕ → ℕ → Fault → Type 0
+RefusesLong place arm number (Fault.BadLine n) = (n ≡ number) × (IsNoArm arm ⊎ HasNoText place)
+RefusesLong place arm number (Fault.NotAStep n) = (n ≡ number) × ((k : ℕ) × IsArm k arm) × ((a : List Entry) × IsTextOf a place)
+RefusesLong place arm number _ = ⊥
 
 -- why a step was not taken that the line of this number asks for
 abbrev pub StepStops : AtMachine → Choice → ℕ → Fault → Type 0

@@ -1,5 +1,6 @@
+use Rattle.std.proofs.Common.{drop}
 use Rattle.dependence.specs.walking.Marking.{MarkedBelow}
 use Rattle.dependence.proofs.marks.mark_dependents.Given as goal
 
 abbrev pub invariant-loop-index : goal.invariant-loop-index
-invariant-loop-index l = MarkedBelow l.live l.ticket l.index l.marks
+invariant-loop-index l = MarkedBelow (drop l.base l.live) l.live l.ticket l.index l.marks

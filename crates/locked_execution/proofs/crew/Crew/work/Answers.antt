@@ -1,5 +1,5 @@
 use Rattle.std.proofs.Common.{sym, ◌∙◌, subst}
-use Rattle.branch_workers.specs.Runs.{PassesFit}
+use Rattle.object_workers.specs.Runs.{PassesFit}
 use Rattle.locked_execution.specs.Calls.{opening, table}
 use Rattle.locked_execution.specs.Working.{CountsLive}
 use Rattle.locked_execution.proofs.WorkLemmas.{new_fit, ran_fit, ran_many, crew_ran}

@@ -33,3 +33,6 @@ returns-in-Ok-clause-done c = λ e at.
 pub returns-in_err-entry-in-Ok-clause-unchanged : goal.returns-in_err-entry-in-Ok-clause-unchanged
 returns-in_err-entry-in-Ok-clause-unchanged c =
     on-error c.from_residual.result (at_machine-same c.args.system.now c.args.self.now c.add.new.self c.in_err-entry-in-Ok.ensures.unchanged)
+
+pub returns-in_err-entry-in-Ok-clause-wanted : goal.returns-in_err-entry-in-Ok-clause-wanted
+returns-in_err-entry-in-Ok-clause-wanted c = on-error c.from_residual.result (c.in-Ok.ensures.taken.1, c.in-Ok.ensures.taken.2)

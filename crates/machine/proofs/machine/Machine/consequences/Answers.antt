@@ -1,6 +1,5 @@
-use Rattle.std.proofs.Common.{refl, sym, subst}
+use Rattle.std.proofs.Common.{refl, subst}
 use Rattle.runs.specs.Does.{Answers}
-use Rattle.runs.specs.Object.{Object}
 use Rattle.runs.specs.declared.command.Command.{Command}
 use Rattle.machine.specs.AtMachine.{AtMachine, object}
 use Rattle.machine.specs.Results.{consequences_reply}
@@ -8,14 +7,10 @@ use Rattle.machine.specs.walking.Histories.{execution}
 use Rattle.machine.proofs.Stepped.{answers-of, on-error}
 use Rattle.machine.proofs.machine.Machine.consequences.Goals as goal
 
-pub returns-clause-answers : goal.returns-clause-answers
-returns-clause-answers c =
+pub returns : goal.returns
+returns c =
     let o = execution c.self.inside.system c.self.inside.history in
-    let o' = execution c.self.inside.system c.tell_consequences.new.self in
     let asked = Command.Consequences c.args.ticket in
-    let told =
-    answers-of o o asked consequences_reply c.tell_consequences.result c.or_refused.result refl
-    (c.tell_consequences.ensures.done c.self.inside.system c.self.invariant.0) c.tell_consequences.ensures.wanted (on-error c.tell_consequences.result refl)
-    c.or_refused.ensures in
-    subst (λ (h : AtMachine). Answers (object h) asked (consequences_reply c.or_refused.result) o') c.self.view_is
-    (subst (λ (p : Object). Answers o asked (consequences_reply c.or_refused.result) p) (sym (c.tell_consequences.ensures.same c.self.inside.system)) told)
+    subst (λ (h : AtMachine). Answers (object h) asked (consequences_reply c.or_refused.result) (object h)) c.self.view_is
+    (answers-of o o asked consequences_reply c.tell_consequences.result c.or_refused.result refl (c.tell_consequences.ensures.done c.self.inside.system)
+    c.tell_consequences.ensures.wanted (on-error c.tell_consequences.result refl) c.or_refused.ensures)

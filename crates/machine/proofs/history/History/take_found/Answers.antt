@@ -1,0 +1,4 @@
+use Rattle.machine.proofs.history.History.take_found.Goals as goal
+
+pub add-requires-clause-allowed : goal.add-requires-clause-allowed
+add-requires-clause-allowed c = c.requires.allowed c.in-Ok.event c.in-Ok.ensures.taken.0

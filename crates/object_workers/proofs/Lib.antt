@@ -1,0 +1,3 @@
+pub mod Gathering
+pub mod Numbers
+pub mod Turns
