@@ -1,4 +1,9 @@
 // The part of a line that is shown.
+ghost use Rattle.std.specs.Prelude.{◌≡◌, ◌++◌, ◌+◌, ◌≤◌, IfOk, replicate, encode_utf8_all, string_bytes};
+ghost use Rattle.bstr.specs.Utf8.{lossy_chars};
+ghost use Rattle.source_places.specs.Places.{ends_before, within};
+ghost use Rattle.marked_lines.specs.Marks.{blanks_under, signs_under, under};
+
 use crate::shown::{add_times, columns, shown};
 use bstr::ByteSlice;
 use source_places::{end_of_line, place_of};
@@ -43,7 +48,9 @@ fn shown_end(text: &[u8], start: usize, keeps_return: bool) -> usize {
 }
 
 /// The part of a line around the byte at `offset`.
-pub fn part_around(text: &[u8], offset: usize, keeps_return: bool) -> Part {
+pub fn part_around(text: &[u8], offset: usize, keeps_return: bool) -> Part
+    ensures { result.line ≡ ends_before text.now (within text.now offset) + 1 }
+{
     let place = place_of(text, offset);
     let start = place.start;
     let end = shown_end(text, start, keeps_return);
@@ -99,18 +106,31 @@ impl Part {
 }
 
 /// Adds blanks for characters, and a tab for each tab.
-pub fn add_blanks(out: &mut String, bytes: &[u8]) -> Result<(), AllocError> {
+pub fn add_blanks(out: &mut String, bytes: &[u8]) -> Result<(), AllocError>
+    ensures { IfOk result (λ _. string_bytes out.new
+        ≡ string_bytes out.old ++ encode_utf8_all (blanks_under (lossy_chars bytes.now))) }
+{
     for character in bytes.chars() {
-        if character == '\t' {
-            out.push('\t')?;
-        }
-        add_times(out, ' ', columns(character))?;
+        add_under(out, character)?;
     }
     Ok(())
 }
 
+/// Adds what stands under a character.
+fn add_under(out: &mut String, character: char) -> Result<(), AllocError>
+    ensures { IfOk result (λ _. string_bytes out.new ≡ string_bytes out.old ++ encode_utf8_all (under character)) }
+{
+    if character == '\t' {
+        return out.push('\t');
+    }
+    add_times(out, ' ', columns(character))
+}
+
 /// Adds a sign under each column of some characters, at least one.
-pub fn add_signs(out: &mut String, bytes: &[u8], sign: char) -> Result<(), AllocError> {
+pub fn add_signs(out: &mut String, bytes: &[u8], sign: char) -> Result<(), AllocError>
+    ensures { IfOk result (λ _. string_bytes out.new
+        ≡ string_bytes out.old ++ encode_utf8_all (replicate (signs_under (lossy_chars bytes.now)) sign)) }
+{
     let mut is_any = false;
     for character in bytes.chars() {
         let width = columns(character);

@@ -1,3 +1,7 @@
+ghost use Rattle.std.specs.Prelude.{IfOk};
+ghost use Rattle.std.specs.Bool.{MatchBool};
+ghost use Rattle.viable_tokens.specs.Viable.{RefusedAt, TakenAt};
+
 use crate::KINDS;
 use lexer::{Excerpt, Kind, Token};
 use parser::{Fault, refusal_within};
@@ -27,7 +31,9 @@ fn first_that_counts(tokens: &[Token<'_>], place: usize) -> usize {
 }
 
 /// Whether the parser takes the last token but one of `tokens`, which begins at `offset`.
-fn is_taken(alloc: Global, tokens: &[Token<'_>], offset: u64) -> Result<bool, AllocError> {
+fn is_taken(alloc: Global, tokens: &[Token<'_>], offset: u64) -> Result<bool, AllocError>
+    ensures { IfOk result (λ taken. MatchBool taken (TakenAt tokens.now offset) (RefusedAt tokens.now offset)) }
+{
     match refusal_within(alloc, tokens) {
         None => Ok(true),
         Some(Fault::Memory) => Err(AllocError),
