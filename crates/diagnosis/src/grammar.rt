@@ -111,14 +111,16 @@ fn place_at(tokens: &[Token], offset: u64) -> usize {
     place
 }
 
-/// Whether the token at a place touches a number before it.
+/// Whether the name at a place touches a number before it.
 fn touches_number(tokens: &[Token], place: usize) -> bool {
     let Some(before) = place.checked_sub(1) else {
         return false;
     };
     match (tokens.get(before), tokens.get(place)) {
         (Some(one), Some(other)) => {
-            one.kind == Kind::Number && one.span.stop == other.span.start
+            one.kind == Kind::Number
+                && other.kind == Kind::Name
+                && one.span.stop == other.span.start
         }
         _ => false,
     }
@@ -239,6 +241,9 @@ fn advise(
             "the lines end with byte 13 alone, so that a comment goes on to the end: save with Unix line ends",
         ]);
     }
+    if seen.is_first {
+        return advise_first(source, seen, viable, finding);
+    }
     if let Some(help) = help_for(seen, viable) {
         return finding.advise(&[help]);
     }
@@ -253,6 +258,24 @@ fn advise(
     }
     if is_name_wanted(seen, viable) {
         return finding.advise(&["this word is reserved and names nothing: take another name"]);
+    }
+    Ok(())
+}
+
+/// Says what helps where a description does not begin as one.
+fn advise_first(
+    source: &[u8],
+    seen: Seen<'_>,
+    viable: &[Kind],
+    finding: &mut Finding,
+) -> Result<(), AllocError> {
+    if seen.found == Kind::Name {
+        advise_word(source, viable, finding)?;
+    }
+    if finding.help.is_empty() {
+        finding.advise(&[
+            "a description begins with `type` or `procedure`: are FILE and STIMULUS exchanged, or is FILE empty?",
+        ])?;
     }
     Ok(())
 }

@@ -137,11 +137,6 @@ pub fn missing(seen: Seen<'_>, viable: &[Kind]) -> Option<(&'static str, &'stati
 
 /// What helps against what stands at the fault, where the grammar makes sure what is meant.
 pub fn help_for(seen: Seen<'_>, viable: &[Kind]) -> Option<&'static str> {
-    if seen.is_first {
-        return Some(
-            "a description begins with `type` or `procedure`: are FILE and STIMULUS exchanged, or is FILE empty?",
-        );
-    }
     help_for_bracket(seen, viable)
         .or(help_for_comparison(seen, viable))
         .or(help_for_sign(seen, viable))
@@ -231,6 +226,12 @@ fn help_for_sign(seen: Seen<'_>, viable: &[Kind]) -> Option<&'static str> {
         Kind::Comma if has(viable, Kind::Semicolon) => {
             Some("`;` stands between declarations of ports, and `,` between the names of one")
         }
+        Kind::Semicolon if is_before_command(viable) => {
+            Some("`;` stands between two commands: take one out where two stand, or none is before")
+        }
+        Kind::DoubleBar if is_before_command(viable) => {
+            Some("a command stands on each side of `||`")
+        }
         Kind::Semicolon if is_among_locals(viable) => {
             Some("no `;` stands between the declarations of locals: take it out")
         }
@@ -271,6 +272,9 @@ fn help_for_end(seen: Seen<'_>, viable: &[Kind]) -> Option<&'static str> {
     if seen.found == Kind::EndWord && is_before_command(viable) {
         return Some("a command stands here: `continue` does nothing, and `halt` never ends");
     }
+    if seen.open == Some(Kind::EnumerationWord) && has(viable, Kind::EndWord) {
+        return Some("an enumeration ends with `end`, and has `,` between its elements");
+    }
     if matches!(seen.found, Kind::ProcedureWord | Kind::End) && has(viable, Kind::EndWord) {
         return Some(
             "an `end` is missing before this: each procedure, `loop`, `if`, `case`, `select`, `arbitrate` and \
@@ -301,6 +305,12 @@ fn help_for_declaration(seen: Seen<'_>, viable: &[Kind]) -> Option<&'static str>
             Some("variables and channels are declared between `is` and `begin`")
         }
         Kind::BitsWord if has(viable, Kind::Number) => Some("the number stands first: `8 bits`"),
+        Kind::BitsWord | Kind::Number | Kind::Name | Kind::AssignSign | Kind::EqualSign
+            if has(viable, Kind::Colon) && has(viable, Kind::Comma) => {
+            Some(
+                "`:` and a type stand behind the names, as in `variable x : 8 bits`; a variable begins at 0",
+            )
+        }
         Kind::BeginWord | Kind::VariableWord | Kind::ChannelWord
             if has(viable, Kind::Colon) && has(viable, Kind::Comma) => {
             Some("a type is missing, as in `variable x : 8 bits`")

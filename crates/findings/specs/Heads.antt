@@ -7,11 +7,15 @@ abbrev pub head : List ℕ → ℕ → ℕ → List ℕ → List ℕ
 head name line column what =
     name ++ codes ":" ++ decimal line ++ codes ":" ++ decimal column ++ codes ": " ++ what ++ codes "\n"
 
--- what is told begins with the place of the byte at the offset: its line counts those that end before it, from 1, and its
+-- the first line tells the place of the byte at the offset: its line counts those that end before it, from 1, and its
 -- column the characters of that line before it, from 1
+abbrev pub IsHead : List ℕ → List ℕ → ℕ → List ℕ → List ℕ → Type 0
+IsHead name source offset what told =
+    (start : ℕ) × BeginsLine source (within source offset) start
+    × (told ≡ head name (ends_before source (within source offset) + 1)
+    (characters source start (within source offset) + 1) what)
+
+-- what is told begins with such a line
 abbrev pub TellsPlace : List ℕ → List ℕ → ℕ → List ℕ → List ℕ → Type 0
 TellsPlace name source offset what told =
-    (start : ℕ) × (rest : List ℕ)
-    × BeginsLine source (within source offset) start
-    × (told ≡ head name (ends_before source (within source offset) + 1)
-    (characters source start (within source offset) + 1) what ++ rest)
+    (first : List ℕ) × (rest : List ℕ) × IsHead name source offset what first × (told ≡ first ++ rest)

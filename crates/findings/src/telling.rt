@@ -1,6 +1,6 @@
 // What was found about a fault, and its text.
 ghost use Rattle.std.specs.Prelude.{◌≡◌, ◌++◌, ℕ, List, IfOk, string_bytes};
-ghost use Rattle.findings.specs.Heads.{TellsPlace};
+ghost use Rattle.findings.specs.Heads.{IsHead, TellsPlace, head};
 
 use crate::wrapping::add_help;
 use marked_lines::{Mark, add_marked};
@@ -62,6 +62,23 @@ pub fn short(text: &str) -> &str {
 /// A part of what is told: `..` where it is a name that is very long.
 fn part_told(part: &str) -> &str {
     if part.len() > 400 { ".." } else { part }
+}
+
+/// The name of a text, a line of it and a column in that, and what is said of it.
+fn head_of(
+    alloc: Global,
+    name: &str,
+    line: usize,
+    column: usize,
+    what: &str,
+) -> Result<String, AllocError>
+    ensures { IfOk result (λ told. string_bytes told ≡ head name.now line column what.now) }
+{
+    let mut text = String::from_str(alloc, name)?;
+    write!(text, ":{line}:{column}: ")?;
+    text.push_str(what)?;
+    text.push('\n')?;
+    Ok(text)
 }
 
 impl Finding {
@@ -135,7 +152,7 @@ impl Finding {
 
     /// The text: the place and what is wrong, the lines with their marks, and what helps.
     pub fn text(&self, input: Input<'_>, keeps_return: bool) -> Result<String, AllocError>
-        ensures { IfOk result (λ told. TellsPlace input.name.now input.bytes.now self.now.start
+        ensures { IfOk result (λ told. TellsPlace input.entry.name.now input.entry.bytes.now self.now.start
             (string_bytes self.now.what) (string_bytes told)) }
     {
         let mut text = self.head(input)?;
@@ -146,16 +163,17 @@ impl Finding {
 
     /// The first line: the place and what is wrong.
     fn head(&self, input: Input<'_>) -> Result<String, AllocError>
-        ensures { IfOk result (λ told. TellsPlace input.name.now input.bytes.now self.now.start
+        ensures { IfOk result (λ told. IsHead input.entry.name.now input.entry.bytes.now self.now.start
             (string_bytes self.now.what) (string_bytes told)) }
     {
         let place = place_of(input.bytes, self.start as usize);
-        let line = place.line;
-        let column = place.column;
-        let mut text = String::from_str(self.alloc, input.name)?;
-        write!(text, ":{line}:{column}: ")?;
-        text.push_str(self.what.as_str())?;
-        text.push('\n')?;
+        let text = head_of(
+            self.alloc,
+            input.name,
+            place.line,
+            place.column,
+            self.what.as_str(),
+        )?;
         Ok(text)
     }
 

@@ -1,5 +1,5 @@
 -- How the characters of a line are shown on a terminal, and what stands under them.
-use Rattle.std.specs.Prelude.{ℕ, ◌+◌, Bool, ◌||◌, ◌&&◌, ◌==◌, nat_le, nat_lt, max, if◌then◌else◌, List, [], ◌∷◌, replicate, flat_map, sum_by, unwrap_or}
+use Rattle.std.specs.Prelude.{ℕ, ◌+◌, Bool, ◌||◌, ◌&&◌, ◌==◌, false, nat_le, nat_lt, if◌then◌else◌, List, [], ◌∷◌, replicate, flat_map, unwrap_or, encode_utf8}
 use Rattle.unicode_width.specs.Width.{char_width}
 
 abbrev pub tab : ℕ
@@ -33,17 +33,14 @@ shown c =
 abbrev pub columns : ℕ → ℕ
 columns c = if c == tab then 0 else unwrap_or (char_width false (shown c)) 0
 
--- what stands under a character: a tab under a tab, else a blank for each of its columns. So what comes behind stands under
--- what comes behind the character
+-- what stands under a character, in bytes: a tab under a tab, else a blank for each of its columns. So what comes behind
+-- stands under what comes behind the character
 abbrev pub under : ℕ → List ℕ
 under c = if c == tab then tab ∷ [] else replicate (columns c) blank
 
 abbrev pub blanks_under : List ℕ → List ℕ
 blanks_under cs = flat_map under cs
 
-abbrev pub columns_of : List ℕ → ℕ
-columns_of cs = sum_by columns cs
-
--- how many signs stand under marked characters: one a column, and at least one
-abbrev pub signs_under : List ℕ → ℕ
-signs_under cs = max 1 (columns_of cs)
+-- so many of a sign, in bytes
+abbrev pub signs : ℕ → ℕ → List ℕ
+signs n sign = flat_map encode_utf8 (replicate n sign)

@@ -1,10 +1,10 @@
 // The part of a line that is shown.
-ghost use Rattle.std.specs.Prelude.{◌≡◌, ◌++◌, ◌+◌, ◌≤◌, IfOk, replicate, encode_utf8_all, string_bytes};
+ghost use Rattle.std.specs.Prelude.{◌≡◌, ◌++◌, ◌+◌, IfOk, string_bytes};
 ghost use Rattle.bstr.specs.Utf8.{lossy_chars};
 ghost use Rattle.source_places.specs.Places.{ends_before, within};
-ghost use Rattle.marked_lines.specs.Marks.{blanks_under, signs_under, under};
+ghost use Rattle.marked_lines.specs.Marks.{blanks_under, under};
 
-use crate::shown::{add_times, columns, shown};
+use crate::shown::{add_blanks, add_signs, columns, shown};
 use bstr::ByteSlice;
 use source_places::{end_of_line, place_of};
 use std::alloc::AllocError;
@@ -105,36 +105,34 @@ impl Part {
     }
 }
 
-/// Adds blanks for characters, and a tab for each tab.
-pub fn add_blanks(out: &mut String, bytes: &[u8]) -> Result<(), AllocError>
-    ensures { IfOk result (λ _. string_bytes out.new
-        ≡ string_bytes out.old ++ encode_utf8_all (blanks_under (lossy_chars bytes.now))) }
+/// Adds what stands under some characters, so that what comes behind stands under what comes behind them: blanks, and a tab
+/// for each tab.
+pub fn add_under(out: &mut String, bytes: &[u8]) -> Result<(), AllocError>
+    ensures { IfOk result (λ _. string_bytes out.new ≡ string_bytes out.old ++ blanks_under (lossy_chars bytes.now)) }
 {
-    for character in bytes.chars() {
-        add_under(out, character)?;
+    let mut chars = bytes.chars();
+    'chars: while let Some(character) = chars.next() {
+        add_under_one(out, character)?;
     }
     Ok(())
 }
 
 /// Adds what stands under a character.
-fn add_under(out: &mut String, character: char) -> Result<(), AllocError>
-    ensures { IfOk result (λ _. string_bytes out.new ≡ string_bytes out.old ++ encode_utf8_all (under character)) }
+fn add_under_one(out: &mut String, character: char) -> Result<(), AllocError>
+    ensures { IfOk result (λ _. string_bytes out.new ≡ string_bytes out.old ++ under character) }
 {
     if character == '\t' {
         return out.push('\t');
     }
-    add_times(out, ' ', columns(character))
+    add_blanks(out, columns(character))
 }
 
 /// Adds a sign under each column of some characters, at least one.
-pub fn add_signs(out: &mut String, bytes: &[u8], sign: char) -> Result<(), AllocError>
-    ensures { IfOk result (λ _. string_bytes out.new
-        ≡ string_bytes out.old ++ encode_utf8_all (replicate (signs_under (lossy_chars bytes.now)) sign)) }
-{
+pub fn add_marks(out: &mut String, bytes: &[u8], sign: char) -> Result<(), AllocError> {
     let mut is_any = false;
     for character in bytes.chars() {
         let width = columns(character);
-        add_times(out, sign, width)?;
+        add_signs(out, sign, width)?;
         is_any = is_any || width > 0;
     }
     if !is_any {

@@ -1,5 +1,5 @@
 // Characters as they are shown.
-ghost use Rattle.std.specs.Prelude.{◌≡◌, ◌++◌, ◌≤◌, IfOk, replicate, encode_utf8_all, string_bytes};
+ghost use Rattle.std.specs.Prelude.{◌≡◌, ◌++◌, ◌≤◌, IfOk, replicate, string_bytes};
 ghost use Rattle.marked_lines.specs.Marks as marks;
 
 use std::alloc::AllocError;
@@ -41,12 +41,22 @@ pub fn columns(character: char) -> usize
     shown(character).width().unwrap_or(0)
 }
 
-/// Adds so many of a character.
-pub fn add_times(out: &mut String, character: char, times: usize) -> Result<(), AllocError>
-    ensures { IfOk result (λ _. string_bytes out.new ≡ string_bytes out.old ++ encode_utf8_all (replicate times character)) }
+/// Adds so many of a sign.
+pub fn add_signs(out: &mut String, sign: char, times: usize) -> Result<(), AllocError>
+    ensures { IfOk result (λ _. string_bytes out.new ≡ string_bytes out.old ++ marks.signs times sign) }
 {
-    for _ in 0..times {
-        out.push(character)?;
+    for count in 0..times {
+        out.push(sign)?;
+    }
+    Ok(())
+}
+
+/// Adds so many blanks.
+pub fn add_blanks(out: &mut String, times: usize) -> Result<(), AllocError>
+    ensures { IfOk result (λ _. string_bytes out.new ≡ string_bytes out.old ++ replicate times marks.blank) }
+{
+    for count in 0..times {
+        out.push(' ')?;
     }
     Ok(())
 }
