@@ -37,7 +37,7 @@ impl<'a, R> Disk<'a, R> {
 }
 
 /// Why a file could not be read, as far as the system tells.
-fn unread(kind: ErrorKind) -> Unread {
+fn why_unread(kind: ErrorKind) -> Unread {
     match kind {
         ErrorKind::NotFound => Unread::Missing,
         ErrorKind::IsADirectory => Unread::IsFolder,
@@ -56,7 +56,7 @@ impl<R: fs::Files + AllocGlobal> Files for Disk<'_, R> {
             Ok(bytes) => Ok(bytes),
             Err(error) if error.kind() == ErrorKind::OutOfMemory => Err(Fault::Memory),
             Err(error) => {
-                *why = unread(error.kind());
+                *why = why_unread(error.kind());
                 Err(Fault::ReadFailed)
             }
         }

@@ -52,7 +52,7 @@ enum Blemish {
 }
 
 /// The first blemish of a line, and where it begins and stops.
-fn blemish(text: &[u8]) -> Option<(Blemish, usize, usize)> {
+fn first_blemish(text: &[u8]) -> Option<(Blemish, usize, usize)> {
     if text.starts_with(b"\xEF\xBB\xBF") {
         return Some((Blemish::Mark, 0, 3));
     }
@@ -110,7 +110,7 @@ fn blemish_help(blemish: Blemish) -> &'static str {
 
 /// Tells the first blank or byte of a line that stands wrong. Whether there is one.
 pub fn find_blemish(text: &[u8], finding: &mut Finding) -> Result<bool, AllocError> {
-    let Some((found, start, stop)) = blemish(text) else {
+    let Some((found, start, stop)) = first_blemish(text) else {
         return Ok(false);
     };
     let line = finding.start;

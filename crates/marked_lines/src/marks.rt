@@ -1,5 +1,5 @@
 // Rows of a text, each with the marks under it.
-use crate::part::{Part, add_marks, add_under, bytes_between, part_around};
+use crate::part::{Part, add_marks, add_under, bytes_between, character_from, part_around};
 use crate::shown::add_blanks;
 use std::alloc::{AllocError, Global};
 
@@ -30,6 +30,17 @@ fn add_note(out: &mut String, before: &str, note: &str) -> Result<(), AllocError
     out.push('\n')
 }
 
+impl Part {
+    /// Where what stands over the signs of a mark ends. A mark of no bytes has the character behind it over its sign, but a
+    /// tab stands behind the sign.
+    fn stop_of(self, text: &[u8], mark: Mark<'_>) -> usize {
+        if mark.start < mark.stop || text.get(mark.start) == Some(&b'\t') {
+            return mark.stop.min(self.to);
+        }
+        character_from(text, mark.start.saturating_add(1)).min(self.to)
+    }
+}
+
 /// Adds the signs under a part, and what is said of its last mark.
 fn add_signs_of(
     out: &mut String,
@@ -42,7 +53,7 @@ fn add_signs_of(
     part.add_cut(out)?;
     for mark in marks {
         add_under(out, bytes_between(text, behind, mark.start))?;
-        let stop = mark.stop.min(part.to);
+        let stop = part.stop_of(text, *mark);
         add_marks(out, bytes_between(text, mark.start, stop), mark.sign)?;
         behind = stop.max(mark.start);
         note = mark.note;
@@ -109,7 +120,7 @@ fn marks_within(part: Part, marks: &[Mark<'_>]) -> usize {
         if !part.has(mark.start) || mark.start < behind {
             return count;
         }
-        behind = mark.stop;
+        behind = mark.stop.max(mark.start.saturating_add(1));
         count = count.saturating_add(1);
     }
     count

@@ -29,7 +29,7 @@ pub struct Part {
 }
 
 /// The first byte from `offset` on that does not go on with a character.
-fn character_from(text: &[u8], offset: usize) -> usize {
+pub fn character_from(text: &[u8], offset: usize) -> usize {
     for index in offset..text.len() {
         if !matches!(text[index], 0x80..=0xBF) {
             return index;
