@@ -12,10 +12,26 @@ pub enum Side {
 }
 
 /// A use of a channel: the name where it is sent on, received from or synced.
-#[derive(Clone, Copy)]
+#[derive(Drop)]
 pub struct SideUse {
     pub side: Side,
     pub span: Span,
+    /// The calls by which it comes, the outermost first: the name of the called procedure in each.
+    pub calls: Vec<Span>,
+}
+
+impl SideUse {
+    /// The same use once more, through calls before its own.
+    fn behind(&self, alloc: Global, outer: &[Span]) -> Result<SideUse, AllocError> {
+        let mut calls = Vec::new(alloc);
+        calls.extend_from_slice(outer)?;
+        calls.extend_from_slice(self.calls.as_slice())?;
+        Ok(SideUse {
+            side: self.side,
+            span: self.span,
+            calls,
+        })
+    }
 }
 
 /// Uses of a channel at places apart, so many on each side as there can be at one time, up to three.
@@ -50,16 +66,22 @@ fn add_use(uses: &mut Vec<SideUse>, one: SideUse) -> Result<(), AllocError> {
     Ok(())
 }
 
-/// Adds uses that stand beside those.
-fn add_beside(uses: &mut Vec<SideUse>, others: &[SideUse]) -> Result<(), AllocError> {
+/// Adds uses that stand beside those, through these calls before their own.
+fn add_beside(
+    alloc: Global,
+    uses: &mut Vec<SideUse>,
+    others: &[SideUse],
+    outer: &[Span],
+) -> Result<(), AllocError> {
     for one in others {
-        add_use(uses, *one)?;
+        add_use(uses, one.behind(alloc, outer)?)?;
     }
     Ok(())
 }
 
 /// Takes the uses of one side from whichever has more of them.
 fn add_wider(
+    alloc: Global,
     wider: &mut Vec<SideUse>,
     one: &[SideUse],
     other: &[SideUse],
@@ -72,7 +94,7 @@ fn add_wider(
     };
     for each in from {
         if each.side == side {
-            wider.push(*each)?;
+            wider.push(each.behind(alloc, &[])?)?;
         }
     }
     Ok(())
@@ -81,9 +103,9 @@ fn add_wider(
 /// The uses of two parts that do not stand side by side: on each side, those of the part that has more.
 fn put_wider(alloc: Global, uses: &mut Vec<SideUse>, others: &[SideUse]) -> Result<(), AllocError> {
     let mut wider = Vec::new(alloc);
-    add_wider(&mut wider, uses.as_slice(), others, Side::Sending)?;
-    add_wider(&mut wider, uses.as_slice(), others, Side::Receiving)?;
-    add_wider(&mut wider, uses.as_slice(), others, Side::Syncing)?;
+    add_wider(alloc, &mut wider, uses.as_slice(), others, Side::Sending)?;
+    add_wider(alloc, &mut wider, uses.as_slice(), others, Side::Receiving)?;
+    add_wider(alloc, &mut wider, uses.as_slice(), others, Side::Syncing)?;
     *uses = wider;
     Ok(())
 }
@@ -95,6 +117,7 @@ fn use_of(asked: Asked<'_>, channel: &Identifier, side: Side) -> Result<ChannelU
         uses.push(SideUse {
             side: if asked.is_sync { Side::Syncing } else { side },
             span: channel.span,
+            calls: Vec::new(asked.alloc),
         })?;
     }
     Ok(ChannelUses { uses })
@@ -111,7 +134,12 @@ fn uses_of_call(
         if *argument.name.text() == *asked.name {
             for port in asked.ports {
                 if port.is_of(called.name.text(), place) {
-                    add_beside(&mut uses, port.uses.uses.as_slice())?;
+                    add_beside(
+                        asked.alloc,
+                        &mut uses,
+                        port.uses.uses.as_slice(),
+                        &[called.span],
+                    )?;
                 }
             }
         }
@@ -168,7 +196,7 @@ fn uses_beside(children: &[Command], asked: Asked<'_>) -> Result<ChannelUses, Al
     let mut all = none(asked);
     for child in children {
         let uses = uses_in(child, asked)?;
-        add_beside(&mut all.uses, uses.uses.as_slice())?;
+        add_beside(asked.alloc, &mut all.uses, uses.uses.as_slice(), &[])?;
     }
     Ok(all)
 }

@@ -38,7 +38,7 @@ pub fn read_source<F: Files>(
         (NotHad (F.holds files.now file.now)) }
 {
     texts.last = Part::Source;
-    let source = files.read(alloc, file)?;
+    let source = files.read(alloc, file, &mut texts.why)?;
     texts.source = source;
     Ok(())
 }
@@ -57,7 +57,7 @@ pub fn read_texts<F: Files>(
 {
     read_source(alloc, files, file, texts)?;
     texts.last = Part::Stimulus;
-    let values = files.read(alloc, stimulus)?;
+    let values = files.read(alloc, stimulus, &mut texts.why)?;
     texts.values = values;
     Ok(())
 }
@@ -73,7 +73,7 @@ pub fn read_trace<F: Files>(
         (NotHad (F.holds files.now trace.now)) }
 {
     texts.last = Part::Trace;
-    let steps = files.read(alloc, trace)?;
+    let steps = files.read(alloc, trace, &mut texts.why)?;
     texts.trace = steps;
     Ok(())
 }

@@ -6,7 +6,7 @@ ghost use Rattle.command_words.specs.Words.{explains};
 use crate::texts::{Part, Texts};
 use command_words::Request;
 use debug_session::Fault;
-use diagnosis::{Input, Inputs, explain};
+use diagnosis::{Input, Inputs, UnreadFile, explain};
 use std::alloc::{AllocError, Global};
 
 /// The names of the files of a request. A name that it has not is empty.
@@ -50,14 +50,18 @@ fn names_of<'a>(request: &Request<'a>) -> Names<'a> {
     }
 }
 
-/// The file that was read last, where it was one.
-fn last_file<'a>(names: &Names<'a>, last: Part) -> Option<&'a str> {
-    match last {
-        Part::Source => Some(names.file),
-        Part::Stimulus => Some(names.stimulus),
-        Part::Trace => Some(names.trace),
-        Part::Script => None,
-    }
+/// The file that was read last, where it was one, and why it could not be.
+fn unread_file<'a>(names: &Names<'a>, texts: &Texts) -> Option<UnreadFile<'a>> {
+    let name = match texts.last {
+        Part::Source => names.file,
+        Part::Stimulus => names.stimulus,
+        Part::Trace => names.trace,
+        Part::Script => return None,
+    };
+    Some(UnreadFile {
+        name,
+        why: texts.why,
+    })
 }
 
 /// A script of which the last line is the one that says nothing, at its number: the lines before it are gone, so they are
@@ -105,7 +109,7 @@ fn explanation(
             name: "standard input",
             bytes: script.as_slice(),
         }),
-        missing: last_file(&names, texts.last),
+        unread: unread_file(&names, texts),
     };
     let words = explain(alloc, fault.number(), fault.field(), &inputs)?;
     Ok(words.into_bytes())

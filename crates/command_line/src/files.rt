@@ -4,6 +4,7 @@ ghost use Rattle.std.specs.Prelude.{ℕ, List, Option, Some, MatchResult, ⊤};
 ghost use Rattle.command_line.specs.Answering.{NotHad};
 
 use debug_session::Fault;
+use diagnosis::Unread;
 use std::alloc::Global;
 use std::fs;
 use std::io::ErrorKind;
@@ -15,8 +16,8 @@ pub trait Files {
 
     /// The bytes of the file `name`.
     ///
-    /// Refused for want of memory, or because it is missing or cannot be read.
-    fn read(&self, alloc: Global, name: &str) -> Result<Vec<u8>, Fault>
+    /// Refused for want of memory, or because it is missing or cannot be read: then `why` tells more.
+    fn read(&self, alloc: Global, name: &str, why: &mut Unread) -> Result<Vec<u8>, Fault>
         ensures { MatchResult result
             (λ bytes. holds self.now name.now (Some bytes.items))
             (λ fault. NotHad (holds self.now name.now) fault) };
@@ -35,15 +36,29 @@ impl<'a, R> Disk<'a, R> {
     }
 }
 
+/// Why a file could not be read, as far as the system tells.
+fn why_unread(kind: ErrorKind) -> Unread {
+    match kind {
+        ErrorKind::NotFound => Unread::Missing,
+        ErrorKind::IsADirectory => Unread::IsFolder,
+        ErrorKind::NotADirectory => Unread::InNoFolder,
+        ErrorKind::PermissionDenied => Unread::Forbidden,
+        _ => Unread::Failed,
+    }
+}
+
 impl<R: fs::Files + AllocGlobal> Files for Disk<'_, R> {
     // No contract says what the system's files hold.
     ghost holds = { λ _ _ _. ⊤ };
 
-    fn read(&self, _alloc: Global, name: &str) -> Result<Vec<u8>, Fault> {
+    fn read(&self, _alloc: Global, name: &str, why: &mut Unread) -> Result<Vec<u8>, Fault> {
         match fs::read(self.rt, name) {
             Ok(bytes) => Ok(bytes),
             Err(error) if error.kind() == ErrorKind::OutOfMemory => Err(Fault::Memory),
-            Err(_) => Err(Fault::ReadFailed),
+            Err(error) => {
+                *why = why_unread(error.kind());
+                Err(Fault::ReadFailed)
+            }
         }
     }
 }

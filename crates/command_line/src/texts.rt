@@ -1,3 +1,4 @@
+use diagnosis::Unread;
 use std::alloc::Global;
 
 /// A text that a run reads.
@@ -17,6 +18,8 @@ pub struct Texts {
     pub trace: Vec<u8>,
     /// The text that was read last, or could not be.
     pub last: Part,
+    /// Why it could not be read, where it is a file that could not.
+    pub why: Unread,
 }
 
 impl Texts {
@@ -27,6 +30,7 @@ impl Texts {
             values: Vec::new(alloc),
             trace: Vec::new(alloc),
             last: Part::Source,
+            why: Unread::Failed,
         }
     }
 }

@@ -45,7 +45,8 @@ over_trace command = with_rule (over_ports command) (word (codes "TRACE"))
 abbrev pub explaining : App → App
 explaining command = with_rule command (flag (codes "explain"))
 
--- the subcommands, with what stands behind their names
+-- the subcommands, with what stands behind their names; those that people alone ask take `--explain` too, and explain
+-- without it
 abbrev pub check : App
 check = explaining (over_file (new_app (codes "check")))
 
@@ -63,13 +64,13 @@ abbrev pub explain : App
 explain = with_rule (new_app (codes "explain")) refusal_number
 
 abbrev pub outline : App
-outline = over_file (new_app (codes "outline"))
+outline = explaining (over_file (new_app (codes "outline")))
 
 abbrev pub waiting : App
-waiting = over_trace (new_app (codes "waiting"))
+waiting = explaining (over_trace (new_app (codes "waiting")))
 
 abbrev pub why : App
-why = with_rule (with_rule (over_trace (new_app (codes "why"))) (word (codes "X"))) (flag (codes "all"))
+why = explaining (with_rule (with_rule (over_trace (new_app (codes "why"))) (word (codes "X"))) (flag (codes "all")))
 
 -- the program without its subcommands: it has a version, and wants a subcommand
 abbrev pub bare : App

@@ -195,7 +195,7 @@ fn outline<'a>(alloc: Global) -> Result<Command<'a>, AllocError>
         help::OUTLINE_LONG,
         help::OUTLINE_REFUSALS,
     );
-    over_file(alloc, command)
+    explaining(alloc, over_file(alloc, command))
 }
 
 fn waiting<'a>(alloc: Global) -> Result<Command<'a>, AllocError>
@@ -208,7 +208,7 @@ fn waiting<'a>(alloc: Global) -> Result<Command<'a>, AllocError>
         help::WAITING_LONG,
         help::TRACE_REFUSALS,
     );
-    over_trace(alloc, command)
+    explaining(alloc, over_trace(alloc, command))
 }
 
 fn why<'a>(alloc: Global) -> Result<Command<'a>, AllocError>
@@ -216,7 +216,7 @@ fn why<'a>(alloc: Global) -> Result<Command<'a>, AllocError>
 {
     let command = begun(alloc, "why", help::WHY, help::WHY_LONG, help::WHY_REFUSALS);
     let asking = with_argument(over_trace(alloc, command), word(alloc, "X", help::SUBJECT));
-    with_argument(asking, flag(alloc, "all", help::ALL))
+    explaining(alloc, with_argument(asking, flag(alloc, "all", help::ALL)))
 }
 
 /// The program without its commands.

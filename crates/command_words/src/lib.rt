@@ -5,6 +5,7 @@ mod asked;
 mod commands;
 mod crew_size;
 mod help;
+mod hinting;
 mod reading;
 mod request;
 mod unasked;

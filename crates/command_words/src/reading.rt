@@ -6,6 +6,7 @@ ghost use Rattle.command_words.specs.walking.Building.{Finds, IsCommand, Refuses
 
 use crate::asked::chosen;
 use crate::commands::balsadbg;
+use crate::hinting::ask_explain;
 use crate::unasked::why_unasked;
 use crate::{Request, Unasked, help};
 use clap::error::ErrorKind;
@@ -53,6 +54,6 @@ pub fn requested<'a, S: AsStr>(alloc: Global, words: &'a [S]) -> Result<Request<
 {
     match read(alloc, words) {
         Ok(request) => Ok(request),
-        Err(error) => Err(why_unasked(alloc, &error)),
+        Err(error) => Err(why_unasked(alloc, &error, ask_explain(words))),
     }
 }

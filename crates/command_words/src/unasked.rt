@@ -3,6 +3,7 @@ ghost use Rattle.clap.specs.Words.{kind_of};
 ghost use Rattle.clap.specs.declared.error.kind.ErrorKind.TheVariants.{OutOfMemory};
 ghost use Rattle.command_words.specs.walking.Building.{TellsError};
 
+use crate::hinting::hint_for;
 use clap::Error;
 use clap::error::ErrorKind;
 use std::alloc::{AllocError, Global};
@@ -18,25 +19,26 @@ pub enum Unasked {
     Mistake(String),
 }
 
-/// The text of an error that is no want of memory, which is not empty.
-fn text_of(alloc: Global, error: &Error) -> Result<String, AllocError>
+/// The text of an error that is no want of memory, which is not empty, with what helps behind it.
+fn text_of(alloc: Global, error: &Error, hint: &str) -> Result<String, AllocError>
     ensures { IfOk result (λ text. (text.bytes.items ≢ []) × (kind_of error.now ≢ OutOfMemory)) }
 {
     if error.kind() == ErrorKind::OutOfMemory {
         return Err(AllocError);
     }
     let mut text = error.to_string(alloc)?;
+    text.push_str(hint)?;
     if text.is_empty() {
         text.push('\n')?;
     }
     Ok(text)
 }
 
-/// Why there is nothing to do, of this error.
-pub fn why_unasked(alloc: Global, error: &Error) -> Unasked
+/// Why there is nothing to do, of this error. `asks_explain` is whether the page of a refusal is asked for.
+pub fn why_unasked(alloc: Global, error: &Error, asks_explain: bool) -> Unasked
     ensures { TellsError (kind_of error.now) result }
 {
-    let Ok(text) = text_of(alloc, error) else {
+    let Ok(text) = text_of(alloc, error, hint_for(error, asks_explain)) else {
         return Unasked::Memory;
     };
     if error.use_stderr() {

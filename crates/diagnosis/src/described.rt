@@ -3,7 +3,8 @@ use crate::{sharing, stimulus};
 use findings::Finding;
 use lexer::lex;
 use parser::parse;
-use std::alloc::AllocError;
+use std::alloc::{AllocError, Global};
+use syntax::Description;
 
 /// What was found about a fault of names, kinds, widths or sharing at the finding's place.
 pub fn find(source: &[u8], number: u32, finding: &mut Finding) -> Result<(), AllocError> {
@@ -23,6 +24,20 @@ pub fn find(source: &[u8], number: u32, finding: &mut Finding) -> Result<(), All
     name_faults::find(source, tokens.as_slice(), &description, number, finding)
 }
 
+/// The description that a source spells; none where it spells none.
+pub fn described_by(alloc: Global, source: &[u8]) -> Result<Option<Description>, AllocError> {
+    let tokens = match lex(alloc, source) {
+        Ok(tokens) => tokens,
+        Err(lexer::Fault::Memory) => return Err(AllocError),
+        Err(_) => return Ok(None),
+    };
+    match parse(alloc, tokens.as_slice()) {
+        Ok(description) => Ok(Some(description)),
+        Err(parser::Fault::Memory) => Err(AllocError),
+        Err(_) => Ok(None),
+    }
+}
+
 /// What is wrong with a line of the stimulus.
 pub fn find_stimulus(
     stimulus: &[u8],
@@ -30,15 +45,8 @@ pub fn find_stimulus(
     source: &[u8],
     finding: &mut Finding,
 ) -> Result<(), AllocError> {
-    let tokens = match lex(finding.alloc, source) {
-        Ok(tokens) => tokens,
-        Err(lexer::Fault::Memory) => return Err(AllocError),
-        Err(_) => return finding.say(&["this line fits no port"]),
-    };
-    let description = match parse(finding.alloc, tokens.as_slice()) {
-        Ok(description) => description,
-        Err(parser::Fault::Memory) => return Err(AllocError),
-        Err(_) => return finding.say(&["this line fits no port"]),
-    };
-    stimulus::find(stimulus, text, source, &description, finding)
+    match described_by(finding.alloc, source)? {
+        Some(description) => stimulus::find(stimulus, text, source, &description, finding),
+        None => finding.say(&["this line fits no port"]),
+    }
 }

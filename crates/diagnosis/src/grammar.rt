@@ -1,7 +1,10 @@
 // Refusals 5 and 6: what cannot stand, and what could; levels.
-use findings::{Finding, Nearest, text_between};
+use crate::hints::{Seen, has, help_for, missing};
+use crate::opened::{Opened, innermost, kind_at};
+use findings::{Finding, Nearest, text_between, text_of};
 use lexer::{Fault, Kind, Token, lex};
 use std::alloc::AllocError;
+use syntax::Span;
 use viable_tokens::{spelled, viable_kinds};
 
 /// What was found about a fault of the parser at the finding's place.
@@ -23,32 +26,77 @@ pub fn find(source: &[u8], number: u32, finding: &mut Finding) -> Result<(), All
             "keep a part in a variable, or put a part of the text into a procedure of its own",
         ]);
     }
-    let before = kind_before(tokens.as_slice(), place);
-    let touches = touches_number(tokens.as_slice(), place);
-    if found == Kind::End {
-        add_last_word(tokens.as_slice(), place, finding)?;
-    }
+    let open = innermost(finding.alloc, tokens.as_slice(), place)?;
+    let seen = seen_at(source, tokens.as_slice(), place, found, open);
+    let before = place
+        .checked_sub(1)
+        .and_then(|last| tokens.as_slice().get(last))
+        .map(|token| token.span);
     let viable = viable_kinds(finding.alloc, &mut tokens, place)?;
     say_expected(source, found, viable.as_slice(), finding)?;
-    let seen = Seen {
-        found,
-        before,
-        touches,
-        is_first: place == 0,
-    };
-    advise(source, seen, viable.as_slice(), finding)
+    if found == Kind::End
+        && let Some(span) = before
+    {
+        finding.add_beside(span, "the last word")?;
+    }
+    add_open(seen, open, viable.as_slice(), finding)?;
+    advise(source, seen, before, viable.as_slice(), finding)
 }
 
-/// What stands at the fault and before it.
-#[derive(Clone, Copy)]
-struct Seen {
+/// What stands at a place and around it.
+fn seen_at<'a>(
+    source: &'a [u8],
+    tokens: &[Token],
+    place: usize,
     found: Kind,
-    /// The kind of the token before.
-    before: Option<Kind>,
-    /// Whether a number stands right before it, without a blank.
-    touches: bool,
-    /// Whether it is the first token.
-    is_first: bool,
+    open: Option<Opened>,
+) -> Seen<'a> {
+    let before = place.checked_sub(1).and_then(|last| tokens.get(last));
+    Seen {
+        found,
+        text: tokens
+            .get(place)
+            .map_or("", |token| text_of(source, token.span)),
+        before: before.map(|token| token.kind),
+        text_before: before.map_or("", |token| text_of(source, token.span)),
+        next: kind_at(tokens, place.saturating_add(1)),
+        touches: touches_number(tokens, place),
+        is_first: place == 0,
+        open: open.map(|one| one.kind),
+    }
+}
+
+/// Marks the innermost construct that is open where an end of it is missing.
+fn add_open(
+    seen: Seen<'_>,
+    open: Option<Opened>,
+    viable: &[Kind],
+    finding: &mut Finding,
+) -> Result<(), AllocError> {
+    let Some(open) = open else {
+        return Ok(());
+    };
+    match open.kind {
+        Kind::LeftBracket | Kind::LeftParenthesis => {
+            if seen.found != Kind::End && is_left_open(seen, viable) {
+                finding.add_once(open.span, "open since here")?;
+            }
+        }
+        _ => {
+            if matches!(seen.found, Kind::End | Kind::ProcedureWord) && has(viable, Kind::EndWord) {
+                finding.add_once(open.span, "this has no `end`")?;
+            }
+        }
+    }
+    Ok(())
+}
+
+/// Whether what is missing is the end of a bracket or a parenthesis.
+fn is_left_open(seen: Seen<'_>, viable: &[Kind]) -> bool {
+    matches!(
+        help_for(seen, viable),
+        Some("a `]` is missing before this" | "a `)` is missing before this")
+    )
 }
 
 /// Which of the tokens begins at the offset or behind it.
@@ -63,44 +111,24 @@ fn place_at(tokens: &[Token], offset: u64) -> usize {
     place
 }
 
-/// The kind of the token before a place.
-fn kind_before(tokens: &[Token], place: usize) -> Option<Kind> {
-    let before = tokens.get(place.checked_sub(1)?)?;
-    Some(before.kind)
-}
-
-/// Whether the token at a place touches a number before it.
+/// Whether the name at a place touches a number before it.
 fn touches_number(tokens: &[Token], place: usize) -> bool {
     let Some(before) = place.checked_sub(1) else {
         return false;
     };
     match (tokens.get(before), tokens.get(place)) {
         (Some(one), Some(other)) => {
-            one.kind == Kind::Number && one.span.stop == other.span.start
+            one.kind == Kind::Number
+                && other.kind == Kind::Name
+                && one.span.stop == other.span.start
         }
         _ => false,
-    }
-}
-
-/// Marks the last word of a source that ends too early.
-fn add_last_word(tokens: &[Token], place: usize, finding: &mut Finding) -> Result<(), AllocError> {
-    let Some(last) = place.checked_sub(1) else {
-        return Ok(());
-    };
-    match tokens.get(last) {
-        Some(token) => finding.add_beside(token.span, "the last word"),
-        None => Ok(()),
     }
 }
 
 /// Whether all of some kinds are among others.
 fn has_all(viable: &[Kind], kinds: &[Kind]) -> bool {
     kinds.iter().all(|kind| has(viable, *kind))
-}
-
-/// Whether a kind is among others.
-fn has(viable: &[Kind], kind: Kind) -> bool {
-    viable.iter().any(|one| *one == kind)
 }
 
 static COMMAND: [Kind; 10] = [
@@ -195,10 +223,11 @@ fn say_expected(
     say_choice(words.as_slice(), finding)
 }
 
-/// Says what helps.
+/// Says what helps. `before` is where the token before the fault stands.
 fn advise(
     source: &[u8],
-    seen: Seen,
+    seen: Seen<'_>,
+    before: Option<Span>,
     viable: &[Kind],
     finding: &mut Finding,
 ) -> Result<(), AllocError> {
@@ -207,60 +236,65 @@ fn advise(
             "numbers are decimal: `0xFF` is written 255, and `0b101` is written 5",
         ]);
     }
-    if seen.found == Kind::Name && !seen.is_first {
-        return advise_word(source, viable, finding);
-    }
     if seen.found == Kind::End && source.contains(&b'\r') && !source.contains(&b'\n') {
         return finding.advise(&[
             "the lines end with byte 13 alone, so that a comment goes on to the end: save with Unix line ends",
         ]);
     }
-    finding.advise(&[help_for(seen, viable)])
+    if seen.is_first {
+        return advise_first(source, seen, viable, finding);
+    }
+    if let Some(help) = help_for(seen, viable) {
+        return finding.advise(&[help]);
+    }
+    if let Some((note, help)) = missing(seen, viable)
+        && let Some(span) = before
+    {
+        finding.add_beside(behind(span), note)?;
+        return finding.advise(&[help]);
+    }
+    if seen.found == Kind::Name {
+        return advise_word(source, viable, finding);
+    }
+    if is_name_wanted(seen, viable) {
+        return finding.advise(&["this word is reserved and names nothing: take another name"]);
+    }
+    Ok(())
 }
 
-/// What helps against a word or a sign.
-fn help_for(seen: Seen, viable: &[Kind]) -> &'static str {
-    let found = seen.found;
-    if seen.is_first {
-        return "a description begins with `type` or `procedure`: are FILE and STIMULUS exchanged, or is FILE empty?";
+/// Says what helps where a description does not begin as one.
+fn advise_first(
+    source: &[u8],
+    seen: Seen<'_>,
+    viable: &[Kind],
+    finding: &mut Finding,
+) -> Result<(), AllocError> {
+    if seen.found == Kind::Name {
+        advise_word(source, viable, finding)?;
     }
-    if found == Kind::EqualSign && has(viable, Kind::AssignSign) {
-        return "`:=` assigns, and `=` compares";
+    if finding.help.is_empty() {
+        finding.advise(&[
+            "a description begins with `type` or `procedure`: are FILE and STIMULUS exchanged, or is FILE empty?",
+        ])?;
     }
-    if found == Kind::EndWord && seen.before == Some(Kind::Semicolon) {
-        return "`;` stands between commands, and not behind the last: take it out";
+    Ok(())
+}
+
+/// The place right behind a token.
+fn behind(span: Span) -> Span {
+    Span {
+        start: span.stop,
+        stop: span.stop,
+        line: span.line,
     }
-    if found == Kind::EndWord && seen.before == Some(Kind::DoubleBar) {
-        return "a command stands on each side of `||`";
-    }
-    if found == Kind::EndWord && has(viable, Kind::Bar) && !has(viable, Kind::EndWord) {
-        return "an `arbitrate` has two arms: `arbitrate a then .. | b then .. end`";
-    }
-    if matches!(found, Kind::ProcedureWord | Kind::End) && has(viable, Kind::EndWord) {
-        return "an `end` is missing before this: each procedure, `loop`, `if`, `case`, `select`, `arbitrate` and `-> then` has one";
-    }
-    if found == Kind::Comma && has(viable, Kind::Semicolon) {
-        return "`;` stands between declarations of ports, and `,` between the names of one";
-    }
-    if matches!(found, Kind::ChannelWord | Kind::SyncWord)
-        && seen.before == Some(Kind::SharedWord)
-    {
-        return "only variables are shared";
-    }
-    if found == Kind::TypeWord && has(viable, Kind::ProcedureWord) {
-        return "types are declared in front of the first procedure";
-    }
-    if found == Kind::WhileWord && has(viable, Kind::LoopWord) {
-        return "write `loop while .. then .. end`";
-    }
-    if is_word(found)
+}
+
+/// Whether a reserved word stands where a name has to.
+fn is_name_wanted(seen: Seen<'_>, viable: &[Kind]) -> bool {
+    is_word(seen.found)
         && has(viable, Kind::Name)
         && !has(viable, Kind::HaltWord)
         && !has(viable, Kind::NotWord)
-    {
-        return "this word is reserved and names nothing: take another name";
-    }
-    ""
 }
 
 /// Whether it is a reserved word.

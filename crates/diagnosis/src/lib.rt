@@ -5,17 +5,23 @@
 #![tactic(auto)]
 
 mod described;
+mod fields;
 mod grammar;
+mod hints;
 mod lines;
+mod opened;
+mod script;
 mod sharing;
 mod stimulus;
 mod told;
+mod trace;
+mod variables;
 mod words;
 
 use findings::Finding;
 pub use findings::Input;
 use std::alloc::{AllocError, Global};
-pub use told::Inputs;
+pub use told::{Inputs, Unread, UnreadFile};
 
 /// What is told of a fault behind its line: nothing, or lines that each have their end. `number` and `field` are those of
 /// the fault. Where the text in which it is is not at hand, the page of the refusal alone is named.

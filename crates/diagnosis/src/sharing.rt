@@ -1,5 +1,5 @@
 // Refusals 15 and 16: what branches share.
-use branch_uses::{ChannelUses, Side, SideUse, channel_uses, clash_at};
+use branch_uses::{ChannelUses, Side, channel_uses, clash_at};
 use findings::{Finding, text_between};
 use lexer::Token;
 use std::alloc::AllocError;
@@ -143,12 +143,33 @@ fn is_outside(kind: Option<Kind>, side: Side) -> bool {
     )
 }
 
-/// Marks each use of a side.
+/// How a call is told in which a side is used.
+fn call_text(side: Side) -> &'static str {
+    match side {
+        Side::Sending => "this call sends",
+        Side::Receiving => "this call receives",
+        Side::Syncing => "this call syncs",
+    }
+}
+
+/// So many calls by which a use comes are marked.
+const CALLS: usize = 4;
+
+/// Marks each use of a side, and the calls by which it comes.
 fn add_users(uses: &ChannelUses, side: Side, finding: &mut Finding) -> Result<(), AllocError> {
     for one in &uses.uses {
         if one.side == side {
-            finding.add_beside(one.span, side_text(side))?;
+            add_calls(one.calls.as_slice(), side, finding)?;
+            finding.add_once(one.span, side_text(side))?;
         }
+    }
+    Ok(())
+}
+
+/// Marks calls by which a use of a side comes.
+fn add_calls(calls: &[Span], side: Side, finding: &mut Finding) -> Result<(), AllocError> {
+    for call in calls.iter().take(CALLS) {
+        finding.add_once(*call, call_text(side))?;
     }
     Ok(())
 }

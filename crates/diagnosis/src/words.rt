@@ -40,26 +40,43 @@ fn find_byte(source: &[u8], finding: &mut Finding) -> Result<(), AllocError> {
                 let text = text_between(source, finding.start, finding.stop);
                 finding.say(&["`", text, "` begins no word, number or sign"])?;
             }
-            finding.advise(&[help_for(other)])
+            let behind = rest.get(size).copied().unwrap_or(b' ');
+            finding.advise(&[help_for(other, behind)])
         }
     }
 }
 
-/// What helps against a character that begins nothing.
-fn help_for(character: char) -> &'static str {
+/// What helps against a character that begins nothing, with the byte behind it.
+fn help_for(character: char, behind: u8) -> &'static str {
+    match (character, behind) {
+        ('/', b'/') => "a comment begins with `--`",
+        ('/' | '*', b'*' | b'/') =>
+            "a comment goes from `(--` to `--)`, or from `--` to the end of its line",
+        ('!', b'=') => "not equal is `/=`",
+        ('&', b'&') => "and is `and`",
+        ('\'', _) => "there are no texts in quotes, and numbers are decimal: `8'd5` is written 5",
+        _ => help_for_alone(character),
+    }
+}
+
+/// What helps against a character that begins nothing, whatever stands behind it.
+fn help_for_alone(character: char) -> &'static str {
     match character {
         '_' => "a name begins with a letter",
         '/' => "`/=` is not equal; there is no division",
         '*' => "there is no multiplication",
+        '%' => "there is no division, and no remainder; a comment begins with `--`",
         '.' =>
             "no dot stands in a description: an `import` is left out, and what it brought is declared",
-        '"' | '\'' => "there are no texts in quotes",
-        '!' => "not equal is `/=`, and not is `not`",
+        '"' => "there are no texts in quotes",
+        '!' => "not equal is `/=`, and not is `not`; a value is sent on a channel by `c <- e`",
+        '?' => "a value is received from a channel by `c -> x`",
+        '~' => "not is `not`",
+        '^' => "exclusive or is `xor`",
         '&' => "and is `and`; branches side by side stand around `||`",
-        '{' | '}' => "commands are put together by `[` and `]`",
-        '#' | '%' | '\\' => "a comment begins with `--`",
-        '@' | '$' | '~' | '^' | '?' | '`' =>
-            "outside comments only names, numbers, signs and blanks may stand",
+        '{' | '}' => "commands are put together by `[` and `]`, and blocks end with `end`",
+        '#' | '\\' => "a comment begins with `--`",
+        '@' | '$' | '`' => "outside comments only names, numbers, signs and blanks may stand",
         _ =>
             "a name has the letters a to z and A to Z, digits and `_`; other letters may stand in comments alone",
     }

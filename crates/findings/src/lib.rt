@@ -3,6 +3,8 @@
 
 mod nearness;
 mod telling;
+mod wrapping;
 
 pub use nearness::Nearest;
 pub use telling::{Beside, Finding, Input, short, text_between, text_of};
+pub use wrapping::plain_text;

@@ -1,4 +1,8 @@
 // What was found about a fault, and its text.
+ghost use Rattle.std.specs.Prelude.{◌≡◌, ◌++◌, ℕ, List, IfOk, string_bytes};
+ghost use Rattle.findings.specs.Heads.{IsHead, TellsPlace, head};
+
+use crate::wrapping::add_help;
 use marked_lines::{Mark, add_marked};
 use source_places::place_of;
 use std::alloc::{AllocError, Global};
@@ -60,6 +64,23 @@ fn part_told(part: &str) -> &str {
     if part.len() > 400 { ".." } else { part }
 }
 
+/// The name of a text, a line of it and a column in that, and what is said of it.
+fn head_of(
+    alloc: Global,
+    name: &str,
+    line: usize,
+    column: usize,
+    what: &str,
+) -> Result<String, AllocError>
+    ensures { IfOk result (λ told. string_bytes told ≡ head name.now line column what.now) }
+{
+    let mut text = String::from_str(alloc, name)?;
+    write!(text, ":{line}:{column}: ")?;
+    text.push_str(what)?;
+    text.push('\n')?;
+    Ok(text)
+}
+
 impl Finding {
     /// Nothing is said yet of the bytes from `start` up to `stop`.
     pub fn new(alloc: Global, start: u64, stop: u64) -> Finding {
@@ -82,6 +103,14 @@ impl Finding {
             note,
         })?;
         Ok(())
+    }
+
+    /// Adds another place, where none that is added begins there.
+    pub fn add_once(&mut self, span: Span, note: &str) -> Result<(), AllocError> {
+        if self.beside.iter().any(|one| one.start == span.start) {
+            return Ok(());
+        }
+        self.add_beside(span, note)
     }
 
     /// Says what is wrong.
@@ -122,15 +151,36 @@ impl Finding {
     }
 
     /// The text: the place and what is wrong, the lines with their marks, and what helps.
-    pub fn text(&self, input: Input<'_>, keeps_return: bool) -> Result<String, AllocError> {
+    pub fn text(&self, input: Input<'_>, keeps_return: bool) -> Result<String, AllocError>
+        ensures { IfOk result (λ told. TellsPlace input.entry.name.now input.entry.bytes.now self.now.start
+            (string_bytes self.now.what) (string_bytes told)) }
+    {
+        let mut text = self.head(input)?;
+        let lines = self.lines(input, keeps_return)?;
+        text.push_str(lines.as_str())?;
+        Ok(text)
+    }
+
+    /// The first line: the place and what is wrong.
+    fn head(&self, input: Input<'_>) -> Result<String, AllocError>
+        ensures { IfOk result (λ told. IsHead input.entry.name.now input.entry.bytes.now self.now.start
+            (string_bytes self.now.what) (string_bytes told)) }
+    {
         let place = place_of(input.bytes, self.start as usize);
-        let mut text = String::from_str(self.alloc, input.name)?;
-        let line = place.line;
-        let column = place.column;
-        write!(text, ":{line}:{column}: ")?;
-        text.push_str(self.what.as_str())?;
-        text.push_str("\n")?;
+        let text = head_of(
+            self.alloc,
+            input.name,
+            place.line,
+            place.column,
+            self.what.as_str(),
+        )?;
+        Ok(text)
+    }
+
+    /// The lines with their marks, and what helps.
+    fn lines(&self, input: Input<'_>, keeps_return: bool) -> Result<String, AllocError> {
         let marks = self.marks()?;
+        let mut text = String::new(self.alloc);
         add_marked(
             self.alloc,
             &mut text,
@@ -138,11 +188,7 @@ impl Finding {
             marks.as_slice(),
             keeps_return,
         )?;
-        if !self.help.is_empty() {
-            text.push_str("  help: ")?;
-            text.push_str(self.help.as_str())?;
-            text.push_str("\n")?;
-        }
+        add_help(self.alloc, &mut text, self.help.as_str())?;
         Ok(text)
     }
 }

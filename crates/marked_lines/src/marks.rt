@@ -1,6 +1,6 @@
 // Rows of a text, each with the marks under it.
-use crate::part::{Part, add_blanks, add_signs, bytes_between, part_around};
-use crate::shown::add_times;
+use crate::part::{Part, add_marks, add_under, bytes_between, character_from, part_around};
+use crate::shown::add_blanks;
 use std::alloc::{AllocError, Global};
 
 /// What is marked: the bytes from one offset up to another, the sign under them, and what is said of them.
@@ -16,7 +16,7 @@ pub struct Mark<'a> {
 /// Adds the number of a line as a row has it in front, or as many blanks: `columns` in all.
 fn add_gutter(out: &mut String, number: &str, columns: usize) -> Result<(), AllocError> {
     out.push_str("  ")?;
-    add_times(out, ' ', columns.saturating_sub(number.len()))?;
+    add_blanks(out, columns.saturating_sub(number.len()))?;
     out.push_str(number)?;
     out.push_str(" | ")
 }
@@ -30,6 +30,17 @@ fn add_note(out: &mut String, before: &str, note: &str) -> Result<(), AllocError
     out.push('\n')
 }
 
+impl Part {
+    /// Where what stands over the signs of a mark ends. A mark of no bytes has the character behind it over its sign, but a
+    /// tab stands behind the sign.
+    fn stop_of(self, text: &[u8], mark: Mark<'_>) -> usize {
+        if mark.start < mark.stop || text.get(mark.start) == Some(&b'\t') {
+            return mark.stop.min(self.to);
+        }
+        character_from(text, mark.start.saturating_add(1)).min(self.to)
+    }
+}
+
 /// Adds the signs under a part, and what is said of its last mark.
 fn add_signs_of(
     out: &mut String,
@@ -41,9 +52,9 @@ fn add_signs_of(
     let mut note = "";
     part.add_cut(out)?;
     for mark in marks {
-        add_blanks(out, bytes_between(text, behind, mark.start))?;
-        let stop = mark.stop.min(part.to);
-        add_signs(out, bytes_between(text, mark.start, stop), mark.sign)?;
+        add_under(out, bytes_between(text, behind, mark.start))?;
+        let stop = part.stop_of(text, *mark);
+        add_marks(out, bytes_between(text, mark.start, stop), mark.sign)?;
         behind = stop.max(mark.start);
         note = mark.note;
     }
@@ -62,7 +73,7 @@ fn add_notes_before(
         if !mark.note.is_empty() {
             add_gutter(out, "", columns)?;
             part.add_cut(out)?;
-            add_blanks(out, bytes_between(text, part.from, mark.start))?;
+            add_under(out, bytes_between(text, part.from, mark.start))?;
             add_note(out, "", mark.note)?;
         }
     }
@@ -109,7 +120,7 @@ fn marks_within(part: Part, marks: &[Mark<'_>]) -> usize {
         if !part.has(mark.start) || mark.start < behind {
             return count;
         }
-        behind = mark.stop;
+        behind = mark.stop.max(mark.start.saturating_add(1));
         count = count.saturating_add(1);
     }
     count

@@ -1,5 +1,10 @@
 // The part of a line that is shown.
-use crate::shown::{add_times, columns, shown};
+ghost use Rattle.std.specs.Prelude.{◌≡◌, ◌++◌, ◌+◌, IfOk, string_bytes};
+ghost use Rattle.bstr.specs.Utf8.{lossy_chars};
+ghost use Rattle.source_places.specs.Places.{ends_before, within};
+ghost use Rattle.marked_lines.specs.Marks.{blanks_under, under};
+
+use crate::shown::{add_blanks, add_signs, columns, shown};
 use bstr::ByteSlice;
 use source_places::{end_of_line, place_of};
 use std::alloc::AllocError;
@@ -24,7 +29,7 @@ pub struct Part {
 }
 
 /// The first byte from `offset` on that does not go on with a character.
-fn character_from(text: &[u8], offset: usize) -> usize {
+pub fn character_from(text: &[u8], offset: usize) -> usize {
     for index in offset..text.len() {
         if !matches!(text[index], 0x80..=0xBF) {
             return index;
@@ -43,7 +48,9 @@ fn shown_end(text: &[u8], start: usize, keeps_return: bool) -> usize {
 }
 
 /// The part of a line around the byte at `offset`.
-pub fn part_around(text: &[u8], offset: usize, keeps_return: bool) -> Part {
+pub fn part_around(text: &[u8], offset: usize, keeps_return: bool) -> Part
+    ensures { result.line ≡ ends_before text.now (within text.now offset) + 1 }
+{
     let place = place_of(text, offset);
     let start = place.start;
     let end = shown_end(text, start, keeps_return);
@@ -98,23 +105,34 @@ impl Part {
     }
 }
 
-/// Adds blanks for characters, and a tab for each tab.
-pub fn add_blanks(out: &mut String, bytes: &[u8]) -> Result<(), AllocError> {
-    for character in bytes.chars() {
-        if character == '\t' {
-            out.push('\t')?;
-        }
-        add_times(out, ' ', columns(character))?;
+/// Adds what stands under some characters, so that what comes behind stands under what comes behind them: blanks, and a tab
+/// for each tab.
+pub fn add_under(out: &mut String, bytes: &[u8]) -> Result<(), AllocError>
+    ensures { IfOk result (λ _. string_bytes out.new ≡ string_bytes out.old ++ blanks_under (lossy_chars bytes.now)) }
+{
+    let mut chars = bytes.chars();
+    'chars: while let Some(character) = chars.next() {
+        add_under_one(out, character)?;
     }
     Ok(())
 }
 
+/// Adds what stands under a character.
+fn add_under_one(out: &mut String, character: char) -> Result<(), AllocError>
+    ensures { IfOk result (λ _. string_bytes out.new ≡ string_bytes out.old ++ under character) }
+{
+    if character == '\t' {
+        return out.push('\t');
+    }
+    add_blanks(out, columns(character))
+}
+
 /// Adds a sign under each column of some characters, at least one.
-pub fn add_signs(out: &mut String, bytes: &[u8], sign: char) -> Result<(), AllocError> {
+pub fn add_marks(out: &mut String, bytes: &[u8], sign: char) -> Result<(), AllocError> {
     let mut is_any = false;
     for character in bytes.chars() {
         let width = columns(character);
-        add_times(out, sign, width)?;
+        add_signs(out, sign, width)?;
         is_any = is_any || width > 0;
     }
     if !is_any {

@@ -15,9 +15,11 @@ pub fn find(around: Around<'_>, tokens: &[Token], finding: &mut Finding) -> Resu
             finding.what,
             "a width is from 1 to 64 bits, and this one is {bits}"
         )?;
-        return finding.advise(&[
-            "a value that is wider goes in parts, over two variables or channels",
-        ]);
+        return finding.advise(&[if bits == 0 {
+            "a value has one bit at least: a `sync` carries none"
+        } else {
+            "a value that is wider goes in parts, over two variables or channels"
+        }]);
     }
     if let Some((target, value)) = handed_over(around) {
         return find_value(around, target, value, finding);

@@ -1,3 +1,8 @@
+ghost use Rattle.std.specs.Prelude.{◌≡◌, ◌≢◌, ◌⊎◌, IfOk};
+ghost use Rattle.std.specs.Bool.{MatchBool};
+ghost use Rattle.refusals.specs.declared.parser.Fault.TheVariants.{Unexpected, TooDeep};
+ghost use Rattle.viable_tokens.specs.Viable.{RefusedAt, TakenAt};
+
 use crate::KINDS;
 use lexer::{Excerpt, Kind, Token};
 use parser::{Fault, refusal_within};
@@ -27,12 +32,32 @@ fn first_that_counts(tokens: &[Token<'_>], place: usize) -> usize {
 }
 
 /// Whether the parser takes the last token but one of `tokens`, which begins at `offset`.
-fn is_taken(alloc: Global, tokens: &[Token<'_>], offset: u64) -> Result<bool, AllocError> {
-    match refusal_within(alloc, tokens) {
-        None => Ok(true),
-        Some(Fault::Memory) => Err(AllocError),
-        Some(Fault::Unexpected(at) | Fault::TooDeep(at)) => Ok(at != offset),
+fn is_taken(alloc: Global, tokens: &[Token<'_>], offset: u64) -> Result<bool, AllocError>
+    ensures { IfOk result (λ taken. MatchBool taken (TakenAt tokens.now offset) (RefusedAt tokens.now offset)) }
+{
+    let Some(fault) = refusal_within(alloc, tokens) else {
+        return Ok(true);
+    };
+    let at = offset_of(fault)?;
+    Ok(is_elsewhere(at, offset))
+}
+
+/// Where a fault is. Want of memory has no place.
+fn offset_of(fault: Fault) -> Result<u64, AllocError>
+    ensures { IfOk result (λ at. (fault ≡ Unexpected at) ⊎ (fault ≡ TooDeep at)) }
+{
+    match fault {
+        Fault::Memory => Err(AllocError),
+        Fault::Unexpected(at) => Ok(at),
+        Fault::TooDeep(at) => Ok(at),
     }
+}
+
+/// Whether two offsets differ.
+fn is_elsewhere(at: u64, offset: u64) -> bool
+    ensures { MatchBool result (at ≢ offset) (at ≡ offset) }
+{
+    at != offset
 }
 
 /// Whether a description can go on with a token of this kind behind `tokens`, of which those from `first` on count.

@@ -2,11 +2,11 @@
 //!
 //! Each has a line of five numbers: the refusal, its field with 1 added (0 where it has none), how long the source is, which
 //! other text there is (0 for none, 1 for a stimulus, 2 for a trace, 3 for a script, 4 for the name of a file that is
-//! missing), and how long that is. Behind the line stand the two texts. Behind each answer stands a line `----`. A refusal
+//! missing, 5 of a folder, 6 of one in no folder, 7 of one that may not be read, 8 of one that could not be), and how long that is. Behind the line stand the two texts. Behind each answer stands a line `----`. A refusal
 //! of 0 asks for the page of the refusal whose number is the field.
 #![tactic(auto)]
 
-use diagnosis::{Input, Inputs, explain};
+use diagnosis::{Input, Inputs, Unread, UnreadFile, explain};
 use refusal_pages::{page_of, page_text};
 use std::alloc::{AllocError, Global};
 use std::io;
@@ -40,6 +40,19 @@ fn input<'a>(name: &'a str, bytes: &'a [u8]) -> Input<'a> {
     Input { name, bytes }
 }
 
+/// The file of this name that could not be read.
+fn unread(kind: usize, name: &[u8]) -> Option<UnreadFile<'_>> {
+    let name = str::from_utf8(name).ok()?;
+    let why = match kind {
+        4 => Unread::Missing,
+        5 => Unread::IsFolder,
+        6 => Unread::InNoFolder,
+        7 => Unread::Forbidden,
+        _ => Unread::Failed,
+    };
+    Some(UnreadFile { name, why })
+}
+
 /// What is told of a fault, with the other text of this kind.
 fn told(
     alloc: Global,
@@ -61,13 +74,13 @@ fn told(
         stimulus: None,
         trace: None,
         script: None,
-        missing: None,
+        unread: None,
     };
     match kind {
         1 => inputs.stimulus = Some(input("p.stimulus", other)),
         2 => inputs.trace = Some(input("p.trace", other)),
         3 => inputs.script = Some(input("standard input", other)),
-        4 => inputs.missing = str::from_utf8(other).ok(),
+        4..=8 => inputs.unread = unread(kind, other),
         _ => {}
     }
     explain(

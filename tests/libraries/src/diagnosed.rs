@@ -16,7 +16,7 @@ fn told(alloc: Global, number: u32, offset: u64, source: &[u8]) -> Result<String
         stimulus: None,
         trace: None,
         script: None,
-        missing: None,
+        unread: None,
     };
     explain(alloc, number, Some(offset), &inputs)
 }
