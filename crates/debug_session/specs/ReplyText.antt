@@ -1,10 +1,11 @@
 -- The text of a reply to a line.
-use Rattle.std.specs.Prelude.{ℕ, List, ◌++◌, codes, Some}
+use Rattle.std.specs.Prelude.{ℕ, List, [], ◌++◌, codes, Some}
 use Rattle.system.specs.declared.system.System.{System}
 use Rattle.locked_execution.specs.declared.command.Command.{Command}
 use Rattle.locked_execution.specs.declared.command.Reply.{Reply}
 use Rattle.line_text.specs.EventText.{variable_text}
 use Rattle.line_text.specs.AnswerText as text
+use Rattle.debug_session.specs.declared.line.Line.{Line}
 pub use Rattle.line_text.specs.AnswerText.{ending}
 
 -- the name of the variable whose value is asked for, `?` where none is
@@ -26,6 +27,11 @@ answer_text system command (Reply.Stopped line) = text.numbered_text (codes "sto
 answer_text system command Reply.Idle = codes "idle" ++ ending
 answer_text system command Reply.Done = codes "ok" ++ ending
 answer_text system command (Reply.Refused why) = codes "refused" ++ text.refusal_text why ++ ending
+
+-- the answer to a line where this is the reply to its command; a line that asks for no command has none
+abbrev pub line_answer : System → Line → Reply → List ℕ
+line_answer system (Line.Asked command) reply = answer_text system command reply
+line_answer system _ reply = []
 
 -- the answer to a line that names the session whose lines follow
 abbrev pub session_text : ℕ → List ℕ

@@ -10,7 +10,7 @@ ghost use Rattle.debug_session.specs.Transcript.{SaidAnswered, LineAnswered, End
 use crate::held::{hold, put_out};
 use crate::input::next_line;
 use crate::sitting::Sitting;
-use crate::{Counted, Fault, Line, read_command, write_reply, write_session};
+use crate::{Counted, Fault, Line, read_command, write_answer, write_session};
 use locked_execution::Command;
 use std::alloc::{AllocError, Global};
 use std::io::{BufReader, Read, Write};
@@ -122,5 +122,5 @@ fn answer_command(
         SaidAnswered sitting.old.desk.machine.checked sitting.old (Line.Asked command.now) answer.items sitting.new) }
 {
     let reply = sitting.ask(command);
-    write_reply(alloc, sitting.checked(), command, &reply)
+    write_answer(alloc, sitting.checked(), command, &reply)
 }

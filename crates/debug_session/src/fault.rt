@@ -92,6 +92,14 @@ impl From<machine::Fault> for Fault {
     }
 }
 
+impl From<locked_execution::Fault> for Fault {
+    ghost from_gives = { λ _ fault. fault ≡ Memory };
+
+    fn from(_fault: locked_execution::Fault) -> Fault {
+        Fault::Memory
+    }
+}
+
 impl From<AllocError> for Fault {
     ghost from_gives = { λ _ fault. fault ≡ Memory };
 

@@ -22,6 +22,6 @@ pub use line::Line;
 pub use output::write_out;
 pub use read::read_command;
 pub use replay_live::replay;
-pub use reply::{write_reply, write_session};
+pub use reply::{write_answer, write_reply, write_session};
 pub use session::Session;
 pub use whole::{accept, debug, debug_keeping};

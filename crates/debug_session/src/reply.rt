@@ -1,7 +1,8 @@
 ghost use Rattle.std.specs.Prelude.{◌≡◌, ◌++◌, OnOk, IfOk};
 ghost use Rattle.line_text.specs.FieldText.{shown};
-ghost use Rattle.debug_session.specs.ReplyText.{asked_variable, answer_text, session_text};
+ghost use Rattle.debug_session.specs.ReplyText.{asked_variable, answer_text, line_answer, session_text};
 
+use crate::Line;
 use line_text::{
     Field, add_bytes, add_consequences, add_entry, add_live, add_numbered, add_ready, add_refusal,
     add_valued, variable_field,
@@ -11,9 +12,33 @@ use sharing_check::Checked;
 use std::alloc::{AllocError, Global};
 use system::System;
 
-/// The bytes with which the command is answered where this is the reply to it: each line with byte 10 at its end.
-/// Variables and channels that the description has not are written as `?`. It is an error if there is no memory.
+/// The bytes with which the line is answered where this is the reply to its command: each line with byte 10 at its end. A line
+/// that asks for no command has no reply, and no bytes. Variables and channels that the description has not are written as `?`.
+///
+/// # Errors
+///
+/// `AllocError` without memory.
 pub fn write_reply(
+    alloc: Global,
+    checked: &Checked,
+    line: &Line,
+    reply: &Reply,
+) -> Result<Vec<u8>, AllocError>
+    ensures { IfOk result (λ text. text.items ≡ line_answer checked.now line.now reply.now) }
+{
+    match line {
+        Line::Asked(command) => write_answer(alloc, checked, command, reply),
+        Line::Session(_) | Line::View | Line::Trace | Line::Empty => Ok(Vec::new(alloc)),
+    }
+}
+
+/// The bytes with which the command is answered where this is the reply to it: each line with byte 10 at its end.
+/// Variables and channels that the description has not are written as `?`.
+///
+/// # Errors
+///
+/// `AllocError` without memory.
+pub fn write_answer(
     alloc: Global,
     checked: &Checked,
     command: &Command,

@@ -5,7 +5,7 @@ ghost use Rattle.locked_execution.specs.declared.command.Reply.{Reply as Told};
 ghost use Rattle.debug_session.specs.ReplyText.{answer_text};
 ghost use Rattle.debug_session.specs.Sessions.{PassAnswered, PassNotAnswered};
 
-use crate::{Fault, Line, read_command, write_reply};
+use crate::{Fault, Line, read_command, write_answer};
 use locked_execution::{Command, Pass, Shared};
 use sharing_check::Checked;
 use std::alloc::{AllocError, Global};
@@ -64,6 +64,6 @@ impl Session {
             × IfOk result (λ bytes. bytes.items ≡ answer_text checked.now command.now reply) }
     {
         let reply = shared.call(rt, &mut self.pass, command);
-        write_reply(alloc, checked, command, &reply)
+        write_answer(alloc, checked, command, &reply)
     }
 }

@@ -60,10 +60,9 @@ pub fn roll_value(machine: &mut Machine, variable: Var) -> Result<u64, Refusal>
 /// # Errors
 ///
 /// `NoSuchEvent` where no live event has the ticket. `Memory` without memory, but never in its place.
-pub fn consequences(machine: &mut Machine, ticket: Ticket) -> Result<Items<Ticket>, Refusal>
-    ensures told { IfOk result (λ tickets. AreDependents (object machine.old) ticket tickets) }
-    ensures refused { IfErr result (λ why. ((why ≡ Refusal.NoSuchEvent) × NoneAt machine.old.live ticket) ⊎ ((why ≡ Refusal.Memory) × IsLive machine.old.live ticket)) }
-    ensures same { machine.new ≡ machine.old }
+pub fn consequences(machine: &Machine, ticket: Ticket) -> Result<Items<Ticket>, Refusal>
+    ensures told { IfOk result (λ tickets. AreDependents (object machine.now) ticket tickets) }
+    ensures refused { IfErr result (λ why. ((why ≡ Refusal.NoSuchEvent) × NoneAt machine.now.live ticket) ⊎ ((why ≡ Refusal.Memory) × IsLive machine.now.live ticket)) }
 {
     machine.is_sound();
     machine.consequences(ticket)
