@@ -1,16 +1,16 @@
 -- What a command is to do fits the command, at each place and whichever arms are taken.
-use Rattle.std.proofs.Common.{◌≡◌, ◌∙◌, ℕ, zero, suc, ◌+◌, ◌*◌, ◌%◌, ◌==◌, ◌≤◌, List, [], ◌∷◌, ◌++◌, Bool, true, false, if◌then◌else◌, map, length, Option, Some, None, refl, sym, ap, subst, arith, eq-eqb}
+use Rattle.std.proofs.Common.{◌≡◌, ◌∙◌, ℕ, suc, ◌+◌, ◌*◌, ◌%◌, ◌==◌, List, [], ◌∷◌, ◌++◌, Bool, true, false, if◌then◌else◌, map, length, Option, Some, None, refl, sym, ap, subst, arith, eq-eqb}
 use Rattle.std.specs.Prelude.{slice_get, not, option_map, option_and_then}
 use Rattle.std.specs.Option.{option_or}
 use Rattle.std.proofs.lemmas.List.{length-map}
 use Rattle.std.proofs.lemmas.Option.{slice_get_past}
 use Rattle.address.specs.declared.Entry.TheVariants.{Ordered, Branch}
-use Rattle.system.specs.Residual.{Residual, Arms, within, along}
+use Rattle.system.specs.Residual.{Residual}
 use Rattle.system.specs.Translation.{OnChannel, OnGuard, OnLabels, in_sequence, in_parallel, arms_of, action_layer, arm_layer, command_layer, guarded_layer, labelled_layer, residual_of}
 use Rattle.system.specs.walking.ArmParts.{arm_of, guarded_of, labelled_of}
 use Rattle.system.specs.declared.command.Action.{Action, out-Action}
 use Rattle.system.specs.declared.command.Arm.{Arm, out-Arm}
-use Rattle.system.specs.declared.command.Command.{Command, out-Command}
+use Rattle.system.specs.declared.command.Command.{Command}
 use Rattle.system.specs.declared.command.Guarded.{Guarded, out-Guarded}
 use Rattle.system.specs.declared.command.Labelled.{Labelled, out-Labelled}
 use Rattle.system.specs.declared.command.Action.TheOpen.{Action-F, Arm-F, Command-F, Guarded-F, Labelled-F}
@@ -18,7 +18,7 @@ use Rattle.system.specs.declared.command.Action.TheFolds.{map-Action, fold-Actio
 use Rattle.system.specs.declared.command.Action.TheViews.{roll-Action, roll-Arm, roll-Command, roll-Guarded, roll-Labelled, out-roll-Action, out-roll-Arm, out-roll-Command, out-roll-Guarded, out-roll-Labelled}
 use Rattle.system_places.specs.TakenArms.{ArmsByPlace, Doing, doing, is_place, else_at, guarded_at, labelled_at, channel_arm_at, part}
 use Rattle.runs.specs.Moves.{Place}
-use Rattle.acting_places.proofs.Placed.{Own, HasPart, Fits, FitArms, within-fits, along-fits}
+use Rattle.acting_places.proofs.Placed.{Fits, FitArms, within-fits, along-fits}
 
 -- what an action is to do
 abbrev pub action-residual : Action → Residual

@@ -7,7 +7,7 @@ use Rattle.system_places.specs.TakenArms.{ArmsByPlace}
 use Rattle.runs.specs.Moves.{Place}
 use Rattle.runs.specs.Events.{Located, Makes, assigning, testing, turning, meeting, opening, opening_without_data, shutting, syncing, acting}
 use Rattle.runs.specs.declared.event.Event.{Event}
-use Rattle.acting_places.proofs.Placed.{Takes, Knows}
+use Rattle.acting_places.proofs.Placed.{Knows}
 
 -- the arm of the event is the one that was taken at its choice
 abbrev pub TellsArm : ArmsByPlace → Event → Type 0

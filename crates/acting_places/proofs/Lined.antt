@@ -1,19 +1,18 @@
 -- Each event of a run that acts in the body acts at a place of a command, and so has a line.
-use Rattle.std.proofs.Common.{◌≡◌, ◌∙◌, ℕ, zero, suc, ◌+◌, ◌<◌, ◌≤◌, List, [], ◌∷◌, ◌++◌, map, length, Option, Some, None, refl, sym, ap, subst, inl, inr, arith}
+use Rattle.std.proofs.Common.{◌≡◌, ◌∙◌, ℕ, zero, suc, ◌+◌, List, [], ◌∷◌, map, length, Option, Some, None, refl, sym, ap, subst, inl, inr, arith}
 use Rattle.std.specs.Prelude.{option_map}
 use Rattle.std.proofs.lemmas.List.{length-map}
 use Rattle.syntax.specs.Lists.{In, Every}
-use Rattle.address.specs.declared.Entry.TheVariants.{Ordered, Branch}
+use Rattle.address.specs.declared.Entry.TheVariants.{Branch}
 use Rattle.system.specs.Residual.{Residual}
 use Rattle.system.specs.Translation.{in_parallel, opening_residual, residual_of, branch_of}
 use Rattle.system.specs.declared.command.Command.{Command}
 use Rattle.system.specs.declared.system.System.{System}
-use Rattle.system_places.specs.LinesBegun.{begins}
 use Rattle.system_places.specs.Laws.{LinesAreBegun}
-use Rattle.system_places.specs.TakenArms.{ArmsByPlace, acting_in, line_of_command}
+use Rattle.system_places.specs.TakenArms.{ArmsByPlace, line_of_command}
 use Rattle.runs.specs.Moves.{Place, Move, Local}
 use Rattle.runs.specs.Events.{Located, places_of, acting, acting_at}
-use Rattle.runs.specs.Steps.{State, Moves, Step, Run, Allowed, opening}
+use Rattle.runs.specs.Steps.{State, Moves, Step, Run, opening}
 use Rattle.runs.specs.declared.event.Event.{Event}
 use Rattle.runs.specs.declared.event.Kind.{Kind}
 use Rattle.runs.specs.declared.event.Kind.TheVariants.{Assign, Test, Turn, Meet, Open, Close, Sync}
@@ -22,7 +21,7 @@ use Rattle.runs.proofs.Stepping.{place-moves}
 use Rattle.event_places.specs.EventPlaces.{taken_by, line_after}
 use Rattle.event_places.specs.Laws.{TakenByTheEvent}
 use Rattle.acting_places.specs.Lines.{HasLine, EventsHaveLines, AllowedHaveLines}
-use Rattle.acting_places.proofs.Shapes.{Shape, InPart, Keeps, Within, parallel-shape, shape-along, local-part, local-shape}
+use Rattle.acting_places.proofs.Shapes.{Shape, Keeps, parallel-shape, shape-along, local-part, local-shape}
 use Rattle.acting_places.proofs.Placed.{Acts, Fits, Knows, knows-part, local-acts, local-fits}
 use Rattle.acting_places.proofs.Beginning.{command-fits}
 use Rattle.acting_places.proofs.Knowing.{TellsArm, moves-know, FrontKnows, front-knows}

@@ -1,17 +1,17 @@
 -- The branches of a system, its body's first: each event of a run acts in one of them.
-use Rattle.std.proofs.Common.{◌≡◌, ◌∙◌, inl, inr, ℕ, zero, suc, ◌+◌, ◌-◌, ◌==◌, ◌<◌, ◌≤◌, List, [], ◌∷◌, Bool, true, false, if◌then◌else◌, map, Option, Some, None, length, refl, sym, ap, subst, arith}
-use Rattle.std.specs.Prelude.{slice_get, nat_lt, nat_le}
+use Rattle.std.proofs.Common.{◌≡◌, ◌∙◌, ℕ, zero, suc, ◌+◌, ◌-◌, ◌==◌, ◌<◌, List, [], ◌∷◌, Bool, true, false, if◌then◌else◌, map, Option, Some, None, length, refl, sym, ap, subst, arith}
+use Rattle.std.specs.Prelude.{nat_lt, nat_le}
 use Rattle.std.proofs.lemmas.Bool.Decides.{nat_tests}
 use Rattle.std.proofs.lemmas.List.{length-map}
-use Rattle.syntax.specs.Lists.{In, Every}
+use Rattle.syntax.specs.Lists.{Every}
 use Rattle.address.specs.declared.Entry.TheVariants.{Branch}
 use Rattle.system.specs.Named.{as_number}
-use Rattle.system.specs.Residual.{Residual, done, beside, along}
+use Rattle.system.specs.Residual.{Residual}
 use Rattle.system.specs.Translation.{OnChannel, OnGuard, OnLabels, in_parallel, opening_residual, residual_of, branch_of, action_layer, arm_layer, command_layer, guarded_layer, labelled_layer}
 use Rattle.system.specs.declared.command.Action.{Action, out-Action}
-use Rattle.system.specs.declared.command.Action.TheOpen.{Action-F, Command-F}
-use Rattle.system.specs.declared.command.Action.TheFolds.{map-Action, map-Command, fold-Action, fold-Arm, fold-Command, fold-Guarded, fold-Labelled, fold-roll-Action, fold-roll-Command}
-use Rattle.system.specs.declared.command.Action.TheViews.{roll-Action, roll-Command, roll-out-Action, roll-out-Command}
+use Rattle.system.specs.declared.command.Action.TheOpen.{Action-F}
+use Rattle.system.specs.declared.command.Action.TheFolds.{map-Action, fold-Action, fold-Arm, fold-Guarded, fold-Labelled, fold-roll-Action, fold-roll-Command}
+use Rattle.system.specs.declared.command.Action.TheViews.{roll-out-Action, roll-out-Command}
 use Rattle.system.specs.declared.command.Arm.{Arm}
 use Rattle.system.specs.declared.command.Command.{Command, out-Command}
 use Rattle.system.specs.declared.command.Guarded.{Guarded}
@@ -20,14 +20,14 @@ use Rattle.system.specs.declared.system.System.{System}
 use Rattle.system_places.specs.SystemBranches.{children_of_parallel, parallel_of, count_of, branches_of, child_number, branch_within, branch_of_port, branch_at}
 use Rattle.runs.specs.Moves.{Place, Move, Local}
 use Rattle.runs.specs.Events.{Located, places_of, acting, acting_at}
-use Rattle.runs.specs.Steps.{State, Moves, Step, Run, opening}
+use Rattle.runs.specs.Steps.{State, Moves, Run, opening}
 use Rattle.runs.specs.declared.event.Event.{Event}
 use Rattle.runs.specs.declared.event.Kind.{Kind}
 use Rattle.runs.specs.declared.event.Kind.TheVariants.{Assign, Test, Turn, Meet, Open, Close, Sync}
 use Rattle.runs.proofs.Lists.{every-in}
 use Rattle.runs.proofs.Options.{some-injective}
 use Rattle.runs.proofs.Stepping.{place-moves}
-use Rattle.acting_places.specs.Branches.{all_branches, HasFewBranches, LiesInBranch, EventsLieInBranches}
+use Rattle.acting_places.specs.Branches.{all_branches, HasFewBranches, EventsLieInBranches}
 use Rattle.acting_places.proofs.Shapes.{Shape, InPart, Keeps, parallel-shape, shape-along, local-part, local-shape}
 
 -- nothing is known of a part
