@@ -1,13 +1,12 @@
 -- The live events from an index on.
-use Rattle.std.proofs.Common.{◌≡◌, ℕ, zero, suc, ◌+◌, ◌-◌, ◌<◌, ◌≤◌, List, [], ◌∷◌, length, drop, Some, refl, sym, ◌∙◌, ap, subst, arith}
+use Rattle.std.proofs.Common.{◌≡◌, ℕ, zero, suc, ◌+◌, ◌-◌, ◌<◌, ◌≤◌, List, [], ◌∷◌, drop, Some, refl, sym, ◌∙◌, ap, arith}
 use Rattle.std.specs.Prelude.{slice_get}
-use Rattle.std.proofs.lemmas.Option.{slice_get_within}
 use Rattle.syntax.specs.Lists.{In}
 use Rattle.runs.specs.Live.{Live, IsLive}
 use Rattle.runs.specs.declared.event.Event.{Event}
 use Rattle.runs.proofs.Tickets.{rising-lower}
 use Rattle.dependence.specs.Followers.{ListsFollowers}
-use Rattle.dependence.specs.walking.Tables.{IsRising, StandsAt}
+use Rattle.dependence.specs.walking.Tables.{IsRising}
 use Rattle.dependence.proofs.ListPlaces.{in-at, index-in}
 use Rattle.dependence.proofs.Standing.{lesser-stands}
 

@@ -4,10 +4,10 @@ ghost use Rattle.std.specs.Prelude.{◌≤◌, ◌^◌};
 
 use crate::logged::{Logged, Told, chained};
 use crate::random::Random;
-use branch_workers::{Gate, run_workers};
 use calculus::Event;
 use locked_execution::{Command, Reply};
 use locked_object::{Pass, Shared};
+use object_workers::{Gate, run_workers};
 use sharing_check::Checked;
 use std::alloc::{AllocError, Global};
 use std::sync::Wait;

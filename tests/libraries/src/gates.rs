@@ -2,8 +2,8 @@
 
 use crate::examples::*;
 use crate::logged::Logged;
-use branch_workers::run_workers;
 use locked_execution::{Gate, Machine, Shared};
+use object_workers::run_workers;
 use std::alloc::{AllocError, Global};
 use std::sync::atomic::{AtomicU64, Ordering};
 use std::test::Fail;

@@ -65,6 +65,8 @@ mod sharing;
 #[cfg(test)]
 mod specified;
 #[cfg(test)]
+mod specified_parts;
+#[cfg(test)]
 mod steps;
 #[cfg(test)]
 mod streams;

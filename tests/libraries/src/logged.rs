@@ -2,11 +2,11 @@
 
 ghost use Rattle.std.specs.Prelude.{◌<◌};
 
-use branch_workers::Branches;
 use calculus::{Choice, Refusal};
-use debug_session::write_reply;
+use debug_session::write_answer;
 use locked_execution::{Command, Desk, Machine, Reply};
 use locked_object::Object;
+use object_workers::Branches;
 use sharing_check::Checked;
 use std::alloc::{AllocError, Global};
 
@@ -47,7 +47,7 @@ pub struct Logged {
 
 /// A number for the bytes with which the reply is written, which other bytes have hardly ever; `None` without memory.
 fn digest(alloc: Global, checked: &Checked, command: &Command, reply: &Reply) -> Option<u64> {
-    let bytes = write_reply(alloc, checked, command, reply).ok()?;
+    let bytes = write_answer(alloc, checked, command, reply).ok()?;
     let mut number = 14_695_981_039_346_656_037u64;
     for byte in bytes.as_slice() {
         number = (number ^ u64::from(*byte)).wrapping_mul(1_099_511_628_211);

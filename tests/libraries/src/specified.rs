@@ -1,15 +1,18 @@
 //! The public calls of the machine and of what stands above it, as a program of one's own writes them: each answer is taken by a
 //! name of the type that the reference says, so that another signature does not compile.
 
-use crate::examples::{BUFFER, TWO_WRITES};
+use crate::examples::{BUFFER, TWO_BUFFERS, TWO_WRITES};
 use crate::told::place;
+use branch_workers::{Gate, run_workers};
 use calculus::{Choice, Event, Refusal};
+use debug_session::{Line, Session, debug, read_command, write_reply};
 use devices::Counted;
-use locked_execution::{Command, Desk, Pass, Reply, Shared, run_commands};
+use locked_execution::{Board, Command, Desk, Keeper, Pass, Reply, Shared, run_commands};
 use machine::{BranchReply, Breaks, Machine, Ticket, Var};
 use sharing_check::Checked;
 use source_view::view;
 use std::alloc::{AllocError, Global};
+use std::io::BufReader;
 use std::test::Fail;
 use syntax::Items;
 use trace_file::{load, save};
@@ -54,9 +57,18 @@ fn a_machine_is_asked(rt: HostRuntime) -> Result<(), Fail> {
     assert_eq!(rt; marked, 2);
     let last: Option<Ticket> = machine.last_marked();
     assert_eq!(rt; last, Some(2));
-    let consequences: Result<Items<Ticket>, Refusal> = machine.consequences(2);
+    Ok(())
+}
+
+#[test]
+fn a_question_marks_nothing(rt: HostRuntime) -> Result<(), Fail> {
+    let mut machine = written(rt.alloc())?;
+    assert_eq!(rt; machine.mark_consequences(1), 2);
+    let asked: &Machine = &machine;
+    let consequences: Result<Items<Ticket>, Refusal> = asked.consequences(2);
     assert!(rt; consequences?.as_slice() == [2].as_slice());
-    assert_eq!(rt; machine.last_marked(), Some(2));
+    machine.undo(2)?;
+    assert_eq!(rt; machine.last_marked(), Some(1));
     Ok(())
 }
 
@@ -97,7 +109,7 @@ fn a_machine_is_rolled_back(rt: HostRuntime) -> Result<(), Fail> {
     let mut machine = written(rt.alloc())?;
     let blamed: Result<Ticket, Refusal> = rollback::blame(&machine, 0);
     assert_eq!(rt; blamed?, 2);
-    let consequences: Result<Items<Ticket>, Refusal> = rollback::consequences(&mut machine, 1);
+    let consequences: Result<Items<Ticket>, Refusal> = rollback::consequences(&machine, 1);
     assert!(rt; consequences?.as_slice() == [1, 2].as_slice());
     let rolled: Result<u64, Refusal> = rollback::roll_value(&mut machine, 0);
     assert_eq!(rt; rolled?, 1);
@@ -105,6 +117,35 @@ fn a_machine_is_rolled_back(rt: HostRuntime) -> Result<(), Fail> {
     let rolled: Result<u64, Refusal> = rollback::roll(&mut machine, 1);
     assert_eq!(rt; rolled?, 1);
     assert!(rt; matches!(rollback::roll(&mut machine, 1), Err(Refusal::NoSuchEvent)));
+    Ok(())
+}
+
+/// Two buffers in a row: both loops turn, and a value goes through the first.
+fn handed_on(alloc: Global) -> Result<Machine, Fail> {
+    let mut machine = Machine::new(alloc, TWO_BUFFERS.checked(alloc)?)?;
+    for at in [b"/0/0.0".as_slice(), b"/0/1.0", b"/0/0.1.0", b"/0/1.1.0"] {
+        machine.step(&choice(alloc, at)?)?;
+    }
+    Ok(machine)
+}
+
+#[test]
+fn a_rollback_is_what_undos_of_the_marked_are(rt: HostRuntime) -> Result<(), Fail> {
+    let mut one = handed_on(rt.alloc())?;
+    let marked = one.mark_consequences(1);
+    assert_eq!(rt; marked, 3);
+    let mut undone: u64 = 0;
+    while let Some(ticket) = one.last_marked() {
+        one.undo(ticket)?;
+        undone += 1;
+    }
+    assert_eq!(rt; undone, marked);
+    let mut other = handed_on(rt.alloc())?;
+    assert_eq!(rt; rollback::roll(&mut other, 1)?, marked);
+    for machine in [&one, &other] {
+        assert!(rt; matches!(machine.live_at(0), Some((2, _))));
+        assert!(rt; machine.live_at(1).is_none());
+    }
     Ok(())
 }
 
@@ -221,6 +262,135 @@ fn passes_call_one_execution(rt: HostRuntime) -> Result<(), Fail> {
     );
     let machine: Machine = shared.finish();
     assert!(rt; machine.live_at(0).is_none());
+    Ok(())
+}
+
+/// Nobody is told of calls.
+struct Open;
+
+impl Gate for Open {
+    fn before(&self, _worker: u32, _turn: u64) {}
+
+    fn after(&self, _worker: u32, _turn: u64) {}
+}
+
+#[test]
+fn workers_step_one_execution(rt: HostRuntime) -> Result<(), Fail> {
+    let machine = Machine::new(rt.alloc(), BUFFER.checked(rt.alloc())?)?;
+    let (shared, passes) = Shared::new(rt.alloc(), machine, 1)?;
+    let ran: Result<(Vec<Pass>, u64, u64), (Vec<Pass>, locked_execution::Fault)> = run_workers(
+        &rt,
+        rt.alloc(),
+        &shared,
+        passes,
+        &Open,
+        30,
+    );
+    match ran {
+        Ok((passes, stepped, lost)) => {
+            assert_eq!(rt; passes.len(), 1);
+            assert_eq!(rt; stepped, 7);
+            assert_eq!(rt; lost, 0);
+            Ok(())
+        }
+        Err((_passes, fault)) => Err(Fail::from(fault)),
+    }
+}
+
+#[test]
+fn a_keeper_performs_without_a_lock(rt: HostRuntime) -> Result<(), Fail> {
+    let machine = Machine::new(rt.alloc(), BUFFER.checked(rt.alloc())?)?;
+    let (shared, mut passes) = Shared::new(rt.alloc(), machine, 1)?;
+    let Some(mut pass) = passes.pop() else {
+        return Err(Fail::from("one pass"));
+    };
+    let (board, mut keeper): (Board, Keeper) = shared.into_keeper(&rt);
+    let step = Command::Step(choice(rt.alloc(), b"/0.0")?);
+    let reply: Reply = keeper.perform(&board, &mut pass, &step);
+    assert_eq!(rt; word(&reply), "stepped");
+    let reply: Reply = keeper.perform(&board, &mut pass, &step);
+    assert_eq!(rt; word(&reply), "refused");
+    let machine: Machine = keeper.into_machine();
+    assert!(rt; machine.live_at(0).is_some());
+    Ok(())
+}
+
+#[test]
+fn a_session_reads_and_writes(rt: HostRuntime) -> Result<(), Fail> {
+    let checked = BUFFER.checked(rt.alloc())?;
+    let read: Result<Line, debug_session::Fault> = read_command(
+        rt.alloc(),
+        &checked,
+        b"step /0.0",
+        1,
+    );
+    let line = read?;
+    let written: Result<Vec<u8>, AllocError> = write_reply(
+        rt.alloc(),
+        &checked,
+        &line,
+        &Reply::Idle,
+    );
+    assert!(rt; written?.as_slice() == b"idle\n".as_slice());
+    let nothing = write_reply(rt.alloc(), &checked, &Line::View, &Reply::Idle)?;
+    assert!(rt; nothing.is_empty());
+    let (shared, mut passes) = Shared::new(
+        rt.alloc(),
+        Machine::new(rt.alloc(), BUFFER.checked(rt.alloc())?)?,
+        1,
+    )?;
+    let Some(pass) = passes.pop() else {
+        return Err(Fail::from("one pass"));
+    };
+    let mut session = Session { pass };
+    let answer: Result<Vec<u8>, debug_session::Fault> = session.answer(
+        &rt,
+        rt.alloc(),
+        &shared,
+        &checked,
+        b"step /0.0",
+        1,
+    );
+    assert!(rt; answer?.as_slice() == b"step 1 turn /0.0\n".as_slice());
+    let ended: debug_session::Fault = locked_execution::Fault::Memory.into();
+    assert_eq!(rt; ended.number(), 1);
+    Ok(())
+}
+
+/// A place of 50,000 entries is longer than what may be kept back as too long.
+#[test]
+fn a_long_place_is_read(rt: HostRuntime) -> Result<(), Fail> {
+    let checked = BUFFER.checked(rt.alloc())?;
+    let mut line: Vec<u8> = Vec::with_capacity(rt.alloc(), 100_016)?;
+    line.extend_from_slice(b"step ")?;
+    for _ in 0..50_000 {
+        line.extend_from_slice(b".0")?;
+    }
+    let Line::Asked(command) = read_command(rt.alloc(), &checked, line.as_slice(), 1)? else {
+        return Err(Fail::from("a command"));
+    };
+    let mut desk = Desk::new(Machine::new(rt.alloc(), BUFFER.checked(rt.alloc())?)?);
+    assert!(rt; matches!(desk.perform(0, &command), Reply::Refused(Refusal::NotReady)));
+    line.push(b'x')?;
+    let refused = read_command(rt.alloc(), &checked, line.as_slice(), 7);
+    assert!(rt; matches!(refused, Err(debug_session::Fault::BadCommand(7))));
+    Ok(())
+}
+
+#[test]
+fn a_script_is_debugged(rt: HostRuntime) -> Result<(), Fail> {
+    let script = b"ready\nstep /0.0\n";
+    let mut reader = Counted::new(BufReader::with_capacity(rt.alloc(), 64, script.as_slice())?);
+    let mut out: Vec<u8> = Vec::new(rt.alloc());
+    let ended: Result<(), debug_session::Fault> = debug(
+        rt.alloc(),
+        &mut reader,
+        &mut Counted::new(&mut out),
+        BUFFER.source.as_bytes(),
+        BUFFER.stimulus.as_bytes(),
+    );
+    ended?;
+    assert!(rt; out.as_slice() == b"ready 1\n  turn /0.0\nstep 1 turn /0.0\n".as_slice());
     Ok(())
 }
 

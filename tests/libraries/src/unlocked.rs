@@ -1,6 +1,7 @@
-//! `length` and `meet` wait for nobody: another pass is in its call meanwhile, and has the lock.
+//! `length` and `meet` wait for nobody: another pass is in its call meanwhile, and has the lock. A call that is not recorded gives
+//! the lock back.
 
-use locked_object::{Object, Pass, Shared};
+use locked_object::{NotRecorded, Object, Pass, Shared};
 use std::sync::atomic::{AtomicU64, Ordering};
 use std::test::Fail;
 use std::thread::join;
@@ -82,5 +83,38 @@ fn length_and_meet_wait_for_nobody(rt: HostRuntime) -> Result<(), Fail> {
     assert!(rt; matches!(told, Ok(true)));
     assert_eq!(rt; found, Some((0, 0)));
     assert_eq!(rt; execution.length(&mut one), 1);
+    Ok(())
+}
+
+/// An object that answers whether the command is even, and refuses it where it is odd.
+#[derive(Drop)]
+struct Choosy;
+
+impl Object<u8, bool> for Choosy {
+    ghost performs = { λ _ _ _ _ _. Unit {0} };
+
+    ghost refuses = { λ _ _ _ _. Unit {0} };
+
+    fn perform(&mut self, _pass: u32, command: &u8) -> Result<bool, bool> {
+        if *command % 2 == 0 {
+            Ok(true)
+        } else {
+            Err(false)
+        }
+    }
+}
+
+#[test]
+fn a_call_that_is_not_recorded_gives_the_lock_back(rt: HostRuntime) -> Result<(), Fail> {
+    let (execution, mut passes) = Shared::new(rt.alloc(), Choosy, 2)?;
+    let (Some(mut one), Some(mut zero)) = (passes.pop(), passes.pop()) else {
+        return Err(Fail::from("two passes"));
+    };
+    let refused = execution.call(&rt, &mut zero, &1);
+    assert!(rt; matches!(refused, Err(NotRecorded::Refused(false))));
+    // Where the lock is not free, this never comes back.
+    assert!(rt; matches!(execution.call(&rt, &mut one, &2), Ok(true)));
+    assert!(rt; matches!(execution.call(&rt, &mut zero, &3), Err(_)));
+    assert_eq!(rt; execution.length(&mut zero), 1);
     Ok(())
 }

@@ -1,5 +1,4 @@
-use Rattle.std.proofs.Common.{◌≡◌, ◌<◌, ◌+◌, length, arith}
-use Rattle.std.proofs.lemmas.Option.{slice_get_within}
+use Rattle.std.proofs.Common.{arith}
 use Rattle.dependence.proofs.FromIndex.{live-from}
 use Rattle.dependence.proofs.consequences.consequences.Goals as goal
 
