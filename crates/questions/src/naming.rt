@@ -16,41 +16,33 @@ pub(crate) fn unknown_text(
     let names = names_of(alloc, system)?;
     let same = same_own_name(alloc, names.as_slice(), name)?;
     if !same.is_empty() {
-        return Ok(said(
-            alloc,
-            &["no variable has the name `", name, "`"],
-            same.as_str(),
-        )?);
+        let what = format!(in alloc; "no variable has the name `{name}`")?;
+        return said(alloc, what.as_str(), same.as_str());
     }
     if let Some(channel) = channel_named(system, name) {
-        let what = [
-            "`",
-            name,
-            "` is ",
-            kind_of(system, channel),
-            ", and no variable",
-        ];
-        return Ok(said(alloc, &what, help_of(system, channel))?);
+        let kind = kind_of(system, channel);
+        let what = format!(in alloc; "`{name}` is {kind}, and no variable")?;
+        return said(alloc, what.as_str(), help_of(system, channel));
     }
-    let what = [
-        "no variable has the name `",
-        name,
-        "`, and it is the number of no step",
-    ];
-    let near = nearest(alloc, names.as_slice(), name)?;
-    match near {
-        Some(near) => Ok(said(
+    let what = format!(in alloc;
+        "no variable has the name `{name}`, and it is the number of no step"
+    )?;
+    match nearest(alloc, names.as_slice(), name)? {
+        Some(near) => {
+            let help = format!(in alloc; "did you mean `{near}`?")?;
+            said(alloc, what.as_str(), help.as_str())
+        }
+        None => said(
             alloc,
-            &what,
-            format!(in alloc; "did you mean `{near}`?")?.as_str(),
-        )?),
-        None => Ok(said(alloc, &what, "`balsadbg outline FILE` lists the variables")?),
+            what.as_str(),
+            "`balsadbg outline FILE` lists the variables",
+        ),
     }
 }
 
 /// The lines that say what is wrong and what helps.
-fn said(alloc: Global, what: &[&str], help: &str) -> Result<Vec<u8>, AllocError> {
-    Ok(plain_text(alloc, what, help)?.into_bytes())
+fn said(alloc: Global, what: &str, help: &str) -> Result<Vec<u8>, AllocError> {
+    Ok(plain_text(alloc, &[what], help)?.into_bytes())
 }
 
 /// The names of the variables, as lines of a script and answers have them.
@@ -107,7 +99,8 @@ fn own_name(name: &str) -> &str {
 
 /// The number of the channel with this name.
 fn channel_named(system: &System, name: &str) -> Option<u32> {
-    for number in 0..system.channels.len() as u32 {
+    for number in 0..system.channels.len() {
+        let number = u32::try_from(number).ok()?;
         let found = system.channel_name(number)?;
         if found.is(name.as_bytes()) {
             return Some(number);
