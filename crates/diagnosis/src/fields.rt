@@ -121,13 +121,17 @@ pub fn find_blemish(text: &[u8], finding: &mut Finding) -> Result<bool, AllocErr
 }
 
 /// Why a text is no number in decimal up to `most`; none where it is one.
+#[tactic(auto, using(crate::proofs::Greater::too_great, crate::proofs::Greater::no_number))]
 pub fn number_fault(text: &str, most: u64) -> Option<&'static str>
     ensures { MatchOption result (IsNumberUpTo text.now most) (λ _. IsNoNumberUpTo text.now most) }
 {
-    match read_number(text.as_bytes()) {
-        Some(number) if number <= most => None,
-        Some(_) => Some("it is too great"),
-        None => Some(form_fault(text)),
+    let Some(number) = read_number(text.as_bytes()) else {
+        return Some(form_fault(text));
+    };
+    if number <= most {
+        None
+    } else {
+        Some("it is too great")
     }
 }
 
