@@ -1,5 +1,5 @@
 -- In what is left of a process an end stands where a walk through the process finds it.
-use Rattle.std.proofs.Common.{◌≡◌, ℕ, ◌+◌, ◌*◌, List, [], ◌∷◌, Bool, true, false, ◌||◌, Option, Some, None, refl, ap, ap₂, ◌∙◌}
+use Rattle.std.proofs.Common.{◌≡◌, ℕ, ◌+◌, ◌*◌, List, [], ◌∷◌, Bool, true, false, ◌||◌, Option, Some, None, refl, sym, ap, ap₂, ◌∙◌}
 use Rattle.address.specs.declared.Entry.TheVariants.{Ordered, Branch}
 use Rattle.value.specs.Word.{Word}
 use Rattle.system.specs.Expression.{Expression}
@@ -8,7 +8,9 @@ use Rattle.runs.specs.Moves.{Place}
 use Rattle.process_tree.specs.Code.{Once, assigning, receiving, Sender, sending, syncing, Code, continues, halts, moves_once, may_be_held, repeats, decides, awaits, in_turn, side_by_side, drains, Codes, no_code, code}
 use Rattle.process_tree.specs.Left.{Received, with_value, puts, residual_once, residual_sender, again, residual, residual_arms, residual_sequence, residual_parallel, left, left_sequence, left_parallel}
 use Rattle.process_tree.specs.Proc.{waiting, holding, past, Proc, idle, stopped, once, sender, fresh, turn, ended_at_once, ended, untested, skipped, took, unopened, entered, closed, sequence, parallel, drained, Procs, no_procs, proc, started, all_started}
-use Rattle.rings.specs.Partners.{is_close, is_receive, is_arm, Standing, over, is_found, below, there, ahead, at_arms, after, in_branch, together, stands, in_arms}
+use Rattle.rings.specs.Partners.{is_close, is_receive, is_arm, Standing, over, is_found, below, there, ahead, at_arms, after, in_branch, together, stands, in_arms, partner_standing, partner_of, partner_in, sought_by}
+use Rattle.offered_sides.specs.declared.side.OfferedSide.{OfferedSide}
+use Rattle.rings.specs.declared.partner.Partner.{Partner}
 use Rattle.rings.specs.declared.sought.Sought.{Sought}
 use Rattle.rings.specs.walking.Seen.{is_once, is_sender, walk_in_turn, walk_abreast, any_found, code_seen, codes_seen, seen, procs_seen}
 
@@ -163,3 +165,10 @@ module _ (s : Sought) where
     left-abreast (proc p ps) env n own =
         along-stands n (left env p) (left_parallel env (n + 1) ps) own
         ∙ ap₂ (λ (x y : Standing). together (in_branch (Branch n) x) y) (left-seen p env (below own (Branch n))) (left-abreast ps env (n + 1) own)
+
+-- what is found from the root is the partner of a side
+pub partner-is : (tree q : Proc) (x : OfferedSide) (o : Option Sought) (s : Sought) (own : Place) (y : Standing) (p : Partner) → o ≡ sought_by x.side → o ≡ Some s → q ≡ tree
+    → own ≡ x.place → y ≡ seen s q (Some own) → p ≡ partner_standing y → p ≡ partner_in (left [] tree) x
+partner-is tree q x o s own y p by named same here found is =
+    is ∙ ap partner_standing (found ∙ ap (λ (z : Proc). seen s z (Some own)) same ∙ ap (λ (a : Place). seen s tree (Some a)) here ∙ sym (left-seen s tree [] (Some x.place)))
+    ∙ sym (ap (partner_of (left [] tree) x.place) (sym by ∙ named))

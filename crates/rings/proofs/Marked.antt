@@ -190,6 +190,10 @@ module _ (n : ℕ) (w : Test) where
       subst (λ (x : List Seen). From n w before x start rest) (sym e)
       (goes-back before seen start t rest (subst (λ (z : List ℕ). From n w before seen start z) is f) none)
 
+  pub top-within : (before seen : List Seen) (start t : ℕ) (old rest : List ℕ) → From n w before seen start old → old ≡ rest ++ t ∷ [] → t < length seen
+  top-within before seen start t old rest f is =
+      subst (λ k. t < k) (sym f.searching.size) (path-last n w rest t (subst (λ (z : List ℕ). Path n w z) is f.searching.path))
+
   -- the next one is new, where it is not on the way
   pub next-is-new : (before seen : List Seen) (start t k : ℕ) (old rest : List ℕ) → From n w before seen start old → old ≡ rest ++ t ∷ [] → NextOpen n w seen t (Some k)
       → (In k (rest ++ t ∷ []) → ⊥) → slice_get seen k ≡ Some New

@@ -91,36 +91,29 @@ module _ (r : Residual) (xs : List OfferedSide) (ps : List Partner) (given : ps 
       ap₂ (λ (a b : Option OfferedSide). waits_at xs ps a b) at goes ∙ ap (λ (qs : List Partner). all_behind xs qs x.place y.place) given ∙ all-is r xs x.place y.place h
 
   -- ---- from indexes to places
+  chain-head : (first i : ℕ) (rest : List ℕ) → Chain (length xs) (waits xs ps) first i rest → i < length xs
+  chain-head first i [] k = k.0
+  chain-head first i (m ∷ rest) k = k.0
+
   chain-linked : (first i : ℕ) (rest : List ℕ) (f x : OfferedSide) → slice_get xs first ≡ Some f → slice_get xs i ≡ Some x → Chain (length xs) (waits xs ps) first i rest
       → (ring : List Place) × (places_at xs rest ≡ map (λ (a : Place). Some a) ring) × Linked (Among xs) r f.place x.place ring
   chain-linked first i [] f x start at h = ([], refl, ((x, got-in xs i x at, refl), wait-true i first x f at start h.1))
-  chain-linked first i (j ∷ rest) f x start at h = step (below rest h.2)
-    where
-      below : (rest : List ℕ) → Chain (length xs) (waits xs ps) first j rest → j < length xs
-      below [] k = k.0
-      below (m ∷ rest) k = k.0
-
-      step : j < length xs → (ring : List Place) × (places_at xs (j ∷ rest) ≡ map (λ (a : Place). Some a) ring) × Linked (Among xs) r f.place x.place ring
-      step less =
-          let next = got-within xs j less in
-          let on = chain-linked first j rest f next.0 start next.1 h.2 in (
-            next.0.place ∷ on.0,
-            ap₂ (λ (a : Option Place) (bs : List (Option Place)). a ∷ bs) (ap (option_map (λ (z : OfferedSide). z.place)) next.1) on.1,
-            ((x, got-in xs i x at, refl), wait-true i j x next.0 at next.1 h.1, on.2),
-          )
+  chain-linked first i (j ∷ rest) f x start at h =
+      let next = got-within xs j (chain-head first j rest h.2) in
+      let on = chain-linked first j rest f next.0 start next.1 h.2 in (
+        next.0.place ∷ on.0,
+        ap₂ (λ (a : Option Place) (bs : List (Option Place)). a ∷ bs) (ap (option_map (λ (z : OfferedSide). z.place)) next.1) on.1,
+        ((x, got-in xs i x at, refl), wait-true i j x next.0 at next.1 h.1, on.2),
+      )
 
   ring-places : (i : ℕ) (rest : List ℕ) → Ring (length xs) (waits xs ps) (i ∷ rest) → TellsRing r xs (i ∷ rest)
   ring-places i rest h =
-      let first = got-within xs i (below rest h) in
+      let first = got-within xs i (chain-head i i rest h) in
       let on = chain-linked i i rest first.0 first.0 first.1 first.1 h in (
         first.0.place ∷ on.0,
         ap₂ (λ (a : Option Place) (bs : List (Option Place)). a ∷ bs) (ap (option_map (λ (z : OfferedSide). z.place)) first.1) on.1,
         on.2,
       )
-    where
-      below : (rest : List ℕ) → Chain (length xs) (waits xs ps) i i rest → i < length xs
-      below [] k = k.0
-      below (m ∷ rest) k = k.0
 
   -- ---- from places to indexes
   linked-head : (f a : Place) (ring : List Place) → Linked (Among xs) r f a ring → WaitsAt (Among xs) a
@@ -172,8 +165,8 @@ pub behind-end : (xs : List OfferedSide) (ps : List Partner) (i : ℕ) (a b : Pl
 behind-end xs ps i a b l = sym (ap (λ (ys : List OfferedSide). all_behind ys (drop i ps) a b) (drop_all i xs l))
 
 -- ---- indexes on a way
-pub not-here : (xs : List ℕ) (i x y : ℕ) → i < length xs → x ≡ slice_index_or xs i x → (x ≡ y → ⊥) → In y (drop i xs) → In y (drop (i + 1) xs)
-not-here xs i x y less e other h = elim (subst (λ (zs : List ℕ). In y zs) (drop_more xs i x less ∙ ap (λ z. z ∷ drop (i + 1) xs) (sym e)) h) [
+pub not-here : (xs : List ℕ) (i d y : ℕ) → i < length xs → (slice_index_or xs i d ≡ y → ⊥) → In y (drop i xs) → In y (drop (i + 1) xs)
+not-here xs i d y less other h = elim (subst (λ (zs : List ℕ). In y zs) (drop_more xs i d less) h) [
   | inl is ↦ absurd (other (sym is))
   | inr later ↦ later
 ]

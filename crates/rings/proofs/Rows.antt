@@ -1,6 +1,7 @@
 -- Walks over the children of a row, child by child from the last.
-use Rattle.std.proofs.Common.{◌≡◌, ℕ, zero, suc, ◌+◌, ◌<◌, ◌≤◌, List, [], ◌∷◌, map, length, drop, Bool, true, false, ◌||◌, Option, Some, None, slice_index_or, refl, sym, ap, ap₂, ◌∙◌, subst, arith}
+use Rattle.std.proofs.Common.{◌≡◌, ℕ, zero, suc, ◌+◌, ◌<◌, ◌≤◌, List, [], ◌∷◌, map, length, drop, Bool, true, false, ◌||◌, Option, Some, None, slice_index_or, refl, sym, ap, ap₂, ◌∙◌, subst, arith, rules}
 use Rattle.std.proofs.lemmas.List.{drop_more, drop_all}
+use Rattle.std.specs.Global.{Box}
 use Rattle.address.specs.declared.Entry.{Entry}
 use Rattle.address.specs.declared.Entry.TheVariants.{Ordered, Branch}
 use Rattle.runs.proofs.Options.{none-some, some-injective}
@@ -8,7 +9,13 @@ use Rattle.runs.specs.Moves.{Place}
 use Rattle.process_tree.specs.Children.{proc_at}
 use Rattle.process_tree.specs.Proc.{Proc, Procs, no_procs, proc, started, all_started}
 use Rattle.process_tree.specs.Translation.{row_of}
-use Rattle.process_tree.specs.View.{code_view, proc_view, procs_of}
+use Rattle.process_tree.specs.Code.{Codes}
+use Rattle.process_tree.specs.View.{code_view, opened_of, proc_view, procs_of}
+use Rattle.process_tree.specs.walking.Parts.{gate_view}
+use Rattle.process_tree.specs.declared.proc.Gate as made_gate
+use Rattle.process_tree.specs.declared.proc.Gate.{Gate}
+use Rattle.process_tree.specs.declared.proc.Gate.TheFolds.{the_lemmas}
+use Rattle.value.specs.Word.{Word}
 use Rattle.process_tree.specs.declared.code.Code.{Code}
 use Rattle.process_tree.specs.declared.code.Row.{Row}
 use Rattle.process_tree.specs.declared.proc.Proc as made
@@ -138,3 +145,13 @@ pub begun-seen-at : (s : Sought) (own : Option Place) (xs : List made.Proc) (row
 begun-seen-at s own xs row i x rest y l m e is p at =
     let same : proc_view x ≡ p = some-injective (proc_view x) p (sym (row-at xs row i x l m e) ∙ at) in
     is ∙ ap (λ (q : Proc). after (Ordered i) (below own (Ordered i)) (seen s q (below own (Ordered i))) rest) same
+
+-- an arm that opened, as it stands in memory
+opened-view : (ds : List ℕ) (cs : Codes) (c : ℕ) (v : Option Word) (closed : Bool) (q : Box made.Proc) → gate_view (made_gate.Opened c v closed q) ds cs ≡ opened_of closed ds cs c v (proc_view q.value)
+opened-view ds cs c v closed q = search (rules, the_lemmas)
+
+pub opened-seen : (s : Sought) (own : Option Place) (ds : List ℕ) (cs : Codes) (c : ℕ) (v : Option Word) (closed : Bool) (g : Gate) (q : Box made.Proc) (p : made.Proc) (x : Standing)
+    → g ≡ made_gate.Opened c v closed q → p ≡ q.value → x ≡ seen s (opened_of closed ds cs c v (proc_view p)) own → x ≡ seen s (gate_view g ds cs) own
+opened-seen s own ds cs c v closed g q p x is here e =
+    e ∙ sym (ap (λ (y : Proc). seen s y own)
+    (ap (λ (z : Gate). gate_view z ds cs) is ∙ opened-view ds cs c v closed q ∙ ap (λ (z : made.Proc). opened_of closed ds cs c v (proc_view z)) (sym here)))

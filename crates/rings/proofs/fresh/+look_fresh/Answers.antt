@@ -19,7 +19,7 @@ look_in_turn-children-preserved t c =
       fresh-turn c.args.sought (option_copied c.args.own) c.args.codes.now i c.children.number c.index-codes-number.result (standing c.children.found) _ next less
           c.index-codes-number.is c.children.invariant.1
           (turned (code_seen c.args.sought (code_view c.index-codes-number.result)) (option_copied c.args.own) (option_copied c.below-inside.result) i c.in_ok-entry.entry
-          (standing c.in_ok-child.child) (standing c.children.found) _ c.in_ok-entry.ensures c.below-inside.ensures c.in_ok-child.ensures c.in_ok-after.ensures),
+          (standing c.in_ok-child.child) (standing c.children.found) _ c.in_ok-entry.ensures c.below-inside.ensures c.in_ok-child.ensures c.in_ok-found.ensures),
     )
 
 pub look_abreast-children-init : goal.look_abreast-children-init
