@@ -1,2 +1,3 @@
 pub mod Leftover
 pub mod Remade
+pub mod RingOfState

@@ -1,3 +1,4 @@
 pub mod Progress
+pub mod Rings
 pub mod Waits
 pub mod walking

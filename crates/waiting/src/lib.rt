@@ -1,16 +1,13 @@
-//! Who waits: after a run, each side that is offered and that no allowed event has, and whether the run goes on, is done or
-//! is stuck.
+//! Who waits: after a run, each side that is offered and that no allowed event has, whether the run goes on, is done or is
+//! stuck, and a ring of places of which each waits for the next, where there is one.
 #![tactic(auto)]
 
-mod behind;
 mod progress;
 mod replaying;
-mod ring;
 mod sides;
-mod sought;
 mod text;
 mod waiting;
 
 pub use progress::Progress;
-pub use ring::Partner;
+pub use rings::Partner;
 pub use waiting::{Waiting, who_waits};

@@ -1,9 +1,9 @@
 // Who waits as text, in lines.
 use crate::progress::Progress;
-use crate::ring::Partner;
 use crate::waiting::Waiting;
 use machine::Machine;
 use offered_sides::{OfferedSide, Side};
+use rings::Partner;
 use std::alloc::AllocError;
 use std::io::Write;
 use system::{Branch, System};

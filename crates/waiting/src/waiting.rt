@@ -5,14 +5,15 @@ ghost use Rattle.runs.specs.Ready.{ReadyList};
 ghost use Rattle.runs.specs.Steps.{State};
 ghost use Rattle.machine.specs.AtMachine.{object};
 ghost use Rattle.waiting.specs.Progress.{StandsLike};
+ghost use Rattle.waiting.specs.Rings.{NamesRing, TellsPartners};
 ghost use Rattle.waiting.specs.Waits.{ListsWaiting};
 
 use crate::progress::{Progress, progress_of};
 use crate::replaying::made_again;
-use crate::ring::{Partner, all_partners, ring_among};
 use crate::sides::left_over;
 use machine::Machine;
 use offered_sides::{OfferedSide, sides_of};
+use rings::{Partner, partners_of, ring_among};
 use runs::Event;
 use std::alloc::{AllocError, Global};
 use syntax::Items;
@@ -25,14 +26,16 @@ pub struct Waiting {
     pub sides: Items<OfferedSide>,
     /// for each of them what has to go on before its partner can come
     pub partners: Vec<Partner>,
-    /// the indexes of sides of which each waits for the next, and the last for the first; empty where no such ring was found
+    /// the indexes of sides of which the place of each waits for that of the next, and the last for the first; empty where there
+    /// is no such ring
     pub ring: Vec<usize>,
 }
 
-/// Exactly the sides that the state of the machine offers and whose place no allowed event has, in order of place, and how the
-/// run stands. It makes the live events again, and then takes one walk of the tree. It is an error if there is no memory.
+/// Exactly the sides that the state of the machine offers and whose place no allowed event has, in order of place, how the run
+/// stands, what each of the sides waits for, and a ring exactly where there is one. It makes the live events again, and then takes
+/// a walk of the tree for each of the sides. It is an error if there is no memory.
 pub fn who_waits(alloc: Global, machine: &Machine) -> Result<Waiting, AllocError>
-    ensures { IfOk result (λ told. (S : State) × Reaches (object machine.now) S × ListsWaiting S told.sides × StandsLike S told.progress) }
+    ensures { IfOk result (λ told. (S : State) × Reaches (object machine.now) S × ListsWaiting S told.sides × StandsLike S told.progress × TellsPartners S told.sides told.partners.items × NamesRing S told.sides told.ring.items) }
 {
     machine.is_sound();
     let state = made_again(alloc, machine)?;
@@ -40,7 +43,7 @@ pub fn who_waits(alloc: Global, machine: &Machine) -> Result<Waiting, AllocError
     let events = ready_events(machine)?;
     let progress = progress_of(sides.as_slice(), events.as_slice());
     let sides = left_over(sides, events.as_slice());
-    let partners = all_partners(alloc, &state.tree, sides.as_slice())?;
+    let partners = partners_of(alloc, &state.tree, sides.as_slice())?;
     let ring = ring_among(alloc, sides.as_slice(), partners.as_slice())?;
     Ok(Waiting {
         progress,

@@ -1,15 +1,20 @@
-use Rattle.std.proofs.Common.{◌≡◌, ◌∙◌, List, sym, ap, ap₂, subst}
+use Rattle.std.proofs.Common.{◌≡◌, ◌∙◌, List, map, sym, ap, ap₂, subst}
 use Rattle.runs.specs.Steps.{State}
 use Rattle.runs.specs.Ready.{ReadyList}
 use Rattle.runs.specs.declared.event.Event.{Event}
 use Rattle.offered_sides.specs.Sides.{OffersExactly}
 use Rattle.offered_sides.specs.View.{state_of}
 use Rattle.offered_sides.specs.declared.side.OfferedSide.{OfferedSide}
+use Rattle.rings.specs.Partners.{partner_in}
+use Rattle.rings.specs.Rings.{TellsRing}
+use Rattle.rings.specs.declared.partner.Partner.{Partner}
 use Rattle.waiting.specs.Waits.{ListsWaiting}
 use Rattle.waiting.specs.Progress.{StandsLike}
+use Rattle.waiting.specs.Rings.{NamesRing}
 use Rattle.waiting.specs.declared.progress.Progress.{Progress}
 use Rattle.waiting.specs.walking.Among.{left_over, progress_of}
 use Rattle.waiting.proofs.Leftover.{lists-waiting, stands-like}
+use Rattle.waiting.proofs.RingOfState.{names-ring}
 use Rattle.waiting.proofs.waiting.who_waits.Goals as goal
 
 pub returns : goal.returns
@@ -25,9 +30,18 @@ returns c =
     let list : ReadyList S events = subst (λ (T : State). ReadyList T events) same ready.2 in
     let left : c.left_over-sides.result ≡ left_over events sides = c.left_over-sides.ensures ∙ ap (λ (es : List Event). left_over es sides) c.as_slice-3.ensures in
     let told : c.progress_of-progress.result ≡ progress_of sides events =
-    c.progress_of-progress.ensures ∙ ap₂ (λ (xs : List OfferedSide) (es : List Event). progress_of xs es) c.as_slice.ensures c.as_slice-2.ensures in (
+    c.progress_of-progress.ensures ∙ ap₂ (λ (xs : List OfferedSide) (es : List Event). progress_of xs es) c.as_slice.ensures c.as_slice-2.ensures in
+    let waits : ListsWaiting S c.left_over-sides.result =
+    subst (λ (xs : List OfferedSide). ListsWaiting S xs) (sym left) (lists-waiting S sides events exact (c.in_ok-sides.ensures.in_order stands.tidy) list) in
+    let partners : c.in_ok-partners.partners.items ≡ map (partner_in S.residual) c.left_over-sides.result =
+    c.in_ok-partners.ensures ∙ ap (λ (xs : List OfferedSide). map (partner_in S.residual) xs) c.as_slice-4.ensures in
+    let given : c.as_slice-6.result.now ≡ map (partner_in S.residual) c.as_slice-5.result.now =
+    c.as_slice-6.ensures.value ∙ partners ∙ ap (λ (xs : List OfferedSide). map (partner_in S.residual) xs) (sym c.as_slice-5.ensures) in (
       S,
       stands.reaches,
-      subst (λ (xs : List OfferedSide). ListsWaiting S xs) (sym left) (lists-waiting S sides events exact (c.in_ok-sides.ensures.in_order stands.tidy) list),
+      waits,
       subst (λ (p : Progress). StandsLike S p) (sym told) (stands-like S sides events exact list),
+      partners,
+      names-ring S c.left_over-sides.result c.in_ok-ring.ring.items waits
+          (subst (λ (xs : List OfferedSide). TellsRing S.residual xs c.in_ok-ring.ring.items) c.as_slice-5.ensures (c.in_ok-ring.ensures S.residual given)),
     )

@@ -1,0 +1,5 @@
+pub mod Left
+pub mod Rows
+pub mod Ringed
+pub mod Marked
+pub mod Places

@@ -1,0 +1,7 @@
+use Rattle.std.proofs.lemmas.Result.{IfOk-weaker}
+use Rattle.rings.proofs.Places.{tells}
+use Rattle.rings.proofs.ring.ring_among.Goals as goal
+
+pub returns : goal.returns
+returns c = λ r given.
+    IfOk-weaker c.ring_of_indexes.result _ _ (λ ring h. tells r c.args.sides.now c.args.partners.now given ring.items h) c.ring_of_indexes.ensures

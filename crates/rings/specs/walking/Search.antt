@@ -1,0 +1,112 @@
+-- The search for a ring by indexes of sides.
+-- No reader has to believe it: the contract of `ring_among` ties it to `TellsRing`.
+use Rattle.std.specs.Prelude.{◌≡◌, ℕ, ◌+◌, ◌<◌, List, [], ◌∷◌, length, Bool, true, false, ◌&&◌, cond, Option, Some, None, slice_get}
+use Rattle.syntax.specs.Lists.{In}
+use Rattle.runs.specs.Moves.{Place}
+use Rattle.runs.specs.Tests.{same_place}
+use Rattle.offered_sides.specs.walking.At.{is_under}
+use Rattle.offered_sides.specs.declared.side.OfferedSide.{OfferedSide}
+use Rattle.rings.specs.declared.partner.Partner.{Partner}
+use Rattle.rings.specs.declared.partner.Partner.TheVariants as partner
+use Rattle.rings.specs.declared.ring.Seen.{Seen}
+use Rattle.rings.specs.declared.ring.Seen.TheVariants.{New, OnWay, Done}
+
+-- ---- who waits for whom
+
+abbrev pub is_behind : Partner → Place → Bool
+is_behind (partner.Behind p) a = is_under p a
+is_behind partner.Gone a = false
+is_behind partner.Open a = false
+
+-- whether the side stands elsewhere than at place a, or has its partner behind place b
+abbrev pub passes : OfferedSide → Partner → Place → Place → Bool
+passes x p a b = cond (same_place x.place a) (is_behind p b) true
+
+-- whether each side at place a has its partner behind place b
+abbrev pub all_behind : List OfferedSide → List Partner → Place → Place → Bool
+all_behind [] ps a b = true
+all_behind (x ∷ xs) [] a b = true
+all_behind (x ∷ xs) (p ∷ ps) a b = passes x p a b && all_behind xs ps a b
+
+abbrev pub waits_for : List OfferedSide → List Partner → Place → Option OfferedSide → Bool
+waits_for sides partners a (Some y) = all_behind sides partners a y.place
+waits_for sides partners a None = false
+
+abbrev pub waits_at : List OfferedSide → List Partner → Option OfferedSide → Option OfferedSide → Bool
+waits_at sides partners (Some x) y = waits_for sides partners x.place y
+waits_at sides partners None y = false
+
+-- whether the place of side i waits for that of side j
+abbrev pub waits : List OfferedSide → List Partner → ℕ → ℕ → Bool
+waits sides partners i j = waits_at sides partners (slice_get sides i) (slice_get sides j)
+
+-- ---- rings of indexes below n, by such a test
+
+abbrev pub Test : Type 0
+Test = ℕ → ℕ → Bool
+
+abbrev pub Chain : ℕ → Test → ℕ → ℕ → List ℕ → Type 0
+Chain n w first i [] = (i < n) × (w i first ≡ true)
+Chain n w first i (j ∷ rest) = (i < n) × (w i j ≡ true) × Chain n w first j rest
+
+abbrev pub Ring : ℕ → Test → List ℕ → Type 0
+Ring n w [] = ⊥
+Ring n w (i ∷ rest) = Chain n w i i rest
+
+-- no ring goes through i
+abbrev pub InNoRing : ℕ → Test → ℕ → Type 0
+InNoRing n w i = (ring : List ℕ) → Ring n w ring → In i ring → ⊥
+
+-- what is told of a search
+abbrev pub Names : ℕ → Test → List ℕ → Type 0
+Names n w [] = (ring : List ℕ) → Ring n w ring → ⊥
+Names n w (i ∷ rest) = Ring n w (i ∷ rest)
+
+-- ---- the search
+
+-- each waits for the next
+abbrev pub Path : ℕ → Test → List ℕ → Type 0
+Path n w [] = Unit {0}
+Path n w (i ∷ []) = i < n
+Path n w (i ∷ j ∷ rest) = (i < n) × (w i j ≡ true) × Path n w (j ∷ rest)
+
+-- how far a search has come
+pub record Searching (n : ℕ) (w : Test) (seen : List Seen) (way : List ℕ) : Type 0 where
+  pub size : length seen ≡ n
+  pub done : (i : ℕ) → slice_get seen i ≡ Some Done → InNoRing n w i
+  pub on_way : (i : ℕ) → slice_get seen i ≡ Some OnWay → In i way
+  pub path : Path n w way
+
+-- what was not new is not new again
+abbrev pub Keeps : List Seen → List Seen → Type 0
+Keeps before seen = (i : ℕ) → slice_get seen i ≡ Some New → slice_get before i ≡ Some New
+
+-- a search from this index on has ended with no ring, or with one
+abbrev pub Searched : ℕ → Test → List Seen → List Seen → ℕ → List ℕ → Type 0
+Searched n w before seen start [] = Searching n w seen [] × Keeps before seen × (slice_get seen start ≡ Some New → ⊥)
+Searched n w before seen start (i ∷ rest) = Ring n w (i ∷ rest)
+
+-- whether it is new, and whether it is done
+abbrev pub is_new : Option Seen → Bool
+is_new (Some New) = true
+is_new (Some OnWay) = false
+is_new (Some Done) = false
+is_new None = false
+
+abbrev pub is_open : Option Seen → Bool
+is_open (Some New) = true
+is_open (Some OnWay) = true
+is_open (Some Done) = false
+is_open None = false
+
+-- how many are new
+abbrev pub count_new : List Seen → ℕ
+count_new [] = 0
+count_new (New ∷ xs) = count_new xs + 1
+count_new (OnWay ∷ xs) = count_new xs
+count_new (Done ∷ xs) = count_new xs
+
+-- the index of a side that waits for it and at which the search is not done; or there is none
+abbrev pub NextOpen : ℕ → Test → List Seen → ℕ → Option ℕ → Type 0
+NextOpen n w seen top (Some j) = (j < n) × (w top j ≡ true) × (is_open (slice_get seen j) ≡ true)
+NextOpen n w seen top None = (j : ℕ) → j < n → w top j ≡ true → is_open (slice_get seen j) ≡ false

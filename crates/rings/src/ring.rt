@@ -1,0 +1,161 @@
+// A ring of sides of which each waits for the next.
+ghost use Rattle.std.specs.Prelude.{◌≡◌, ◌<◌, ℕ, [], length, slice_get, slice_set, drop, Some, map, IfOk, MatchOption};
+ghost use Rattle.syntax.specs.Lists.{In};
+ghost use Rattle.system.specs.Residual.{Residual};
+ghost use Rattle.rings.specs.Partners.{partner_in};
+ghost use Rattle.rings.specs.Rings.{TellsRing};
+ghost use Rattle.rings.specs.walking.Search as model;
+
+use crate::partner::Partner;
+use crate::waits::waits;
+use offered_sides::OfferedSide;
+use std::alloc::{AllocError, Global};
+
+/// How far the search has come at a side.
+#[derive(Clone, Copy)]
+pub(crate) enum Seen {
+    New,
+    OnWay,
+    Done,
+}
+
+/// The indexes of sides whose places are a ring, where these are the partners of the sides, in their order: the place of each
+/// waits for that of the next, and the last for the first. None where there is no ring. It is an error if there is no memory.
+pub fn ring_among(
+    alloc: Global,
+    sides: &[OfferedSide],
+    partners: &[Partner],
+) -> Result<Vec<usize>, AllocError>
+    requires { length partners.now ≡ length sides.now }
+    ensures { (r : Residual) → partners.now ≡ map (partner_in r) sides.now → IfOk result (λ ring. TellsRing r sides.now ring.items) }
+{
+    ring_of_indexes(alloc, sides, partners)
+}
+
+/// The same by the indexes of the sides.
+fn ring_of_indexes(
+    alloc: Global,
+    sides: &[OfferedSide],
+    partners: &[Partner],
+) -> Result<Vec<usize>, AllocError>
+    requires { length partners.now ≡ length sides.now }
+    ensures { IfOk result (λ ring. model.Names (length sides.now) (model.waits sides.now partners.now) ring.items) }
+{
+    let mut seen = all_new(alloc, sides.len())?;
+    for start in 0..sides.len() {
+        if !is_new(seen.as_slice(), start) {
+            continue;
+        }
+        let ring = ring_from(alloc, sides, partners, seen.as_mut_slice(), start)?;
+        if !ring.is_empty() {
+            return Ok(ring);
+        }
+    }
+    Ok(Vec::new(alloc))
+}
+
+/// A mark for each side, at none of which the search has been.
+fn all_new(alloc: Global, count: usize) -> Result<Vec<Seen>, AllocError>
+    ensures size { IfOk result (λ seen. length seen.items ≡ count) }
+    ensures done { IfOk result (λ seen. (i : ℕ) → slice_get seen.items i ≡ Some Seen.Done → ⊥) }
+    ensures on_way { IfOk result (λ seen. (i : ℕ) → slice_get seen.items i ≡ Some Seen.OnWay → ⊥) }
+{
+    Ok(vec![in alloc; Seen::New; count]?)
+}
+
+/// A ring that is found on the ways from this side on.
+fn ring_from(
+    alloc: Global,
+    sides: &[OfferedSide],
+    partners: &[Partner],
+    seen: &mut [Seen],
+    start: usize,
+) -> Result<Vec<usize>, AllocError>
+    requires sizes { length partners.now ≡ length sides.now }
+    requires start { start < length sides.now }
+    requires so_far { model.Searching (length sides.now) (model.waits sides.now partners.now) seen.old [] }
+    ensures { IfOk result (λ ring. model.Searched (length sides.now) (model.waits sides.now partners.now) seen.old seen.new start ring.items) }
+{
+    let mut way = Vec::new(alloc);
+    way.push(start)?;
+    note(seen, start, Seen::OnWay);
+    'search: while let Some(top) = way.pop() {
+        let Some(next) = next_open(sides, partners, seen, top) else {
+            note(seen, top, Seen::Done);
+            continue;
+        };
+        way.push(top)?;
+        if let Some(index) = index_on(way.as_slice(), next) {
+            return part_from(alloc, way.as_slice(), index);
+        }
+        way.push(next)?;
+        note(seen, next, Seen::OnWay);
+    }
+    Ok(Vec::new(alloc))
+}
+
+/// Whether the search has not been at this side.
+fn is_new(seen: &[Seen], index: usize) -> bool
+    ensures { result ≡ model.is_new (slice_get seen.now index) }
+{
+    match seen.get(index) {
+        Some(state) => matches!(state, Seen::New),
+        None => false,
+    }
+}
+
+/// Whether the search is not done at this side.
+fn is_open(seen: &[Seen], index: usize) -> bool
+    ensures { result ≡ model.is_open (slice_get seen.now index) }
+{
+    match seen.get(index) {
+        Some(state) => !matches!(state, Seen::Done),
+        None => false,
+    }
+}
+
+/// Notes how far the search has come at a side.
+fn note(seen: &mut [Seen], index: usize, state: Seen)
+    requires { index < length seen.old }
+    ensures { seen.new ≡ slice_set seen.old index state }
+{
+    seen[index] = state;
+}
+
+/// The first side for which the side waits, and at which the search is not done.
+fn next_open(
+    sides: &[OfferedSide],
+    partners: &[Partner],
+    seen: &[Seen],
+    top: usize,
+) -> Option<usize>
+    requires { length partners.now ≡ length sides.now }
+    ensures { model.NextOpen (length sides.now) (model.waits sides.now partners.now) seen.now top result }
+{
+    for next in 0..sides.len() {
+        if is_open(seen, next) && waits(sides, partners, top, next) {
+            return Some(next);
+        }
+    }
+    None
+}
+
+/// Where the side stands on the way.
+fn index_on(way: &[usize], side: usize) -> Option<usize>
+    ensures { MatchOption result (In side way.now → ⊥) (λ index. slice_get way.now index ≡ Some side) }
+{
+    for (index, held) in way.iter().enumerate() {
+        if *held == side {
+            return Some(index);
+        }
+    }
+    None
+}
+
+/// The way from this index on.
+fn part_from(alloc: Global, way: &[usize], index: usize) -> Result<Vec<usize>, AllocError>
+    requires { index < length way.now }
+    ensures { IfOk result (λ part. part.items ≡ drop index way.now) }
+{
+    Vec::from_slice(alloc, &way[index..])
+}
