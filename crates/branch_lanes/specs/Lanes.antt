@@ -1,5 +1,5 @@
 -- Lanes. (Own: what is drawn as one line of a run.)
-use Rattle.std.specs.Prelude.{ℕ, ◌≢◌, ◌==◌, List, [], ◌∷◌, cond}
+use Rattle.std.specs.Prelude.{ℕ, zero, suc, ◌≢◌, List, [], ◌∷◌}
 use Rattle.address.specs.declared.Entry.{Entry}
 use Rattle.address.specs.declared.Entry.TheVariants.{Ordered, Branch}
 use Rattle.address.specs.Places.{Apart}
@@ -12,7 +12,8 @@ branch_numbers (Branch n ∷ a) = n ∷ branch_numbers a
 
 -- a number before others; a zero before none is left out
 abbrev pub before_others : ℕ → List ℕ → List ℕ
-before_others n [] = cond (n == 0) [] (n ∷ [])
+before_others zero [] = []
+before_others (suc n) [] = suc n ∷ []
 before_others n (m ∷ ns) = n ∷ m ∷ ns
 
 -- the numbers without the zeros at the end

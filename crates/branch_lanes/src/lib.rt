@@ -37,7 +37,7 @@ fn branch_numbers(alloc: Global, entries: &[Entry]) -> Result<Vec<u32>, AllocErr
 pub fn trim(lane: &mut Vec<u32>)
     ensures { lane.new.items ≡ trimmed lane.old.items }
 {
-    while lane.len() > 1 && lane[lane.len() - 1] == 0 {
+    'zeros: while lane.len() > 1 && lane[lane.len() - 1] == 0 {
         lane.pop();
     }
 }

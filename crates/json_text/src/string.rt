@@ -1,7 +1,7 @@
 // Strings of JSON.
-ghost use Rattle.std.specs.Prelude.{◌≡◌, ◌++◌, ◌<◌, ◌∷◌, [], ℕ, length, OnOk};
+ghost use Rattle.std.specs.Prelude.{◌≡◌, ◌++◌, ◌<◌, OnOk, true};
 ghost use Rattle.bstr.specs.Utf8.{lossy_chars};
-ghost use Rattle.json_text.specs.Strings.{StringsArePlain, escaped, hex_digit, is_literal, json_string, unit, units};
+ghost use Rattle.json_text.specs.Strings.{StringsArePlain, character_text, escaped, hex_digit, is_literal, json_string, pair, unit};
 
 use bstr::ByteSlice;
 use std::alloc::AllocError;
@@ -13,14 +13,16 @@ pub fn add_string(out: &mut Vec<u8>, text: &[u8]) -> Result<(), AllocError>
 {
     out.push(b'"')?;
     add_characters(out, text)?;
-    out.push(b'"')
+    out.push(b'"')?;
+    Ok(())
 }
 
 /// Adds the characters of the text, each as JSON has it.
 fn add_characters(out: &mut Vec<u8>, text: &[u8]) -> Result<(), AllocError>
     ensures { OnOk result (out.new.items ≡ out.old.items ++ escaped (lossy_chars text.now)) }
 {
-    for character in text.chars() {
+    let mut characters = text.chars();
+    'characters: while let Some(character) = characters.next() {
         add_character(out, u32::from(character))?;
     }
     Ok(())
@@ -28,35 +30,42 @@ fn add_characters(out: &mut Vec<u8>, text: &[u8]) -> Result<(), AllocError>
 
 /// Adds a character: itself, or its units.
 fn add_character(out: &mut Vec<u8>, code: u32) -> Result<(), AllocError>
-    requires { code < 1114112 }
-    ensures { OnOk result (out.new.items ≡ out.old.items ++ escaped (code ∷ [])) }
+    ensures { OnOk result (out.new.items ≡ out.old.items ++ character_text code) }
 {
     if is_literal(code) {
-        return out.push(code as u8);
+        out.push(code as u8)?;
+        return Ok(());
     }
     if code < 0x1_0000 {
         return add_unit(out, code);
     }
-    add_unit(out, 0xd800 + (code - 0x1_0000) / 0x400)?;
-    add_unit(out, 0xdc00 + (code - 0x1_0000) % 0x400)
+    add_pair(out, code - 0x1_0000)
+}
+
+/// Adds the two units of a character whose code, less 2^16, is this.
+fn add_pair(out: &mut Vec<u8>, above: u32) -> Result<(), AllocError>
+    ensures { OnOk result (out.new.items ≡ out.old.items ++ pair above) }
+{
+    add_unit(out, 0xd800 + above / 0x400)?;
+    add_unit(out, 0xdc00 + above % 0x400)
 }
 
 /// Whether the character stands for itself.
 fn is_literal(code: u32) -> bool
-    ensures { result ≡ is_literal code }
+    ensures test { result ≡ is_literal code }
+    ensures small { result ≡ true → code < 127 }
 {
     code >= 32 && code < 127 && code != 34 && code != 60 && code != 92
 }
 
-/// Adds a unit of 16 bits.
+/// Adds a unit of 16 bits: the last 16 of the number.
 fn add_unit(out: &mut Vec<u8>, code: u32) -> Result<(), AllocError>
-    requires { code < 65536 }
     ensures { OnOk result (out.new.items ≡ out.old.items ++ unit code) }
 {
     let digits = [
         b'\\',
         b'u',
-        hex_digit(code / 4096),
+        hex_digit(code / 4096 % 16),
         hex_digit(code / 256 % 16),
         hex_digit(code / 16 % 16),
         hex_digit(code % 16),

@@ -1,5 +1,7 @@
 // A JSON text as it grows.
-ghost use Rattle.std.specs.Prelude.{[], ◌≡◌, All};
+ghost use Rattle.std.specs.Prelude.{[], ◌≡◌, IfOk};
+ghost use Rattle.std.specs.List.{All};
+ghost use Rattle.json_text.specs.Strings.{IsPlain};
 
 use crate::string::{add_string, strings_are_plain};
 use itoa::Buffer;
@@ -29,9 +31,6 @@ impl Model for Json {
 }
 
 impl Json {
-    ghost use Rattle.std.specs.List.{All};
-    ghost use Rattle.json_text.specs.Strings.{IsPlain};
-
     /// Nothing yet.
     pub fn new(alloc: Global) -> Json
         ensures { result ≡ [] }
@@ -47,8 +46,26 @@ impl Json {
         ensures text { result.items ≡ self }
         ensures plain { All IsPlain result.items }
     {
-        let Json { bytes, first: _ } = self;
+        let Json {
+            bytes,
+            first: _,
+        } = self;
         bytes
+    }
+
+    /// Adds a mark.
+    fn mark(&mut self, mark: u8) -> Result<(), AllocError>
+        requires { IsPlain mark }
+    {
+        self.bytes.push(mark)?;
+        Ok(())
+    }
+
+    /// Adds plain bytes.
+    fn plain(&mut self, bytes: &[u8]) -> Result<(), AllocError>
+        requires { All IsPlain bytes.now }
+    {
+        self.bytes.extend_from_slice(bytes)
     }
 
     /// Begins an item: a comma where another stands before it.
@@ -57,52 +74,58 @@ impl Json {
             self.first = false;
             return Ok(());
         }
-        self.bytes.push(b',')
+        self.mark(b',')
+    }
+
+    /// Opens a list or an object by its mark.
+    fn open(&mut self, mark: u8) -> Result<(), AllocError>
+        requires { IsPlain mark }
+    {
+        self.separate()?;
+        self.first = true;
+        self.mark(mark)
+    }
+
+    /// Closes one by its mark.
+    fn close(&mut self, mark: u8) -> Result<(), AllocError>
+        requires { IsPlain mark }
+    {
+        self.first = false;
+        self.mark(mark)
     }
 
     /// Begins a list.
     pub fn open_list(&mut self) -> Result<(), AllocError> {
-        self.separate()?;
-        self.bytes.push(b'[')?;
-        self.first = true;
-        Ok(())
+        self.open(b'[')
     }
 
     /// Ends a list.
     pub fn close_list(&mut self) -> Result<(), AllocError> {
-        self.bytes.push(b']')?;
-        self.first = false;
-        Ok(())
+        self.close(b']')
     }
 
     /// Begins an object.
     pub fn open_object(&mut self) -> Result<(), AllocError> {
-        self.separate()?;
-        self.bytes.push(b'{')?;
-        self.first = true;
-        Ok(())
+        self.open(b'{')
     }
 
     /// Ends an object.
     pub fn close_object(&mut self) -> Result<(), AllocError> {
-        self.bytes.push(b'}')?;
-        self.first = false;
-        Ok(())
+        self.close(b'}')
     }
 
     /// The name of the member of an object whose value comes next.
     pub fn name(&mut self, name: &str) -> Result<(), AllocError> {
         self.text(name.as_bytes())?;
-        self.bytes.push(b':')?;
         self.first = true;
-        Ok(())
+        self.mark(b':')
     }
 
-    /// A string.
+    /// A string. Bytes that are no UTF-8 are read as U+FFFD.
     pub fn text(&mut self, text: &[u8]) -> Result<(), AllocError> {
-        strings_are_plain();
         self.separate()?;
-        add_string(&mut self.bytes, text)
+        let string = string_of(*self.bytes.allocator(), text)?;
+        self.plain(string.as_slice())
     }
 
     /// A number.
@@ -110,7 +133,7 @@ impl Json {
         self.separate()?;
         let mut buffer = Buffer::new();
         let digits = buffer.format(number);
-        self.bytes.extend_from_slice(digits.as_bytes())
+        self.plain(digits.as_bytes())
     }
 
     /// A number, or -1.
@@ -119,7 +142,8 @@ impl Json {
             Some(number) => self.number(number),
             None => {
                 self.separate()?;
-                self.bytes.extend_from_slice(b"-1")
+                self.mark(b'-')?;
+                self.mark(b'1')
             }
         }
     }
@@ -131,4 +155,14 @@ impl Json {
             None => self.number_or_none(None),
         }
     }
+}
+
+/// The string of JSON that stands for the text.
+fn string_of(alloc: Global, text: &[u8]) -> Result<Vec<u8>, AllocError>
+    ensures { IfOk result (λ made. All IsPlain made.items) }
+{
+    strings_are_plain();
+    let mut made = Vec::new(alloc);
+    add_string(&mut made, text)?;
+    Ok(made)
 }

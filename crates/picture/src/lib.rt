@@ -11,6 +11,7 @@ use machine::Machine;
 use picture_data::{Picture, picture_of};
 pub use picture_text::Names;
 use picture_text::{data_text, page_text};
+use picture_waves::waves_text;
 use sharing_check::Checked;
 use std::alloc::{AllocError, Global};
 use std::io::Write;
@@ -22,6 +23,8 @@ use typed_source::typed_source;
 pub enum Drawing {
     /// a page with its own style, script and data, which needs no other file
     Page,
+    /// a value change dump over logical time, for viewers of waves
+    Waves,
     /// the data of the page alone, as one JSON text
     Data,
 }
@@ -75,6 +78,7 @@ fn drawn(
     let picture = taken(alloc, machine, source)?;
     match drawing {
         Drawing::Page => page_of(alloc, machine, &picture, source, names),
+        Drawing::Waves => waves_text(alloc, machine, &picture),
         Drawing::Data => data_text(alloc, machine, &picture, source, names),
     }
 }
@@ -95,7 +99,7 @@ fn page_of(
 fn taken(alloc: Global, machine: &Machine, source: &[u8]) -> Result<Picture, AllocError> {
     match typed_source(alloc, source) {
         Ok(typed) => picture_of(alloc, machine, typed.procedures()),
-        Err(fault) if fault.number() == 1 => Err(AllocError),
+        Err(typed_source::Fault::Memory) => Err(AllocError),
         Err(_) => picture_of(alloc, machine, &[]),
     }
 }

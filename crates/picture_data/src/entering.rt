@@ -45,7 +45,8 @@ pub(crate) fn enter<'a>(
         made,
         path,
         block: entered,
-    })
+    })?;
+    Ok(())
 }
 
 /// What stands before the names that the next call of the block makes.

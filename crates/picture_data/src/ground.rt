@@ -119,7 +119,10 @@ fn add_feed(
         return Err(AllocError);
     };
     match table.find(&[number]) {
-        Some(lane) => feeds.push(Feed { lane, count }),
+        Some(lane) => {
+            feeds.push(Feed { lane, count })?;
+            Ok(())
+        }
         None => Ok(()),
     }
 }

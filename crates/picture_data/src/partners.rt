@@ -9,6 +9,7 @@ use std::alloc::{AllocError, Global};
 use waiting::Partner;
 
 /// What stands now: the sides that wait and the events that can be taken.
+#[derive(Clone, Copy)]
 pub(crate) struct Now<'a> {
     pub(crate) table: &'a LaneTable,
     pub(crate) uses: &'a [ChannelUse],
@@ -107,7 +108,10 @@ fn is_partner(role: Role, way: Way) -> bool {
 /// Adds a lane, once.
 fn add_lane(lane: Option<usize>, lanes: &mut Vec<usize>) -> Result<(), AllocError> {
     match lane {
-        Some(lane) if !lanes.as_slice().contains(&lane) => lanes.push(lane),
+        Some(lane) if !lanes.as_slice().contains(&lane) => {
+            lanes.push(lane)?;
+            Ok(())
+        }
         _ => Ok(()),
     }
 }

@@ -132,7 +132,8 @@ fn add_wanted(
         channel,
         lanes,
         can_come,
-    })
+    })?;
+    Ok(())
 }
 
 /// Whether a partner can still come.

@@ -125,7 +125,7 @@ impl Standing {
 fn index_of(parts: &[(Entry, usize)], entry: Entry) -> usize {
     let mut low = 0;
     let mut high = parts.len();
-    while low < high {
+    'halves: while low < high {
         let middle = low + (high - low) / 2;
         if parts[middle].0 < entry {
             low = middle + 1;

@@ -1,7 +1,6 @@
 // The lanes by their paths: the ports of the environment that give at the left, then the branches of the body in order, and the ports that
 // take at the right.
-ghost use Rattle.std.specs.Prelude.{◌≡◌, ◌≤◌, length, IfSome, slice_get, Some, IfOk};
-ghost use Rattle.branch_lanes.specs.Lanes.{lane_of};
+ghost use Rattle.std.specs.Prelude.{◌≡◌, ◌≤◌, true, length, IfSome, IfOk};
 ghost use Rattle.picture_data.specs.Shown.{HasPath, IsLaneOf};
 
 use crate::lane::{Lane, LaneKind};
@@ -149,7 +148,7 @@ pub(crate) fn position(lanes: &[Lane], path: &[u32]) -> usize
 {
     let mut low = 0;
     let mut high = lanes.len();
-    while low < high {
+    'halves: while low < high {
         let middle = low + (high - low) / 2;
         if lanes[middle].path.as_slice() < path {
             low = middle + 1;

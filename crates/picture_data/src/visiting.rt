@@ -105,7 +105,8 @@ fn note_use(
     way: Way,
 ) -> Result<(), AllocError> {
     let path = lane_path(alloc, visit.path.as_slice())?;
-    found.uses.push(ChannelUse { channel, way, path })
+    found.uses.push(ChannelUse { channel, way, path })?;
+    Ok(())
 }
 
 /// Puts the visits of the parts of the command on top of the work, the first of them last.
@@ -156,7 +157,8 @@ fn push_part<'a>(
         made,
         path,
         block: visit.block,
-    })
+    })?;
+    Ok(())
 }
 
 /// Puts the visit of what stands behind an `else`.
@@ -181,8 +183,10 @@ fn push_guarded<'a>(
     written: &'a [typed::Guarded],
     made: &'a [Guarded],
 ) -> Result<(), AllocError> {
-    for (one, other) in written.iter().zip(made).rev() {
-        push_part(alloc, work, visit, &one.body, &other.body)?;
+    let count = written.len().min(made.len());
+    for back in 0..count {
+        let index = count - 1 - back;
+        push_part(alloc, work, visit, &written[index].body, &made[index].body)?;
     }
     Ok(())
 }
@@ -195,8 +199,10 @@ fn push_labelled<'a>(
     written: &'a [typed::Labelled],
     made: &'a [Labelled],
 ) -> Result<(), AllocError> {
-    for (one, other) in written.iter().zip(made).rev() {
-        push_part(alloc, work, visit, &one.body, &other.body)?;
+    let count = written.len().min(made.len());
+    for back in 0..count {
+        let index = count - 1 - back;
+        push_part(alloc, work, visit, &written[index].body, &made[index].body)?;
     }
     Ok(())
 }
@@ -209,8 +215,10 @@ fn push_arms<'a>(
     written: &'a [typed::Arm],
     made: &'a [Arm],
 ) -> Result<(), AllocError> {
-    for (one, other) in written.iter().zip(made).rev() {
-        push_part(alloc, work, visit, &one.body, &other.body)?;
+    let count = written.len().min(made.len());
+    for back in 0..count {
+        let index = count - 1 - back;
+        push_part(alloc, work, visit, &written[index].body, &made[index].body)?;
     }
     Ok(())
 }
@@ -223,8 +231,10 @@ fn push_sequence<'a>(
     written: &'a [typed::Command],
     made: &'a [Command],
 ) -> Result<(), AllocError> {
-    for (one, other) in written.iter().zip(made).rev() {
-        push_part(alloc, work, visit, one, other)?;
+    let count = written.len().min(made.len());
+    for back in 0..count {
+        let index = count - 1 - back;
+        push_part(alloc, work, visit, &written[index], &made[index])?;
     }
     Ok(())
 }
@@ -237,8 +247,10 @@ fn push_branches<'a>(
     written: &'a [typed::Command],
     made: &'a [Command],
 ) -> Result<(), AllocError> {
-    for (number, (one, other)) in written.iter().zip(made).enumerate().rev() {
-        push_branch(alloc, work, visit, number, one, other)?;
+    let count = written.len().min(made.len());
+    for back in 0..count {
+        let index = count - 1 - back;
+        push_branch(alloc, work, visit, index, &written[index], &made[index])?;
     }
     Ok(())
 }
@@ -262,5 +274,6 @@ fn push_branch<'a>(
         made,
         path,
         block: visit.block,
-    })
+    })?;
+    Ok(())
 }

@@ -245,7 +245,7 @@ function card(){const i=focus();let o='';
     if(wait.length)o+=`<h2>Waits</h2><table>`+wait.slice(0,60).map(p=>`<tr><td>${esc(who(p[0]))}${lineLink(p[2])}<td>${waitText(p)}`).join('')+'</table>'}
   $('card').innerHTML=o}
 const VERB={send:'sends on',receive:'receives on',sync:'syncs on',open:'opens on',held:'is held on',close:'closes',halt:'halts for ever'},TO={send:'to ',receive:'from ',sync:'with ',open:'from '};
-function waitText(p){if(p[3]==='halt')return VERB.halt;return p[4].map((o,i)=>`${i?'or':VERB[p[3]]} <span class="m">${esc(short(R.channels[o[0]][0],p[0]))}</span> `+(p[3]==='held'?'till the arm ends in ':o[2]?TO[p[3]]:'<span class="soft">none left in</span> ')+[...new Set(o[1].map(who))].slice(0,3).map(esc).join(', ')).join('<br>')}
+function waitText(p){if(p[3]==='halt')return VERB.halt;return p[4].map((o,i)=>`${i?'or':VERB[p[3]]} <span class="m">${esc(short(R.channels[o[0]][0],p[0]))}</span> `+(p[3]==='held'?'till the arm ends in ':o[2]?TO[p[3]]||'':`<span class="soft">none left${o[1].length?' in':''}</span> `)+[...new Set(o[1].map(who))].slice(0,3).map(esc).join(', ')).join('<br>')}
 function ringPicture(ring){if(ring.length>14)return'';const n=ring.length,w=378,h=n<4?170:n<7?250:320,o=[`<svg width="${w}" height="${h}" role="img" aria-label="ring of waiting"><g class="rg0">`];
   const box=ring.map((p,i)=>{const a=2*Math.PI*i/n-(n===2?Math.PI:Math.PI/2),t=cut(who(R.places[p][0]),17),bw=Math.max(64,t.length*CW+14);return{t,bw,x:Math.max(bw/2+1,Math.min(w-bw/2-1,w/2+(w/2-62)*Math.cos(a))),y:h/2+(h/2-18)*Math.sin(a),line:R.places[p][2]}});
   const inside=(b,x,y)=>Math.abs(x-b.x)<b.bw/2+3&&Math.abs(y-b.y)<19;

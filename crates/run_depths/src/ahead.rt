@@ -33,7 +33,8 @@ fn ahead_of(
 {
     live.is_sound();
     let mut ahead = Items::new(alloc);
-    for follower in live.followers(ticket) {
+    let followers = live.followers(ticket);
+    for follower in followers {
         ahead.push(distance(live, index, ticket, *follower))?;
     }
     Ok(ahead)

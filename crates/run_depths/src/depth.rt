@@ -32,7 +32,8 @@ fn depth_of(live: &Live, depths: &[usize], ticket: u64) -> usize
     ensures small { result ≤ length depths.now }
 {
     let mut depth = 0;
-    for lead in live.leads(ticket) {
+    let leads = live.leads(ticket);
+    for lead in leads {
         depth = depth.max(depth_behind(live, depths, *lead));
     }
     depth
