@@ -1,5 +1,5 @@
 -- What the picture of a run shows.
-use Rattle.std.specs.Prelude.{◌≡◌, ◌×◌, ℕ, List, Some, slice_get}
+use Rattle.std.specs.Prelude.{◌≡◌, ℕ, List, Some, slice_get}
 use Rattle.address.specs.declared.Entry.{Entry}
 use Rattle.branch_lanes.specs.Lanes.{lane_of}
 use Rattle.runs.specs.Live.{Live}

@@ -1,5 +1,5 @@
 // What stands at the end of a run.
-ghost use Rattle.std.specs.Prelude.{◌×◌, ℕ, IfOk};
+ghost use Rattle.std.specs.Prelude.{IfOk};
 ghost use Rattle.runs.specs.Object.{Reaches};
 ghost use Rattle.runs.specs.Ready.{ReadyList};
 ghost use Rattle.runs.specs.Steps.{State};

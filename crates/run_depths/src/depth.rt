@@ -31,6 +31,7 @@ fn depth_of(live: &Live, depths: &[usize], ticket: u64) -> usize
     ensures depth { IsDepth live.now.live depths.now ticket result }
     ensures small { result ≤ length depths.now }
 {
+    live.is_sound();
     let mut depth = 0;
     let leads = live.leads(ticket);
     for lead in leads {
