@@ -1,5 +1,5 @@
 // Depths.
-ghost use Rattle.std.specs.Prelude.{ℕ, ◌≡◌, ◌+◌, ◌≤◌, ◌<◌, length, slice_index, IfOk};
+ghost use Rattle.std.specs.Prelude.{ℕ, ◌≡◌, ◌≤◌, ◌<◌, length, max, IfOk};
 ghost use Rattle.runs.specs.Live.{IsLive};
 ghost use Rattle.dependence.specs.Followers.{Follower};
 ghost use Rattle.run_depths.specs.Depths.{AreDepths, IsDepth, StandsAt, AreBelow, IsBehind};
@@ -35,9 +35,16 @@ fn depth_of(live: &Live, depths: &[usize], ticket: u64) -> usize
     let mut depth = 0;
     let leads = live.leads(ticket);
     for lead in leads {
-        depth = depth.max(depth_behind(live, depths, *lead));
+        depth = larger(depth, depth_behind(live, depths, *lead));
     }
     depth
+}
+
+/// The larger of two numbers.
+fn larger(one: usize, other: usize) -> usize
+    ensures { result ≡ max one other }
+{
+    if one < other { other } else { one }
 }
 
 /// One more than the depth of the live event of this ticket.

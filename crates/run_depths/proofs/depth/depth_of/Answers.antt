@@ -18,10 +18,10 @@ loop-lead-preserved c =
     let r = c.is_sound.ensures.rising in
     let small = c.loop-lead.invariant.small in
     let other = c.depth_behind.ensures.small in
-    let most = c.max-depth.ensures in
+    let most = c.larger-depth.ensures in
     record {
       to = depth-next 0 r.0 c.args.live.now.live c.args.depths.now c.leads-leads.result.now c.loop-lead.lead-index c.loop-lead.depth c.depth_behind.result
-          c.max-depth.result r.1 c.loop-lead-test.true c.loop-lead.invariant.to c.depth_behind.ensures.depth most;
+          c.larger-depth.result r.1 c.loop-lead-test.true c.loop-lead.invariant.to c.depth_behind.ensures.depth most;
       small = omega arith;
     }
 
