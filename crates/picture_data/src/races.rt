@@ -34,9 +34,6 @@ fn add_races(
     let Some((ticket, _)) = live.pair_at(index as u64) else {
         return Ok(());
     };
-    if live.index_of(ticket).is_none() {
-        return Ok(());
-    }
     for lead in live.leads(ticket).iter().rev() {
         if let Some(race) = race_with(live, *lead, index, event) {
             races.push(race)?;

@@ -1,6 +1,6 @@
 // The lanes by their paths: the ports of the environment that give at the left, then the branches of the body in order, and the ports that
 // take at the right.
-ghost use Rattle.std.specs.Prelude.{◌≡◌, ◌≤◌, true, length, IfSome, IfOk};
+ghost use Rattle.std.specs.Prelude.{◌≡◌, ◌≤◌, ◌↔◌, length, IfSome, IfOk, IsTrue};
 ghost use Rattle.picture_data.specs.Shown.{HasPath, IsLaneOf};
 
 use crate::lane::{Lane, LaneKind};
@@ -134,12 +134,19 @@ impl LaneTable {
 
 /// Whether the lane at the index has the path.
 fn has_path(lanes: &[Lane], index: usize, path: &[u32]) -> bool
-    ensures { result ≡ true → HasPath lanes.now index path.now }
+    ensures { IsTrue result → HasPath lanes.now index path.now }
 {
     match lanes.get(index) {
-        Some(lane) => lane.path.as_slice() == path,
+        Some(lane) => is_along(lane, path),
         None => false,
     }
+}
+
+/// Whether the lane has the path.
+fn is_along(lane: &Lane, path: &[u32]) -> bool
+    ensures { IsTrue result ↔ (lane.now.path.items ≡ path.now) }
+{
+    lane.path.as_slice() == path
 }
 
 /// Where the path stands among those of these lanes, or would stand: they are in order.
