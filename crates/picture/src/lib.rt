@@ -2,7 +2,7 @@
 #![tactic(auto)]
 
 ghost use Rattle.std.specs.Prelude.{◌≡◌, MatchResult};
-ghost use Rattle.devices.specs.Counting.{device, failures};
+ghost use Rattle.devices.specs.Counting.{failures};
 ghost use Rattle.trace_file.specs.Loading.{IsRefused, after_writing};
 ghost use Rattle.questions.specs.Asking.{IsTraced};
 
@@ -60,8 +60,17 @@ pub fn write_picture<W: Write>(
 ) -> Result<(), Fault>
     ensures failures { failures writer.new ≡ after_writing result (failures writer.old) }
 {
-    let text = picture_text(alloc, checked, source, trace, names, drawing)?;
-    match write_out(writer, text.as_slice()) {
+    match picture_text(alloc, checked, source, trace, names, drawing) {
+        Ok(text) => written(text.as_slice(), writer),
+        Err(fault) => Err(fault),
+    }
+}
+
+/// Writes the text.
+fn written<W: Write>(text: &[u8], writer: &mut Counted<W>) -> Result<(), Fault>
+    ensures failures { failures writer.new ≡ after_writing result (failures writer.old) }
+{
+    match write_out(writer, text) {
         Ok(()) => Ok(()),
         Err(_) => Err(Fault::WriteFailed),
     }
