@@ -30,12 +30,12 @@ pub plain-unit : (u : ℕ) → All IsPlain (unit u)
 plain-unit u =
     let one : All IsPlain (hex_digit (u % 16) ∷ []) = alone (hex_digit (u % 16)) (plain-digit (u % 16) (quarter u)) in
     let two : All IsPlain (hex_digit (u / 16 % 16) ∷ hex_digit (u % 16) ∷ []) =
-        one-more (hex_digit (u / 16 % 16)) (hex_digit (u % 16) ∷ []) (plain-digit (u / 16 % 16) (quarter (u / 16))) one in
+    one-more (hex_digit (u / 16 % 16)) (hex_digit (u % 16) ∷ []) (plain-digit (u / 16 % 16) (quarter (u / 16))) one in
     let three : All IsPlain (hex_digit (u / 256 % 16) ∷ hex_digit (u / 16 % 16) ∷ hex_digit (u % 16) ∷ []) =
-        one-more (hex_digit (u / 256 % 16)) (hex_digit (u / 16 % 16) ∷ hex_digit (u % 16) ∷ []) (plain-digit (u / 256 % 16) (quarter (u / 256))) two in
+    one-more (hex_digit (u / 256 % 16)) (hex_digit (u / 16 % 16) ∷ hex_digit (u % 16) ∷ []) (plain-digit (u / 256 % 16) (quarter (u / 256))) two in
     let four : All IsPlain (hex_digit (u / 4096 % 16) ∷ hex_digit (u / 256 % 16) ∷ hex_digit (u / 16 % 16) ∷ hex_digit (u % 16) ∷ []) =
-        one-more (hex_digit (u / 4096 % 16)) (hex_digit (u / 256 % 16) ∷ hex_digit (u / 16 % 16) ∷ hex_digit (u % 16) ∷ [])
-            (plain-digit (u / 4096 % 16) (quarter (u / 4096))) three in
+    one-more (hex_digit (u / 4096 % 16)) (hex_digit (u / 256 % 16) ∷ hex_digit (u / 16 % 16) ∷ hex_digit (u % 16) ∷ [])
+    (plain-digit (u / 4096 % 16) (quarter (u / 4096))) three in
     one-more 92 (117 ∷ hex_digit (u / 4096 % 16) ∷ hex_digit (u / 256 % 16) ∷ hex_digit (u / 16 % 16) ∷ hex_digit (u % 16) ∷ [])
     (lit≤ tt, lit< tt, λ e. omega arith)
     (one-more 117 (hex_digit (u / 4096 % 16) ∷ hex_digit (u / 256 % 16) ∷ hex_digit (u / 16 % 16) ∷ hex_digit (u % 16) ∷ [])

@@ -46,10 +46,7 @@ impl Json {
         ensures text { result.items ≡ self }
         ensures plain { All IsPlain result.items }
     {
-        let Json {
-            bytes,
-            first: _,
-        } = self;
+        let Json { bytes, first: _ } = self;
         bytes
     }
 

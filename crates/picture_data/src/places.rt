@@ -69,9 +69,22 @@ pub(crate) fn waiting_places(
     let mut place_of_side = Vec::new(alloc);
     for (index, side) in waiting.sides.as_slice().iter().enumerate() {
         if !ends_with(places.as_slice(), &side.place) {
-            places.push(place_of(alloc, machine, now, &side.place, side_role(&side.side), standing)?)?;
+            places.push(place_of(
+                alloc,
+                machine,
+                now,
+                &side.place,
+                side_role(&side.side),
+                standing,
+            )?)?;
         }
-        add_wanted(alloc, now, side, waiting.partners.as_slice().get(index), places.as_mut_slice())?;
+        add_wanted(
+            alloc,
+            now,
+            side,
+            waiting.partners.as_slice().get(index),
+            places.as_mut_slice(),
+        )?;
         place_of_side.push(places.len().saturating_sub(1))?;
     }
     Ok(Standings {
@@ -126,7 +139,14 @@ fn add_wanted(
     let Some(place) = places.last_mut() else {
         return Ok(());
     };
-    let lanes = wanted_lanes(alloc, now, partner, place.lane, channel, side_role(&offered.side))?;
+    let lanes = wanted_lanes(
+        alloc,
+        now,
+        partner,
+        place.lane,
+        channel,
+        side_role(&offered.side),
+    )?;
     let can_come = can_come(partner);
     place.wanted.push(Wanted {
         channel,
@@ -180,7 +200,15 @@ pub(crate) fn add_ready_places(
 ) -> Result<(), AllocError> {
     for event in now.ready {
         let (first, second) = event_roles(event);
-        let place = ready_place(alloc, machine, now, &event.first, first, event.channel, standing)?;
+        let place = ready_place(
+            alloc,
+            machine,
+            now,
+            &event.first,
+            first,
+            event.channel,
+            standing,
+        )?;
         places.push(place)?;
         if let Some(place) = &event.second {
             let place = ready_place(alloc, machine, now, place, second, event.channel, standing)?;

@@ -90,7 +90,11 @@ impl Standing {
     fn part(&self, node: usize, entry: Entry) -> Option<usize> {
         let parts = self.nodes.get(node)?.parts.as_slice();
         let found = parts.get(index_of(parts, entry))?;
-        if found.0 == entry { Some(found.1) } else { None }
+        if found.0 == entry {
+            Some(found.1)
+        } else {
+            None
+        }
     }
 
     /// What is noted of the last part before this one in a sequence behind the node.

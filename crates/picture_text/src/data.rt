@@ -79,7 +79,13 @@ fn add_run(
     let system = machine.checked().system();
     let mut scratch = Vec::new(alloc);
     add_tickets(json, machine.live_events())?;
-    add_events(json, system, machine.live_events(), &picture.steps, &mut scratch)?;
+    add_events(
+        json,
+        system,
+        machine.live_events(),
+        &picture.steps,
+        &mut scratch,
+    )?;
     add_races(json, picture.steps.races.as_slice())?;
     add_ready(json, system, &picture.end, &mut scratch)?;
     add_places(json, &picture.end, &mut scratch)?;

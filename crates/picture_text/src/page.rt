@@ -12,12 +12,7 @@ pub fn page_text(alloc: Global, data: &[u8]) -> Result<Vec<u8>, AllocError> {
 }
 
 /// The three parts in one.
-fn joined(
-    alloc: Global,
-    before: &[u8],
-    middle: &[u8],
-    behind: &[u8],
-) -> Result<Vec<u8>, AllocError>
+fn joined(alloc: Global, before: &[u8], middle: &[u8], behind: &[u8]) -> Result<Vec<u8>, AllocError>
     ensures { IfOk result (λ made. made.items ≡ before.now ++ middle.now ++ behind.now) }
 {
     let mut made = Vec::new(alloc);

@@ -79,12 +79,7 @@ pub(crate) fn add_event(
 }
 
 /// Adds what stands behind the text of the event at an index.
-fn add_row(
-    json: &mut Json,
-    steps: &Steps,
-    index: usize,
-    event: &Event,
-) -> Result<(), AllocError> {
+fn add_row(json: &mut Json, steps: &Steps, index: usize, event: &Event) -> Result<(), AllocError> {
     if let Some(sides) = steps.sides.get(index) {
         add_sides(json, sides)?;
     }

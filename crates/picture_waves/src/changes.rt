@@ -35,12 +35,7 @@ pub(crate) fn end_of(depth: usize) -> u64 {
 }
 
 /// Notes a change.
-fn note(
-    changes: &mut Vec<Change>,
-    time: u64,
-    signal: u64,
-    level: Level,
-) -> Result<(), AllocError> {
+fn note(changes: &mut Vec<Change>, time: u64, signal: u64, level: Level) -> Result<(), AllocError> {
     let order = changes.len();
     changes.push(Change {
         time,
@@ -123,7 +118,12 @@ fn add_end(
     depth: usize,
 ) -> Result<(), AllocError> {
     let time = end_of(depth);
-    note(changes, time, of_channel(system, channel), at_rest(system, channel))?;
+    note(
+        changes,
+        time,
+        of_channel(system, channel),
+        at_rest(system, channel),
+    )?;
     note(changes, time, of_giver(system, channel), Level::Has(0))?;
     note(changes, time, of_taker(system, channel), Level::Has(0))
 }
@@ -138,11 +138,7 @@ pub(crate) fn at_rest(system: &System, channel: u32) -> Level {
 }
 
 /// Adds that a side stands at a place, to the end.
-fn add_place(
-    changes: &mut Vec<Change>,
-    system: &System,
-    place: &Place,
-) -> Result<(), AllocError> {
+fn add_place(changes: &mut Vec<Change>, system: &System, place: &Place) -> Result<(), AllocError> {
     for wanted in place.wanted.as_slice() {
         if let Some(signal) = standing_signal(system, place.role, wanted.channel) {
             note(changes, begin_of(place.since), signal, Level::Has(1))?;

@@ -112,8 +112,22 @@ fn add_signal(
         return add_line(out, system, b"reg", declared.signal, own, b"");
     }
     add_line(out, system, b"wire", declared.signal, own, b"")?;
-    add_line(out, system, b"wire", declared.signal.saturating_add(1), own, b"_A")?;
-    add_line(out, system, b"wire", declared.signal.saturating_add(2), own, b"_B")
+    add_line(
+        out,
+        system,
+        b"wire",
+        declared.signal.saturating_add(1),
+        own,
+        b"_A",
+    )?;
+    add_line(
+        out,
+        system,
+        b"wire",
+        declared.signal.saturating_add(2),
+        own,
+        b"_B",
+    )
 }
 
 /// The whole name of what a signal shows.
@@ -171,7 +185,11 @@ fn declared_in(
         variable.name.write_to(&mut name)?;
         let block = block_of(instances, name.as_slice());
         let signal = of_variable(number);
-        declared.push(Declared { block, signal, number })?;
+        declared.push(Declared {
+            block,
+            signal,
+            number,
+        })?;
     }
     for (index, channel) in system.channels.as_slice().iter().enumerate() {
         let number = small(index);
@@ -179,7 +197,11 @@ fn declared_in(
         channel.name.write_to(&mut name)?;
         let block = block_of(instances, name.as_slice());
         let signal = of_channel(system, number);
-        declared.push(Declared { block, signal, number })?;
+        declared.push(Declared {
+            block,
+            signal,
+            number,
+        })?;
     }
     declared.sort_unstable();
     Ok(declared)

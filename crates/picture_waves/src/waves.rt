@@ -17,13 +17,21 @@ pub fn waves_text(
 ) -> Result<Vec<u8>, AllocError> {
     let system = machine.checked().system();
     let mut out = Vec::new(alloc);
-    out.extend_from_slice(b"$comment\n  balsadbg: a run over logical time, 10 units a causal depth\n$end\n$timescale 1 ns $end\n")?;
+    out.extend_from_slice(
+        b"$comment\n  balsadbg: a run over logical time, 10 units a causal depth\n$end\n$timescale 1 ns $end\n",
+    )?;
     add_declarations(alloc, &mut out, system, picture.instances.as_slice())?;
     out.extend_from_slice(b"$enddefinitions $end\n#0\n$dumpvars\n")?;
     let mut levels = add_first_levels(alloc, &mut out, system)?;
     out.extend_from_slice(b"$end\n")?;
     let live = machine.live_events();
-    let changes = changes_of(alloc, system, live, &picture.steps, picture.end.places.as_slice())?;
+    let changes = changes_of(
+        alloc,
+        system,
+        live,
+        &picture.steps,
+        picture.end.places.as_slice(),
+    )?;
     add_changes(&mut out, system, changes.as_slice(), levels.as_mut_slice())?;
     add_last_time(&mut out, picture.steps.depths.as_slice())?;
     Ok(out)

@@ -9,6 +9,6 @@ characters-preserved c =
     let text : List ℕ = character_text c.in-Some.character in
     let first : c.characters.characters ≡ c.in-Some.character ∷ rest = c.in-Some.ensures.steps in
     let added : c.add_character.new.out.items ≡ was ++ text =
-        c.in_ok-add_character.ensures ∙ ap (λ (n : ℕ). was ++ character_text n) c.from.ensures in
+    c.in_ok-add_character.ensures ∙ ap (λ (n : ℕ). was ++ character_text n) c.from.ensures in
     ap (λ (xs : List ℕ). xs ++ escaped rest) added
     ∙ (append_assoc was text (escaped rest) ∙ (ap (λ (cs : List ℕ). was ++ escaped cs) (sym first) ∙ c.characters.invariant))

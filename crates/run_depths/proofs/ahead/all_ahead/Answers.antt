@@ -12,10 +12,11 @@ ahead_of-requires c = (
 
 pub loop-index-preserved : goal.loop-index-preserved
 loop-index-preserved c =
-    rows-next c.args.live.now.live c.loop-index.rows c.push.new.self _ c.loop-index.index c.entry-item.result.0 c.loop-index.invariant
-    (c.entry-item.result.1,
-    item-at c.args.live.now.live c.as_slice-entry-items.result.now c.loop-index.index c.entry-item.result c.as_slice-entry-items.ensures
-    c.loop-index-test.true c.entry-item.is)
+    rows-next c.args.live.now.live c.loop-index.rows c.push.new.self _ c.loop-index.index c.entry-item.result.0 c.loop-index.invariant (
+      c.entry-item.result.1,
+      item-at c.args.live.now.live c.as_slice-entry-items.result.now c.loop-index.index c.entry-item.result c.as_slice-entry-items.ensures
+          c.loop-index-test.true c.entry-item.is,
+    )
     c.in_ok-ahead_of.ensures c.in_ok-push.ensures.ok
 
 pub returns : goal.returns

@@ -16,10 +16,11 @@ pub depth_of-depth-requires-clause-known : goal.depth_of-depth-requires-clause-k
 depth_of-depth-requires-clause-known c = λ t j f a.
     let r = c.is_sound.ensures.rising in
     let earlier : j < c.loop-entry.entry-index =
-        lead-before 0 r.0 c.args.live.now.live t c.entry-item.result.0 c.loop-entry.entry-index j r.1 f a
-        (c.entry-item.result.1,
-        item-at c.args.live.now.live c.as_slice-entry-items.result.now c.loop-entry.entry-index c.entry-item.result c.as_slice-entry-items.ensures
-        c.loop-entry-test.true c.entry-item.is) in
+    lead-before 0 r.0 c.args.live.now.live t c.entry-item.result.0 c.loop-entry.entry-index j r.1 f a (
+      c.entry-item.result.1,
+      item-at c.args.live.now.live c.as_slice-entry-items.result.now c.loop-entry.entry-index c.entry-item.result c.as_slice-entry-items.ensures
+          c.loop-entry-test.true c.entry-item.is,
+    ) in
     let shown : length c.as_slice.result.now ≡ length c.loop-entry.depths.items = ap (λ (xs : List ℕ). length xs) c.as_slice.ensures.value in
     let size = c.loop-entry.invariant.size in
     omega arith
@@ -28,10 +29,11 @@ pub loop-entry-preserved : goal.loop-entry-preserved
 loop-entry-preserved c =
     let r = c.is_sound.ensures.rising in
     known-pushed 0 r.0 c.args.live.now.live c.loop-entry.depths.items c.as_slice.result.now c.push.new.self.items c.loop-entry.entry-index c.entry-item.result.0
-    c.depth_of-depth.result r.1 c.loop-entry.invariant
-    (c.entry-item.result.1,
-    item-at c.args.live.now.live c.as_slice-entry-items.result.now c.loop-entry.entry-index c.entry-item.result c.as_slice-entry-items.ensures
-    c.loop-entry-test.true c.entry-item.is)
+    c.depth_of-depth.result r.1 c.loop-entry.invariant (
+      c.entry-item.result.1,
+      item-at c.args.live.now.live c.as_slice-entry-items.result.now c.loop-entry.entry-index c.entry-item.result c.as_slice-entry-items.ensures
+          c.loop-entry-test.true c.entry-item.is,
+    )
     c.as_slice.ensures.value c.in_ok-push.ensures.items c.depth_of-depth.ensures.depth c.depth_of-depth.ensures.small
 
 pub returns : goal.returns
