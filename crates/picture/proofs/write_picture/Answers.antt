@@ -4,4 +4,6 @@ use Rattle.picture.proofs.Refusing.{refused-writes}
 use Rattle.picture.proofs.write_picture.Goals as goal
 
 pub returns-in-Err : goal.returns-in-Err
-returns-in-Err g c = sym (refused-writes c.args.checked c.args.trace.now c.in-Err.fault (failures c.args.writer.now) c.in-Err.ensures)
+returns-in-Err g c = record {
+  failures = sym (refused-writes c.args.checked c.args.trace.now c.in-Err.fault (failures c.args.writer.now) c.in-Err.ensures);
+}
