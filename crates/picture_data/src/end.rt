@@ -1,0 +1,92 @@
+// What stands at the end of a run.
+ghost use Rattle.std.specs.Prelude.{IfOk};
+ghost use Rattle.runs.specs.Object.{Reaches};
+ghost use Rattle.runs.specs.Ready.{ReadyList};
+ghost use Rattle.runs.specs.Steps.{State};
+ghost use Rattle.machine.specs.AtMachine.{object};
+ghost use Rattle.picture_data.specs.Shown.{ShowsEnd};
+
+use crate::partners::Now;
+use crate::places::{Place, add_ready_places, waiting_places};
+use crate::sides::{Sides, all_sides};
+use crate::standing::Standing;
+use crate::table::LaneTable;
+use crate::walk::ChannelUse;
+use machine::Machine;
+use runs::Event;
+use std::alloc::{AllocError, Global};
+use syntax::Items;
+use waiting::{Progress, Waiting, who_waits};
+
+/// What stands at the end of a run.
+#[derive(Drop)]
+pub struct End {
+    /// whether the run goes on, is done or is stuck
+    pub progress: Progress,
+    /// the events that can be taken, in order
+    pub ready: Items<Event>,
+    /// where each of these stands
+    pub ready_sides: Vec<Sides>,
+    /// the places that wait, in order, and behind them those of the events that can be taken
+    pub places: Vec<Place>,
+    /// the indexes of places of which each waits for the next, and the last for the first; empty where no such ring was found
+    pub ring: Vec<usize>,
+}
+
+/// What stands behind the live events.
+pub(crate) fn end_of(
+    alloc: Global,
+    machine: &Machine,
+    table: &LaneTable,
+    uses: &[ChannelUse],
+    standing: &Standing,
+) -> Result<End, AllocError>
+    ensures { IfOk result (ShowsEnd (object machine.now)) }
+{
+    let ready = ready_events(machine)?;
+    let waiting = who_waits(alloc, machine)?;
+    let ready_sides = all_sides(alloc, machine, table, ready.as_slice())?;
+    let now = Now {
+        table,
+        uses,
+        sides: waiting.sides.as_slice(),
+        ready: ready.as_slice(),
+    };
+    let shown = waiting_places(alloc, machine, &now, &waiting, standing)?;
+    let ring = ring_of(alloc, &waiting, shown.place_of_side.as_slice())?;
+    let mut places = shown.places;
+    add_ready_places(alloc, machine, &now, standing, &mut places)?;
+    Ok(End {
+        progress: waiting.progress,
+        ready,
+        ready_sides,
+        places,
+        ring,
+    })
+}
+
+/// The events that can be taken now, in order.
+fn ready_events(machine: &Machine) -> Result<Items<Event>, AllocError>
+    ensures { IfOk result (λ events. (S : State) × Reaches (object machine.now) S × ReadyList S events) }
+{
+    match machine.ready() {
+        Ok(events) => Ok(events),
+        // No other refusal is told.
+        Err(_) => Err(AllocError),
+    }
+}
+
+/// The ring of sides that wait as one of their places.
+fn ring_of(
+    alloc: Global,
+    waiting: &Waiting,
+    place_of_side: &[usize],
+) -> Result<Vec<usize>, AllocError> {
+    let mut ring = Vec::new(alloc);
+    for side in waiting.ring.as_slice() {
+        if let Some(place) = place_of_side.get(*side) {
+            ring.push(*place)?;
+        }
+    }
+    Ok(ring)
+}

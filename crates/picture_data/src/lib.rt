@@ -1,0 +1,27 @@
+//! What the picture of a run shows, as plain data: the lanes, which block each belongs to, the row of each event, who needs whom, the
+//! steps that can be taken, and who waits for whom.
+#![tactic(auto)]
+
+mod end;
+mod entering;
+mod ground;
+mod lane;
+mod partners;
+mod picture;
+mod places;
+mod races;
+mod sides;
+mod standing;
+mod steps;
+mod table;
+mod visiting;
+mod walk;
+
+pub use end::End;
+pub use ground::Feed;
+pub use lane::{Instance, Lane, LaneKind};
+pub use picture::{Picture, picture_of};
+pub use places::{Place, Role, Wanted};
+pub use races::Race;
+pub use sides::Sides;
+pub use steps::Steps;

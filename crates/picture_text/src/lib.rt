@@ -1,0 +1,13 @@
+//! The picture of a run as one JSON text, and the page that has it in its script.
+#![tactic(auto)]
+
+mod data;
+mod end;
+mod ground;
+mod page;
+mod page_parts;
+mod steps;
+
+pub use data::{Names, data_text};
+pub use page::page_text;
+pub use steps::event_text;

@@ -1,0 +1,5 @@
+use Rattle.run_depths.proofs.Deepening.{RowsTo}
+use Rattle.run_depths.proofs.ahead.all_ahead.Given as goal
+
+abbrev pub invariant-loop-index : goal.invariant-loop-index
+invariant-loop-index l = RowsTo l.live.live l.rows l.index

@@ -1,0 +1,9 @@
+//! The row of each live event in a picture, which is the length of the longest chain of events that led to it, and how far on its
+//! followers stand.
+#![tactic(auto)]
+
+mod ahead;
+mod depth;
+
+pub use ahead::all_ahead;
+pub use depth::depths_of;
