@@ -4,6 +4,7 @@
 mod asked;
 mod commands;
 mod crew_size;
+mod drawing;
 mod help;
 mod hinting;
 mod reading;
@@ -11,6 +12,7 @@ mod request;
 mod unasked;
 
 pub use crew_size::CrewSize;
+pub use drawing::Drawing;
 pub use reading::requested;
 pub use request::Request;
 pub use unasked::Unasked;
