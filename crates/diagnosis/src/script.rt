@@ -179,14 +179,9 @@ fn find_operand(
         }
         other => {
             if let Some(why) = operand_fault(other, operand.text) {
-                finding.say(&[
-                    "`",
-                    operand.text,
-                    "` is no ",
-                    operand_name(other),
-                    ": ",
-                    why,
-                ])?;
+                finding.say(&["`", operand.text, "` is no "])?;
+                finding.say(&[operand_name(other), ": "])?;
+                finding.say(&[why])?;
                 return finding.advise(&[help_of(form.word)]);
             }
         }
@@ -253,7 +248,8 @@ fn find_behind(
         known = 3;
         if let Some(why) = number_fault(arm.text, u64::from(u32::MAX)) {
             point(finding, line, arm.start, arm.stop());
-            finding.say(&["`", arm.text, "` is no arm: ", why])?;
+            finding.say(&["`", arm.text, "` is no arm: "])?;
+            finding.say(&[why])?;
             return finding.advise(&[help_of(form.word)]);
         }
     }

@@ -196,15 +196,9 @@ fn find_sign(name: &str, sign: &str, kind: Kind, finding: &mut Finding) -> Resul
     if sign.len() > 1 && (sign.starts_with('=') || sign.starts_with('*')) {
         finding.say(&["a blank is missing in `", sign, "`"])?;
     } else {
-        finding.say(&[
-            "`",
-            name,
-            "` is ",
-            kind_text(kind),
-            ", and `",
-            sign,
-            "` stands behind it",
-        ])?;
+        finding.say(&["`", name, "` is "])?;
+        finding.say(&[kind_text(kind)])?;
+        finding.say(&[", and `", sign, "` stands behind it"])?;
     }
     if kind == Kind::SyncPort {
         return finding.advise(&[
@@ -233,7 +227,8 @@ fn find_count(line: u64, fields: &[Field<'_>], finding: &mut Finding) -> Result<
     };
     point(finding, line, count.start, count.stop());
     if let Some(why) = number_fault(count.text, MOST_SYNCS) {
-        finding.say(&["`", count.text, "` is no number of syncs: ", why])?;
+        finding.say(&["`", count.text, "` is no number of syncs: "])?;
+        finding.say(&[why])?;
         return finding.advise(&["a sync port makes from 0 to 65536 syncs: `s * 3`"]);
     }
     if let (Some(more), Some(last)) = (fields.get(3), fields.last()) {

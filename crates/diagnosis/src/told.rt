@@ -68,11 +68,11 @@ pub fn explain_plain(
 /// What is told where reading failed.
 fn explain_unread(alloc: Global, unread: Option<UnreadFile<'_>>) -> Result<String, AllocError> {
     match unread {
-        Some(file) => plain_text(
-            alloc,
-            &[file.name, ": ", reason(file.why)],
-            help_for(file.why, file.name),
-        ),
+        Some(file) => {
+            let why = reason(file.why);
+            let what = format!(in alloc; "{}: {why}", file.name)?;
+            plain_text(alloc, &[what.as_str()], help_for(file.why, file.name))
+        }
         None => plain_text(
             alloc,
             &["standard input could not be read to its end"],

@@ -66,7 +66,8 @@ fn find_field(fields: &[Field<'_>], finding: &mut Finding) -> Result<(), AllocEr
     for (index, field) in fields.iter().enumerate() {
         if let Some(why) = field_fault(index, field.text) {
             point(finding, line, field.start, field.stop());
-            return finding.say(&["`", field.text, "`", why]);
+            finding.say(&["`", field.text, "`"])?;
+            return finding.say(&[why]);
         }
     }
     let end = finding.stop;

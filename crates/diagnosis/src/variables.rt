@@ -188,7 +188,8 @@ pub fn find(name: &str, source: &[u8], finding: &mut Finding) -> Result<(), Allo
         return advise_names(same.names.as_slice(), finding);
     }
     if let Some(kind) = other_kind(alloc, source, &description, name)? {
-        finding.say(&["`", name, "` is ", kind_text(kind), ", and no variable"])?;
+        finding.say(&["`", name, "` is "])?;
+        finding.say(&[kind_text(kind), ", and no variable"])?;
         return finding.advise(&[help_for(kind)]);
     }
     finding.say(&["no variable is called `", name, "`"])?;
