@@ -6,16 +6,9 @@ use Rattle.system.specs.declared.system.System.{System}
 use Rattle.runs.specs.Live.{Live, IsLive, LastWriter, NoneAt, NoWriter}
 use Rattle.runs.specs.declared.command.Refusal.{Refusal}
 use Rattle.runs.specs.declared.event.Event.{Event}
-use Rattle.runs.specs.Object.{Reaches}
-use Rattle.runs.specs.Steps.{State}
-use Rattle.machine.specs.AtMachine.{AtMachine, object}
-use Rattle.trace_file.specs.Loading.{IsLoaded, ticketed}
+use Rattle.trace_file.specs.Loading.{ticketed}
 use Rattle.trace_file.specs.TraceText.{StandsFor}
 use Rattle.past.specs.Past.{ListsPast}
-use Rattle.waiting.specs.Progress.{StandsLike}
-use Rattle.waiting.specs.Rings.{NamesRing, TellsPartners}
-use Rattle.waiting.specs.Waits.{ListsWaiting}
-use Rattle.waiting.specs.declared.waiting.Waiting.{Waiting}
 use Rattle.questions.specs.declared.reason.Reason.{Reason}
 use Rattle.questions.specs.declared.why.Why.{Why}
 
@@ -69,14 +62,6 @@ Tells reason answer = ⊥
 -- the trace stands for events
 abbrev pub IsTraced : System → List ℕ → Type 0
 IsTraced system trace = (h : List Event) × StandsFor system trace h
-
--- the machine of the trace, and who waits on it: exactly the sides that wait, how the run stands, what each waits for, and a ring
--- of them exactly where there is one
-abbrev pub TellsWaits : System → List ℕ → AtMachine → Waiting → Type 0
-TellsWaits system trace m w =
-    IsLoaded system trace m
-    × ((S : State) × Reaches (object m) S × ListsWaiting S w.sides × StandsLike S w.progress × TellsPartners S w.sides w.partners.items
-    × NamesRing S w.sides w.ring.items)
 
 -- it stands for events, and behind them this is answered
 abbrev pub IsAnswered : System → List ℕ → List ℕ → Why → Type 0

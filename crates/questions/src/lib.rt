@@ -9,5 +9,5 @@ mod why;
 
 pub use outlining::outline_text;
 pub use reason::{Reason, reason_of};
-pub use waits::{Waits, waiting_text, waits_behind};
+pub use waits::waiting_text;
 pub use why::{Why, why_text};
