@@ -1,0 +1,164 @@
+// A session: who the client is, and what is launched.
+use crate::dispatch::perform;
+use crate::launch::{Launched, restart, start};
+use crate::sources::Sources;
+use dap_messages::{Answer, Kind, Listed, Members, Request, Told};
+use dap_requests::{asks_for_refusals, set_before, set_data_before};
+use dap_views::Counting;
+use std::alloc::Global;
+
+/// A session with a client.
+#[derive(Drop)]
+pub struct Face {
+    alloc: Global,
+    /// how the client counts, once it has said so
+    client: Option<Counting>,
+    launched: Option<Launched>,
+    /// whether refusals stop as exceptions, as set before the launch
+    excepts: bool,
+    over: bool,
+}
+
+impl Face {
+    /// A session of which nothing is known yet.
+    pub fn new(alloc: Global) -> Face {
+        Face {
+            alloc,
+            client: None,
+            launched: None,
+            excepts: true,
+            over: false,
+        }
+    }
+
+    /// Whether the client has ended the session.
+    pub fn is_over(&self) -> bool {
+        self.over
+    }
+
+    /// Answers a request. Files are read where it names some.
+    pub fn answer<F: Sources>(&mut self, files: &F, request: &Request) -> Answer {
+        let mut answer = Answer::new(self.alloc);
+        match (request.kind, self.client) {
+            (Kind::Initialize, _) => self.initialize(request, &mut answer),
+            (Kind::Disconnect, _) => self.over = true,
+            (_, None) => answer.refuse(102, "`initialize` comes first"),
+            (Kind::Launch, Some(counting)) => self.launch(files, counting, request, &mut answer),
+            (_, Some(_)) => self.ask(files, request, &mut answer),
+        }
+        answer
+    }
+
+    /// Answers `initialize`.
+    fn initialize(&mut self, request: &Request, answer: &mut Answer) {
+        if request.text("pathFormat").unwrap_or("path") != "path" {
+            answer.refuse(106, "only paths are understood, no URIs");
+            return;
+        }
+        self.client = Some(Counting {
+            lines: base(request.flag("linesStartAt1", true)),
+            columns: base(request.flag("columnsStartAt1", true)),
+        });
+        answer.body(capabilities(self.alloc));
+    }
+
+    /// Answers `launch`. Breakpoints can be judged only once it is done, so `initialized` comes behind it.
+    fn launch<F: Sources>(
+        &mut self,
+        files: &F,
+        counting: Counting,
+        request: &Request,
+        answer: &mut Answer,
+    ) {
+        if self.launched.is_some() {
+            answer.refuse(107, "a program is launched already");
+            return;
+        }
+        let found = start(self.alloc, files, counting, request.arguments(), answer);
+        if let Some(mut found) = found {
+            found.program.excepts = self.excepts;
+            self.launched = Some(found);
+            answer.tell(Told::Initialized);
+        }
+    }
+
+    /// Answers what may be asked of a program, where one is launched.
+    fn ask<F: Sources>(&mut self, files: &F, request: &Request, answer: &mut Answer) {
+        match &mut self.launched {
+            Some(Launched { program, desk }) => match request.kind {
+                Kind::Restart => restart(self.alloc, files, desk, program, request, answer),
+                _ => perform(self.alloc, desk, program, request, answer),
+            },
+            None => self.ask_before(request, answer),
+        }
+    }
+
+    /// Answers what may be asked before something is launched.
+    fn ask_before(&mut self, request: &Request, answer: &mut Answer) {
+        let alloc = self.alloc;
+        match request.kind {
+            Kind::Threads => {
+                let mut body = Members::new(alloc);
+                body.list("threads", Listed::new(alloc));
+                answer.body(body);
+            }
+            Kind::SetBreakpoints => set_before(alloc, request, answer),
+            Kind::SetDataBreakpoints => set_data_before(alloc, request, answer),
+            Kind::SetExceptionBreakpoints => self.excepts = asks_for_refusals(request),
+            Kind::Terminate => answer.tell(Told::Terminated),
+            Kind::Attach => attach(answer),
+            Kind::Other => unknown(answer),
+            _ => answer.refuse(103, "nothing is launched yet"),
+        }
+    }
+}
+
+/// Refuses `attach`.
+pub(crate) fn attach(answer: &mut Answer) {
+    answer.refuse(
+        113,
+        "there is nothing to attach to: `launch` starts the debugger on a source",
+    );
+}
+
+/// Refuses a request that is not known.
+pub(crate) fn unknown(answer: &mut Answer) {
+    answer.refuse(101, "balsadbg does not know this request");
+}
+
+/// What is to be added to numbers of the client so that they count from 1.
+fn base(starts_at_one: bool) -> u64 {
+    if starts_at_one { 0 } else { 1 }
+}
+
+/// What there is, in the words of the protocol.
+fn capabilities(alloc: Global) -> Members {
+    let mut body = Members::new(alloc);
+    for name in &SUPPORTED {
+        body.flag(name, true);
+    }
+    let mut filter = Members::new(alloc);
+    filter.text("filter", "refused");
+    filter.text("label", "Steps that are refused");
+    filter.flag("default", true);
+    let mut filters = Listed::new(alloc);
+    filters.push(filter);
+    body.list("exceptionBreakpointFilters", filters);
+    body
+}
+
+/// The capabilities that are there.
+static SUPPORTED: [&str; 12] = [
+    "supportsConfigurationDoneRequest",
+    "supportsStepBack",
+    "supportsDataBreakpoints",
+    "supportsBreakpointLocationsRequest",
+    "supportsEvaluateForHovers",
+    "supportsRestartRequest",
+    "supportsTerminateRequest",
+    "supportsExceptionInfoRequest",
+    "supportsStepInTargetsRequest",
+    "supportsCompletionsRequest",
+    "supportsDelayedStackTraceLoading",
+    "supportsSingleThreadExecutionRequests",
+];
