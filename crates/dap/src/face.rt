@@ -1,5 +1,12 @@
 // A session: who the client is, and what is launched.
-use crate::dispatch::perform;
+ghost use Rattle.std.specs.Prelude.{◌≡◌, true};
+ghost use Rattle.dap_messages.specs.Notes.{IsRefusal};
+ghost use Rattle.dap_requests.specs.Said.{Runs};
+ghost use Rattle.dap.specs.Goes.{DeskGoes, Goes};
+ghost use Rattle.dap.specs.Kinds.{moves};
+ghost use Rattle.dap.specs.Stops.{StopsOnce};
+
+use crate::dispatch::{is_move, perform};
 use crate::launch::{Launched, restart, start};
 use crate::sources::Sources;
 use dap_messages::{Answer, Kind, Listed, Members, Request, Told};
@@ -10,13 +17,14 @@ use std::alloc::Global;
 /// A session with a client.
 #[derive(Drop)]
 pub struct Face {
-    alloc: Global,
+    pub alloc: Global,
     /// how the client counts, once it has said so
-    client: Option<Counting>,
-    launched: Option<Launched>,
+    pub client: Option<Counting>,
+    pub launched: Option<Launched>,
     /// whether refusals stop as exceptions, as set before the launch
-    excepts: bool,
-    over: bool,
+    pub excepts: bool,
+    /// whether the client has ended the session
+    pub over: bool,
 }
 
 impl Face {
@@ -31,26 +39,67 @@ impl Face {
         }
     }
 
-    /// Whether the client has ended the session.
-    pub fn is_over(&self) -> bool {
-        self.over
-    }
-
     /// Answers a request. Files are read where it names some.
-    pub fn answer<F: Sources>(&mut self, files: &F, request: &Request) -> Answer {
+    pub fn answer<F: Sources>(&mut self, files: &F, request: &Request) -> Answer
+        ensures goes { Goes self.old.launched request.now.kind self.new.launched }
+        ensures stops { moves request.now.kind ≡ true → StopsOnce result }
+    {
         let mut answer = Answer::new(self.alloc);
-        match (request.kind, self.client) {
-            (Kind::Initialize, _) => self.initialize(request, &mut answer),
-            (Kind::Disconnect, _) => self.over = true,
-            (_, None) => answer.refuse(102, "`initialize` comes first"),
-            (Kind::Launch, Some(counting)) => self.launch(files, counting, request, &mut answer),
-            (_, Some(_)) => self.ask(files, request, &mut answer),
-        }
+        self.hear(files, request, &mut answer);
         answer
     }
 
+    /// Answers a request in this answer.
+    fn hear<F: Sources>(&mut self, files: &F, request: &Request, answer: &mut Answer)
+        ensures goes { Goes self.old.launched request.now.kind self.new.launched }
+        ensures stops { moves request.now.kind ≡ true → Runs answer.old answer.new }
+    {
+        if is_move(request.kind) {
+            self.make_move(request, answer);
+        } else {
+            self.serve(files, request, answer);
+        }
+    }
+
+    /// Answers a request that asks a thread to move, or to stand.
+    fn make_move(&mut self, request: &Request, answer: &mut Answer)
+        ensures goes { Goes self.old.launched request.now.kind self.new.launched }
+        ensures stops { moves request.now.kind ≡ true → Runs answer.old answer.new }
+    {
+        let alloc = self.alloc;
+        match &mut self.launched {
+            Some(launched) => perform_on(alloc, launched, request, answer),
+            None => self.refuse_early(answer),
+        }
+    }
+
+    /// Refuses a request before something is launched.
+    fn refuse_early(&self, answer: &mut Answer)
+        ensures { IsRefusal answer.new.outcome × (answer.new.notes ≡ answer.old.notes) }
+    {
+        match self.client {
+            Some(_) => answer.refuse(103, "nothing is launched yet"),
+            None => answer.refuse(102, "`initialize` comes first"),
+        }
+    }
+
+    /// Answers another request.
+    fn serve<F: Sources>(&mut self, files: &F, request: &Request, answer: &mut Answer)
+        ensures { Goes self.old.launched request.now.kind self.new.launched }
+    {
+        match (request.kind, self.client) {
+            (Kind::Initialize, _) => self.initialize(request, answer),
+            (Kind::Disconnect, _) => self.over = true,
+            (_, None) => self.refuse_early(answer),
+            (Kind::Launch, Some(counting)) => self.launch(files, counting, request, answer),
+            (_, Some(_)) => self.ask(files, request, answer),
+        }
+    }
+
     /// Answers `initialize`.
-    fn initialize(&mut self, request: &Request, answer: &mut Answer) {
+    fn initialize(&mut self, request: &Request, answer: &mut Answer)
+        ensures { self.new.launched ≡ self.old.launched }
+    {
         if request.text("pathFormat").unwrap_or("path") != "path" {
             answer.refuse(106, "only paths are understood, no URIs");
             return;
@@ -69,7 +118,9 @@ impl Face {
         counting: Counting,
         request: &Request,
         answer: &mut Answer,
-    ) {
+    )
+        ensures { Goes self.old.launched request.now.kind self.new.launched }
+    {
         if self.launched.is_some() {
             answer.refuse(107, "a program is launched already");
             return;
@@ -83,33 +134,52 @@ impl Face {
     }
 
     /// Answers what may be asked of a program, where one is launched.
-    fn ask<F: Sources>(&mut self, files: &F, request: &Request, answer: &mut Answer) {
+    fn ask<F: Sources>(&mut self, files: &F, request: &Request, answer: &mut Answer)
+        ensures { Goes self.old.launched request.now.kind self.new.launched }
+    {
+        let alloc = self.alloc;
         match &mut self.launched {
-            Some(Launched { program, desk }) => match request.kind {
-                Kind::Restart => restart(self.alloc, files, desk, program, request, answer),
-                _ => perform(self.alloc, desk, program, request, answer),
+            Some(launched) => match request.kind {
+                Kind::Restart => restart(alloc, files, launched, request, answer),
+                _ => perform_on(alloc, launched, request, answer),
             },
-            None => self.ask_before(request, answer),
+            None => self.ask_early(request, answer),
         }
     }
 
     /// Answers what may be asked before something is launched.
-    fn ask_before(&mut self, request: &Request, answer: &mut Answer) {
-        let alloc = self.alloc;
+    fn ask_early(&mut self, request: &Request, answer: &mut Answer)
+        ensures { self.new.launched ≡ self.old.launched }
+    {
         match request.kind {
-            Kind::Threads => {
-                let mut body = Members::new(alloc);
-                body.list("threads", Listed::new(alloc));
-                answer.body(body);
-            }
-            Kind::SetBreakpoints => set_before(alloc, request, answer),
-            Kind::SetDataBreakpoints => set_data_before(alloc, request, answer),
             Kind::SetExceptionBreakpoints => self.excepts = asks_for_refusals(request),
-            Kind::Terminate => answer.tell(Told::Terminated),
-            Kind::Attach => attach(answer),
-            Kind::Other => unknown(answer),
-            _ => answer.refuse(103, "nothing is launched yet"),
+            _ => tell_early(self.alloc, request, answer),
         }
+    }
+}
+
+/// Answers a request of which the desk is asked nothing but what commands of sessions may ask.
+fn perform_on(alloc: Global, launched: &mut Launched, request: &Request, answer: &mut Answer)
+    ensures goes { DeskGoes launched.old.desk request.now.kind launched.new.desk }
+    ensures stops { moves request.now.kind ≡ true → Runs answer.old answer.new }
+{
+    perform(alloc, &mut launched.desk, &mut launched.program, request, answer);
+}
+
+/// Answers before something is launched what needs nothing of a session.
+fn tell_early(alloc: Global, request: &Request, answer: &mut Answer) {
+    match request.kind {
+        Kind::Threads => {
+            let mut body = Members::new(alloc);
+            body.list("threads", Listed::new(alloc));
+            answer.body(body);
+        }
+        Kind::SetBreakpoints => set_before(alloc, request, answer),
+        Kind::SetDataBreakpoints => set_data_before(alloc, request, answer),
+        Kind::Terminate => answer.tell(Told::Terminated),
+        Kind::Attach => attach(answer),
+        Kind::Other => unknown(answer),
+        _ => answer.refuse(103, "nothing is launched yet"),
     }
 }
 

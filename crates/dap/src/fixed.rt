@@ -1,4 +1,5 @@
 // Messages for where there is no memory: they are written into room that was set aside before.
+use crate::dispatch::is_move;
 use dap_frames::write_header;
 use dap_messages::{Kind, Request};
 use std::alloc::{AllocError, Global};
@@ -65,7 +66,7 @@ impl Fixed {
         self.number(request.seq);
         self.add(",\"command\":\"");
         self.add(name_of(request));
-        if runs(request.kind) {
+        if ends_in_stop(request.kind) {
             self.add("\",\"success\":true,\"body\":{\"allThreadsContinued\":true}}");
         } else {
             self.add("\",\"success\":false,\"message\":\"refused 1: there is no memory left\"}");
@@ -96,19 +97,9 @@ impl Fixed {
     }
 }
 
-/// Whether a request of this kind makes the program run.
-pub(crate) fn runs(kind: Kind) -> bool {
-    matches!(
-        kind,
-        Kind::Next
-            | Kind::StepIn
-            | Kind::StepOut
-            | Kind::Continue
-            | Kind::StepBack
-            | Kind::ReverseContinue
-            | Kind::ConfigurationDone
-            | Kind::Pause
-    )
+/// Whether a request of this kind ends with a `stopped`.
+pub(crate) fn ends_in_stop(kind: Kind) -> bool {
+    is_move(kind) || kind == Kind::ConfigurationDone
 }
 
 /// The name of the request, where it needs no signs of its own in JSON.

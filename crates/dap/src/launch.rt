@@ -4,7 +4,7 @@ ghost use Rattle.dap_moves.specs.Led.{Led};
 use crate::sources::Sources;
 use dap_messages::{Answer, Members, Request, Told, field, number_in, text_in};
 use dap_moves::{Desk, Machine};
-use dap_requests::{run, stop, tell_changed};
+use dap_requests::{run, run_free, stop, tell_changed};
 use dap_views::{Counting, Index, Launch, Lines, Program, Words, base_of};
 use front_end::accept;
 use refusal_pages::page_of;
@@ -19,9 +19,9 @@ const MOST_STEPS: u64 = 10_000;
 
 /// A program that was launched, and its desk.
 #[derive(Drop)]
-pub(crate) struct Launched {
-    pub(crate) program: Program,
-    pub(crate) desk: Desk,
+pub struct Launched {
+    pub program: Program,
+    pub desk: Desk,
 }
 
 /// Why nothing is launched.
@@ -156,6 +156,7 @@ fn program_on(
         refused: None,
         excepts: true,
         last_id: 0,
+        sight: None,
     };
     Ok(Launched {
         program,
@@ -322,7 +323,7 @@ fn machine(
     answer: &mut Answer,
 ) -> Result<Machine, Failed> {
     let Some(name) = &asked.trace else {
-        return Ok(Machine::new(alloc, checked)?);
+        return fresh(alloc, checked);
     };
     match load_text(alloc, checked, trace) {
         Ok(machine) => Ok(machine),
@@ -331,6 +332,14 @@ fn machine(
             refuse_trace(alloc, name.as_str(), fault, answer);
             Err(Failed::Told)
         }
+    }
+}
+
+/// The machine before the first step.
+fn fresh(alloc: Global, checked: Checked) -> Result<Machine, Failed> {
+    match Machine::new(alloc, checked) {
+        Ok(machine) => Ok(machine),
+        Err(_) => Err(Failed::Memory),
     }
 }
 
@@ -384,27 +393,28 @@ pub(crate) fn begin(alloc: Global, desk: &mut Desk, program: &mut Program, answe
     ensures { Led desk.old desk.new }
 {
     if program.launch.free {
-        run_free(alloc, desk, program, answer);
+        begin_free(alloc, desk, program, answer);
     } else if program.launch.stops {
-        let text = if desk.machine().live_events().len() > 0 {
-            "After the trace"
-        } else {
-            "At the beginning"
-        };
-        stop(alloc, answer, "entry", 0, text);
+        stop(alloc, answer, "entry", 0, entry_text(desk.machine()));
     } else {
         run(alloc, desk, program, None, None, answer);
     }
 }
 
+/// Where it stands before the first step.
+fn entry_text(machine: &Machine) -> &'static str {
+    if machine.live_events().len() > 0 {
+        "After the trace"
+    } else {
+        "At the beginning"
+    }
+}
+
 /// Runs to the end, and tells that it is over.
-fn run_free(alloc: Global, desk: &mut Desk, program: &mut Program, answer: &mut Answer)
+fn begin_free(alloc: Global, desk: &mut Desk, program: &mut Program, answer: &mut Answer)
     ensures { Led desk.old desk.new }
 {
-    program.stops.clear();
-    program.watched.clear();
-    run(alloc, desk, program, None, None, answer);
-    answer.drop_stopped();
+    run_free(alloc, desk, program, answer);
     let mut body = Members::new(alloc);
     body.number("exitCode", 0);
     answer.note(Told::Exited, body);
@@ -416,23 +426,16 @@ fn run_free(alloc: Global, desk: &mut Desk, program: &mut Program, answer: &mut 
 pub(crate) fn restart<F: Sources>(
     alloc: Global,
     files: &F,
-    desk: &mut Desk,
-    program: &mut Program,
+    launched: &mut Launched,
     request: &Request,
     answer: &mut Answer,
 ) {
-    let Some(launched) = started_again(alloc, files, program, request, answer) else {
-        return;
-    };
-    let Launched {
-        program: new,
-        desk: fresh,
-    } = launched;
-    *desk = fresh;
-    let old = mem::replace(program, new);
-    keep_settings(old, program);
-    tell_changed(alloc, desk.machine(), program, answer);
-    begin(alloc, desk, program, answer);
+    if let Some(new) = started_again(alloc, files, &launched.program, request, answer) {
+        let Launched { program, desk: _ } = mem::replace(launched, new);
+        keep_settings(program, &mut launched.program);
+        tell_changed(alloc, launched.desk.machine(), &mut launched.program, answer);
+        begin(alloc, &mut launched.desk, &mut launched.program, answer);
+    }
 }
 
 /// What a restart launches.
@@ -472,6 +475,7 @@ fn keep_settings(old: Program, program: &mut Program) {
         refused: _refused,
         excepts,
         last_id,
+        sight: _sight,
     } = old;
     program.asked = asked;
     program.excepts = excepts;

@@ -13,5 +13,6 @@ mod sources;
 
 pub use face::Face;
 pub use fault::Fault;
-pub use session::serve;
+pub use launch::Launched;
+pub use session::{answer, serve};
 pub use sources::Sources;

@@ -1,10 +1,15 @@
+// A session over a reader and a writer.
+ghost use Rattle.std.specs.Prelude.{◌≡◌, length, IfOk};
+ghost use Rattle.dap_messages.specs.Messages.{IsAnswerTo};
+ghost use Rattle.dap.specs.Goes.{Goes};
+
 use crate::face::Face;
 use crate::fault::Fault;
-use crate::fixed::{Fixed, runs};
+use crate::fixed::{Fixed, ends_in_stop};
 use crate::input::{Input, Next};
 use crate::sources::Sources;
 use dap_frames::frame;
-use dap_messages::{Request, Unread, messages_of, read_request, write_message};
+use dap_messages::{Message, Request, Unread, messages_of, read_request, write_message};
 use std::alloc::{AllocError, Global};
 use std::io::{Read, Write};
 
@@ -38,7 +43,7 @@ pub fn serve<R: Read, W: Write, F: Sources>(
             Next::Large => session.tell(writer, "a message of more than 4 MB is passed over")?,
             Next::End => return Ok(()),
         }
-        if session.face.is_over() {
+        if session.face.over {
             return Ok(());
         }
     }
@@ -90,15 +95,12 @@ impl Sitting {
         files: &F,
         request: &Request,
     ) -> Result<(), Fault> {
-        let answer = self.face.answer(files, request);
-        match messages_of(alloc, request, answer, self.sent.saturating_add(1)) {
-            Ok(messages) => match frames_of(alloc, messages) {
-                Ok((bytes, count)) => {
-                    self.sent = self.sent.saturating_add(count);
-                    put(writer, bytes.as_slice())
-                }
-                Err(AllocError) => self.answer_short(writer, request),
-            },
+        let next = self.sent.saturating_add(1);
+        match answer_bytes(alloc, &mut self.face, files, request, next) {
+            Ok((bytes, count)) => {
+                self.sent = self.sent.saturating_add(count);
+                put(writer, bytes.as_slice())
+            }
             Err(AllocError) => self.answer_short(writer, request),
         }
     }
@@ -108,7 +110,7 @@ impl Sitting {
         self.sent = self.sent.saturating_add(1);
         self.fixed.response(request, self.sent);
         self.put_fixed(writer)?;
-        if !runs(request.kind) {
+        if !ends_in_stop(request.kind) {
             return Ok(());
         }
         self.sent = self.sent.saturating_add(1);
@@ -130,18 +132,48 @@ impl Sitting {
     }
 }
 
-/// The frames of the messages, and how many they are.
-fn frames_of(
+/// The messages that answer a request, the first of which has the number `next`: its response, and then events, numbered on. It
+/// is an error if there is no memory for one; what the request did stays.
+pub fn answer<F: Sources>(
     alloc: Global,
-    messages: Vec<dap_messages::Message>,
-) -> Result<(Vec<u8>, u64), AllocError> {
+    face: &mut Face,
+    files: &F,
+    request: &Request,
+    next: u64,
+) -> Result<Vec<Message>, AllocError>
+    ensures messages { IfOk result (λ messages. IsAnswerTo request.now.seq next messages.items) }
+    ensures goes { Goes face.old.launched request.now.kind face.new.launched }
+{
+    let answer = face.answer(files, request);
+    messages_of(alloc, request, answer, next)
+}
+
+/// The frames of the messages that answer a request, and how many they are.
+fn answer_bytes<F: Sources>(
+    alloc: Global,
+    face: &mut Face,
+    files: &F,
+    request: &Request,
+    next: u64,
+) -> Result<(Vec<u8>, u64), AllocError>
+    ensures { Goes face.old.launched request.now.kind face.new.launched }
+{
+    match answer(alloc, face, files, request, next) {
+        Ok(messages) => frames_of(alloc, messages),
+        Err(AllocError) => Err(AllocError),
+    }
+}
+
+/// The frames of the messages, and how many they are.
+fn frames_of(alloc: Global, messages: Vec<Message>) -> Result<(Vec<u8>, u64), AllocError>
+    ensures { IfOk result (λ made. made.1 ≡ length messages.items) }
+{
+    let count = messages.len() as u64;
     let mut bytes = Vec::new(alloc);
-    let mut count = 0u64;
     for message in messages {
         let body = write_message(alloc, message)?;
         let framed = frame(alloc, body.as_slice())?;
         bytes.extend_from_slice(framed.as_slice())?;
-        count = count.saturating_add(1);
     }
     Ok((bytes, count))
 }

@@ -1,11 +1,10 @@
-// Breakpoints on lines, on variables and on channels.
-ghost use Rattle.std.specs.Prelude.{◌≡◌};
+// Breakpoints on lines.
+ghost use Rattle.dap_requests.specs.Stands.{StandsOn};
 
-use dap_messages::{Answer, Listed, Members, Request, Told, field, number_in, text_in};
-use dap_moves::{Desk, Handle, Machine, Watched, first_stop, handle_of, stop_lines};
-use dap_threads::frame_in;
-use dap_views::{Asked, Program, Thing, Words, base_of};
-use serde_json::Value;
+use crate::said::tell;
+use dap_messages::{Answer, Listed, Members, Request, Told, number_in, text_in};
+use dap_moves::{Machine, first_stop, stop_lines};
+use dap_views::{Asked, Program, Words, base_of};
 use std::alloc::Global;
 
 /// How many lines may have a breakpoint.
@@ -104,7 +103,7 @@ fn keep_asked(alloc: Global, program: &mut Program, request: &Request) -> Option
 }
 
 /// Places the breakpoints that are asked for on lines that stop, and lists them.
-pub fn place_all(
+fn place_all(
     alloc: Global,
     machine: &Machine,
     program: &mut Program,
@@ -141,9 +140,9 @@ fn add_stop(stops: &mut Vec<u64>, line: Option<u64>) -> bool {
 
 /// Where a breakpoint stands, and what is to be said of it.
 #[derive(Drop)]
-pub struct Placed {
-    pub line: Option<u64>,
-    pub words: Words,
+struct Placed {
+    line: Option<u64>,
+    words: Words,
 }
 
 /// Where the breakpoint stands: on its line, else on the next one of the same procedure that stops.
@@ -153,27 +152,48 @@ fn place(
     program: &Program,
     asked: Asked,
     stops: &[u64],
-) -> Placed {
-    let line = asked.line;
-    let found = if program.lines.procedure(line).is_empty() || line > program.lines.count() {
-        None
-    } else {
-        first_stop(machine.checked().system(), line, program.lines.below(line))
-    };
-    let mut words = Words::new(alloc);
-    match found {
-        Some(stop) if stops.len() >= MOST_LINES && !stops.contains(&stop) => {
-            words.add("as many lines have a breakpoint as may have one, 64");
-            return Placed { line: None, words };
-        }
-        Some(stop) if stop != line => {
-            words.add("no command that takes a step begins there: moved to line ");
-            words.number(program.shown_line(stop));
-        }
-        Some(_) => {}
-        None => words.add("nothing takes a step there, nor below in the same procedure"),
+) -> Placed
+    ensures { StandsOn machine.now.checked.main asked.line result.line }
+{
+    match stop_below(machine, program, asked.line) {
+        Some(stop) if is_full(stops, stop) => Placed {
+            line: None,
+            words: Words::of(alloc, "as many lines have a breakpoint as may have one, 64"),
+        },
+        Some(stop) => Placed {
+            line: Some(stop),
+            words: moved_words(alloc, program, asked.line, stop),
+        },
+        None => Placed {
+            line: None,
+            words: Words::of(alloc, "nothing takes a step there, nor below in the same procedure"),
+        },
     }
-    Placed { line: found, words }
+}
+
+/// The first line of the same procedure, from this one on, that stops.
+fn stop_below(machine: &Machine, program: &Program, line: u64) -> Option<u64>
+    ensures { StandsOn machine.now.checked.main line result }
+{
+    if program.lines.procedure(line).is_empty() || line > program.lines.count() {
+        return None;
+    }
+    first_stop(machine.checked().system(), line, program.lines.below(line))
+}
+
+/// Whether as many lines stop as may, and this is none of them.
+fn is_full(stops: &[u64], line: u64) -> bool {
+    stops.len() >= MOST_LINES && !stops.contains(&line)
+}
+
+/// What is to be said of a breakpoint that was asked for on one line and stands on another; nothing where both are one.
+fn moved_words(alloc: Global, program: &Program, asked: u64, stop: u64) -> Words {
+    let mut words = Words::new(alloc);
+    if stop != asked {
+        words.add("no command that takes a step begins there: moved to line ");
+        words.number(program.shown_line(stop));
+    }
+    words
 }
 
 /// Tells where a breakpoint has gone, since not every client shows it.
@@ -184,16 +204,6 @@ fn tell_moved(alloc: Global, program: &Program, asked: Asked, why: &Words, answe
     words.add(why.as_str());
     words.add(".");
     tell(alloc, words.as_str(), "console", answer);
-}
-
-/// Tells a line of text.
-pub fn tell(alloc: Global, line: &str, category: &str, answer: &mut Answer) {
-    let mut words = Words::of(alloc, line);
-    words.add("\n");
-    let mut body = Members::new(alloc);
-    body.text("category", category);
-    body.text("output", words.as_str());
-    answer.note(Told::Output, body);
 }
 
 /// A breakpoint as the client sees it.
@@ -279,147 +289,4 @@ pub fn asks_for_refusals(request: &Request) -> bool {
         }
     }
     false
-}
-
-/// Answers `dataBreakpointInfo`: the variable or the channel of this name.
-pub fn data_info(
-    alloc: Global,
-    desk: &mut Desk,
-    program: &Program,
-    request: &Request,
-    answer: &mut Answer,
-)
-    ensures { desk.new ≡ desk.old }
-{
-    let Some(instance) = instance_in(alloc, desk, program, request, answer) else {
-        return;
-    };
-    let name = request.text("name").unwrap_or("");
-    let body = info(
-        alloc,
-        desk.machine(),
-        program.index.find(instance, name),
-        name,
-    );
-    answer.body(body);
-}
-
-/// The instance in which a name is read: that of what was unfolded, else that of the frame.
-fn instance_in(
-    alloc: Global,
-    desk: &mut Desk,
-    program: &Program,
-    request: &Request,
-    answer: &mut Answer,
-) -> Option<usize>
-    ensures { desk.new ≡ desk.old }
-{
-    let handle = match request.number("variablesReference") {
-        Some(number) => handle_of(number),
-        None => None,
-    };
-    match handle {
-        Some(Handle::Variables(number) | Handle::Channels(number) | Handle::Instance(number)) => {
-            Some(number as usize)
-        }
-        _ => {
-            let (_, instance) = frame_in(alloc, desk, program, request, answer)?;
-            Some(instance)
-        }
-    }
-}
-
-/// What may be watched of a thing.
-fn info(alloc: Global, machine: &Machine, thing: Option<Thing>, name: &str) -> Members {
-    let mut body = Members::new(alloc);
-    let Some(thing) = thing else {
-        let mut words = Words::of(alloc, name);
-        words.add(" is no variable and no channel");
-        body.value("dataId", Value::Null);
-        body.text("description", words.as_str());
-        return body;
-    };
-    let whole = whole_name(alloc, machine, thing);
-    let mut id = Words::new(alloc);
-    let mut words = Words::new(alloc);
-    let mut kinds = Listed::new(alloc);
-    match thing {
-        Thing::Variable(_) => {
-            id.add("var ");
-            words.add("stop when it is written: ");
-            kinds.push_text(alloc, "write");
-        }
-        Thing::Channel(_) => {
-            id.add("chan ");
-            words.add("stop at a handshake on ");
-            kinds.push_text(alloc, "readWrite");
-        }
-    }
-    id.add(whole.as_str());
-    words.add(whole.as_str());
-    body.text("dataId", id.as_str());
-    body.text("description", words.as_str());
-    body.list("accessTypes", kinds);
-    body
-}
-
-/// The whole name of a variable or a channel.
-pub fn whole_name(alloc: Global, machine: &Machine, thing: Thing) -> Words {
-    let system = machine.checked().system();
-    let mut words = Words::new(alloc);
-    match thing {
-        Thing::Variable(number) => words.variable(alloc, system, number),
-        Thing::Channel(number) => words.channel(alloc, system, number),
-    }
-    words
-}
-
-/// Answers `setDataBreakpoints`.
-pub fn set_data(alloc: Global, program: &mut Program, request: &Request, answer: &mut Answer) {
-    let mut watched = Vec::new(alloc);
-    let mut list = Listed::new(alloc);
-    for value in request.items("breakpoints").unwrap_or(&[]) {
-        let found = watched_by(program, text_in(value, "dataId").unwrap_or(""));
-        let mut one = Members::new(alloc);
-        one.flag("verified", found.is_some());
-        match found {
-            Some(found) => {
-                if watched.push(found).is_err() {
-                    answer.lacks = true;
-                }
-            }
-            None => one.text("message", "no such variable or channel"),
-        }
-        list.push(one);
-    }
-    program.watched = watched;
-    let mut body = Members::new(alloc);
-    body.list("breakpoints", list);
-    answer.body(body);
-}
-
-/// What is watched by this name of the client.
-fn watched_by(program: &Program, id: &str) -> Option<Watched> {
-    let (kind, name) = id.split_once(' ')?;
-    match (kind, program.index.find(0, name)?) {
-        ("var", Thing::Variable(number)) => Some(Watched::Variable(number)),
-        ("chan", Thing::Channel(number)) => Some(Watched::Channel(number)),
-        _ => None,
-    }
-}
-
-/// Answers `setDataBreakpoints` while nothing is launched.
-pub fn set_data_before(alloc: Global, request: &Request, answer: &mut Answer) {
-    let mut list = Listed::new(alloc);
-    for value in request.items("breakpoints").unwrap_or(&[]) {
-        let mut one = Members::new(alloc);
-        one.flag("verified", false);
-        if field(value, "dataId").is_some() {
-            one.text("message", "nothing is launched yet");
-        }
-        list.push(one);
-    }
-    let mut body = Members::new(alloc);
-    body.list("breakpoints", list);
-    answer.body(body);
 }

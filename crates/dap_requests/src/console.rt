@@ -1,12 +1,14 @@
 // Expressions and lines that are typed, and how they can be completed.
-ghost use Rattle.std.specs.Prelude.{◌≡◌};
+ghost use Rattle.std.specs.Prelude.{◌≡◌, true};
 ghost use Rattle.dap_moves.specs.Led.{Led};
+ghost use Rattle.dap_requests.specs.Reading.{reads};
 
-use crate::moves::{back_in, reverse_in, stop};
-use dap_messages::{Answer, Listed, Members, Request};
-use dap_moves::{Command, Desk, Machine, Reply, value_of};
+use crate::moves::{back_in, reverse_in};
+use crate::said::stop;
+use dap_messages::{Answer, Members, Request};
+use dap_moves::{Command, Desk, Machine, Reply};
 use dap_threads::{channel_words, frame_in};
-use dap_views::{Program, Thing, Words, event_words, sight_of};
+use dap_views::{Program, Thing, Words, event_words};
 use line_text::{
     Field, Keyword, add_bytes, add_consequences, add_entry, add_live, add_numbered, add_ready,
     add_refusal, add_valued, cut_at_space, read_branch, read_choice, read_ticket, read_variable,
@@ -18,26 +20,6 @@ use std::str;
 use syntax::Boxed;
 use system::System;
 use trace_file::write_trace;
-
-/// The words with which a line of a script begins, and those that are understood here alone.
-static LINE_WORDS: [&str; 16] = [
-    "ready",
-    "live",
-    "value",
-    "blame",
-    "consequences",
-    "view",
-    "trace",
-    "step",
-    "undo",
-    "roll",
-    "rollvalue",
-    "branch",
-    "break",
-    "clear",
-    "back",
-    "rewind",
-];
 
 /// What a typed line asks for.
 #[derive(Drop)]
@@ -61,25 +43,62 @@ pub fn evaluate(
     ensures led { Led desk.old desk.new }
     ensures system { desk.new.machine.checked ≡ desk.old.machine.checked }
 {
-    let Some((branch, instance)) = frame_in(alloc, desk, program, request, answer) else {
-        return;
-    };
-    let text = request.text("expression").unwrap_or("").trim_ascii();
-    let is_typed = match request.text("context") {
+    if let Some((branch, instance)) = frame_in(alloc, desk.machine(), program, request, answer) {
+        let text = request.text("expression").unwrap_or("").trim_ascii();
+        let line = text.trim_start_matches('!').trim_ascii();
+        if is_typed(request, text) {
+            typed(alloc, desk, program, branch, instance, line, answer);
+        } else {
+            looked_at(alloc, desk, program, instance, line, answer);
+        }
+    }
+}
+
+/// Whether the expression was typed as a line.
+fn is_typed(request: &Request, text: &str) -> bool {
+    match request.text("context") {
         None => true,
         Some(context) => context == "repl" || text.starts_with('!'),
-    };
-    let line = text.trim_start_matches('!').trim_ascii();
-    let thing = program.index.find(instance, line);
-    if is_typed && is_own(line) {
+    }
+}
+
+/// Answers a line that was typed.
+fn typed(
+    alloc: Global,
+    desk: &mut Desk,
+    program: &mut Program,
+    branch: u32,
+    instance: usize,
+    line: &str,
+    answer: &mut Answer,
+)
+    ensures led { Led desk.old desk.new }
+    ensures system { desk.new.machine.checked ≡ desk.old.machine.checked }
+{
+    if is_own(line) {
         own_line(alloc, desk, program, branch, line, answer);
         return;
     }
-    match thing {
-        Some(thing) if !(is_typed && is_bare(line)) => {
-            told(alloc, desk, program, thing, answer);
-        }
-        _ => read_line(alloc, desk, program, branch, line, is_typed, answer),
+    match program.index.find(instance, line) {
+        Some(thing) if !is_bare(line) => told(alloc, desk.machine(), program, thing, answer),
+        _ => typed_line(alloc, desk, program, branch, line, answer),
+    }
+}
+
+/// Answers an expression that a client looks at, which changes nothing.
+fn looked_at(
+    alloc: Global,
+    desk: &mut Desk,
+    program: &Program,
+    instance: usize,
+    line: &str,
+    answer: &mut Answer,
+)
+    ensures same { desk.new ≡ desk.old }
+{
+    match program.index.find(instance, line) {
+        Some(thing) => told(alloc, desk.machine(), program, thing, answer),
+        None => looked_at_line(alloc, desk, program, line, answer),
     }
 }
 
@@ -125,26 +144,22 @@ fn result(alloc: Global, text: &str, kind: &str, answer: &mut Answer) {
 }
 
 /// Tells the value of a variable, and the step that wrote it; or who stands at a channel.
-fn told(alloc: Global, desk: &mut Desk, program: &Program, thing: Thing, answer: &mut Answer)
-    ensures { desk.new ≡ desk.old }
-{
+fn told(alloc: Global, machine: &Machine, program: &Program, thing: Thing, answer: &mut Answer) {
     match thing {
-        Thing::Variable(number) => told_variable(alloc, desk, number, answer),
-        Thing::Channel(number) => told_channel(alloc, desk, program, number, answer),
+        Thing::Variable(number) => told_variable(alloc, machine, number, answer),
+        Thing::Channel(number) => told_channel(alloc, machine, program, number, answer),
     }
 }
 
-fn told_variable(alloc: Global, desk: &mut Desk, number: u32, answer: &mut Answer)
-    ensures { desk.new ≡ desk.old }
-{
+fn told_variable(alloc: Global, machine: &Machine, number: u32, answer: &mut Answer) {
     let mut words = Words::new(alloc);
     let mut kind = Words::new(alloc);
-    if let Some(value) = value_of(desk, number) {
+    if let Some(value) = machine.value(number) {
         words.number(value.bits());
         kind.number(u64::from(value.width()));
         kind.add(" bits");
     }
-    add_writer(alloc, desk.machine(), number, &mut words);
+    add_writer(alloc, machine, number, &mut words);
     result(alloc, words.as_str(), kind.as_str(), answer);
 }
 
@@ -166,62 +181,71 @@ fn add_writer(alloc: Global, machine: &Machine, variable: u32, words: &mut Words
     words.add(")");
 }
 
-fn told_channel(alloc: Global, desk: &mut Desk, program: &Program, number: u32, answer: &mut Answer)
-    ensures { desk.new ≡ desk.old }
-{
-    match sight_of(desk) {
-        Ok(sight) => {
-            let words = channel_words(alloc, desk.machine(), program, &sight, number);
+fn told_channel(
+    alloc: Global,
+    machine: &Machine,
+    program: &Program,
+    number: u32,
+    answer: &mut Answer,
+) {
+    match &program.sight {
+        Some(sight) => {
+            let words = channel_words(alloc, machine, program, sight, number);
             result(alloc, words.as_str(), "", answer);
         }
-        Err(AllocError) => answer.lacks = true,
+        None => answer.lacks = true,
     }
 }
 
-/// Answers a line of a script.
-fn read_line(
+/// Answers a line of a script that was typed.
+fn typed_line(
     alloc: Global,
     desk: &mut Desk,
     program: &mut Program,
     branch: u32,
     line: &str,
-    is_typed: bool,
     answer: &mut Answer,
 )
     ensures led { Led desk.old desk.new }
     ensures system { desk.new.machine.checked ≡ desk.old.machine.checked }
 {
     match line_of(alloc, desk.machine().checked().system(), line.as_bytes()) {
-        Ok(found) => answer_line(alloc, desk, program, branch, line, &found, is_typed, answer),
+        Ok(Line::Asked(command)) => ask(alloc, desk, program, branch, command.get(), answer),
+        Ok(other) => show_line(alloc, desk, program, &other, line, answer),
         Err(AllocError) => answer.lacks = true,
     }
 }
 
-/// Answers the line that asks for this.
-fn answer_line(
+/// Answers a line of a script that a client looks at.
+fn looked_at_line(
     alloc: Global,
     desk: &mut Desk,
-    program: &mut Program,
-    branch: u32,
+    program: &Program,
     line: &str,
-    found: &Line,
-    is_typed: bool,
     answer: &mut Answer,
 )
-    ensures led { Led desk.old desk.new }
-    ensures system { desk.new.machine.checked ≡ desk.old.machine.checked }
+    ensures same { desk.new ≡ desk.old }
 {
+    match line_of(alloc, desk.machine().checked().system(), line.as_bytes()) {
+        Ok(Line::Asked(command)) => look(alloc, desk, command.get(), line, answer),
+        Ok(other) => show_line(alloc, desk, program, &other, line, answer),
+        Err(AllocError) => answer.lacks = true,
+    }
+}
+
+/// Answers a line that asks the desk nothing.
+fn show_line(
+    alloc: Global,
+    desk: &Desk,
+    program: &Program,
+    found: &Line,
+    line: &str,
+    answer: &mut Answer,
+) {
     match found {
-        Line::Asked(command) => {
-            if is_typed || only_reads(command.get()) {
-                ask(alloc, desk, program, branch, command.get(), answer);
-            } else {
-                no_line(alloc, line, answer);
-            }
-        }
         Line::View => show(alloc, view_bytes(alloc, desk, program), answer),
         Line::Trace => show(alloc, write_trace(alloc, desk.machine()), answer),
-        Line::Unknown => no_line(alloc, line, answer),
+        Line::Asked(_) | Line::Unknown => no_line(alloc, line, answer),
     }
 }
 
@@ -267,12 +291,44 @@ fn ask(
     ensures system { desk.new.machine.checked ≡ desk.old.machine.checked }
 {
     let reply = desk.perform(0, command);
-    let bytes = reply_bytes(alloc, desk.machine().checked().system(), command, &reply);
-    show(alloc, bytes, answer);
+    show_reply(alloc, desk.machine(), command, &reply, answer);
     if has_moved(&reply) {
         program.seen.clear();
         stop(alloc, answer, "step", branch, "");
     }
+}
+
+/// Answers as a script is answered.
+fn show_reply(
+    alloc: Global,
+    machine: &Machine,
+    command: &Command,
+    reply: &Reply,
+    answer: &mut Answer,
+) {
+    let bytes = reply_bytes(alloc, machine.checked().system(), command, reply);
+    show(alloc, bytes, answer);
+}
+
+/// Asks the desk where the command changes nothing.
+fn look(alloc: Global, desk: &mut Desk, command: &Command, line: &str, answer: &mut Answer)
+    ensures same { desk.new ≡ desk.old }
+{
+    if only_reads(command) {
+        let reply = asked_alone(desk, command);
+        show_reply(alloc, desk.machine(), command, &reply, answer);
+    } else {
+        no_line(alloc, line, answer);
+    }
+}
+
+/// Asks the desk what changes nothing.
+#[tactic(auto, using(crate::proofs::Reading::reading_leaves))]
+fn asked_alone(desk: &mut Desk, command: &Command) -> Reply
+    requires { reads command.now ≡ true }
+    ensures { desk.new ≡ desk.old }
+{
+    desk.perform(0, command)
 }
 
 /// Whether the reply tells that steps were taken or taken back.
@@ -284,7 +340,9 @@ fn has_moved(reply: &Reply) -> bool {
 }
 
 /// Whether the command changes nothing.
-fn only_reads(command: &Command) -> bool {
+fn only_reads(command: &Command) -> bool
+    ensures { result ≡ reads command.now }
+{
     matches!(
         command,
         Command::Blame(_)
@@ -387,57 +445,4 @@ fn asked_field<'a>(system: &'a System, command: &Command) -> Field<'a> {
         Command::Value(variable) => variable_field(system, Some(*variable)),
         _ => Field::Word(b"?"),
     }
-}
-
-/// Answers `completions`: the words with which a line begins, and names.
-pub fn completions(alloc: Global, program: &Program, request: &Request, answer: &mut Answer) {
-    let text = request.text("text").unwrap_or("");
-    let column = request.number("column").unwrap_or(0);
-    let before = column
-        .saturating_add(program.counting.columns)
-        .saturating_sub(1);
-    let text = match text.split_at_checked(before as usize) {
-        Some((front, _)) => front,
-        None => text,
-    };
-    let mut list = Listed::new(alloc);
-    match text.rsplit_once(' ') {
-        Some((_, begun)) => add_names(alloc, program, begun, &mut list),
-        None => {
-            add_words(alloc, text, &mut list);
-            add_names(alloc, program, text, &mut list);
-        }
-    }
-    let mut body = Members::new(alloc);
-    body.list("targets", list);
-    answer.body(body);
-}
-
-/// Adds the words that begin so.
-fn add_words(alloc: Global, begun: &str, list: &mut Listed) {
-    for word in &LINE_WORDS {
-        if word.starts_with(begun) {
-            add_target(alloc, word, list);
-        }
-    }
-}
-
-/// Adds the names that begin so, at most a hundred.
-fn add_names(alloc: Global, program: &Program, begun: &str, list: &mut Listed) {
-    let mut count = 0u64;
-    for named in &program.index.names {
-        let mut words = Words::of(alloc, program.index.prefix(named.instance));
-        words.add(named.own.as_str());
-        if count < 100 && words.as_str().starts_with(begun) {
-            add_target(alloc, words.as_str(), list);
-            count = count.saturating_add(1);
-        }
-    }
-}
-
-/// Adds what a line can be completed to.
-fn add_target(alloc: Global, label: &str, list: &mut Listed) {
-    let mut target = Members::new(alloc);
-    target.text("label", label);
-    list.push(target);
 }

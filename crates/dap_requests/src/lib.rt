@@ -2,12 +2,19 @@
 #![tactic(auto)]
 
 mod breakpoints;
+mod completions;
 mod console;
+mod data;
 mod moves;
+mod said;
+mod targets;
 
 pub use breakpoints::{
-    Placed, asks_for_refusals, data_info, locations, place_all, set_before, set_data,
-    set_data_before, set_exceptions, set_lines, tell, tell_changed, whole_name,
+    asks_for_refusals, locations, set_before, set_exceptions, set_lines, tell_changed,
 };
-pub use console::{completions, evaluate};
-pub use moves::{back, back_in, go, next, reverse, reverse_in, run, stop, targets};
+pub use data::{data_info, set_data, set_data_before};
+pub use completions::completions;
+pub use console::evaluate;
+pub use moves::{back, back_in, go, next, reverse, reverse_in, run, run_free};
+pub use said::{stop, tell};
+pub use targets::targets;

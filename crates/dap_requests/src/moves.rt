@@ -1,58 +1,25 @@
 // Requests to run: forth and back. Each that succeeds ends with one `stopped`.
 ghost use Rattle.std.specs.Prelude.{◌≡◌};
 ghost use Rattle.dap_moves.specs.Led.{Led};
+ghost use Rattle.dap_moves.specs.Moves.{StepsBack};
+ghost use Rattle.dap_moves.specs.declared.back.Back as moved;
+ghost use Rattle.dap_requests.specs.Said.{Runs, TellsOutputs, TellsStop};
 
-use crate::breakpoints::tell;
-use dap_messages::{Answer, Listed, Members, Request, Told};
+use crate::said::{
+    stop, stop_at_line, tell, tell_outputs, tell_refused, tell_step, words_of,
+};
+use dap_messages::{Answer, Members, Request};
 use dap_moves::{
-    Back, Desk, Ended, Machine, Marks, Plan, Reply, Rewound, go_on, ready_events, rewind,
-    rewind_branch, step_at, step_back, target_at,
+    Back, Desk, Ended, Machine, Marks, Plan, Reply, Rewound, go_on, rewind, rewind_branch, step_at,
+    step_back, target_at,
 };
 use dap_threads::{places_in, thread_in};
-use dap_views::{Program, Refused, Sight, Words, add_waits, event_words, sight_of};
-use runs::{Choice, Event, Kind, Refusal};
-use serde_json::Value;
-use std::alloc::{AllocError, Global};
+use dap_views::{Program, Sight, Words, add_waits, event_words};
+use runs::{Choice, Event, Refusal};
+use std::alloc::Global;
 use std::mem;
 use syntax::Items;
 use system_places::branch_at;
-
-/// The most values of output ports that are told at once.
-const MOST_OUTPUTS: usize = 1_000;
-
-/// Tells that nothing moves, with the reason and the thread, and what else there is to say.
-pub fn stop(alloc: Global, answer: &mut Answer, reason: &str, branch: u32, text: &str) {
-    let body = stopped(alloc, reason, branch, text);
-    answer.note(Told::Stopped, body);
-}
-
-/// What a `stopped` says.
-fn stopped(alloc: Global, reason: &str, branch: u32, text: &str) -> Members {
-    let mut body = Members::new(alloc);
-    body.text("reason", reason);
-    body.number("threadId", u64::from(branch).saturating_add(1));
-    body.flag("allThreadsStopped", true);
-    if !text.is_empty() {
-        body.text("description", text);
-        body.text("text", text);
-    }
-    body
-}
-
-/// Tells that a run stands before a line with a breakpoint.
-fn stop_at_line(alloc: Global, program: &Program, answer: &mut Answer, branch: u32, line: u64) {
-    let mut words = Words::of(alloc, "line ");
-    words.number(program.shown_line(line));
-    let mut body = stopped(alloc, "breakpoint", branch, words.as_str());
-    let mut hits = Vec::new(alloc);
-    for asked in &program.asked {
-        if asked.at == Some(line) && hits.push(Value::from(asked.id)).is_err() {
-            answer.lacks = true;
-        }
-    }
-    body.value("hitBreakpointIds", Value::Array(hits));
-    answer.note(Told::Stopped, body);
-}
 
 /// Answers `next`, `stepIn` and `stepOut`: one step of the thread.
 pub fn next(
@@ -64,21 +31,36 @@ pub fn next(
 )
     ensures led { Led desk.old desk.new }
     ensures system { desk.new.machine.checked ≡ desk.old.machine.checked }
+    ensures stops { Runs answer.old answer.new }
 {
-    let Some(branch) = thread_in(request, desk.machine(), answer) else {
-        return;
-    };
-    let number = request.number("targetId").unwrap_or(1).saturating_sub(1);
-    match ready_events(desk) {
+    if let Some(branch) = thread_in(request, desk.machine(), answer) {
+        let number = request
+            .number("targetId")
+            .unwrap_or(1)
+            .saturating_sub(1);
+        next_in(alloc, desk, program, branch, number, answer);
+    }
+}
+
+/// One step of the branch, that of this number among those that it can be.
+fn next_in(
+    alloc: Global,
+    desk: &mut Desk,
+    program: &mut Program,
+    branch: u32,
+    number: u64,
+    answer: &mut Answer,
+)
+    ensures led { Led desk.old desk.new }
+    ensures system { desk.new.machine.checked ≡ desk.old.machine.checked }
+    ensures stops { TellsStop answer.old answer.new }
+{
+    match desk.machine().ready() {
         Ok(events) => take_target(alloc, desk, program, &events, branch, number, answer),
-        Err(why) => tell_refused(
-            alloc,
-            program,
-            answer,
-            branch,
-            why,
-            "no memory to look for a step",
-        ),
+        Err(why) => {
+            let words = "no memory to look for a step";
+            tell_refused(alloc, program, answer, branch, why, words);
+        }
     }
 }
 
@@ -94,11 +76,12 @@ fn take_target(
 )
     ensures led { Led desk.old desk.new }
     ensures system { desk.new.machine.checked ≡ desk.old.machine.checked }
+    ensures stops { TellsStop answer.old answer.new }
 {
     let system = desk.machine().checked().system();
     match target_at(system, events.as_slice(), branch, number) {
         Some(event) => take(alloc, desk, program, event, branch, answer),
-        None => no_target(alloc, desk, program, branch, number, answer),
+        None => no_target(alloc, desk.machine(), program, branch, number, answer),
     }
 }
 
@@ -113,6 +96,7 @@ fn take(
 )
     ensures led { Led desk.old desk.new }
     ensures system { desk.new.machine.checked ≡ desk.old.machine.checked }
+    ensures stops { TellsStop answer.old answer.new }
 {
     let before = desk.machine().live_events().len();
     let refusal = refusal_in(&step_at(alloc, desk, event));
@@ -132,42 +116,57 @@ fn refusal_in(reply: &Reply) -> Option<Refusal> {
 }
 
 /// Tells the live step at this index, which was taken.
-fn tell_taken(alloc: Global, machine: &Machine, index: usize, branch: u32, answer: &mut Answer) {
+fn tell_taken(alloc: Global, machine: &Machine, index: usize, branch: u32, answer: &mut Answer)
+    ensures { TellsStop answer.old answer.new }
+{
     tell_outputs(alloc, machine, index, answer);
+    tell_live(alloc, machine, index, answer);
+    stop(alloc, answer, "step", branch, "");
+}
+
+/// Tells the live step at this index, if there is one.
+#[tactic(auto, using(crate::proofs::Saying::says_nothing))]
+fn tell_live(alloc: Global, machine: &Machine, index: usize, answer: &mut Answer)
+    ensures { TellsOutputs answer.old answer.new }
+{
     if let Some((ticket, event)) = machine.live_events().pair_at(index as u64) {
         tell_step(alloc, machine, "step ", ticket, event, answer);
     }
-    stop(alloc, answer, "step", branch, "");
 }
 
 /// Tells that the thread has no such step, and for whom it waits.
 fn no_target(
     alloc: Global,
-    desk: &mut Desk,
+    machine: &Machine,
     program: &Program,
     branch: u32,
     number: u64,
     answer: &mut Answer,
 )
-    ensures led { Led desk.old desk.new }
-    ensures system { desk.new.machine.checked ≡ desk.old.machine.checked }
+    ensures { TellsStop answer.old answer.new }
 {
     let words = if number > 0 {
         Words::of(alloc, "There is no such step any more")
     } else {
-        why_none(alloc, desk, program, branch)
+        why_none(alloc, machine, program, branch)
     };
+    tell_and_stop(alloc, answer, "step", branch, &words);
+}
+
+/// Tells the words, and that nothing moves.
+#[tactic(auto, using(crate::proofs::Saying::stops_on))]
+fn tell_and_stop(alloc: Global, answer: &mut Answer, reason: &str, branch: u32, words: &Words)
+    ensures { TellsStop answer.old answer.new }
+{
     tell(alloc, words.as_str(), "console", answer);
-    stop(alloc, answer, "step", branch, words.as_str());
+    stop(alloc, answer, reason, branch, words.as_str());
 }
 
 /// Why the branch has no step.
-fn why_none(alloc: Global, desk: &mut Desk, program: &Program, branch: u32) -> Words
-    ensures { desk.new ≡ desk.old }
-{
-    match sight_of(desk) {
-        Ok(sight) => waits_words(alloc, desk.machine(), program, &sight, branch),
-        Err(AllocError) => Words::of(alloc, "No step"),
+fn why_none(alloc: Global, machine: &Machine, program: &Program, branch: u32) -> Words {
+    match &program.sight {
+        Some(sight) => waits_words(alloc, machine, program, sight, branch),
+        None => Words::of(alloc, "No step"),
     }
 }
 
@@ -181,14 +180,7 @@ fn waits_words(
 ) -> Words {
     let mut words = Words::new(alloc);
     for number in &places_in(alloc, machine, sight, branch).unwrap_or(Vec::new(alloc)) {
-        if let Some(offered) = sight.sides.as_slice().get(*number) {
-            words.add(if words.is_empty() {
-                "Waits for "
-            } else {
-                " and "
-            });
-            add_waits(alloc, machine, &program.lines, sight, offered, &mut words);
-        }
+        add_wait(alloc, machine, program, sight, *number, &mut words);
     }
     if words.is_empty() {
         words.add("Done");
@@ -196,92 +188,22 @@ fn waits_words(
     words
 }
 
-/// Tells a step in words.
-fn tell_step(
+/// Adds for whom the side at this index waits.
+fn add_wait(
     alloc: Global,
     machine: &Machine,
-    before: &str,
-    ticket: u64,
-    event: &Event,
-    answer: &mut Answer,
+    program: &Program,
+    sight: &Sight,
+    number: usize,
+    words: &mut Words,
 ) {
-    let mut words = Words::of(alloc, before);
-    words.number(ticket);
-    words.add(": ");
-    words.add(event_words(alloc, machine, event).as_str());
-    tell(alloc, words.as_str(), "console", answer);
-}
-
-/// Tells what came out at output ports in the live steps from this index on, the last values alone where they are many.
-fn tell_outputs(alloc: Global, machine: &Machine, before: usize, answer: &mut Answer) {
-    let live = machine.live_events();
-    let mut words = Words::new(alloc);
-    for index in before.max(live.len().saturating_sub(MOST_OUTPUTS))..live.len() {
-        if let Some((_, event)) = live.pair_at(index as u64) {
-            add_output(alloc, machine, event, &mut words);
-        }
-    }
-    if !words.is_empty() {
-        let mut body = Members::new(alloc);
-        body.text("category", "stdout");
-        body.text("output", words.as_str());
-        answer.note(Told::Output, body);
-    }
-}
-
-/// Adds what came out at an output port, if the event gave something there: it alone is received into no variable.
-fn add_output(alloc: Global, machine: &Machine, event: &Event, words: &mut Words) {
-    if event.kind == Kind::Meet && event.written.is_none() {
-        if let (Some(channel), Some(value)) = (event.channel, event.value) {
-            words.channel(alloc, machine.checked().system(), channel);
-            words.add(" ");
-            words.number(value.bits());
-            words.add("\n");
-        }
-    }
-}
-
-/// Tells that a step was refused, as an exception where the client wants these.
-fn tell_refused(
-    alloc: Global,
-    program: &mut Program,
-    answer: &mut Answer,
-    branch: u32,
-    why: Refusal,
-    words: &str,
-) {
-    let mut line = Words::of(alloc, "refused ");
-    line.number(u64::from(why.number()));
-    if let Refusal::NeededBy(ticket) = why {
-        line.add(" ");
-        line.number(ticket);
-    }
-    tell(alloc, words, "important", answer);
-    let reason = if program.excepts { "exception" } else { "step" };
-    let mut body = stopped(alloc, reason, branch, words);
-    body.text("description", line.as_str());
-    answer.note(Told::Stopped, body);
-    match (
-        String::from_str(alloc, line.as_str()),
-        String::from_str(alloc, words),
-    ) {
-        (Ok(line), Ok(words)) => program.refused = Some(Refused { line, words }),
-        _ => answer.lacks = true,
-    }
-}
-
-/// What a refusal means.
-fn words_of(why: Refusal) -> &'static str {
-    match why {
-        Refusal::Memory => "there is no memory left",
-        Refusal::NotReady => "no step can be taken there now",
-        Refusal::HistoryFull => "65,536 steps are live: take some back",
-        Refusal::NoSuchEvent => "no live step has this ticket",
-        Refusal::NeededBy(_) => "a live step depends on it",
-        Refusal::NeverWritten => "no live step wrote this variable",
-        Refusal::Spent => "no ticket is left",
-        Refusal::BreaksFull => "as many lines have a breakpoint as may have one",
-        Refusal::NoSuchLine => "no command begins on this line",
+    if let Some(offered) = sight.sides.as_slice().get(number) {
+        words.add(if words.is_empty() {
+            "Waits for "
+        } else {
+            " and "
+        });
+        add_waits(alloc, machine, &program.lines, sight, offered, words);
     }
 }
 
@@ -295,16 +217,16 @@ pub fn go(
 )
     ensures led { Led desk.old desk.new }
     ensures system { desk.new.machine.checked ≡ desk.old.machine.checked }
+    ensures stops { Runs answer.old answer.new }
 {
-    let Some(branch) = thread_in(request, desk.machine(), answer) else {
-        return;
-    };
-    let single = request.flag("singleThread", false);
-    let mut body = Members::new(alloc);
-    body.flag("allThreadsContinued", !single);
-    answer.body(body);
-    let only = if single { Some(branch) } else { None };
-    run(alloc, desk, program, Some(branch), only, answer);
+    if let Some(branch) = thread_in(request, desk.machine(), answer) {
+        let single = request.flag("singleThread", false);
+        let mut body = Members::new(alloc);
+        body.flag("allThreadsContinued", !single);
+        answer.body(body);
+        let only = if single { Some(branch) } else { None };
+        run(alloc, desk, program, Some(branch), only, answer);
+    }
 }
 
 /// Goes on from where the branch stands, which a run has seen.
@@ -318,12 +240,56 @@ pub fn run(
 )
     ensures led { Led desk.old desk.new }
     ensures system { desk.new.machine.checked ≡ desk.old.machine.checked }
+    ensures stops { TellsStop answer.old answer.new }
+{
+    let before = desk.machine().live_events().len();
+    let ended = run_on(alloc, desk, program, branch, only);
+    tell_outputs(alloc, desk.machine(), before, answer);
+    tell_ended(alloc, desk.machine(), program, answer, branch, only, ended);
+}
+
+/// Runs to the end without stops, and tells what came out.
+pub fn run_free(alloc: Global, desk: &mut Desk, program: &mut Program, answer: &mut Answer)
+    ensures led { Led desk.old desk.new }
+    ensures system { desk.new.machine.checked ≡ desk.old.machine.checked }
+    ensures tells { TellsOutputs answer.old answer.new }
+{
+    program.stops.clear();
+    program.watched.clear();
+    let before = desk.machine().live_events().len();
+    let ended = run_on(alloc, desk, program, None, None);
+    tell_outputs(alloc, desk.machine(), before, answer);
+    tell_free_end(alloc, desk.machine(), ended, answer);
+}
+
+/// Tells why a run ended that nobody debugs.
+fn tell_free_end(alloc: Global, machine: &Machine, ended: Ended, answer: &mut Answer)
+    ensures { TellsOutputs answer.old answer.new }
+{
+    match ended {
+        Ended::Refused(_, why) => tell(alloc, words_of(why), "important", answer),
+        _ => {
+            let words = nothing_words(alloc, machine, None);
+            tell(alloc, words.as_str(), "console", answer);
+        }
+    }
+}
+
+/// Goes on; why it ended.
+fn run_on(
+    alloc: Global,
+    desk: &mut Desk,
+    program: &mut Program,
+    branch: Option<u32>,
+    only: Option<u32>,
+) -> Ended
+    ensures led { Led desk.old desk.new }
+    ensures system { desk.new.machine.checked ≡ desk.old.machine.checked }
 {
     let mut seen = mem::replace(&mut program.seen, Vec::new(alloc));
     if !program.stops.is_empty() {
-        see_first(alloc, desk, branch, &mut seen);
+        see_first(alloc, desk.machine(), branch, &mut seen);
     }
-    let before = desk.machine().live_events().len();
     let plan = Plan {
         first: branch.unwrap_or(0),
         only,
@@ -335,16 +301,13 @@ pub fn run(
     let mut kept = Vec::new(alloc);
     let ended = go_on(alloc, desk, &plan, &mut kept);
     program.seen = kept;
-    tell_outputs(alloc, desk.machine(), before, answer);
-    tell_ended(alloc, desk, program, answer, branch, only, ended);
+    ended
 }
 
 /// Keeps in mind the step before which the branch stands.
-fn see_first(alloc: Global, desk: &mut Desk, branch: Option<u32>, seen: &mut Vec<Choice>)
-    ensures { desk.new ≡ desk.old }
-{
-    if let (Some(branch), Ok(events)) = (branch, ready_events(desk)) {
-        let system = desk.machine().checked().system();
+fn see_first(alloc: Global, machine: &Machine, branch: Option<u32>, seen: &mut Vec<Choice>) {
+    if let (Some(branch), Ok(events)) = (branch, machine.ready()) {
+        let system = machine.checked().system();
         if let Some(event) = target_at(system, events.as_slice(), branch, 0) {
             if let Ok(choice) = event.choice(alloc) {
                 let _ = seen.push(choice);
@@ -356,42 +319,42 @@ fn see_first(alloc: Global, desk: &mut Desk, branch: Option<u32>, seen: &mut Vec
 /// Tells why a run ended.
 fn tell_ended(
     alloc: Global,
-    desk: &mut Desk,
+    machine: &Machine,
     program: &mut Program,
     answer: &mut Answer,
     branch: Option<u32>,
     only: Option<u32>,
     ended: Ended,
 )
-    ensures { desk.new ≡ desk.old }
+    ensures { TellsStop answer.old answer.new }
 {
     match ended {
         Ended::Nothing => {
-            let words = nothing_words(alloc, desk, only);
-            tell(alloc, words.as_str(), "console", answer);
-            stop(alloc, answer, "pause", branch.unwrap_or(0), words.as_str());
+            let words = nothing_words(alloc, machine, only);
+            tell_and_stop(alloc, answer, "pause", branch.unwrap_or(0), &words);
         }
         Ended::AtLine(side, line) => stop_at_line(alloc, program, answer, side, line),
-        Ended::Watched(branch, ticket) => {
-            stop_watched(alloc, desk.machine(), answer, branch, ticket);
-        }
-        Ended::Most(branch) => {
-            let mut words = Words::of(alloc, "Paused after ");
-            words.number(program.launch.most);
-            words.add(" steps");
-            stop(alloc, answer, "pause", branch, words.as_str());
-        }
+        Ended::Watched(branch, ticket) => stop_watched(alloc, machine, answer, branch, ticket),
+        Ended::Most(branch) => stop_after_most(alloc, program, answer, branch),
         Ended::Refused(branch, why) => {
             tell_refused(alloc, program, answer, branch, why, words_of(why));
         }
     }
 }
 
-/// Tells that nothing can go on.
-fn nothing_words(alloc: Global, desk: &mut Desk, only: Option<u32>) -> Words
-    ensures { desk.new ≡ desk.old }
+/// Tells that as many steps were taken as there may be.
+fn stop_after_most(alloc: Global, program: &Program, answer: &mut Answer, branch: u32)
+    ensures { TellsStop answer.old answer.new }
 {
-    let live = desk.machine().live_events().len();
+    let mut words = Words::of(alloc, "Paused after ");
+    words.number(program.launch.most);
+    words.add(" steps");
+    stop(alloc, answer, "pause", branch, words.as_str());
+}
+
+/// Tells that nothing can go on.
+fn nothing_words(alloc: Global, machine: &Machine, only: Option<u32>) -> Words {
+    let live = machine.live_events().len();
     let mut words = Words::of(
         alloc,
         if only.is_some() {
@@ -407,7 +370,15 @@ fn nothing_words(alloc: Global, desk: &mut Desk, only: Option<u32>) -> Words
 }
 
 /// Tells that a step was taken that is watched.
-fn stop_watched(alloc: Global, machine: &Machine, answer: &mut Answer, branch: u32, ticket: u64) {
+fn stop_watched(alloc: Global, machine: &Machine, answer: &mut Answer, branch: u32, ticket: u64)
+    ensures { TellsStop answer.old answer.new }
+{
+    let words = watched_words(alloc, machine, ticket);
+    stop(alloc, answer, "data breakpoint", branch, words.as_str());
+}
+
+/// The live step of this ticket in words.
+fn watched_words(alloc: Global, machine: &Machine, ticket: u64) -> Words {
     let live = machine.live_events();
     let mut words = Words::of(alloc, "step ");
     words.number(ticket);
@@ -417,7 +388,7 @@ fn stop_watched(alloc: Global, machine: &Machine, answer: &mut Answer, branch: u
             words.add(event_words(alloc, machine, event).as_str());
         }
     }
-    stop(alloc, answer, "data breakpoint", branch, words.as_str());
+    words
 }
 
 /// Answers `stepBack`.
@@ -430,6 +401,7 @@ pub fn back(
 )
     ensures led { Led desk.old desk.new }
     ensures system { desk.new.machine.checked ≡ desk.old.machine.checked }
+    ensures stops { Runs answer.old answer.new }
 {
     if let Some(branch) = thread_in(request, desk.machine(), answer) {
         back_in(alloc, desk, program, branch, answer);
@@ -444,8 +416,10 @@ pub fn back_in(
     branch: u32,
     answer: &mut Answer,
 )
+    ensures back { (moved : moved.Back) × StepsBack desk.old branch moved desk.new }
     ensures led { Led desk.old desk.new }
     ensures system { desk.new.machine.checked ≡ desk.old.machine.checked }
+    ensures stops { TellsStop answer.old answer.new }
 {
     match step_back(desk, branch) {
         Back::AtBeginning => {
@@ -453,15 +427,7 @@ pub fn back_in(
             stop(alloc, answer, "step", branch, text);
         }
         Back::Asked(ticket, reply) => {
-            tell_back(
-                alloc,
-                desk.machine(),
-                program,
-                branch,
-                ticket,
-                &reply,
-                answer,
-            );
+            tell_back(alloc, desk.machine(), program, branch, ticket, &reply, answer);
         }
     }
 }
@@ -475,19 +441,34 @@ fn tell_back(
     ticket: u64,
     reply: &Reply,
     answer: &mut Answer,
-) {
+)
+    ensures { TellsStop answer.old answer.new }
+{
     match reply {
         Reply::Undone(_, event) => {
             program.seen.clear();
             tell_step(alloc, machine, "taken back, step ", ticket, event, answer);
             stop(alloc, answer, "step", branch, "");
         }
-        Reply::Refused(why) => {
-            let (words, thread) = kept_words(alloc, machine, branch, ticket, *why);
-            tell_refused(alloc, program, answer, thread, *why, words.as_str());
-        }
+        Reply::Refused(why) => tell_kept(alloc, machine, program, branch, ticket, *why, answer),
         _ => stop(alloc, answer, "step", branch, ""),
     }
+}
+
+/// Tells that a step stays, at the thread of the step that is in the way.
+fn tell_kept(
+    alloc: Global,
+    machine: &Machine,
+    program: &mut Program,
+    branch: u32,
+    ticket: u64,
+    why: Refusal,
+    answer: &mut Answer,
+)
+    ensures { TellsStop answer.old answer.new }
+{
+    let (words, thread) = kept_words(alloc, machine, branch, ticket, why);
+    tell_refused(alloc, program, answer, thread, why, words.as_str());
 }
 
 /// Why a step stays, and the branch of the step that is in the way.
@@ -502,12 +483,9 @@ fn kept_words(
         return (Words::of(alloc, words_of(why)), branch);
     };
     let mut words = Words::of(alloc, "Step ");
-    let mut thread = branch;
     add_live(alloc, machine, ticket, &mut words);
     words.add(" stays: step ");
-    if let Some(found) = add_live(alloc, machine, first, &mut words) {
-        thread = found;
-    }
+    let thread = add_live(alloc, machine, first, &mut words).unwrap_or(branch);
     words.add(" depends on it. Take that back first, or `roll ");
     words.number(ticket);
     words.add("` takes back all that do.");
@@ -535,6 +513,7 @@ pub fn reverse(
 )
     ensures led { Led desk.old desk.new }
     ensures system { desk.new.machine.checked ≡ desk.old.machine.checked }
+    ensures stops { Runs answer.old answer.new }
 {
     if let Some(branch) = thread_in(request, desk.machine(), answer) {
         let single = request.flag("singleThread", false);
@@ -553,72 +532,77 @@ pub fn reverse_in(
 )
     ensures led { Led desk.old desk.new }
     ensures system { desk.new.machine.checked ≡ desk.old.machine.checked }
+    ensures stops { TellsStop answer.old answer.new }
+{
+    let ended = rewind_in(alloc, desk, program, branch, single);
+    tell_rewound(alloc, program, branch, ended, answer);
+}
+
+/// Takes steps back until something stops it; why it ended.
+fn rewind_in(
+    alloc: Global,
+    desk: &mut Desk,
+    program: &mut Program,
+    branch: u32,
+    single: bool,
+) -> Rewound
+    ensures led { Led desk.old desk.new }
+    ensures system { desk.new.machine.checked ≡ desk.old.machine.checked }
 {
     let marks = Marks {
         lines: program.stops.as_slice(),
         watched: program.watched.as_slice(),
     };
     let mut kept = Vec::new(alloc);
-    let ended = if single {
-        rewind_branch(alloc, desk, branch, marks, &mut kept)
-    } else {
-        rewind(alloc, desk, marks, &mut kept)
-    };
+    let ended = rewind_by(alloc, desk, branch, single, marks, &mut kept);
     program.seen = kept;
+    ended
+}
+
+/// Takes steps of the branch back with all that depend on them, or all.
+fn rewind_by(
+    alloc: Global,
+    desk: &mut Desk,
+    branch: u32,
+    single: bool,
+    marks: Marks<'_>,
+    kept: &mut Vec<Choice>,
+) -> Rewound
+    ensures led { Led desk.old desk.new }
+    ensures system { desk.new.machine.checked ≡ desk.old.machine.checked }
+{
+    if single {
+        rewind_branch(alloc, desk, branch, marks, kept)
+    } else {
+        rewind(alloc, desk, marks, kept)
+    }
+}
+
+/// Tells why a run back ended.
+fn tell_rewound(
+    alloc: Global,
+    program: &mut Program,
+    branch: u32,
+    ended: Rewound,
+    answer: &mut Answer,
+)
+    ensures { TellsStop answer.old answer.new }
+{
     match ended {
         Rewound::AtBeginning => stop(alloc, answer, "entry", branch, "At the beginning"),
         Rewound::AtLine(side, line) => stop_at_line(alloc, program, answer, side, line),
-        Rewound::Watched(branch, ticket) => {
-            let mut words = Words::of(alloc, "before step ");
-            words.number(ticket);
-            stop(alloc, answer, "data breakpoint", branch, words.as_str());
+        Rewound::Watched(branch, ticket) => stop_before(alloc, branch, ticket, answer),
+        Rewound::Refused(why) => {
+            tell_refused(alloc, program, answer, branch, why, words_of(why));
         }
-        Rewound::Refused(why) => tell_refused(alloc, program, answer, branch, why, words_of(why)),
     }
 }
 
-/// Answers `stepInTargets`: all steps that a step of the frame's thread can be.
-pub fn targets(
-    alloc: Global,
-    desk: &mut Desk,
-    program: &Program,
-    request: &Request,
-    answer: &mut Answer,
-)
-    ensures { desk.new ≡ desk.old }
+/// Tells that a step was taken back that is watched.
+fn stop_before(alloc: Global, branch: u32, ticket: u64, answer: &mut Answer)
+    ensures { TellsStop answer.old answer.new }
 {
-    let found = dap_threads::frame_in(alloc, desk, program, request, answer);
-    let Some((branch, _)) = found else {
-        return;
-    };
-    match ready_events(desk) {
-        Ok(events) => {
-            let body = target_list(alloc, desk.machine(), &events, branch);
-            answer.body(body);
-        }
-        Err(_) => answer.lacks = true,
-    }
-}
-
-/// The steps, numbered from 1.
-fn target_list(alloc: Global, machine: &Machine, events: &Items<Event>, branch: u32) -> Members {
-    let mut list = Listed::new(alloc);
-    for number in 0..events.len() as u64 {
-        let found = target_at(
-            machine.checked().system(),
-            events.as_slice(),
-            branch,
-            number,
-        );
-        let Some(event) = found else {
-            break;
-        };
-        let mut target = Members::new(alloc);
-        target.number("id", number.saturating_add(1));
-        target.text("label", event_words(alloc, machine, event).as_str());
-        list.push(target);
-    }
-    let mut body = Members::new(alloc);
-    body.list("targets", list);
-    body
+    let mut words = Words::of(alloc, "before step ");
+    words.number(ticket);
+    stop(alloc, answer, "data breakpoint", branch, words.as_str());
 }

@@ -1,11 +1,12 @@
 // Threads and their frames.
-ghost use Rattle.std.specs.Prelude.{◌≡◌};
+ghost use Rattle.std.specs.Prelude.{◌≡◌, MatchOption};
+ghost use Rattle.dap_messages.specs.Notes.{IsRefusal};
 
 use dap_messages::{Answer, Listed, Members, Request};
-use dap_moves::{Desk, Machine, frame_id, frame_of};
-use dap_views::{Program, Rank, Sight, Words, add_side, add_waits, line_at, sight_of, variable_of};
+use dap_moves::{Machine, frame_id, frame_of};
+use dap_views::{Program, Rank, Sight, Words, add_side, add_waits, line_at, variable_of};
 use offered_sides::OfferedSide;
-use std::alloc::{AllocError, Global};
+use std::alloc::Global;
 use system::{Action, Branch, System};
 use system_places::{branch_at, branch_count};
 
@@ -13,7 +14,9 @@ use system_places::{branch_at, branch_count};
 const MOST_FRAMES: u64 = 1_000;
 
 /// The thread that the request names; a thread is a branch, counted from 1.
-pub fn thread_in(request: &Request, machine: &Machine, answer: &mut Answer) -> Option<u32> {
+pub fn thread_in(request: &Request, machine: &Machine, answer: &mut Answer) -> Option<u32>
+    ensures { MatchOption result (IsRefusal answer.new.outcome × (answer.new.notes ≡ answer.old.notes)) (λ _. answer.new ≡ answer.old) }
+{
     let Some(number) = request.number("threadId") else {
         answer.refuse(104, "`threadId` is missing or no number");
         return None;
@@ -27,15 +30,13 @@ pub fn thread_in(request: &Request, machine: &Machine, answer: &mut Answer) -> O
 }
 
 /// Answers `threads`: all branches, with how each stands.
-pub fn threads(alloc: Global, desk: &mut Desk, program: &Program, answer: &mut Answer)
-    ensures { desk.new ≡ desk.old }
-{
-    match sight_of(desk) {
-        Ok(sight) => {
-            let body = thread_list(alloc, desk.machine(), program, &sight);
+pub fn threads(alloc: Global, machine: &Machine, program: &Program, answer: &mut Answer) {
+    match &program.sight {
+        Some(sight) => {
+            let body = thread_list(alloc, machine, program, sight);
             answer.body(body);
         }
-        Err(AllocError) => answer.lacks = true,
+        None => answer.lacks = true,
     }
 }
 
@@ -107,22 +108,20 @@ fn port(alloc: Global, system: &System, word: &str, channel: u32, words: &mut Wo
 /// Answers `stackTrace`: the places of the thread, the one that goes on first above the others.
 pub fn stack_trace(
     alloc: Global,
-    desk: &mut Desk,
+    machine: &Machine,
     program: &Program,
     request: &Request,
     answer: &mut Answer,
-)
-    ensures { desk.new ≡ desk.old }
-{
-    let Some(branch) = thread_in(request, desk.machine(), answer) else {
+) {
+    let Some(branch) = thread_in(request, machine, answer) else {
         return;
     };
-    match sight_of(desk) {
-        Ok(sight) => {
-            let body = stack(alloc, desk.machine(), program, request, &sight, branch);
+    match &program.sight {
+        Some(sight) => {
+            let body = stack(alloc, machine, program, request, sight, branch);
             answer.body(body);
         }
-        Err(AllocError) => answer.lacks = true,
+        None => answer.lacks = true,
     }
 }
 
@@ -285,22 +284,18 @@ fn done_frame(alloc: Global, branch: u32) -> Members {
 /// refused where there is no such frame.
 pub fn frame_in(
     alloc: Global,
-    desk: &mut Desk,
+    machine: &Machine,
     program: &Program,
     request: &Request,
     answer: &mut Answer,
-) -> Option<(u32, usize)>
-    ensures { desk.new ≡ desk.old }
-{
-    match sight_of(desk) {
-        Ok(sight) => match request.number("frameId") {
-            Some(id) => frame_at(alloc, desk.machine(), program, &sight, id, answer),
-            None => Some((sight.able(desk.machine()), 0)),
-        },
-        Err(AllocError) => {
-            answer.lacks = true;
-            None
-        }
+) -> Option<(u32, usize)> {
+    let Some(sight) = &program.sight else {
+        answer.lacks = true;
+        return None;
+    };
+    match request.number("frameId") {
+        Some(id) => frame_at(alloc, machine, program, sight, id, answer),
+        None => Some((sight.able(machine), 0)),
     }
 }
 

@@ -1,13 +1,11 @@
 // Variables, channels and the newest steps, as a client unfolds them.
-ghost use Rattle.std.specs.Prelude.{◌≡◌};
-
 use crate::frames::frame_in;
 use dap_messages::{Answer, Listed, Members, Request};
-use dap_moves::{Desk, Handle, Machine, handle_of, newest_below, reference, value_of};
+use dap_moves::{Handle, Machine, handle_of, newest_below, reference};
 use dap_views::{
-    Named, Program, Sight, Thing, Words, add_side, add_who, channel_of, event_words, sight_of,
+    Named, Program, Sight, Thing, Words, add_side, add_who, channel_of, event_words,
 };
-use std::alloc::{AllocError, Global};
+use std::alloc::Global;
 use system_places::branch_count;
 
 /// How many steps are shown of a thread.
@@ -16,18 +14,16 @@ const MOST_STEPS: u32 = 10;
 /// Answers `scopes`.
 pub fn scopes(
     alloc: Global,
-    desk: &mut Desk,
+    machine: &Machine,
     program: &Program,
     request: &Request,
     answer: &mut Answer,
-)
-    ensures { desk.new ≡ desk.old }
-{
+) {
     if request.number("frameId").is_none() {
         answer.refuse(104, "`frameId` is missing or no number");
         return;
     }
-    if let Some((branch, instance)) = frame_in(alloc, desk, program, request, answer) {
+    if let Some((branch, instance)) = frame_in(alloc, machine, program, request, answer) {
         let body = scope_list(alloc, program, branch, instance as u64);
         answer.body(body);
     }
@@ -79,23 +75,21 @@ fn scope(alloc: Global, name: &str, title: &str, handle: Handle, is_wide: bool) 
 /// Answers `variables`.
 pub fn variables(
     alloc: Global,
-    desk: &mut Desk,
+    machine: &Machine,
     program: &Program,
     request: &Request,
     answer: &mut Answer,
-)
-    ensures { desk.new ≡ desk.old }
-{
+) {
     let Some(number) = request.number("variablesReference") else {
         answer.refuse(104, "`variablesReference` is missing or no number");
         return;
     };
     let handle = handle_of(number);
-    if !is_known(desk.machine(), program, handle) {
+    if !is_known(machine, program, handle) {
         answer.refuse(110, "there are no variables with this reference");
         return;
     }
-    let list = unfolded(alloc, desk, program, handle);
+    let list = unfolded(alloc, machine, program, handle);
     let mut body = Members::new(alloc);
     body.list("variables", list);
     answer.body(body);
@@ -115,17 +109,20 @@ fn is_known(machine: &Machine, program: &Program, handle: Option<Handle>) -> boo
 }
 
 /// What is unfolded.
-fn unfolded(alloc: Global, desk: &mut Desk, program: &Program, handle: Option<Handle>) -> Listed
-    ensures { desk.new ≡ desk.old }
-{
+fn unfolded(
+    alloc: Global,
+    machine: &Machine,
+    program: &Program,
+    handle: Option<Handle>,
+) -> Listed {
     match handle {
-        Some(Handle::Variables(number)) => variables_of(alloc, desk, program, number as usize),
-        Some(Handle::Channels(number)) => channels_of(alloc, desk, program, number as usize),
+        Some(Handle::Variables(number)) => variables_of(alloc, machine, program, number as usize),
+        Some(Handle::Channels(number)) => channels_of(alloc, machine, program, number as usize),
         Some(Handle::Steps(thread)) => {
-            steps_of(alloc, desk.machine(), thread.saturating_sub(1) as u32)
+            steps_of(alloc, machine, branch_of(thread))
         }
         Some(Handle::Instance(number)) => {
-            let mut list = variables_of(alloc, desk, program, number as usize);
+            let mut list = variables_of(alloc, machine, program, number as usize);
             add_calls(alloc, program, number as usize, &mut list);
             list
         }
@@ -133,32 +130,33 @@ fn unfolded(alloc: Global, desk: &mut Desk, program: &Program, handle: Option<Ha
     }
 }
 
+/// The branch that the thread of this number is.
+fn branch_of(thread: u64) -> u32 {
+    u32::try_from(thread.saturating_sub(1)).unwrap_or(u32::MAX)
+}
+
 /// The variables of an instance.
-fn variables_of(alloc: Global, desk: &mut Desk, program: &Program, instance: usize) -> Listed
-    ensures { desk.new ≡ desk.old }
-{
+fn variables_of(alloc: Global, machine: &Machine, program: &Program, instance: usize) -> Listed {
     let mut list = Listed::new(alloc);
     for named in &program.index.names {
         if let (true, Thing::Variable(number)) = (named.instance == instance, named.thing) {
-            list.push(variable(alloc, desk, named, number));
+            list.push(variable(alloc, machine, named, number));
         }
     }
     list
 }
 
 /// A variable with its value.
-fn variable(alloc: Global, desk: &mut Desk, named: &Named, number: u32) -> Members
-    ensures { desk.new ≡ desk.old }
-{
+fn variable(alloc: Global, machine: &Machine, named: &Named, number: u32) -> Members {
     let mut value = Words::new(alloc);
     let mut width = Words::new(alloc);
-    if let Some(found) = value_of(desk, number) {
+    if let Some(found) = machine.value(number) {
         value.number(found.bits());
         width.number(u64::from(found.width()));
         width.add(" bits");
     }
     let mut whole = Words::new(alloc);
-    whole.variable(alloc, desk.machine().checked().system(), number);
+    whole.variable(alloc, machine.checked().system(), number);
     let mut members = Members::new(alloc);
     members.text("name", named.own.as_str());
     members.text("value", value.as_str());
@@ -169,12 +167,10 @@ fn variable(alloc: Global, desk: &mut Desk, named: &Named, number: u32) -> Membe
 }
 
 /// The channels of an instance, each with who stands there.
-fn channels_of(alloc: Global, desk: &mut Desk, program: &Program, instance: usize) -> Listed
-    ensures { desk.new ≡ desk.old }
-{
-    match sight_of(desk) {
-        Ok(sight) => channels_in(alloc, desk.machine(), program, &sight, instance),
-        Err(AllocError) => {
+fn channels_of(alloc: Global, machine: &Machine, program: &Program, instance: usize) -> Listed {
+    match &program.sight {
+        Some(sight) => channels_in(alloc, machine, program, sight, instance),
+        None => {
             let mut list = Listed::new(alloc);
             list.lack();
             list

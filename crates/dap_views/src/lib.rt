@@ -4,6 +4,7 @@
 mod index;
 mod lines;
 mod program;
+mod replay;
 mod short;
 mod sight;
 mod words;

@@ -1,6 +1,7 @@
 // What is launched.
 use crate::index::Index;
 use crate::lines::Lines;
+use crate::sight::Sight;
 use dap_messages::Members;
 use dap_moves::Watched;
 use runs::Choice;
@@ -64,6 +65,8 @@ pub struct Program {
     /// whether a refusal stops as an exception
     pub excepts: bool,
     pub last_id: u64,
+    /// what the state offers, where it is known
+    pub sight: Option<Sight>,
 }
 
 impl Program {

@@ -1,12 +1,18 @@
-// What a state offers: the steps that are ready, and the sides that wait for a partner.
-ghost use Rattle.std.specs.Prelude.{◌≡◌};
+// What a state offers: the steps that are ready, and the sides of events.
+ghost use Rattle.std.specs.Prelude.{IfOk};
+ghost use Rattle.runs.specs.Object.{Reaches};
+ghost use Rattle.runs.specs.Ready.{ReadyList};
+ghost use Rattle.runs.specs.Steps.{State};
+ghost use Rattle.machine.specs.AtMachine.{object};
+ghost use Rattle.dap_views.specs.Seen.{SeesState};
 
 use crate::lines::Lines;
+use crate::replay::made_again;
 use crate::words::Words;
 use address::Address;
-use dap_moves::{Desk, Machine, acts_in, ready_events, takes_part};
+use dap_moves::{Machine, acts_in, takes_part};
 use event_places::line_after;
-use offered_sides::{OfferedSide, Side};
+use offered_sides::{OfferedSide, Side, sides_of};
 use runs::Event;
 use std::alloc::{AllocError, Global};
 use syntax::Items;
@@ -15,7 +21,9 @@ use system_places::branch_at;
 /// The steps that are ready, and the sides that are offered.
 #[derive(Drop)]
 pub struct Sight {
+    /// in order of acting address, then arm
     pub ready: Items<Event>,
+    /// in order of place
     pub sides: Items<OfferedSide>,
 }
 
@@ -30,16 +38,26 @@ pub enum Rank {
     Waits,
 }
 
-/// What the state offers. It is an error if there is no memory.
-pub fn sight_of(desk: &mut Desk) -> Result<Sight, AllocError>
-    ensures { desk.new ≡ desk.old }
+/// What the state of the machine offers. It makes the live events again. It is an error if there is no memory.
+pub fn sight_of(alloc: Global, machine: &Machine) -> Result<Sight, AllocError>
+    ensures { IfOk result (λ sight. SeesState machine.now sight) }
 {
-    let ready = match ready_events(desk) {
-        Ok(events) => events,
-        Err(_) => return Err(AllocError),
-    };
-    let sides = desk.machine().offered()?;
+    machine.is_sound();
+    let state = made_again(alloc, machine)?;
+    let sides = sides_of(alloc, &state.tree, &state.store)?;
+    let ready = ready_events(machine)?;
     Ok(Sight { ready, sides })
+}
+
+/// The steps that may be taken now. It is an error if there is no memory.
+fn ready_events(machine: &Machine) -> Result<Items<Event>, AllocError>
+    ensures { IfOk result (λ events. (T : State) × Reaches (object machine.now) T × ReadyList T events) }
+{
+    match machine.ready() {
+        Ok(events) => Ok(events),
+        // No other refusal is told.
+        Err(_) => Err(AllocError),
+    }
 }
 
 impl Sight {
