@@ -30,10 +30,10 @@ pub(crate) fn perform(
 {
     keep_sight(alloc, desk.machine(), program);
     change(alloc, desk, program, request, answer);
-    if is_move(request.kind) || is_asked(request.kind) {
+    if is_move(request.kind) {
         program.sight = None;
-        keep_sight(alloc, desk.machine(), program);
     }
+    keep_sight(alloc, desk.machine(), program);
 }
 
 /// Looks at what the state offers, where that is not known. Without memory it stays unknown.

@@ -392,6 +392,7 @@ fn refuse_at(
 pub(crate) fn begin(alloc: Global, desk: &mut Desk, program: &mut Program, answer: &mut Answer)
     ensures { Led desk.old desk.new }
 {
+    program.sight = None;
     if program.launch.free {
         begin_free(alloc, desk, program, answer);
     } else if program.launch.stops {

@@ -124,6 +124,7 @@ fn own_line(
     ensures led { Led desk.old desk.new }
     ensures system { desk.new.machine.checked ≡ desk.old.machine.checked }
 {
+    program.sight = None;
     result(alloc, line, "", answer);
     if line == "back" {
         back_in(alloc, desk, program, branch, answer);
@@ -293,6 +294,7 @@ fn ask(
     let reply = desk.perform(0, command);
     show_reply(alloc, desk.machine(), command, &reply, answer);
     if has_moved(&reply) {
+        program.sight = None;
         program.seen.clear();
         stop(alloc, answer, "step", branch, "");
     }
