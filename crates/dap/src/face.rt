@@ -163,7 +163,13 @@ fn perform_on(alloc: Global, launched: &mut Launched, request: &Request, answer:
     ensures goes { DeskGoes launched.old.desk request.now.kind launched.new.desk }
     ensures stops { moves request.now.kind ≡ true → Runs answer.old answer.new }
 {
-    perform(alloc, &mut launched.desk, &mut launched.program, request, answer);
+    perform(
+        alloc,
+        &mut launched.desk,
+        &mut launched.program,
+        request,
+        answer,
+    );
 }
 
 /// Answers before something is launched what needs nothing of a session.

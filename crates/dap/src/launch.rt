@@ -434,7 +434,12 @@ pub(crate) fn restart<F: Sources>(
     if let Some(new) = started_again(alloc, files, &launched.program, request, answer) {
         let Launched { program, desk: _ } = mem::replace(launched, new);
         keep_settings(program, &mut launched.program);
-        tell_changed(alloc, launched.desk.machine(), &mut launched.program, answer);
+        tell_changed(
+            alloc,
+            launched.desk.machine(),
+            &mut launched.program,
+            answer,
+        );
         begin(alloc, &mut launched.desk, &mut launched.program, answer);
     }
 }

@@ -63,8 +63,8 @@ stops_on a m b h k = record {
   outputs = h.outputs ++ k.outputs;
   are = both-outputs h.outputs k.outputs h.are k.are;
   told = λ full.
-    let it = tells_on a m b h.outputs (k.outputs ++ Told.Stopped ∷ []) h.told k.told full in
-    (it.0, it.1 ∙ ap (λ (vs : List Told). told_by a.notes.items ++ vs) (sym (append_assoc h.outputs k.outputs (Told.Stopped ∷ []))));
+      let it = tells_on a m b h.outputs (k.outputs ++ Told.Stopped ∷ []) h.told k.told full in
+      (it.0, it.1 ∙ ap (λ (vs : List Told). told_by a.notes.items ++ vs) (sym (append_assoc h.outputs k.outputs (Told.Stopped ∷ []))));
 }
 
 -- a body, and then one `stopped`

@@ -146,13 +146,7 @@ struct Placed {
 }
 
 /// Where the breakpoint stands: on its line, else on the next one of the same procedure that stops.
-fn place(
-    alloc: Global,
-    machine: &Machine,
-    program: &Program,
-    asked: Asked,
-    stops: &[u64],
-) -> Placed
+fn place(alloc: Global, machine: &Machine, program: &Program, asked: Asked, stops: &[u64]) -> Placed
     ensures { StandsOn machine.now.checked.main asked.line result.line }
 {
     match stop_below(machine, program, asked.line) {
@@ -166,7 +160,10 @@ fn place(
         },
         None => Placed {
             line: None,
-            words: Words::of(alloc, "nothing takes a step there, nor below in the same procedure"),
+            words: Words::of(
+                alloc,
+                "nothing takes a step there, nor below in the same procedure",
+            ),
         },
     }
 }

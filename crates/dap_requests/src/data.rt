@@ -18,12 +18,7 @@ pub fn data_info(
         return;
     };
     let name = request.text("name").unwrap_or("");
-    let body = info(
-        alloc,
-        machine,
-        program.index.find(instance, name),
-        name,
-    );
+    let body = info(alloc, machine, program.index.find(instance, name), name);
     answer.body(body);
 }
 

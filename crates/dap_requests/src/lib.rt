@@ -12,9 +12,9 @@ mod targets;
 pub use breakpoints::{
     asks_for_refusals, locations, set_before, set_exceptions, set_lines, tell_changed,
 };
-pub use data::{data_info, set_data, set_data_before};
 pub use completions::completions;
 pub use console::evaluate;
+pub use data::{data_info, set_data, set_data_before};
 pub use moves::{back, back_in, go, next, reverse, reverse_in, run, run_free};
 pub use said::{stop, tell};
 pub use targets::targets;

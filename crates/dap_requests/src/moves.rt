@@ -5,9 +5,7 @@ ghost use Rattle.dap_moves.specs.Moves.{StepsBack};
 ghost use Rattle.dap_moves.specs.declared.back.Back as moved;
 ghost use Rattle.dap_requests.specs.Said.{Runs, TellsOutputs, TellsStop};
 
-use crate::said::{
-    stop, stop_at_line, tell, tell_outputs, tell_refused, tell_step, words_of,
-};
+use crate::said::{stop, stop_at_line, tell, tell_outputs, tell_refused, tell_step, words_of};
 use dap_messages::{Answer, Members, Request};
 use dap_moves::{
     Back, Desk, Ended, Machine, Marks, Plan, Reply, Rewound, go_on, rewind, rewind_branch, step_at,
@@ -34,10 +32,7 @@ pub fn next(
     ensures stops { Runs answer.old answer.new }
 {
     if let Some(branch) = thread_in(request, desk.machine(), answer) {
-        let number = request
-            .number("targetId")
-            .unwrap_or(1)
-            .saturating_sub(1);
+        let number = request.number("targetId").unwrap_or(1).saturating_sub(1);
         next_in(alloc, desk, program, branch, number, answer);
     }
 }
@@ -427,7 +422,15 @@ pub fn back_in(
             stop(alloc, answer, "step", branch, text);
         }
         Back::Asked(ticket, reply) => {
-            tell_back(alloc, desk.machine(), program, branch, ticket, &reply, answer);
+            tell_back(
+                alloc,
+                desk.machine(),
+                program,
+                branch,
+                ticket,
+                &reply,
+                answer,
+            );
         }
     }
 }

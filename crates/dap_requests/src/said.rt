@@ -144,11 +144,7 @@ pub(crate) fn tell_refused(
     let line = refusal_line(alloc, why);
     keep_refusal(alloc, program, answer, line.as_str(), words);
     tell(alloc, words, "important", answer);
-    let reason = if program.excepts {
-        "exception"
-    } else {
-        "step"
-    };
+    let reason = if program.excepts { "exception" } else { "step" };
     stop_refused(alloc, answer, reason, branch, line.as_str(), words);
 }
 
@@ -182,13 +178,7 @@ fn stop_refused(
 
 /// Keeps the refusal, for whoever asks.
 #[tactic(auto, using(crate::proofs::Saying::says_nothing, crate::proofs::Saying::says_lacking))]
-fn keep_refusal(
-    alloc: Global,
-    program: &mut Program,
-    answer: &mut Answer,
-    line: &str,
-    words: &str,
-)
+fn keep_refusal(alloc: Global, program: &mut Program, answer: &mut Answer, line: &str, words: &str)
     ensures { TellsOutputs answer.old answer.new }
 {
     program.refused = kept_refusal(alloc, line, words);

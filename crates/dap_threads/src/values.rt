@@ -2,9 +2,7 @@
 use crate::frames::frame_in;
 use dap_messages::{Answer, Listed, Members, Request};
 use dap_moves::{Handle, Machine, handle_of, newest_below, reference};
-use dap_views::{
-    Named, Program, Sight, Thing, Words, add_side, add_who, channel_of, event_words,
-};
+use dap_views::{Named, Program, Sight, Thing, Words, add_side, add_who, channel_of, event_words};
 use std::alloc::Global;
 use system_places::branch_count;
 
@@ -109,18 +107,11 @@ fn is_known(machine: &Machine, program: &Program, handle: Option<Handle>) -> boo
 }
 
 /// What is unfolded.
-fn unfolded(
-    alloc: Global,
-    machine: &Machine,
-    program: &Program,
-    handle: Option<Handle>,
-) -> Listed {
+fn unfolded(alloc: Global, machine: &Machine, program: &Program, handle: Option<Handle>) -> Listed {
     match handle {
         Some(Handle::Variables(number)) => variables_of(alloc, machine, program, number as usize),
         Some(Handle::Channels(number)) => channels_of(alloc, machine, program, number as usize),
-        Some(Handle::Steps(thread)) => {
-            steps_of(alloc, machine, branch_of(thread))
-        }
+        Some(Handle::Steps(thread)) => { steps_of(alloc, machine, branch_of(thread)) }
         Some(Handle::Instance(number)) => {
             let mut list = variables_of(alloc, machine, program, number as usize);
             add_calls(alloc, program, number as usize, &mut list);
