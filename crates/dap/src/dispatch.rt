@@ -67,6 +67,7 @@ fn is_asked(kind: Kind) -> bool
 }
 
 /// Answers a request, where it is known what the state offers.
+#[tactic(auto, using(crate::proofs::Going::desk_goes))]
 fn change(
     alloc: Global,
     desk: &mut Desk,
@@ -107,6 +108,7 @@ fn make_move(
 }
 
 /// Answers `pause`. It is read only once a run has ended, so nothing moves.
+#[tactic(auto, using(dap_requests::proofs::Saying::run_ends))]
 fn pause(alloc: Global, machine: &Machine, request: &Request, answer: &mut Answer)
     ensures { Runs answer.old answer.new }
 {

@@ -40,6 +40,7 @@ impl Face {
     }
 
     /// Answers a request. Files are read where it names some.
+    #[tactic(auto, using(crate::proofs::Stopping::stops_once))]
     pub fn answer<F: Sources>(&mut self, files: &F, request: &Request) -> Answer
         ensures goes { Goes self.old.launched request.now.kind self.new.launched }
         ensures stops { moves request.now.kind ≡ true → StopsOnce result }
@@ -62,6 +63,7 @@ impl Face {
     }
 
     /// Answers a request that asks a thread to move, or to stand.
+    #[tactic(auto, using(crate::proofs::Going::launched_goes, dap_requests::proofs::Saying::run_ends))]
     fn make_move(&mut self, request: &Request, answer: &mut Answer)
         ensures goes { Goes self.old.launched request.now.kind self.new.launched }
         ensures stops { moves request.now.kind ≡ true → Runs answer.old answer.new }
@@ -84,6 +86,7 @@ impl Face {
     }
 
     /// Answers another request.
+    #[tactic(auto, using(crate::proofs::Going::launched_goes))]
     fn serve<F: Sources>(&mut self, files: &F, request: &Request, answer: &mut Answer)
         ensures { Goes self.old.launched request.now.kind self.new.launched }
     {
@@ -112,6 +115,7 @@ impl Face {
     }
 
     /// Answers `launch`. Breakpoints can be judged only once it is done, so `initialized` comes behind it.
+    #[tactic(auto, using(crate::proofs::Going::launched_goes))]
     fn launch<F: Sources>(
         &mut self,
         files: &F,
@@ -134,6 +138,7 @@ impl Face {
     }
 
     /// Answers what may be asked of a program, where one is launched.
+    #[tactic(auto, using(crate::proofs::Going::launched_goes))]
     fn ask<F: Sources>(&mut self, files: &F, request: &Request, answer: &mut Answer)
         ensures { Goes self.old.launched request.now.kind self.new.launched }
     {

@@ -1,5 +1,5 @@
 -- What only reads leaves the desk.
-use Rattle.std.proofs.Common.{◌≡◌, ℕ, Bool, true, false, inl, inr}
+use Rattle.std.proofs.Common.{◌≡◌, ℕ, Bool, true, false, inl, inr, sym, subst}
 use Rattle.runs.specs.Does as calculus
 use Rattle.runs.specs.declared.command.Command as runs_command
 use Rattle.runs.specs.declared.command.Reply as runs_reply
@@ -8,7 +8,8 @@ use Rattle.locked_execution.specs.Performs.{Answers, OnExecution}
 use Rattle.locked_execution.specs.declared.command.Command.{Command}
 use Rattle.locked_execution.specs.declared.command.Reply.{Reply}
 use Rattle.locked_execution.proofs.Unchanged.{all-same}
-use Rattle.dap_moves.proofs.Leading.{ready_leaves, value_leaves}
+use Rattle.dap_moves.proofs.Leading.{led_nowhere, ready_leaves, value_leaves}
+use Rattle.dap_moves.specs.Led.{Led}
 use Rattle.dap_requests.specs.Reading.{reads}
 
 blamed : (d d' : AtDesk) (x : ℕ) (answer : runs_reply.Reply) → calculus.Blames (execution d) x answer (execution d') → execution d' ≡ execution d
@@ -48,3 +49,7 @@ reading_leaves d d' session (Command.RollValue x) reply is h = absurd (cc)
 reading_leaves d d' session (Command.Branch k) reply is h = absurd (cc)
 reading_leaves d d' session (Command.Break line) reply is h = absurd (cc)
 reading_leaves d d' session (Command.Clear line) reply is h = absurd (cc)
+
+-- a desk that stays was led nowhere
+pub led_still : (d d' : AtDesk) → d' ≡ d → Led d d'
+led_still d d' same = subst (λ (x : AtDesk). Led d x) (sym same) (led_nowhere d)

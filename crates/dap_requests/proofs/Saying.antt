@@ -37,6 +37,9 @@ says_nothing a b same lacks = record {
 pub says_same : (a b : Answer) → b ≡ a → TellsOutputs a b
 says_same a b same = says_nothing a b (ap (λ (x : Answer). x.notes) same) (λ full. sym (ap (λ (x : Answer). x.lacks) same) ∙ full)
 
+pub says_none : (a : Answer) → TellsOutputs a a
+says_none a = says_nothing a a refl (λ full. full)
+
 -- there was no memory for one
 pub says_lacking : (a b : Answer) → b.lacks ≡ true → TellsOutputs a b
 says_lacking a b lacks = record { outputs = []; are = tt; told = λ full. let no : true ≡ false = sym lacks ∙ full in absurd (cc) }
@@ -78,3 +81,5 @@ runs_refused a b refused same = inl (refused, same)
 -- one that ends
 pub runs_on : (a m b : Answer) → m ≡ a → TellsStop m b → Runs a b
 runs_on a m b same h = inr (subst (λ (x : Answer). TellsStop x b) same h)
+
+pub ruleset run_ends = (runs_on, runs_refused)

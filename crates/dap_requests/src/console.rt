@@ -33,6 +33,7 @@ enum Line {
 
 /// Answers `evaluate`: a variable, a channel, or a line of a script. One that changes something is taken only where it was typed
 /// for that: in the console, or behind a `!`.
+#[tactic(auto, using(crate::proofs::Reading::led_still))]
 pub fn evaluate(
     alloc: Global,
     desk: &mut Desk,
@@ -63,6 +64,7 @@ fn is_typed(request: &Request, text: &str) -> bool {
 }
 
 /// Answers a line that was typed.
+#[tactic(auto, using(crate::proofs::Reading::led_still))]
 fn typed(
     alloc: Global,
     desk: &mut Desk,
@@ -199,6 +201,7 @@ fn told_channel(
 }
 
 /// Answers a line of a script that was typed.
+#[tactic(auto, using(crate::proofs::Reading::led_still))]
 fn typed_line(
     alloc: Global,
     desk: &mut Desk,
@@ -291,13 +294,21 @@ fn ask(
     ensures led { Led desk.old desk.new }
     ensures system { desk.new.machine.checked ≡ desk.old.machine.checked }
 {
-    let reply = desk.perform(0, command);
+    let reply = asked(desk, command);
     show_reply(alloc, desk.machine(), command, &reply, answer);
     if has_moved(&reply) {
         program.sight = None;
         program.seen.clear();
         stop(alloc, answer, "step", branch, "");
     }
+}
+
+/// Asks the desk.
+fn asked(desk: &mut Desk, command: &Command) -> Reply
+    ensures led { Led desk.old desk.new }
+    ensures system { desk.new.machine.checked ≡ desk.old.machine.checked }
+{
+    desk.perform(0, command)
 }
 
 /// Answers as a script is answered.
@@ -325,7 +336,6 @@ fn look(alloc: Global, desk: &mut Desk, command: &Command, line: &str, answer: &
 }
 
 /// Asks the desk what changes nothing.
-#[tactic(auto, using(crate::proofs::Reading::reading_leaves))]
 fn asked_alone(desk: &mut Desk, command: &Command) -> Reply
     requires { reads command.now ≡ true }
     ensures { desk.new ≡ desk.old }

@@ -20,6 +20,7 @@ use syntax::Items;
 use system_places::branch_at;
 
 /// Answers `next`, `stepIn` and `stepOut`: one step of the thread.
+#[tactic(auto, using(crate::proofs::Saying::run_ends, crate::proofs::Reading::led_still))]
 pub fn next(
     alloc: Global,
     desk: &mut Desk,
@@ -120,7 +121,7 @@ fn tell_taken(alloc: Global, machine: &Machine, index: usize, branch: u32, answe
 }
 
 /// Tells the live step at this index, if there is one.
-#[tactic(auto, using(crate::proofs::Saying::says_nothing))]
+#[tactic(auto, using(crate::proofs::Saying::says_none))]
 fn tell_live(alloc: Global, machine: &Machine, index: usize, answer: &mut Answer)
     ensures { TellsOutputs answer.old answer.new }
 {
@@ -387,6 +388,7 @@ fn watched_words(alloc: Global, machine: &Machine, ticket: u64) -> Words {
 }
 
 /// Answers `stepBack`.
+#[tactic(auto, using(crate::proofs::Saying::run_ends, crate::proofs::Reading::led_still))]
 pub fn back(
     alloc: Global,
     desk: &mut Desk,
@@ -416,21 +418,28 @@ pub fn back_in(
     ensures system { desk.new.machine.checked ≡ desk.old.machine.checked }
     ensures stops { TellsStop answer.old answer.new }
 {
-    match step_back(desk, branch) {
+    let moved = step_back(desk, branch);
+    tell_moved_back(alloc, desk.machine(), program, branch, &moved, answer);
+}
+
+/// Tells what came of a step back, if there was one to take.
+fn tell_moved_back(
+    alloc: Global,
+    machine: &Machine,
+    program: &mut Program,
+    branch: u32,
+    moved: &Back,
+    answer: &mut Answer,
+)
+    ensures { TellsStop answer.old answer.new }
+{
+    match moved {
         Back::AtBeginning => {
             let text = "At its beginning: no step of this thread is live";
             stop(alloc, answer, "step", branch, text);
         }
         Back::Asked(ticket, reply) => {
-            tell_back(
-                alloc,
-                desk.machine(),
-                program,
-                branch,
-                ticket,
-                &reply,
-                answer,
-            );
+            tell_back(alloc, machine, program, branch, *ticket, reply, answer);
         }
     }
 }
@@ -450,12 +459,26 @@ fn tell_back(
     match reply {
         Reply::Undone(_, event) => {
             program.seen.clear();
-            tell_step(alloc, machine, "taken back, step ", ticket, event, answer);
-            stop(alloc, answer, "step", branch, "");
+            tell_undone(alloc, machine, branch, ticket, event, answer);
         }
         Reply::Refused(why) => tell_kept(alloc, machine, program, branch, ticket, *why, answer),
         _ => stop(alloc, answer, "step", branch, ""),
     }
+}
+
+/// Tells the step that was taken back.
+fn tell_undone(
+    alloc: Global,
+    machine: &Machine,
+    branch: u32,
+    ticket: u64,
+    event: &Event,
+    answer: &mut Answer,
+)
+    ensures { TellsStop answer.old answer.new }
+{
+    tell_step(alloc, machine, "taken back, step ", ticket, event, answer);
+    stop(alloc, answer, "step", branch, "");
 }
 
 /// Tells that a step stays, at the thread of the step that is in the way.
@@ -507,6 +530,7 @@ fn add_live(alloc: Global, machine: &Machine, ticket: u64, words: &mut Words) ->
 }
 
 /// Answers `reverseContinue`.
+#[tactic(auto, using(crate::proofs::Saying::run_ends, crate::proofs::Reading::led_still))]
 pub fn reverse(
     alloc: Global,
     desk: &mut Desk,

@@ -93,7 +93,7 @@ pub(crate) fn tell_step(
 }
 
 /// Tells what came out at output ports in the live steps from this index on, the last values alone where they are many.
-#[tactic(auto, using(crate::proofs::Saying::says_one, crate::proofs::Saying::says_nothing))]
+#[tactic(auto, using(crate::proofs::Saying::says_one, crate::proofs::Saying::says_none))]
 pub(crate) fn tell_outputs(alloc: Global, machine: &Machine, before: usize, answer: &mut Answer)
     ensures { TellsOutputs answer.old answer.new }
 {
@@ -177,7 +177,7 @@ fn stop_refused(
 }
 
 /// Keeps the refusal, for whoever asks.
-#[tactic(auto, using(crate::proofs::Saying::says_nothing, crate::proofs::Saying::says_lacking))]
+#[tactic(auto, using(crate::proofs::Saying::says_none, crate::proofs::Saying::says_lacking))]
 fn keep_refusal(alloc: Global, program: &mut Program, answer: &mut Answer, line: &str, words: &str)
     ensures { TellsOutputs answer.old answer.new }
 {
