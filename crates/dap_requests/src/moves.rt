@@ -2,7 +2,7 @@
 ghost use Rattle.std.specs.Prelude.{◌≡◌};
 ghost use Rattle.dap_moves.specs.Led.{Led};
 ghost use Rattle.dap_moves.specs.Moves.{StepsBack};
-ghost use Rattle.dap_moves.specs.declared.back.Back as moved;
+ghost use Rattle.dap_moves.specs.declared.back.Back.{Back as MovedBack};
 ghost use Rattle.dap_requests.specs.Said.{Runs, TellsOutputs, TellsStop};
 
 use crate::said::{stop, stop_at_line, tell, tell_outputs, tell_refused, tell_step, words_of};
@@ -413,7 +413,7 @@ pub fn back_in(
     branch: u32,
     answer: &mut Answer,
 )
-    ensures back { (moved : moved.Back) × StepsBack desk.old branch moved desk.new }
+    ensures back { (told : MovedBack) × StepsBack desk.old branch told desk.new }
     ensures led { Led desk.old desk.new }
     ensures system { desk.new.machine.checked ≡ desk.old.machine.checked }
     ensures stops { TellsStop answer.old answer.new }
