@@ -18,7 +18,7 @@ blamed d d' x (runs_reply.Reply.Refused why) h = h.1
 blamed d d' x _ h = absurd h
 
 followed : (d d' : AtDesk) (t : ℕ) (answer : runs_reply.Reply) → calculus.ListsConsequences (execution d) t answer (execution d') → execution d' ≡ execution d
-followed d d' t (runs_reply.Reply.Consequences ts) h = h.2.1
+followed d d' t (runs_reply.Reply.Consequences ts) h = h.2
 followed d d' t (runs_reply.Reply.Refused why) h = h.1
 followed d d' t _ h = absurd h
 

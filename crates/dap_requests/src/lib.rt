@@ -2,19 +2,19 @@
 #![tactic(auto)]
 
 mod breakpoints;
-mod completions;
+mod choices;
+mod completing;
 mod console;
-mod data;
 mod moves;
 mod said;
-mod targets;
+mod watches;
 
 pub use breakpoints::{
     asks_for_refusals, locations, set_before, set_exceptions, set_lines, tell_changed,
 };
-pub use completions::completions;
+pub use choices::targets;
+pub use completing::completions;
 pub use console::evaluate;
-pub use data::{data_info, set_data, set_data_before};
 pub use moves::{back, back_in, go, next, reverse, reverse_in, run, run_free};
 pub use said::{stop, tell};
-pub use targets::targets;
+pub use watches::{data_info, set_data, set_data_before};
