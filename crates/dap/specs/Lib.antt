@@ -1,3 +1,0 @@
-pub mod Goes
-pub mod Kinds
-pub mod Stops
