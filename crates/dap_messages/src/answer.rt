@@ -1,5 +1,5 @@
-ghost use Rattle.std.specs.Prelude.{◌≡◌, false};
-ghost use Rattle.dap_messages.specs.Notes.{Adds};
+ghost use Rattle.std.specs.Prelude.{◌≡◌, [], false};
+ghost use Rattle.dap_messages.specs.Notes.{Adds, IsRefusal};
 
 use crate::members::Members;
 use crate::told::Told;
@@ -34,7 +34,9 @@ pub struct Answer {
 
 impl Answer {
     /// Done, without a body and without events.
-    pub fn new(alloc: Global) -> Answer {
+    pub fn new(alloc: Global) -> Answer
+        ensures { result.notes.items ≡ [] }
+    {
         Answer {
             alloc,
             outcome: Outcome::Done(None),
@@ -45,7 +47,8 @@ impl Answer {
 
     /// Gives the response this body.
     pub fn body(&mut self, members: Members)
-        ensures { self.new.notes ≡ self.old.notes }
+        ensures same { self.new.notes ≡ self.old.notes }
+        ensures lacks { self.new.lacks ≡ false → self.old.lacks ≡ false }
     {
         match members.into_value() {
             Some(body) => self.outcome = Outcome::Done(Some(body)),
@@ -55,17 +58,17 @@ impl Answer {
 
     /// Makes the response a refusal, for the reason of this number in these words.
     pub fn refuse(&mut self, number: u64, words: &str)
-        ensures { self.new.notes ≡ self.old.notes }
+        ensures refused { IsRefusal self.new.outcome }
+        ensures same { self.new.notes ≡ self.old.notes }
+        ensures lacks { self.new.lacks ≡ false → self.old.lacks ≡ false }
     {
         match String::from_str(self.alloc, words) {
             Ok(words) => self.outcome = Outcome::Refused(number, words),
-            Err(_) => self.lacks = true,
+            Err(_) => {
+                self.outcome = Outcome::Refused(number, String::new(self.alloc));
+                self.lacks = true;
+            }
         }
-    }
-
-    /// Whether it is a refusal by now.
-    pub fn is_refused(&self) -> bool {
-        matches!(self.outcome, Outcome::Refused(_, _))
     }
 
     /// Adds an event with this body.
@@ -83,11 +86,6 @@ impl Answer {
         ensures { Adds self.old.notes.items self.old.lacks told self.new.notes.items self.new.lacks }
     {
         self.add(told, None);
-    }
-
-    /// Takes each `stopped` away.
-    pub fn drop_stopped(&mut self) {
-        self.notes.retain(|note| note.told != Told::Stopped);
     }
 
     /// Adds an event.

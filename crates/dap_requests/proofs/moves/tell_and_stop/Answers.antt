@@ -1,0 +1,5 @@
+use Rattle.dap_requests.proofs.Saying.{stops_on}
+use Rattle.dap_requests.proofs.moves.tell_and_stop.Goals as goal
+
+pub returns : goal.returns
+returns c = stops_on c.args.answer.now c.tell.new.answer c.stop.new.answer c.tell.ensures c.stop.ensures

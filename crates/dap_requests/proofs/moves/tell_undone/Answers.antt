@@ -1,0 +1,5 @@
+use Rattle.dap_requests.proofs.Saying.{stops_on}
+use Rattle.dap_requests.proofs.moves.tell_undone.Goals as goal
+
+pub returns : goal.returns
+returns c = stops_on c.args.answer.now c.tell_step.new.answer c.stop.new.answer c.tell_step.ensures c.stop.ensures

@@ -1,0 +1,30 @@
+-- What an answer tells behind its response.
+use Rattle.std.specs.Prelude.{◌≡◌, ◌++◌, ◌⊎◌, List, [], ◌∷◌, false}
+use Rattle.syntax.specs.Lists.{Every}
+use Rattle.dap_messages.specs.Notes.{IsRefusal, told_by}
+use Rattle.dap_messages.specs.declared.answer.Answer.{Answer}
+use Rattle.dap_messages.specs.declared.told.Told.{Told}
+
+-- these events are told behind those of before, where there is memory for all
+abbrev pub Tells : Answer → List Told → Answer → Type 0
+Tells a ts b = b.lacks ≡ false → (a.lacks ≡ false) × (told_by b.notes.items ≡ told_by a.notes.items ++ ts)
+
+-- texts alone
+abbrev pub AreOutputs : List Told → Type 0
+AreOutputs ts = Every (λ (t : Told). t ≡ Told.Output) ts
+
+-- texts are told, and nothing else
+pub record TellsOutputs (a b : Answer) : Type 0 where
+  pub outputs : List Told
+  pub are : AreOutputs outputs
+  pub told : Tells a outputs b
+
+-- texts are told, and behind them one `stopped`
+pub record TellsStop (a b : Answer) : Type 0 where
+  pub outputs : List Told
+  pub are : AreOutputs outputs
+  pub told : Tells a (outputs ++ Told.Stopped ∷ []) b
+
+-- a request to run is refused and tells nothing, or ends with one `stopped`
+abbrev pub Runs : Answer → Answer → Type 0
+Runs a b = (IsRefusal b.outcome × (b.notes ≡ a.notes)) ⊎ TellsStop a b

@@ -1,0 +1,20 @@
+//! Requests on a desk: breakpoints, runs forth and back, lines that are typed.
+#![tactic(auto)]
+
+mod breakpoints;
+mod choices;
+mod completing;
+mod console;
+mod moves;
+mod said;
+mod watches;
+
+pub use breakpoints::{
+    asks_for_refusals, locations, set_before, set_exceptions, set_lines, tell_changed,
+};
+pub use choices::targets;
+pub use completing::completions;
+pub use console::evaluate;
+pub use moves::{back, back_in, go, next, reverse, reverse_in, run, run_free};
+pub use said::{stop, tell};
+pub use watches::{data_info, set_data, set_data_before};

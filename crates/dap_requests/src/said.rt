@@ -1,0 +1,210 @@
+// What is told behind a response: texts, and that nothing moves.
+ghost use Rattle.dap_requests.specs.Said.{TellsOutputs, TellsStop};
+
+use dap_messages::{Answer, Members, Told};
+use dap_moves::Machine;
+use dap_views::{Program, Refused, Words, event_words};
+use runs::{Event, Kind, Refusal};
+use serde_json::Value;
+use std::alloc::Global;
+
+/// The most values of output ports that are told at once.
+const MOST_OUTPUTS: usize = 1_000;
+
+/// Tells that nothing moves, with the reason and the thread, and what else there is to say.
+#[tactic(auto, using(crate::proofs::Saying::stops_now))]
+pub fn stop(alloc: Global, answer: &mut Answer, reason: &str, branch: u32, text: &str)
+    ensures { TellsStop answer.old answer.new }
+{
+    answer.note(Told::Stopped, stopped(alloc, reason, branch, text));
+}
+
+/// What a `stopped` says.
+fn stopped(alloc: Global, reason: &str, branch: u32, text: &str) -> Members {
+    let mut body = Members::new(alloc);
+    body.text("reason", reason);
+    body.number("threadId", u64::from(branch).saturating_add(1));
+    body.flag("allThreadsStopped", true);
+    if !text.is_empty() {
+        body.text("description", text);
+        body.text("text", text);
+    }
+    body
+}
+
+/// Tells that a run stands before a line with a breakpoint.
+#[tactic(auto, using(crate::proofs::Saying::stops_now))]
+pub(crate) fn stop_at_line(
+    alloc: Global,
+    program: &Program,
+    answer: &mut Answer,
+    branch: u32,
+    line: u64,
+)
+    ensures { TellsStop answer.old answer.new }
+{
+    let mut words = Words::of(alloc, "line ");
+    words.number(program.shown_line(line));
+    let mut body = stopped(alloc, "breakpoint", branch, words.as_str());
+    add_hits(alloc, program, line, &mut body);
+    answer.note(Told::Stopped, body);
+}
+
+/// Adds the breakpoints that stand on the line.
+fn add_hits(alloc: Global, program: &Program, line: u64, body: &mut Members) {
+    let mut hits = Vec::new(alloc);
+    for asked in &program.asked {
+        if asked.at == Some(line) && hits.push(Value::from(asked.id)).is_err() {
+            body.lack();
+        }
+    }
+    body.value("hitBreakpointIds", Value::Array(hits));
+}
+
+/// Tells a line of text.
+#[tactic(auto, using(crate::proofs::Saying::says_one))]
+pub fn tell(alloc: Global, line: &str, category: &str, answer: &mut Answer)
+    ensures { TellsOutputs answer.old answer.new }
+{
+    let mut words = Words::of(alloc, line);
+    words.add("\n");
+    let mut body = Members::new(alloc);
+    body.text("category", category);
+    body.text("output", words.as_str());
+    answer.note(Told::Output, body);
+}
+
+/// Tells a step in words.
+pub(crate) fn tell_step(
+    alloc: Global,
+    machine: &Machine,
+    before: &str,
+    ticket: u64,
+    event: &Event,
+    answer: &mut Answer,
+)
+    ensures { TellsOutputs answer.old answer.new }
+{
+    let mut words = Words::of(alloc, before);
+    words.number(ticket);
+    words.add(": ");
+    words.add(event_words(alloc, machine, event).as_str());
+    tell(alloc, words.as_str(), "console", answer);
+}
+
+/// Tells what came out at output ports in the live steps from this index on, the last values alone where they are many.
+#[tactic(auto, using(crate::proofs::Saying::says_one, crate::proofs::Saying::says_none))]
+pub(crate) fn tell_outputs(alloc: Global, machine: &Machine, before: usize, answer: &mut Answer)
+    ensures { TellsOutputs answer.old answer.new }
+{
+    let words = outputs(alloc, machine, before);
+    if !words.is_empty() {
+        let mut body = Members::new(alloc);
+        body.text("category", "stdout");
+        body.text("output", words.as_str());
+        answer.note(Told::Output, body);
+    }
+}
+
+/// What came out at output ports in the live steps from this index on.
+fn outputs(alloc: Global, machine: &Machine, before: usize) -> Words {
+    let live = machine.live_events();
+    let mut words = Words::new(alloc);
+    for index in before.max(live.len().saturating_sub(MOST_OUTPUTS))..live.len() {
+        if let Some((_, event)) = live.pair_at(index as u64) {
+            add_output(alloc, machine, event, &mut words);
+        }
+    }
+    words
+}
+
+/// Adds what came out at an output port, if the event gave something there: it alone is received into no variable.
+fn add_output(alloc: Global, machine: &Machine, event: &Event, words: &mut Words) {
+    if event.kind == Kind::Meet && event.written.is_none() {
+        if let (Some(channel), Some(value)) = (event.channel, event.value) {
+            words.channel(alloc, machine.checked().system(), channel);
+            words.add(" ");
+            words.number(value.bits());
+            words.add("\n");
+        }
+    }
+}
+
+/// Tells that a step was refused, as an exception where the client wants these.
+pub(crate) fn tell_refused(
+    alloc: Global,
+    program: &mut Program,
+    answer: &mut Answer,
+    branch: u32,
+    why: Refusal,
+    words: &str,
+)
+    ensures { TellsStop answer.old answer.new }
+{
+    let line = refusal_line(alloc, why);
+    keep_refusal(alloc, program, answer, line.as_str(), words);
+    tell(alloc, words, "important", answer);
+    let reason = if program.excepts { "exception" } else { "step" };
+    stop_refused(alloc, answer, reason, branch, line.as_str(), words);
+}
+
+/// The refusal as a script tells it.
+fn refusal_line(alloc: Global, why: Refusal) -> Words {
+    let mut line = Words::of(alloc, "refused ");
+    line.number(u64::from(why.number()));
+    if let Refusal::NeededBy(ticket) = why {
+        line.add(" ");
+        line.number(ticket);
+    }
+    line
+}
+
+/// Tells that nothing moves since a step was refused.
+#[tactic(auto, using(crate::proofs::Saying::stops_now))]
+fn stop_refused(
+    alloc: Global,
+    answer: &mut Answer,
+    reason: &str,
+    branch: u32,
+    line: &str,
+    words: &str,
+)
+    ensures { TellsStop answer.old answer.new }
+{
+    let mut body = stopped(alloc, reason, branch, words);
+    body.text("description", line);
+    answer.note(Told::Stopped, body);
+}
+
+/// Keeps the refusal, for whoever asks.
+#[tactic(auto, using(crate::proofs::Saying::says_none, crate::proofs::Saying::says_lacking))]
+fn keep_refusal(alloc: Global, program: &mut Program, answer: &mut Answer, line: &str, words: &str)
+    ensures { TellsOutputs answer.old answer.new }
+{
+    program.refused = kept_refusal(alloc, line, words);
+    if program.refused.is_none() {
+        answer.lacks = true;
+    }
+}
+
+/// The refusal; none where there is no memory to keep it.
+fn kept_refusal(alloc: Global, line: &str, words: &str) -> Option<Refused> {
+    let line = String::from_str(alloc, line).ok()?;
+    let words = String::from_str(alloc, words).ok()?;
+    Some(Refused { line, words })
+}
+
+/// What a refusal means.
+pub(crate) fn words_of(why: Refusal) -> &'static str {
+    match why {
+        Refusal::Memory => "there is no memory left",
+        Refusal::NotReady => "no step can be taken there now",
+        Refusal::HistoryFull => "65,536 steps are live: take some back",
+        Refusal::NoSuchEvent => "no live step has this ticket",
+        Refusal::NeededBy(_) => "a live step depends on it",
+        Refusal::NeverWritten => "no live step wrote this variable",
+        Refusal::Spent => "no ticket is left",
+        Refusal::BreaksFull => "as many lines have a breakpoint as may have one",
+        Refusal::NoSuchLine => "no command begins on this line",
+    }
+}

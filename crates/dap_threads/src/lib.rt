@@ -1,0 +1,8 @@
+//! Threads with their frames, and what is unfolded of them: variables, channels, the newest steps.
+#![tactic(auto)]
+
+mod frames;
+mod values;
+
+pub use frames::{frame_in, places_in, stack_trace, thread_in, thread_name, threads};
+pub use values::{channel_words, scopes, variables};

@@ -1,0 +1,125 @@
+// The lines of a source: where each begins, and which procedure it is in.
+use lexer::{Kind, Token, lex};
+use std::alloc::{AllocError, Global};
+use std::str;
+
+/// A procedure, and the line on which it begins.
+#[derive(Drop)]
+pub struct Heading {
+    pub line: u64,
+    pub name: String,
+}
+
+/// The lines of a source.
+#[derive(Drop)]
+pub struct Lines {
+    /// the offset at which each line begins
+    begins: Vec<usize>,
+    /// in the order of the source
+    headings: Vec<Heading>,
+}
+
+impl Lines {
+    /// The lines of the source. It is an error if there is no memory.
+    pub fn new(alloc: Global, source: &[u8]) -> Result<Lines, AllocError> {
+        Ok(Lines {
+            begins: begins_of(alloc, source)?,
+            headings: headings_of(alloc, source)?,
+        })
+    }
+
+    /// How many lines there are.
+    pub fn count(&self) -> u64 {
+        self.begins.len() as u64
+    }
+
+    /// The column of the first byte of the line that is not blank, from 1.
+    pub fn column(&self, source: &[u8], line: u64) -> u64 {
+        let mut column = 1u64;
+        for byte in source.get(self.begin(line)..).unwrap_or(&[]) {
+            if *byte != b' ' && *byte != b'\t' {
+                return column;
+            }
+            column = column.saturating_add(1);
+        }
+        column
+    }
+
+    /// The offset at which the line begins; that of the first for one that is not there.
+    fn begin(&self, line: u64) -> usize {
+        let begin = self.begins.as_slice().get(line.saturating_sub(1) as usize);
+        begin.copied().unwrap_or(0)
+    }
+
+    /// The line of the byte at this offset.
+    pub fn line_of(&self, offset: u64) -> u64 {
+        let mut line = 0u64;
+        for begin in &self.begins {
+            if (*begin as u64) > offset {
+                return line.max(1);
+            }
+            line = line.saturating_add(1);
+        }
+        line.max(1)
+    }
+
+    /// The name of the procedure in which the line is; empty above the first.
+    pub fn procedure(&self, line: u64) -> &str {
+        let mut name = "";
+        for heading in &self.headings {
+            if heading.line <= line {
+                name = heading.name.as_str();
+            }
+        }
+        name
+    }
+
+    /// The line on which the next procedure begins behind this line, or that behind the last.
+    pub fn below(&self, line: u64) -> u64 {
+        for heading in &self.headings {
+            if heading.line > line {
+                return heading.line;
+            }
+        }
+        self.count().saturating_add(1)
+    }
+}
+
+/// The offset at which each line begins.
+fn begins_of(alloc: Global, source: &[u8]) -> Result<Vec<usize>, AllocError> {
+    let mut begins = Vec::new(alloc);
+    begins.push(0)?;
+    for (offset, byte) in source.iter().enumerate() {
+        if *byte == b'\n' {
+            begins.push(offset.saturating_add(1))?;
+        }
+    }
+    Ok(begins)
+}
+
+/// The procedures of a source that was accepted.
+fn headings_of(alloc: Global, source: &[u8]) -> Result<Vec<Heading>, AllocError> {
+    match lex(alloc, source) {
+        Ok(tokens) => headings_among(alloc, tokens.as_slice()),
+        Err(_) => Err(AllocError),
+    }
+}
+
+/// The procedures among these tokens.
+fn headings_among(alloc: Global, tokens: &[Token]) -> Result<Vec<Heading>, AllocError> {
+    let mut headings = Vec::new(alloc);
+    let mut begun: Option<u64> = None;
+    for token in tokens {
+        if let Some(line) = begun {
+            let name = str::from_utf8(token.text.text()).unwrap_or("");
+            let name = String::from_str(alloc, name)?;
+            headings.push(Heading { line, name })?;
+        }
+        begun = if token.kind == Kind::ProcedureWord {
+            Some(token.span.line)
+        } else {
+            None
+        };
+    }
+    Ok(headings)
+}

@@ -1,0 +1,234 @@
+// What a state offers: the steps that are ready, and the sides of events.
+ghost use Rattle.std.specs.Prelude.{IfOk};
+ghost use Rattle.runs.specs.Object.{Reaches};
+ghost use Rattle.runs.specs.Ready.{ReadyList};
+ghost use Rattle.runs.specs.Steps.{State};
+ghost use Rattle.machine.specs.AtMachine.{object};
+ghost use Rattle.dap_views.specs.Seen.{SeesState};
+
+use crate::lines::Lines;
+use crate::replay::made_again;
+use crate::words::Words;
+use address::Address;
+use dap_moves::{Machine, acts_in, takes_part};
+use event_places::line_after;
+use offered_sides::{OfferedSide, Side, sides_of};
+use runs::Event;
+use std::alloc::{AllocError, Global};
+use syntax::Items;
+use system_places::branch_at;
+
+/// The steps that are ready, and the sides that are offered.
+#[derive(Drop)]
+pub struct Sight {
+    /// in order of acting address, then arm
+    pub ready: Items<Event>,
+    /// in order of place
+    pub sides: Items<OfferedSide>,
+}
+
+/// How far a place is from going on. A lesser one stands before a greater one.
+#[derive(Clone, Copy, Debug, PartialEq, Eq)]
+pub enum Rank {
+    /// a step acts there
+    Acts,
+    /// its partner's step acts
+    Joins,
+    /// it waits
+    Waits,
+}
+
+/// What the state of the machine offers. It makes the live events again. It is an error if there is no memory.
+pub fn sight_of(alloc: Global, machine: &Machine) -> Result<Sight, AllocError>
+    ensures { IfOk result (λ sight. SeesState machine.now sight) }
+{
+    machine.is_sound();
+    let state = made_again(alloc, machine)?;
+    let sides = sides_of(alloc, &state.tree, &state.store)?;
+    let ready = ready_events(machine)?;
+    Ok(Sight { ready, sides })
+}
+
+/// The steps that may be taken now. It is an error if there is no memory.
+fn ready_events(machine: &Machine) -> Result<Items<Event>, AllocError>
+    ensures { IfOk result (λ events. (T : State) × Reaches (object machine.now) T × ReadyList T events) }
+{
+    match machine.ready() {
+        Ok(events) => Ok(events),
+        // No other refusal is told.
+        Err(_) => Err(AllocError),
+    }
+}
+
+impl Sight {
+    /// How far the place is from going on.
+    pub fn rank(&self, place: &Address) -> Rank {
+        let mut rank = Rank::Waits;
+        for event in self.ready.as_slice() {
+            if event.acting_place().equals(place) {
+                return Rank::Acts;
+            }
+            if is_at(event, place) {
+                rank = Rank::Joins;
+            }
+        }
+        rank
+    }
+
+    /// The branch of the first step that is ready; the first where none is.
+    pub fn able(&self, machine: &Machine) -> u32 {
+        match self.ready.as_slice().first() {
+            Some(event) => branch_at(machine.checked().system(), event.acting_place()).unwrap_or(0),
+            None => 0,
+        }
+    }
+
+    /// How the branch stands, behind its name.
+    pub fn state(&self, machine: &Machine, branch: u32) -> &'static str {
+        let system = machine.checked().system();
+        for event in self.ready.as_slice() {
+            if acts_in(system, branch, event) || takes_part(system, branch, event) {
+                return "";
+            }
+        }
+        for offered in self.sides.as_slice() {
+            if branch_at(system, &offered.place) == Some(branch) {
+                return " (waits)";
+            }
+        }
+        " (done)"
+    }
+}
+
+/// Whether one of the places of the event is this.
+fn is_at(event: &Event, place: &Address) -> bool {
+    if event.first.equals(place) {
+        return true;
+    }
+    match &event.second {
+        Some(second) => second.equals(place),
+        None => false,
+    }
+}
+
+/// The channel that the side uses.
+pub fn channel_of(side: &Side) -> Option<u32> {
+    match side {
+        Side::Sends(channel, _, _)
+        | Side::Receives(channel, _)
+        | Side::Syncs(channel)
+        | Side::Opens(channel, _)
+        | Side::Releases(channel)
+        | Side::Closes(channel) => Some(*channel),
+        Side::Assigns(_, _, _) | Side::Tests(_, _) | Side::Turns => None,
+    }
+}
+
+/// A variable of the command, if it is known to use one.
+pub fn variable_of(side: &Side) -> Option<u32> {
+    match side {
+        Side::Assigns(variable, _, _) | Side::Receives(_, Some(variable)) => Some(*variable),
+        Side::Sends(_, _, read) | Side::Tests(_, read) => read.as_slice().first().copied(),
+        _ => None,
+    }
+}
+
+/// Adds the side in a few words.
+pub fn add_side(alloc: Global, machine: &Machine, side: &Side, words: &mut Words) {
+    let system = machine.checked().system();
+    match side {
+        Side::Assigns(variable, value, _) => {
+            words.variable(alloc, system, *variable);
+            words.add(" := ");
+            words.number(value.bits());
+        }
+        Side::Tests(_, _) => words.add("test"),
+        Side::Turns => words.add("loop"),
+        Side::Sends(channel, value, _) => {
+            words.channel(alloc, system, *channel);
+            words.add(" <- ");
+            words.number(value.bits());
+        }
+        Side::Receives(channel, Some(variable)) => {
+            words.channel(alloc, system, *channel);
+            words.add(" -> ");
+            words.variable(alloc, system, *variable);
+        }
+        Side::Receives(channel, None) => named(alloc, machine, words, "takes from ", *channel, ""),
+        Side::Syncs(channel) => named(alloc, machine, words, "sync ", *channel, ""),
+        Side::Opens(channel, _) => named(alloc, machine, words, "", *channel, " -> then"),
+        Side::Releases(channel) => named(alloc, machine, words, "held on ", *channel, ""),
+        Side::Closes(channel) => named(alloc, machine, words, "end of ", *channel, " -> then"),
+    }
+}
+
+/// Adds the name of a channel between two texts.
+fn named(
+    alloc: Global,
+    machine: &Machine,
+    words: &mut Words,
+    before: &str,
+    channel: u32,
+    behind: &str,
+) {
+    words.add(before);
+    words.channel(alloc, machine.checked().system(), channel);
+    words.add(behind);
+}
+
+/// The line of a place, where a command has it.
+pub fn line_at(machine: &Machine, place: &Address) -> Option<u64> {
+    line_after(machine.checked(), machine.live_events(), place)
+}
+
+/// Adds who stands at a place.
+pub fn add_who(machine: &Machine, lines: &Lines, place: &Address, words: &mut Words) {
+    match line_at(machine, place) {
+        Some(line) => {
+            words.add("line ");
+            words.number(line);
+            words.add(" of ");
+            words.add(lines.procedure(line));
+        }
+        None => words.add("the environment"),
+    }
+}
+
+/// Adds for whom the side waits: who stands at its channel, or who is missing there.
+pub fn add_waits(
+    alloc: Global,
+    machine: &Machine,
+    lines: &Lines,
+    sight: &Sight,
+    offered: &OfferedSide,
+    words: &mut Words,
+) {
+    let Some(channel) = channel_of(&offered.side) else {
+        return;
+    };
+    words.channel(alloc, machine.checked().system(), channel);
+    words.add(": ");
+    let mut found = false;
+    for other in sight.sides.as_slice() {
+        if channel_of(&other.side) == Some(channel) && !other.place.equals(&offered.place) {
+            words.add(if found { " and " } else { "" });
+            add_who(machine, lines, &other.place, words);
+            found = true;
+        }
+    }
+    if !found {
+        words.add(missing(&offered.side));
+    }
+}
+
+/// Who is missing where the side waits alone.
+fn missing(side: &Side) -> &'static str {
+    match side {
+        Side::Sends(_, _, _) => "nobody receives",
+        Side::Receives(_, _) => "nobody sends",
+        Side::Opens(_, _) => "nobody offers",
+        Side::Syncs(_) => "nobody else syncs",
+        Side::Releases(_) => "its partner has not ended what it does",
+        Side::Assigns(_, _, _) | Side::Tests(_, _) | Side::Turns | Side::Closes(_) => "",
+    }
+}
