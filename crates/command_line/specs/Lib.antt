@@ -1,4 +1,5 @@
 pub mod Answering
+pub mod Drawing
 pub mod FaultLine
 pub mod Running
 pub mod Serving

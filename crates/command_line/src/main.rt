@@ -3,6 +3,7 @@
 
 mod answering;
 mod asking;
+mod drawing;
 mod explaining;
 mod files;
 mod running;
