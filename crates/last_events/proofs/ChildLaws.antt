@@ -1,5 +1,6 @@
 -- The place of a first child comes right behind the place.
 use Rattle.std.proofs.Common.{◌≡◌, ◌⊎◌, inl, inr, ℕ, suc, ◌<◌, List, [], ◌∷◌, ◌++◌, length, take, drop, map, get_or, Some, None, slice_get, refl, sym, ap, subst, ◌∙◌, arith, Ordering, Less, Equal, Greater}
+use Rattle.std.specs.Global.{Box}
 use Rattle.std.specs.Ordering.{nat_cmp, ordering_then}
 use Rattle.address.specs.declared.Entry.{Entry}
 use Rattle.address.specs.declared.Entry.TheVariants.{Ordered, Branch}
@@ -11,13 +12,13 @@ use Rattle.last_events.specs.LastEvents.{ticket_at, first_child}
 use Rattle.last_events.specs.declared.branch.Seat.{Seat}
 use Rattle.last_events.specs.declared.branch.Seat.TheVariants.{Event, Inner}
 use Rattle.last_events.specs.walking.Search.{Rising, Splits}
-use Rattle.last_events.specs.walking.Seats.{way_of, AllOrdered, EndsAtBranch, seat_way, seat_places, flat, HasSeat, IsSound, IsBranch}
+use Rattle.last_events.specs.walking.Seats.{Places, way_of, AllOrdered, EndsAtBranch, seat_way, seat_places, flat, HasSeat, IsSound, IsBranch}
 use Rattle.last_events.proofs.ForkLaws.{number-less}
 use Rattle.last_events.proofs.LastLaws.{look-middle}
-use Rattle.last_events.proofs.ListLaws.{map-in-drop, at-within, get-at, split-at}
-use Rattle.last_events.proofs.SearchLaws.{rising-after, in-take-more}
-use Rattle.last_events.proofs.SeatLaws.{less-differs, look-here, split-high, absent-removed}
-use Rattle.last_events.proofs.WayLaws.{ordered-way, longer-way}
+use Rattle.last_events.proofs.ListLaws.{every-in, map-in-drop, at-within, get-at, split-at}
+use Rattle.last_events.proofs.SearchLaws.{rising-after, in-take-more, in-at}
+use Rattle.last_events.proofs.SeatLaws.{less-differs, look-here, split-high, absent-removed, has-is}
+use Rattle.last_events.proofs.WayLaws.{ordered-way, longer-way, not-both}
 
 less-both-ways : (a b : List Entry) → order_of a b ≡ Less → order_of b a ≡ Less → ⊥
 less-both-ways a b h k = less-differs a a (order-transitive a b a h k) refl
@@ -119,6 +120,13 @@ module _ (ss : List Seat) (p : List Entry) (n : ℕ) (h : IsBranch ss) (ordered 
       ∙ (look-middle (take n ss) (drop (suc n) ss) s (first_child p) (subst IsBranch parts h) way
       ∙ (ap (λ (x : Seat). ticket_at (seat_places x) (first_child p)) is
       ∙ subst (λ (v : List Entry). ticket_at ((w, t) ∷ []) v ≡ Some t) same (look-here w t))))
+
+  -- a branch does not stand there
+  pub inner-not-child : (s : Seat) (w : List Entry) (inner : Box Places) → n < length ss → s ≡ get_or ss n s → s ≡ Inner w inner → HasSeat ss n (first_child p) → ⊥
+  inner-not-child s w inner less read is has =
+      let sound : IsSound s = every-in IsSound ss s h.sound (in-at ss n s (get-at ss n s less ∙ ap Some (sym read))) in
+      let way : w ≡ first_child p = ap seat_way (sym is) ∙ has-is ss n s (first_child p) less read has in
+      not-both w (subst AllOrdered (sym way) (child-ordered p ordered)) (subst IsSound is sound).0
 
 -- ---- in the branch that the place goes into
 pub child-absent : (ss : List Seat) (a : List Entry) (i : ℕ) → IsBranch ss → EndsAtBranch (way_of a) → Splits (map seat_way ss) (way_of a) i → (HasSeat ss i (way_of a) → ⊥) →

@@ -130,10 +130,16 @@ covered-more : (es : Places) (mid new : List ℕ) (b : List Entry) → ((t : ℕ
 covered-more es mid new b kept h = (h.0, h.1, h.2, kept h.1 h.3, h.4)
 
 covered-behind : (es : Places) (new : List ℕ) (b c : List Entry) → Before b c → Covered es new c → Covered es new b
-covered-behind es new b c low h = (h.0, h.1, h.2, h.3, inr (elim h.4 [
-  | inl is ↦ subst (λ (d : List Entry). Before b d) is low
-  | inr more ↦ before-transitive b c h.0 low more
-]))
+covered-behind es new b c low h = (
+  h.0,
+  h.1,
+  h.2,
+  h.3,
+  inr (elim h.4 [
+    | inl is ↦ subst (λ (d : List Entry). Before b d) is low
+    | inr more ↦ before-transitive b c h.0 low more
+  ]),
+)
 
 -- ---- the last of all
 pub event-last : (w : List Entry) (n : ℕ) (old new : List ℕ) → new ≡ old ++ n ∷ [] → AddedLast ((w, n) ∷ []) old new
@@ -145,9 +151,13 @@ event-last w n old new is = record {
     | inr (inr none) ↦ absurd none
   ];
   complete = λ b t at.
-      let e = at-in ((w, n) ∷ []) b t at in
-      (w, n, look-here w n, subst (λ (ts : List ℕ). In n ts) (sym is) (in-right n old (n ∷ []) (inl refl)),
-      elim e.1 [ inl same ↦ inl (e.2 ∙ ap (λ (x : List Entry × ℕ). x.0) same) | inr none ↦ absurd none ]);
+      let e = at-in ((w, n) ∷ []) b t at in (
+        w,
+        n,
+        look-here w n,
+        subst (λ (ts : List ℕ). In n ts) (sym is) (in-right n old (n ∷ []) (inl refl)),
+        elim e.1 [ inl same ↦ inl (e.2 ∙ ap (λ (x : List Entry × ℕ). x.0) same) | inr none ↦ absurd none ],
+      );
 }
 
 -- behind a way
@@ -180,11 +190,16 @@ inner-last w es old new h added = record {
   sound = λ t i. elim (added.sound t i) [ inl earlier ↦ inl earlier | inr at ↦ inr (w ++ at.0, behind-at w es at.0 t at.1) ];
   complete = λ b t at.
       let inner = at-behind w es b t h at in
-      let c = added.complete (rest_of b) t inner.1 in
-      (w ++ c.0, c.1, behind-at w es c.0 c.1 c.2, c.3, subst (λ (d : List Entry). (d ≡ w ++ c.0) ⊎ Before d (w ++ c.0)) (sym inner.0) (elim c.4 [
-        | inl is ↦ inl (ap (λ (r : List Entry). w ++ r) is)
-        | inr low ↦ inr ((before-left w (rest_of b) c.0).1 low)
-      ]));
+      let c = added.complete (rest_of b) t inner.1 in (
+        w ++ c.0,
+        c.1,
+        behind-at w es c.0 c.1 c.2,
+        c.3,
+        subst (λ (d : List Entry). (d ≡ w ++ c.0) ⊎ Before d (w ++ c.0)) (sym inner.0) (elim c.4 [
+          | inl is ↦ inl (ap (λ (r : List Entry). w ++ r) is)
+          | inr low ↦ inr ((before-left w (rest_of b) c.0).1 low)
+        ]),
+      );
 }
 
 -- ---- one seat after another
@@ -281,36 +296,36 @@ not-under-ordered (Ordered i ∷ w) h = elim (less-parts (Ordered i) (Ordered i)
 not-under-ordered (Branch i ∷ w) h = greater-not-less h
 
 module _ (ss : List Seat) (last : Seat) (n : ℕ) (h : IsBranch ss) (related : Related (flat ss)) (there : In last ss) (split : Splits (map seat_way ss) (ordered_of (seat_way last)) n)
-    where
-  last-in-group : In last (drop n ss)
-  last-in-group = elim (in-either last (take n ss) (drop n ss) (subst (λ (xs : List Seat). In last xs) (sym (whole n ss)) there)) [
-    | inl low ↦ absurd (not-under-ordered (seat_way last) (split-low ss (ordered_of (seat_way last)) n split last low))
-    | inr high ↦ high
-  ]
+  where
+    last-in-group : In last (drop n ss)
+    last-in-group = elim (in-either last (take n ss) (drop n ss) (subst (λ (xs : List Seat). In last xs) (sym (whole n ss)) there)) [
+      | inl low ↦ absurd (not-under-ordered (seat_way last) (split-low ss (ordered_of (seat_way last)) n split last low))
+      | inr high ↦ high
+    ]
 
-  pub group-last : (old new : List ℕ) → AddedLast (flat (drop n ss)) old new → AddedLast (flat ss) old new
-  group-last old new added =
-      let sound = every-in IsSound ss last h.sound there in
-      let has = seat-has last sound in
-      let group = branch-dropped ss n h in
-      let high : IsAt (flat (drop n ss)) has.0 has.1 = seat-in-there (drop n ss) last has.0 has.1 group last-in-group has.2 in
-      let way : way_of has.0 ≡ seat_way last = seat-at-way last has.0 has.1 sound has.2 in
-      let begins : ordered_of (seat_way last) ≡ ordered_of has.0 = ap ordered_of (sym way) ∙ ordered-of-way has.0 in
-      let top = added.complete has.0 has.1 high in
-      let cover : Covered (flat ss) new has.0 = (top.0, top.1, at-dropped ss n top.0 top.1 h top.2, top.3, top.4) in
-      record {
-        kept = added.kept;
-        sound = λ t i. elim (added.sound t i) [ inl earlier ↦ inl earlier | inr at ↦ inr (at.0, at-dropped ss n at.0 t h at.1) ];
-        complete = λ b t at. elim (at-either (take n ss) (drop n ss) b t (subst (λ (xs : List Seat). IsAt (flat xs) b t) (sym (whole n ss)) at)) [
-          | inl low ↦
-              let s = at-way (take n ss) b t (branch-taken ss n h).sound low in
-              let less : order_of (way_of b) (ordered_of has.0) ≡ Less =
-              subst (λ (w : List Entry). order_of w (ordered_of has.0) ≡ Less) (sym s.2)
-              (subst (λ (p : List Entry). order_of (seat_way s.0) p ≡ Less) begins (split-low ss (ordered_of (seat_way last)) n split s.0 s.1)) in
-              covered-behind (flat ss) new b has.0 (less-before b has.0 less (related b has.0 t has.1 at (at-dropped ss n has.0 has.1 h high))) cover
-          | inr up ↦ let c = added.complete b t up in (c.0, c.1, at-dropped ss n c.0 c.1 h c.2, c.3, c.4)
-        ];
-      }
+    pub group-last : (old new : List ℕ) → AddedLast (flat (drop n ss)) old new → AddedLast (flat ss) old new
+    group-last old new added =
+        let sound = every-in IsSound ss last h.sound there in
+        let has = seat-has last sound in
+        let group = branch-dropped ss n h in
+        let high : IsAt (flat (drop n ss)) has.0 has.1 = seat-in-there (drop n ss) last has.0 has.1 group last-in-group has.2 in
+        let way : way_of has.0 ≡ seat_way last = seat-at-way last has.0 has.1 sound has.2 in
+        let begins : ordered_of (seat_way last) ≡ ordered_of has.0 = ap ordered_of (sym way) ∙ ordered-of-way has.0 in
+        let top = added.complete has.0 has.1 high in
+        let cover : Covered (flat ss) new has.0 = (top.0, top.1, at-dropped ss n top.0 top.1 h top.2, top.3, top.4) in
+        record {
+          kept = added.kept;
+          sound = λ t i. elim (added.sound t i) [ inl earlier ↦ inl earlier | inr at ↦ inr (at.0, at-dropped ss n at.0 t h at.1) ];
+          complete = λ b t at. elim (at-either (take n ss) (drop n ss) b t (subst (λ (xs : List Seat). IsAt (flat xs) b t) (sym (whole n ss)) at)) [
+            | inl low ↦
+                let s = at-way (take n ss) b t (branch-taken ss n h).sound low in
+                let less : order_of (way_of b) (ordered_of has.0) ≡ Less =
+                subst (λ (w : List Entry). order_of w (ordered_of has.0) ≡ Less) (sym s.2)
+                (subst (λ (p : List Entry). order_of (seat_way s.0) p ≡ Less) begins (split-low ss (ordered_of (seat_way last)) n split s.0 s.1)) in
+                covered-behind (flat ss) new b has.0 (less-before b has.0 less (related b has.0 t has.1 at (at-dropped ss n has.0 has.1 h high))) cover
+            | inr up ↦ let c = added.complete b t up in (c.0, c.1, at-dropped ss n c.0 c.1 h c.2, c.3, c.4)
+          ];
+        }
 
 -- ---- before a place
 some-first : (ss : List Seat) → 0 < length ss → (s : Seat) × In s ss
@@ -346,8 +361,8 @@ module _ (ss : List Seat) (a p : List Entry) (n : ℕ) (h : IsBranch ss) (orderl
         kept = λ t i. i;
         sound = λ t i. inl i;
         complete = λ b t at low less. absurd (never b t at less);
-        found = λ yes. absurd (true≢false (sym yes));
-        none = λ no b t at low less. never b t at less;
+        found = λ holds. absurd (true≢false (sym holds));
+        none = λ fails b t at low less. never b t at less;
       }
 
   pub lesser-some : (old new : List ℕ) → 0 < length (take n ss) → AddedLast (flat (take n ss)) old new → AddedLesser (flat ss) a true old new
@@ -360,8 +375,8 @@ module _ (ss : List Seat) (a p : List Entry) (n : ℕ) (h : IsBranch ss) (orderl
         kept = added.kept;
         sound = λ t i. elim (added.sound t i) [ inl earlier ↦ inl earlier | inr at ↦ inr (at.0, at-taken ss n at.0 t at.1, lesser-before at.0 t at.1) ];
         complete = λ b t at low less. let c = added.complete b t (lesser-in b t at less) in (c.0, c.1, at-taken ss n c.0 c.1 c.2, c.3, c.4);
-        found = λ yes. (top.0, top.1, at-taken ss n top.0 top.1 top.2, lesser-before top.0 top.1 top.2, lesser-way top.0 top.1 top.2, top.3);
-        none = λ no. absurd (true≢false no);
+        found = λ holds. (top.0, top.1, at-taken ss n top.0 top.1 top.2, lesser-before top.0 top.1 top.2, lesser-way top.0 top.1 top.2, top.3);
+        none = λ fails. absurd (true≢false fails);
       }
 
 -- ---- in the branch that the place goes into
@@ -371,8 +386,8 @@ inner-none ss a old never = record {
   kept = λ t i. i;
   sound = λ t i. inl i;
   complete = λ b t at low way. absurd (never b t at way low);
-  found = λ yes. absurd (true≢false (sym yes));
-  none = λ no b t at low way. never b t at way low;
+  found = λ holds. absurd (true≢false (sym holds));
+  none = λ fails b t at low way. never b t at way low;
 }
 
 -- no seat has the way
@@ -433,15 +448,20 @@ module _ (ss : List Seat) (i : ℕ) (s : Seat) (a r : List Entry) (h : IsBranch 
     ];
     complete = λ b t at low way.
         let q = back b t way at in
-        let c = added.complete (rest_of b) t q.1 (before-in b q.0 low) tt in
-        (w ++ c.0, c.1, out c.0 c.1 c.2, c.3, subst (λ (d : List Entry). (d ≡ w ++ c.0) ⊎ Before d (w ++ c.0)) (sym q.0) (elim c.4 [
-          | inl same ↦ inl (ap (λ (x : List Entry). w ++ x) same)
-          | inr less ↦ inr ((before-left w (rest_of b) c.0).1 less)
-        ]));
-    found = λ yes.
-        let c = added.found yes in
+        let c = added.complete (rest_of b) t q.1 (before-in b q.0 low) tt in (
+          w ++ c.0,
+          c.1,
+          out c.0 c.1 c.2,
+          c.3,
+          subst (λ (d : List Entry). (d ≡ w ++ c.0) ⊎ Before d (w ++ c.0)) (sym q.0) (elim c.4 [
+            | inl same ↦ inl (ap (λ (x : List Entry). w ++ x) same)
+            | inr less ↦ inr ((before-left w (rest_of b) c.0).1 less)
+          ]),
+        );
+    found = λ holds.
+        let c = added.found holds in
         (w ++ c.0, c.1, out c.0 c.1 c.2, before-out c.0 c.3, way-behind w c.0 ends ∙ own, c.5);
-    none = λ no b t at low way. let q = back b t way at in added.none no (rest_of b) t q.1 (before-in b q.0 low) tt;
+    none = λ fails b t at low way. let q = back b t way at in added.none fails (rest_of b) t q.1 (before-in b q.0 low) tt;
   }
 
   pub child-inner : ticket_at (flat ss) (a ++ Ordered 0 ∷ []) ≡ ticket_at inner.value (r ++ Ordered 0 ∷ [])
@@ -461,12 +481,16 @@ inner-all es a old new orderly inner =
       sound = inner.sound;
       complete = λ b t at low any. elim (before-parts b a low) [
         | inl same ↦ inner.complete b t at low same.0
-        | inr less ↦
-            (top.0, top.1, top.2, top.5,
-            inr (less-before b top.0 (subst (λ (p : List Entry). order_of (way_of b) p ≡ Less) begins less) (orderly.inside b top.0 t top.1 at top.2)))
+        | inr less ↦ (
+          top.0,
+          top.1,
+          top.2,
+          top.5,
+          inr (less-before b top.0 (subst (λ (p : List Entry). order_of (way_of b) p ≡ Less) begins less) (orderly.inside b top.0 t top.1 at top.2)),
+        )
       ];
-      found = λ yes. (top.0, top.1, top.2, top.3, tt, top.5);
-      none = λ no. absurd (true≢false no);
+      found = λ holds. (top.0, top.1, top.2, top.3, tt, top.5);
+      none = λ fails. absurd (true≢false fails);
     }
 
 pub lesser-all : (es : Places) (a : List Entry) (some : Bool) (old mid new : List ℕ) → AddedInner es a false old mid → AddedLesser es a some mid new → AddedBefore es a some old new
@@ -477,10 +501,10 @@ lesser-all es a some old mid new inner lesser = record {
     | inl same ↦ absurd (inner.none refl b t at low same.0)
     | inr less ↦ lesser.complete b t at low less
   ];
-  found = λ yes. let c = lesser.found yes in (c.0, c.1, c.2, c.3, tt, c.5);
-  none = λ no b t at low any. elim (before-parts b a low) [
+  found = λ holds. let c = lesser.found holds in (c.0, c.1, c.2, c.3, tt, c.5);
+  none = λ fails b t at low any. elim (before-parts b a low) [
     | inl same ↦ inner.none refl b t at low same.0
-    | inr less ↦ lesser.none no b t at low less
+    | inr less ↦ lesser.none fails b t at low less
   ];
 }
 

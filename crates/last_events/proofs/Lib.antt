@@ -1,4 +1,5 @@
 pub mod ChildLaws
+pub mod CodeLaws
 pub mod ForkLaws
 pub mod LastLaws
 pub mod ListLaws

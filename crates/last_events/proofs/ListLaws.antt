@@ -1,5 +1,5 @@
 -- Elements and parts of lists.
-use Rattle.std.proofs.Common.{◌≡◌, subst, true≢false, ◌⊎◌, inl, inr, ℕ, zero, suc, ◌<◌, ◌≤◌, List, [], ◌∷◌, ◌++◌, length, take, drop, map, set, Result, Ok, Err, OnErr, Some, None, slice_get, get_or, refl, sym, ap, arith}
+use Rattle.std.proofs.Common.{◌≡◌, subst, true≢false, ◌⊎◌, inl, inr, ℕ, zero, suc, ◌<◌, ◌≤◌, List, [], ◌∷◌, ◌++◌, length, take, drop, map, set, Result, Ok, Err, IfOk, OnOk, OnErr, Some, None, slice_get, get_or, refl, sym, ap, arith}
 use Rattle.syntax.specs.Lists.{In, Every}
 use Rattle.last_events.proofs.SearchLaws.{some-is, none-some}
 
@@ -117,3 +117,16 @@ drop-first (y ∷ xs) (suc i) x ys is = drop-first xs i x ys is
 pub on-err : {T E P : Type 0} (r : Result T E) → P → OnErr r P
 on-err (Ok x) p = tt
 on-err (Err e) p = p
+
+-- what follows of what holds of a result
+pub if-ok : {A E : Type 0} (P Q : A → Type 0) (r : Result A E) → ((x : A) → P x → Q x) → IfOk r P → IfOk r Q
+if-ok P Q (Ok x) f h = f x h
+if-ok P Q (Err e) f h = tt
+
+pub on-ok : {A E P Q : Type 0} (r : Result A E) → (P → Q) → OnOk r P → OnOk r Q
+on-ok (Ok x) f h = f h
+on-ok (Err e) f h = tt
+
+pub err-on : {A E P Q : Type 0} (r : Result A E) → (P → Q) → OnErr r P → OnErr r Q
+err-on (Ok x) f h = tt
+err-on (Err e) f h = f h

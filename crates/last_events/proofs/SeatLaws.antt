@@ -1,5 +1,5 @@
 -- What stands in a branch: what it answers, and what one more and one less leave.
-use Rattle.std.proofs.Common.{◌≡◌, ◌≢◌, ◌⊎◌, inl, inr, ℕ, zero, suc, ◌+◌, ◌*◌, ◌<◌, eqb, length-append, get_or, Bool, true, false, cond, List, [], ◌∷◌, ◌++◌, length, take, drop, map, set, append_assoc, Option, Some, None, slice_get, refl, sym, ap, subst, ◌∙◌, true≢false, arith, Ordering, Less, Equal, Greater}
+use Rattle.std.proofs.Common.{◌≡◌, ◌≢◌, ◌⊎◌, inl, inr, ℕ, zero, suc, ◌+◌, ◌*◌, ◌<◌, eqb, length-append, get_or, Bool, true, false, cond, List, [], ◌∷◌, ◌++◌, length, take, drop, map, set, append_assoc, Option, Result, Ok, Err, OnOk, OnErr, Some, None, slice_get, refl, sym, ap, subst, ◌∙◌, true≢false, arith, Ordering, Less, Equal, Greater}
 use Rattle.std.specs.Ordering.{is_eq, ordering_then}
 use Rattle.std.specs.Global.{Box}
 use Rattle.std.specs.Map.{lookup}
@@ -12,11 +12,11 @@ use Rattle.last_events.specs.LastEvents.{ticket_at, PutAt, RemovedAt}
 use Rattle.last_events.specs.declared.branch.Seat.{Seat}
 use Rattle.last_events.specs.declared.branch.Seat.TheVariants.{Event, Inner}
 use Rattle.last_events.specs.walking.Search.{Rising, Splits}
-use Rattle.last_events.specs.walking.Seats.{Places, way_of, rest_of, AllOrdered, EndsAtBranch, behind_way, seat_way, seat_places, flat, HasSeat, IsSound, IsBranch, IsMadeOf, FitsBehind, TakenAt}
+use Rattle.last_events.specs.walking.Seats.{Places, way_of, rest_of, AllOrdered, EndsAtBranch, IsWay, behind_way, seat_way, seat_places, flat, HasSeat, IsSound, IsBranch, IsMadeOf, FitsBehind, TakenAt}
 use Rattle.last_events.proofs.ForkLaws.{entry-itself}
 use Rattle.last_events.proofs.ListLaws.{in-left, in-right, in-either, in-map, map-in, in-map-take, in-map-drop, map-append, every-left, every-right, every-both, whole, split-at, set-split, get-at, at-map, at-within, map-at}
 use Rattle.last_events.proofs.SearchLaws.{none-some, some-is}
-use Rattle.last_events.proofs.WayLaws.{ordered-way, way-behind, event-rest, rest-shorter, way-and-rest, begins}
+use Rattle.last_events.proofs.WayLaws.{ordered-way, ends-way, way-behind, event-rest, rest-shorter, way-and-rest, begins}
 
 -- ---- the table asked for a place
 abbrev pub is_key : List Entry → List Entry → Bool
@@ -275,14 +275,13 @@ module _ (xs ys : List Seat) (s : Seat) (a : List Entry) (n : ℕ) (h : IsBranch
     (low : (t : Seat) → In t xs → order_of (seat_way t) (way_of a) ≡ Less) (high : (t : Seat) → In t ys → order_of (way_of a) (seat_way t) ≡ Less) where
   pub more-branch : IsBranch (xs ++ s ∷ ys)
   more-branch = record {
-    rising = rising-join xs (s ∷ ys) (rising-left xs ys h.rising)
-        (
-          (λ b i.
-              let t = map-in seat_way b ys i in
-              subst (λ (c : List Entry). order_of (seat_way s) c ≡ Less) (sym t.2)
-              (subst (λ (c : List Entry). order_of c (seat_way t.0) ≡ Less) (sym made.way) (high t.0 t.1))),
-          rising-right xs ys h.rising,
-        )
+    rising = rising-join xs (s ∷ ys) (rising-left xs ys h.rising) (
+      (λ b i.
+          let t = map-in seat_way b ys i in
+          subst (λ (c : List Entry). order_of (seat_way s) c ≡ Less) (sym t.2)
+          (subst (λ (c : List Entry). order_of c (seat_way t.0) ≡ Less) (sym made.way) (high t.0 t.1))),
+      rising-right xs ys h.rising,
+    )
         (λ t u i j. elim j [
           | inl is ↦ subst (λ (c : List Entry). order_of (seat_way t) c ≡ Less) (sym (ap seat_way is ∙ made.way)) (low t i)
           | inr later ↦ rising-across xs ys t u h.rising i later
@@ -399,8 +398,8 @@ left-less (Inner w inner) a r h is rest =
     omega arith
 
 pub some-flat : (ss : List Seat) (b : Bool) (n : ℕ) → IsBranch ss → n ≡ length ss → b ≡ eqb n 0 → b ≡ false → 0 < length (flat ss)
-some-flat [] b n h is test no = absurd (true≢false (subst (λ (k : ℕ). eqb k 0 ≡ false) is (sym test ∙ no)))
-some-flat (s ∷ ss) b n h is test no = let some = seat-some s h.sound.0 in omega (arith, some, length-append (seat_places s) (flat ss))
+some-flat [] b n h is test fails = absurd (true≢false (subst (λ (k : ℕ). eqb k 0 ≡ false) is (sym test ∙ fails)))
+some-flat (s ∷ ss) b n h is test fails = let some = seat-some s h.sound.0 in omega (arith, some, length-append (seat_places s) (flat ss))
 
 -- ---- taking out
 no-more : {X : Type 0} (xs : List X) → xs ++ [] ≡ xs
@@ -494,7 +493,7 @@ inner-taken s w inner box r false new is sound value gone none some =
       (ends.0, subst (λ (es : Places). 0 < length es) (sym value) (some refl)),
       ap seat_way (sym is),
       subst (λ (x : Seat). RemovedAt (seat_places x) (seat_way x ++ r) (behind_way w box.value)) (sym is)
-      (removed-behind w inner.value box.value r (subst (λ (es : Places). RemovedAt inner.value r es) (sym value) gone)),
+          (removed-behind w inner.value box.value r (subst (λ (es : Places). RemovedAt inner.value r es) (sym value) gone)),
     )
 
 -- the same of the slices that the code looks at
@@ -503,3 +502,31 @@ pub absent-as : (ss xs ys : List Seat) (w p a : List Entry) (i : ℕ) → IsBran
 absent-as ss xs ys w p a i h one two front way split none =
     absent-removed ss a i h (subst (λ (q : List Entry). Splits (map seat_way ss) q i) (front ∙ way) (subst (λ (zs : List Seat). Splits (map seat_way zs) w i) one split))
     (λ there. none (subst (λ (q : List Entry). HasSeat ys i q) (sym (front ∙ way)) (subst (λ (zs : List Seat). HasSeat zs i (way_of a)) (sym two) there)))
+
+-- ---- putting in
+pub event-put : (s : Seat) (w : List Entry) (t n : ℕ) (r : List Entry) → s ≡ Event w t → FitsBehind s r → PutAt (seat_places s) (seat_way s ++ r) n ((w, n) ∷ [])
+event-put s w t n r is fits =
+    subst (λ (x : Seat). PutAt (seat_places x) (seat_way x ++ r) n ((w, n) ∷ [])) (sym is)
+    (let place : w ++ r ≡ w = ap (λ (x : List Entry). w ++ x) (subst (λ (x : Seat). FitsBehind x r) is fits) ∙ no-more w in
+    record {
+      here = subst (λ (x : List Entry). ticket_at ((w, n) ∷ []) x ≡ Some n) (sym place) (look-here w n);
+      others = λ b differs.
+          let other : b ≢ w = λ same. differs (same ∙ sym place) in
+          look-other w n b other ∙ sym (look-other w t b other);
+    })
+
+pub inner-put : (s : Seat) (w : List Entry) (inner box : Box Places) (r : List Entry) (n : ℕ) (new : Places) → s ≡ Inner w inner → box.value ≡ new → PutAt inner.value r n new →
+    PutAt (seat_places s) (seat_way s ++ r) n (behind_way w box.value)
+inner-put s w inner box r n new is value put =
+    subst (λ (x : Seat). PutAt (seat_places x) (seat_way x ++ r) n (behind_way w box.value)) (sym is)
+    (put-behind w inner.value box.value r n (subst (λ (es : Places). PutAt inner.value r n es) (sym value) put))
+
+-- something stands there after a put, and after one that was refused
+pub put-or-not : {A E : Type 0} (result : Result A E) (old new : Places) (a : List Entry) (n : ℕ) → 0 < length old → OnOk result (PutAt old a n new) → OnErr result (new ≡ old) →
+    0 < length new
+put-or-not (Ok x) old new a n some put same = put-some old new a n put
+put-or-not (Err e) old new a n some put same = subst (λ (es : Places). 0 < length es) (sym same) some
+
+pub seat-is-way : (s : Seat) → IsSound s → IsWay (seat_way s)
+seat-is-way (Event w t) h = ordered-way w h
+seat-is-way (Inner w inner) h = ends-way w h.0

@@ -17,6 +17,11 @@ way-behind [] r h = absurd h
 way-behind (Ordered i ∷ w) r h = ap (λ (b : List Entry). Ordered i ∷ b) (way-behind w r h)
 way-behind (Branch i ∷ w) r h = ap (λ (b : List Entry). Branch i ∷ b) (sym h)
 
+pub ends-way : (w : List Entry) → EndsAtBranch w → way_of w ≡ w
+ends-way [] h = absurd h
+ends-way (Ordered i ∷ w) h = ap (λ (b : List Entry). Ordered i ∷ b) (ends-way w h)
+ends-way (Branch i ∷ w) h = ap (λ (b : List Entry). Branch i ∷ b) (sym h)
+
 pub rest-behind : (w r : List Entry) → EndsAtBranch w → rest_of (w ++ r) ≡ r
 rest-behind [] r h = absurd h
 rest-behind (Ordered i ∷ w) r h = rest-behind w r h
@@ -166,3 +171,6 @@ pub longer-way : (a : List Entry) (x : Entry) → EndsAtBranch (way_of a) → wa
 longer-way [] x h = absurd h
 longer-way (Ordered i ∷ a) x h = ap (λ (b : List Entry). Ordered i ∷ b) (longer-way a x h)
 longer-way (Branch i ∷ a) x h = refl
+
+pub ordered-place : (a v p : List Entry) → v ≡ p → p ≡ way_of a → AllOrdered v → v ≡ a
+ordered-place a v p front way h = (front ∙ way) ∙ event-way a (subst AllOrdered (front ∙ way) h)

@@ -274,7 +274,8 @@ fn add_before_among(
     requires orderly { Orderly (flat seats.now) place.now }
     ensures { IfOk result (λ some. AddedBefore (flat seats.now) place.now some found.old.items found.new.items) }
 {
-    if add_inner(seats, place, found)? {
+    let inner = add_inner(seats, place, found)?;
+    if inner {
         return Ok(true);
     }
     add_lesser(seats, place, found)
@@ -390,5 +391,9 @@ fn index_of_child(seats: &[Seat], index: usize, place: &[Entry]) -> usize
     requires index { Splits (map seat_way seats.now) place.now index }
     ensures { Splits (map seat_way seats.now) (first_child place.now) result }
 {
-    if has_way(seats, index, place) { index + 1 } else { index }
+    if has_way(seats, index, place) {
+        index + 1
+    } else {
+        index
+    }
 }

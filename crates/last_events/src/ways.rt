@@ -15,7 +15,11 @@ pub(crate) fn way_length(place: &[Entry]) -> usize
     while is_ordered(place, count) {
         count += 1;
     }
-    if count < place.len() { count + 1 } else { count }
+    if count < place.len() {
+        count + 1
+    } else {
+        count
+    }
 }
 
 /// The ordered entries of a way.

@@ -11,7 +11,7 @@ use Rattle.last_events.specs.declared.branch.BranchEvents.TheDeep.{deep-Seat}
 use Rattle.last_events.specs.walking.Seats.{Places, behind_way, seat_places, flat, EndsAtBranch, IsSound, IsBranch}
 use Rattle.last_events.specs.walking.Sizes.{entries_of}
 
-entries-append : (xs ys : Places) → entries_of (xs ++ ys) ≡ entries_of xs + entries_of ys
+pub entries-append : (xs ys : Places) → entries_of (xs ++ ys) ≡ entries_of xs + entries_of ys
 entries-append [] ys = omega arith
 entries-append (x ∷ xs) ys = omega (arith, entries-append xs ys)
 
@@ -23,12 +23,11 @@ way-long : (way : List Entry) → EndsAtBranch way → 0 < length way
 way-long [] h = absurd h
 way-long (x ∷ way) h = omega arith
 
-entries-inner : (way : List Entry) (es : Places) → EndsAtBranch way → 0 < length es → entries_of es < entries_of (behind_way way es)
+pub entries-inner : (way : List Entry) (es : Places) → EndsAtBranch way → 0 < length es → entries_of es < entries_of (behind_way way es)
 entries-inner way [] h some = absurd (omega arith)
 entries-inner way (e ∷ es) h some =
     let long : 0 < length way = way-long way h in
     omega (arith, entries-behind way es, length-append way e.0)
-
 
 depth-all : (seats : List Seat) → Every IsSound seats → most (λ s. deep-Seat s) seats ≤ entries_of (flat seats)
 depth-all [] h = omega arith

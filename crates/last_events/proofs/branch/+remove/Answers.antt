@@ -15,8 +15,8 @@ pub Seat::remove-returns-in-Inner : goal.Seat::remove-returns-in-Inner
 Seat::remove-returns-in-Inner t c =
     inner-taken c.args.self.now c.in-Inner.field-0 c.in-Inner.inner _ c.args.rest.now c.is_empty.result c.remove.new.self c.in-Inner.is c.requires.sound refl
     (subst (λ (es : Places). RemovedAt es c.args.rest.now c.remove.new.self) c.deref_mut.ensures.value c.remove.ensures)
-    (λ yes. sym c.deref.ensures.value ∙ c.is_empty.ensures.none yes)
-    (λ no. subst (λ (es : Places). 0 < length es) c.deref.ensures.value (c.is_empty.ensures.some no))
+    (λ holds. sym c.deref.ensures ∙ c.is_empty.ensures.none holds)
+    (λ fails. subst (λ (es : Places). 0 < length es) c.deref.ensures (c.is_empty.ensures.some fails))
 
 pub remove_among-remove-requires : goal.remove_among-remove-requires
 remove_among-remove-requires t c =
