@@ -52,7 +52,8 @@ add_each-loop-seat-preserved t c = record {
 pub add_last_among-ordered-requires : goal.add_last_among-ordered-requires
 add_last_among-ordered-requires t c =
     let item = c.in-Some.ensures.item in
-    let there = item-in c.args.seats.now (length c.args.seats.now - 1) c.in-Some.last.now item.3.0 item.1 in
+    let some : 0 < length c.args.seats.now = item.3.0 in
+    let there = item-in c.args.seats.now (length c.args.seats.now - 1) c.in-Some.last.now (omega arith) item.1 in
     subst (λ (w : List Entry). IsWay w) (sym c.way.ensures) (seat-is-way c.in-Some.last.now (every-in IsSound c.args.seats.now c.in-Some.last.now c.requires.branch.sound there))
 
 pub add_last_among-add_each-requires : goal.add_last_among-add_each-requires
@@ -71,7 +72,8 @@ add_last_among-add_each-requires t c =
 pub add_last_among-returns : goal.add_last_among-returns
 add_last_among-returns t c =
     let item = c.in-Some.ensures.item in
-    let there = item-in c.args.seats.now (length c.args.seats.now - 1) c.in-Some.last.now item.3.0 item.1 in
+    let some : 0 < length c.args.seats.now = item.3.0 in
+    let there = item-in c.args.seats.now (length c.args.seats.now - 1) c.in-Some.last.now (omega arith) item.1 in
     let split : Splits (map seat_way c.args.seats.now) (ordered_of (seat_way c.in-Some.last.now)) c.count_less.result =
     subst (λ (w : List Entry). Splits (map seat_way c.args.seats.now) w c.count_less.result) (c.ordered.ensures ∙ ap ordered_of c.way.ensures) c.count_less.ensures in
     if-ok _ _ c.add_each.result

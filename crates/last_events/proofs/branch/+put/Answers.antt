@@ -1,4 +1,5 @@
 use Rattle.std.proofs.Common.{◌≡◌, ◌<◌, ◌+◌, ◌*◌, ℕ, true, false, List, length, refl, sym, ap, subst, ◌∙◌, arith}
+use Rattle.std.specs.Box.{with_value}
 use Rattle.address.specs.declared.Entry.{Entry}
 use Rattle.last_events.specs.LastEvents.{PutAt}
 use Rattle.last_events.specs.declared.branch.Seat.{Seat}
@@ -14,7 +15,7 @@ Seat::put-returns-in-Event-clause-put t c = event-put c.args.self.now c.in-Event
 pub Seat::put-returns-in-Inner-clause-put : goal.Seat::put-returns-in-Inner-clause-put
 Seat::put-returns-in-Inner-clause-put t c =
     on-ok c.put.result
-    (λ put. inner-put c.args.self.now c.in-Inner.field-0 c.in-Inner.inner _ c.args.rest.now c.args.ticket c.put.new.self c.in-Inner.is refl
+    (λ put. inner-put c.args.self.now c.in-Inner.field-0 c.in-Inner.inner (with_value c.in-Inner.inner c.put.new.self) c.args.rest.now c.args.ticket c.put.new.self c.in-Inner.is refl
     (subst (λ (es : Places). PutAt es c.args.rest.now c.args.ticket c.put.new.self) c.deref_mut.ensures.value put))
     c.put.ensures.put
 
