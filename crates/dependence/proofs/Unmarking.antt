@@ -1,5 +1,5 @@
 -- What is left of the live events, and of what stands beside them, without those that are marked.
-use Rattle.std.proofs.Common.{◌≡◌, inr, ℕ, zero, suc, ◌<◌, ◌≤◌, List, [], ◌∷◌, Bool, true, false, length, take, get_or, Some, refl, sym, ◌∙◌, ap, subst, arith}
+use Rattle.std.proofs.Common.{◌≡◌, inl, inr, ℕ, zero, suc, ◌<◌, ◌≤◌, List, [], ◌∷◌, Bool, true, false, length, take, get_or, Some, refl, sym, ◌∙◌, ap, subst, arith}
 use Rattle.std.specs.Prelude.{slice_get}
 use Rattle.std.proofs.lemmas.Option.{slice_get_within, slice_get-get_or}
 use Rattle.syntax.specs.Lists.{In}
@@ -128,38 +128,52 @@ none-leaves low next (x ∷ l) t r less =
     let first : low ≤ x.0 = r.0 in
     stays (λ (is : x.0 ≡ t). omega arith) (none-leaves (suc x.0) next l t r.1 (omega arith))
 
--- one more index is passed: its event leaves where it is marked
-pub passed-marked : (low next : ℕ) (l : Live) (marks : List Bool) (i t : ℕ) (e : Event) → Rising low l next → slice_get marks i ≡ Some true → slice_get l i ≡ Some (t, e) →
-    WithoutTickets (λ v. v ≡ t) (unmarked (take i marks) l) (unmarked (take (suc i) marks) l)
-passed-marked low next l [] i t e r on at = none-some true on
-passed-marked low next [] (m ∷ marks) i t e r on at = none-some (t, e) at
-passed-marked low next (x ∷ l) (false ∷ marks) zero t e r on at = cc
-passed-marked low next (x ∷ l) (true ∷ marks) zero t e r on at =
+-- the marks, without those below index n
+abbrev pub marked_from : ℕ → List Bool → List Bool
+marked_from zero marks = marks
+marked_from (suc n) [] = []
+marked_from (suc n) (m ∷ marks) = false ∷ marked_from n marks
+
+-- all stay where none is left
+pub none-out : {X : Type 0} (n : ℕ) (marks : List Bool) (xs : List X) → length marks ≤ n → unmarked (marked_from n marks) xs ≡ xs
+none-out zero [] xs h = refl
+none-out zero (m ∷ marks) xs h = absurd (omega arith)
+none-out (suc n) [] xs h = refl
+none-out (suc n) (m ∷ marks) [] h = refl
+none-out (suc n) (m ∷ marks) (x ∷ xs) h = let rest : length marks ≤ n = omega arith in ap (λ ys. x ∷ ys) (none-out n marks xs rest)
+
+-- and all are left where there is none below
+pub same-from : (n : ℕ) (marks : List Bool) → UnmarkedTo marks n → marked_from n marks ≡ marks
+same-from zero marks h = refl
+same-from (suc n) [] h = refl
+same-from (suc n) (true ∷ marks) h = absurd (h zero (omega arith) refl)
+same-from (suc n) (false ∷ marks) h = ap (λ (ms : List Bool). false ∷ ms) (same-from n marks (passed-first false marks n h))
+
+-- one more index: its event leaves where it is marked
+pub from-marked : (low next : ℕ) (l : Live) (marks : List Bool) (i t : ℕ) (e : Event) → Rising low l next → slice_get marks i ≡ Some true → slice_get l i ≡ Some (t, e) →
+    WithoutTickets (λ v. v ≡ t) (unmarked (marked_from (suc i) marks) l) (unmarked (marked_from i marks) l)
+from-marked low next l [] i t e r on at = none-some true on
+from-marked low next [] (m ∷ marks) i t e r on at = none-some (t, e) at
+from-marked low next (x ∷ l) (false ∷ marks) zero t e r on at = cc
+from-marked low next (x ∷ l) (true ∷ marks) zero t e r on at =
     let is : x.0 ≡ t = ap (λ (y : ℕ × Event). y.0) (some-injective x (t, e) at) in
-    leaves is (none-leaves (suc x.0) next l t r.1 (omega arith))
-passed-marked low next (x ∷ l) (true ∷ marks) (suc i) t e r on at = passed-marked (suc x.0) next l marks i t e r.1 on at
-passed-marked low next (x ∷ l) (false ∷ marks) (suc i) t e r on at =
+    leaves is (none-leaves (suc x.0) next (unmarked marks l) t (unmarked-rises (suc x.0) next l marks r.1) (omega arith))
+from-marked low next (x ∷ l) (m ∷ marks) (suc i) t e r on at =
     let above : suc x.0 ≤ t = (rising-in (suc x.0) next l t e r.1 (in-at l i (t, e) at)).0 in
-    stays (λ (is : x.0 ≡ t). omega arith) (passed-marked (suc x.0) next l marks i t e r.1 on at)
+    stays (λ (is : x.0 ≡ t). omega arith) (from-marked (suc x.0) next l marks i t e r.1 on at)
 
 -- and stays where it is not
-pub passed-unmarked : (l : Live) (marks : List Bool) (i : ℕ) → slice_get marks i ≡ Some false → unmarked (take (suc i) marks) l ≡ unmarked (take i marks) l
-passed-unmarked l [] i off = none-some false off
-passed-unmarked [] (m ∷ marks) zero off = refl
-passed-unmarked [] (m ∷ marks) (suc i) off = refl
-passed-unmarked (x ∷ l) (true ∷ marks) zero off = cc
-passed-unmarked (x ∷ l) (false ∷ marks) zero off = refl
-passed-unmarked (x ∷ l) (true ∷ marks) (suc i) off = passed-unmarked l marks i off
-passed-unmarked (x ∷ l) (false ∷ marks) (suc i) off = ap (λ (k : Live). x ∷ k) (passed-unmarked l marks i off)
+pub from-unmarked : (marks : List Bool) (i : ℕ) → slice_get marks i ≡ Some false → marked_from (suc i) marks ≡ marked_from i marks
+from-unmarked [] i off = none-some false off
+from-unmarked (m ∷ marks) zero off = ap (λ (b : Bool). b ∷ marks) (sym (some-injective m false off))
+from-unmarked (m ∷ marks) (suc i) off = ap (λ (ms : List Bool). false ∷ ms) (from-unmarked marks i off)
 
 -- it is there until then
-pub there-yet : (l : Live) (marks : List Bool) (i t : ℕ) (e : Event) → slice_get l i ≡ Some (t, e) → LiveAt (unmarked (take i marks) l) t e
-there-yet l [] zero t e at = in-at l zero (t, e) at
-there-yet l [] (suc i) t e at = in-at l (suc i) (t, e) at
+pub there-yet : (l : Live) (marks : List Bool) (i t : ℕ) (e : Event) → slice_get l i ≡ Some (t, e) → LiveAt (unmarked (marked_from (suc i) marks) l) t e
+there-yet l [] i t e at = in-at l i (t, e) at
 there-yet [] (m ∷ marks) i t e at = none-some (t, e) at
-there-yet (x ∷ l) (m ∷ marks) zero t e at = in-at (x ∷ l) zero (t, e) at
-there-yet (x ∷ l) (true ∷ marks) (suc i) t e at = there-yet l marks i t e at
-there-yet (x ∷ l) (false ∷ marks) (suc i) t e at = inr (there-yet l marks i t e at)
+there-yet (x ∷ l) (m ∷ marks) zero t e at = inl (sym (some-injective x (t, e) at))
+there-yet (x ∷ l) (m ∷ marks) (suc i) t e at = inr (there-yet l marks i t e at)
 
 -- a mark tells whether the ticket is among the marked ones
 told-by : (b : Bool) (tickets : List ℕ) (t : ℕ) → (b ≡ true → In t tickets) → (b ≡ false → In t tickets → ⊥) → b ≡ is_in t tickets

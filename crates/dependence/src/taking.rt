@@ -49,14 +49,17 @@ fn keep_no_marks(marks: &mut Vec<bool>, count: usize)
     clear(marks.as_mut_slice(), 0);
 }
 
-/// Takes the marked events out of the tables.
+/// Takes the marked events out of the tables, the last first: in its branch each is the last of those that are left.
 fn remove_marked(live: &[LiveEvent], marks: &[bool], tables: &mut Tables)
     requires rising { IsRising live.now }
     requires size { length marks.now ≡ length live.now }
     requires tabled { IsTabled live.now tables.old }
     ensures { IsTabled (unmarked marks.now live.now) tables.new }
 {
-    for index in unmarked_below(marks)..live.len() {
+    let first = unmarked_below(marks);
+    let mut index = live.len();
+    while index > first {
+        index -= 1;
         if marks[index] {
             let entry = &live[index];
             tables.remove(entry.0, entry.1.get());

@@ -1,19 +1,27 @@
--- The place of a first child comes right behind the place; and what stands there.
-use Rattle.std.proofs.Common.{◌≡◌, ◌⊎◌, inl, inr, ℕ, zero, suc, ◌+◌, ◌<◌, List, [], ◌∷◌, ◌++◌, length, Some, None, slice_get, refl, sym, ap, subst, ◌∙◌, arith, Ordering, Less, Equal, Greater, Fits, w64}
+-- The place of a first child comes right behind the place.
+use Rattle.std.proofs.Common.{◌≡◌, ◌⊎◌, inl, inr, ℕ, suc, ◌<◌, List, [], ◌∷◌, ◌++◌, length, take, drop, map, get_or, Some, None, slice_get, refl, sym, ap, subst, ◌∙◌, arith, Ordering, Less, Equal, Greater}
+use Rattle.std.specs.Global.{Box}
 use Rattle.std.specs.Ordering.{nat_cmp, ordering_then}
 use Rattle.address.specs.declared.Entry.{Entry}
 use Rattle.address.specs.declared.Entry.TheVariants.{Ordered, Branch}
 use Rattle.address.specs.Order.{entry_order, order_of}
 use Rattle.address.specs.walking.OrderLaws.{less-not-equal, greater-not-less, greater-not-equal}
-use Rattle.address.proofs.Places.{tail-injective}
 use Rattle.address.proofs.Total.{order-itself, order-ties, order-total, order-transitive}
 use Rattle.syntax.specs.Lists.{In}
 use Rattle.last_events.specs.LastEvents.{ticket_at, first_child}
-use Rattle.last_events.specs.walking.Search.{Rising}
-use Rattle.last_events.specs.walking.Rows.{Seat, Row, flat, places, IsTable, row_at, before, behind, Stands, HoldsAt, Absent}
+use Rattle.last_events.specs.declared.branch.Seat.{Seat}
+use Rattle.last_events.specs.declared.branch.Seat.TheVariants.{Event, Inner}
+use Rattle.last_events.specs.walking.Search.{Rising, Splits}
+use Rattle.last_events.specs.walking.Seats.{Places, way_of, AllOrdered, EndsAtBranch, seat_way, seat_places, flat, HasSeat, IsSound, IsBranch}
 use Rattle.last_events.proofs.ForkLaws.{number-less}
-use Rattle.last_events.proofs.PlaceLaws.{less-both-ways}
-use Rattle.last_events.proofs.RowLaws.{in-right, in-either, place-of, rising-right, rising-across, lookup-past, lookup-here, less-differs, removed-none, get-cons, parts, parted, before-more, at-inside, at-within}
+use Rattle.last_events.proofs.LastLaws.{look-middle}
+use Rattle.last_events.proofs.ListLaws.{every-in, map-in-drop, at-within, get-at, split-at}
+use Rattle.last_events.proofs.SearchLaws.{rising-after, in-take-more, in-at}
+use Rattle.last_events.proofs.SeatLaws.{less-differs, look-here, split-high, absent-removed, has-is}
+use Rattle.last_events.proofs.WayLaws.{ordered-way, longer-way, not-both}
+
+less-both-ways : (a b : List Entry) → order_of a b ≡ Less → order_of b a ≡ Less → ⊥
+less-both-ways a b h k = less-differs a a (order-transitive a b a h k) refl
 
 -- ---- nothing stands between a place and its first child
 first-tied : (o p : Ordering) → ordering_then o p ≡ Equal → o ≡ Equal
@@ -61,71 +69,69 @@ none-between (x ∷ p) (y ∷ b) low high = elim (less-first (entry_order x y) (
   ]
 ]
 
-pub same-rest : (p a b : List Entry) → p ++ a ≡ p ++ b → a ≡ b
-same-rest [] a b is = is
-same-rest (x ∷ p) a b is = same-rest p a b (tail-injective x x (p ++ a) (p ++ b) is)
+-- ---- what stands at the first child of a place without branch numbers
+pub child-ordered : (p : List Entry) → AllOrdered p → AllOrdered (first_child p)
+child-ordered [] h = tt
+child-ordered (Ordered i ∷ p) h = child-ordered p h
+child-ordered (Branch i ∷ p) h = absurd h
 
--- ---- where the first child stands
-pub child-free : (rows : List Row) (p : List Entry) (n i : ℕ) → Stands rows p n i → Absent rows p → Stands rows (first_child p) n i
-child-free rows p n i st absent = record {
-  inside = st.inside;
-  within = st.within;
-  below = λ s at. order-transitive s.0 p (first_child p) (st.below s at) (child-over p);
-  above = λ s at low. elim (order-total s.0 p) [
-    | inl less ↦ st.above s at less
-    | inr (inl more) ↦ none-between p s.0 more low
-    | inr (inr same) ↦
-        absent s (subst (λ (ss : List Seat). In s ss) (sym (parts rows n i st.inside)) (in-right s (before rows n i) (behind rows n i) at)) same
-  ];
-  first = st.first;
-}
+pub child-way : (p : List Entry) → AllOrdered p → way_of (first_child p) ≡ first_child p
+child-way p h = ordered-way (first_child p) (child-ordered p h)
 
-module _ (rows : List Row) (p : List Entry) (n i : ℕ) (table : IsTable rows) (held : HoldsAt rows p n i) where
-  rising-held : Rising (places (before rows n i ++ held.seat ∷ behind rows n (suc i)))
-  rising-held = subst (λ (ss : List Seat). Rising (places ss)) (parted rows n i held.seat held.at) table.rising
+module _ (ss : List Seat) (p : List Entry) (i : ℕ) (h : IsBranch ss) (split : Splits (map seat_way ss) p i) where
+  under : (w : List Entry) → In w (take i (map seat_way ss)) → order_of w (first_child p) ≡ Less
+  under w at = order-transitive w p (first_child p) (split.below w at) (child-over p)
 
-  under-child : (s : Seat) → In s (before rows n (suc i)) → order_of s.0 (first_child p) ≡ Less
-  under-child s at = elim (in-either s (before rows n i) (held.seat ∷ []) (subst (λ (ss : List Seat). In s ss) (before-more rows n i held.seat held.at) at)) [
-    | inl low ↦
-        order-transitive s.0 p (first_child p)
-        (subst (λ (a : List Entry). order_of s.0 a ≡ Less) held.same
-        (rising-across (before rows n i) (held.seat ∷ behind rows n (suc i)) s held.seat rising-held low (inl refl)))
-        (child-over p)
-    | inr (inl same) ↦
-        subst (λ (a : List Entry). order_of a (first_child p) ≡ Less) (sym (ap (λ (q : Seat). q.0) same ∙ held.same)) (child-over p)
-    | inr (inr none) ↦ absurd none
-  ]
+  pub child-past : (n : ℕ) → n ≡ suc i → HasSeat ss i p → Splits (map seat_way ss) (first_child p) n
+  child-past n is has =
+      let within : i < length (map seat_way ss) = at-within (map seat_way ss) i p has in
+      subst (λ (k : ℕ). Splits (map seat_way ss) (first_child p) k) (sym is)
+      (record {
+        within = omega arith;
+        below = λ w at. elim (in-take-more (map seat_way ss) i p w has at) [
+          | inl low ↦ under w low
+          | inr same ↦ subst (λ (v : List Entry). order_of v (first_child p) ≡ Less) (sym same) (child-over p)
+        ];
+        above = λ w at low. none-between p w (rising-after (map seat_way ss) i p w h.rising has at) low;
+      })
 
-  over-child : (s : Seat) → In s (behind rows n (suc i)) → order_of s.0 (first_child p) ≡ Less → ⊥
-  over-child s at low =
-      let right : Rising (places (held.seat ∷ behind rows n (suc i))) = rising-right (before rows n i) (held.seat ∷ behind rows n (suc i)) rising-held in
-      none-between p s.0
-      (subst (λ (a : List Entry). order_of a s.0 ≡ Less) held.same (right.0 s.0 (place-of s (behind rows n (suc i)) at))) low
-
-  pub child-behind : Stands rows (first_child p) n (suc i)
-  child-behind = record {
-    inside = at-inside rows n i held.seat held.at;
-    within = let short = at-within (row_at rows n) i held.seat held.at in omega (arith, short);
-    below = under-child;
-    above = over-child;
-    first = λ none. absurd (omega (arith, none));
+  pub child-here : (HasSeat ss i p → ⊥) → Splits (map seat_way ss) (first_child p) i
+  child-here none = record {
+    within = split.within;
+    below = under;
+    above = λ w at low.
+        let t = map-in-drop seat_way w i ss at in
+        none-between p w (subst (λ (v : List Entry). order_of p v ≡ Less) (sym t.2) (split-high ss p i h split none t.0 t.1)) low;
   }
 
--- a row has no more seats than a number counts
-pub row-fits : (rows : List Row) (n i : ℕ) → i < length (row_at rows n) → Fits w64 (i + 1)
-row-fits [] n i h = absurd (omega arith)
-row-fits (r ∷ rs) zero i h = omega (arith, r.ok)
-row-fits (r ∷ rs) (suc n) i h = row-fits rs n i h
+module _ (ss : List Seat) (p : List Entry) (n : ℕ) (h : IsBranch ss) (ordered : AllOrdered p) where
+  pub child-none : Splits (map seat_way ss) (first_child p) n → (HasSeat ss n (first_child p) → ⊥) → None ≡ ticket_at (flat ss) (first_child p)
+  child-none split none =
+      let way = child-way p ordered in
+      sym (absent-removed ss (first_child p) n h (subst (λ (w : List Entry). Splits (map seat_way ss) w n) (sym way) split)
+      (λ has. none (subst (λ (w : List Entry). HasSeat ss n w) way has))).here
 
--- ---- what stands there
-pub ticket-behind : (rows : List Row) (p : List Entry) (n i : ℕ) (s : Seat) → Stands rows p n i → slice_get (behind rows n i) 0 ≡ Some s → s.0 ≡ p →
-    ticket_at (flat rows) p ≡ Some s.1
-ticket-behind rows p n i s st at same =
-    let rest = get-cons (behind rows n i) s at in
-    subst (λ (a : List Entry). ticket_at (flat rows) a ≡ Some s.1) same
-    (ap (λ (ss : List Seat). ticket_at ss s.0) (parts rows n i st.inside ∙ ap (λ (ss : List Seat). before rows n i ++ ss) rest.1)
-    ∙ (lookup-past s.0 (before rows n i) (s ∷ rest.0) (λ t low is. less-differs t.0 p (st.below t low) (sym is ∙ same))
-    ∙ lookup-here s.0 s.1 rest.0))
+  pub child-some : (s : Seat) (w : List Entry) (t : ℕ) → n < length ss → s ≡ get_or ss n s → s ≡ Event w t → w ≡ first_child p → Some t ≡ ticket_at (flat ss) (first_child p)
+  child-some s w t less read is same =
+      let parts : ss ≡ take n ss ++ s ∷ drop (suc n) ss = split-at ss n s (get-at ss n s less ∙ ap Some (sym read)) in
+      let way : seat_way s ≡ way_of (first_child p) = ap seat_way is ∙ (same ∙ sym (child-way p ordered)) in
+      sym
+      (ap (λ (xs : List Seat). ticket_at (flat xs) (first_child p)) parts
+      ∙ (look-middle (take n ss) (drop (suc n) ss) s (first_child p) (subst IsBranch parts h) way
+      ∙ (ap (λ (x : Seat). ticket_at (seat_places x) (first_child p)) is
+      ∙ subst (λ (v : List Entry). ticket_at ((w, t) ∷ []) v ≡ Some t) same (look-here w t))))
 
-pub ticket-none : (rows : List Row) (p : List Entry) → Absent rows p → ticket_at (flat rows) p ≡ None
-ticket-none rows p absent = (removed-none (flat rows) p absent).here
+  -- a branch does not stand there
+  pub inner-not-child : (s : Seat) (w : List Entry) (inner : Box Places) → n < length ss → s ≡ get_or ss n s → s ≡ Inner w inner → HasSeat ss n (first_child p) → ⊥
+  inner-not-child s w inner less read is has =
+      let sound : IsSound s = every-in IsSound ss s h.sound (in-at ss n s (get-at ss n s less ∙ ap Some (sym read))) in
+      let way : w ≡ first_child p = ap seat_way (sym is) ∙ has-is ss n s (first_child p) less read has in
+      not-both w (subst AllOrdered (sym way) (child-ordered p ordered)) (subst IsSound is sound).0
+
+-- ---- in the branch that the place goes into
+pub child-absent : (ss : List Seat) (a : List Entry) (i : ℕ) → IsBranch ss → EndsAtBranch (way_of a) → Splits (map seat_way ss) (way_of a) i → (HasSeat ss i (way_of a) → ⊥) →
+    None ≡ ticket_at (flat ss) (first_child a)
+child-absent ss a i h ends split none =
+    let way = longer-way a (Ordered 0) ends in
+    sym (absent-removed ss (first_child a) i h (subst (λ (w : List Entry). Splits (map seat_way ss) w i) (sym way) split)
+    (λ has. none (subst (λ (w : List Entry). HasSeat ss i w) way has))).here

@@ -30,7 +30,7 @@ less-number-of i j Equal e h = let is : i ≡ j = number-ties i j e in absurd (o
 less-number-of i j Greater e h =
     let back : j < i = subst (λ o. MatchOrdering o (i < j) (i ≡ j) (j < i)) e (ranked i j (nat_cmp i j) refl) in absurd (omega arith)
 
-less-number : (i j : ℕ) → i < j → nat_cmp i j ≡ Less
+pub less-number : (i j : ℕ) → i < j → nat_cmp i j ≡ Less
 less-number i j h = less-number-of i j (nat_cmp i j) refl h
 
 entry-ties : (x y : Entry) → entry_order x y ≡ Equal → x ≡ y
@@ -39,7 +39,7 @@ entry-ties (Branch i) (Branch j) h = ap Branch (number-ties i j h)
 entry-ties (Ordered i) (Branch j) h = absurd (less-not-equal h)
 entry-ties (Branch i) (Ordered j) h = absurd (greater-not-equal h)
 
-entry-itself : (x : Entry) → entry_order x x ≡ Equal
+pub entry-itself : (x : Entry) → entry_order x x ≡ Equal
 entry-itself (Ordered i) = tied_itself nat_cmp_total i
 entry-itself (Branch i) = tied_itself nat_cmp_total i
 
@@ -49,16 +49,16 @@ then-less Equal p h = inr (refl, h)
 then-less Greater p h = absurd (greater-not-less h)
 
 -- the first entry is less, or the same and the rest is less
-less-parts : (x y : Entry) (a b : List Entry) → order_of (x ∷ a) (y ∷ b) ≡ Less → (entry_order x y ≡ Less) ⊎ ((x ≡ y) × (order_of a b ≡ Less))
+pub less-parts : (x y : Entry) (a b : List Entry) → order_of (x ∷ a) (y ∷ b) ≡ Less → (entry_order x y ≡ Less) ⊎ ((x ≡ y) × (order_of a b ≡ Less))
 less-parts x y a b h = elim (then-less (entry_order x y) (order_of a b) h) [
   | inl less ↦ inl less
   | inr both ↦ inr (entry-ties x y both.0, both.1)
 ]
 
-less-first : (x y : Entry) (a b : List Entry) → entry_order x y ≡ Less → order_of (x ∷ a) (y ∷ b) ≡ Less
+pub less-first : (x y : Entry) (a b : List Entry) → entry_order x y ≡ Less → order_of (x ∷ a) (y ∷ b) ≡ Less
 less-first x y a b h = ap (λ o. ordering_then o (order_of a b)) h
 
-less-rest : (x y : Entry) (a b : List Entry) → x ≡ y → order_of a b ≡ Less → order_of (x ∷ a) (y ∷ b) ≡ Less
+pub less-rest : (x y : Entry) (a b : List Entry) → x ≡ y → order_of a b ≡ Less → order_of (x ∷ a) (y ∷ b) ≡ Less
 less-rest x y a b e h =
     subst (λ (z : Entry). order_of (x ∷ a) (z ∷ b) ≡ Less) e (ap (λ o. ordering_then o (order_of a b)) (entry-itself x) ∙ h)
 

@@ -1,7 +1,9 @@
 pub mod ChildLaws
+pub mod CodeLaws
 pub mod ForkLaws
-pub mod PlaceLaws
-pub mod RowLaws
+pub mod LastLaws
+pub mod ListLaws
 pub mod SearchLaws
-pub mod StandLaws
+pub mod SeatLaws
 pub mod TicketLaws
+pub mod WayLaws

@@ -45,13 +45,13 @@ rising-before (x ∷ ps) (suc m) a b r at i = elim i [
   | inr later ↦ rising-before ps m a b r.1 at later
 ]
 
-rising-after : (ps : List (List Entry)) (m : ℕ) (a b : List Entry) → Rising ps → slice_get ps m ≡ Some a → In b (drop (suc m) ps) → order_of a b ≡ Less
+pub rising-after : (ps : List (List Entry)) (m : ℕ) (a b : List Entry) → Rising ps → slice_get ps m ≡ Some a → In b (drop (suc m) ps) → order_of a b ≡ Less
 rising-after [] zero a b r at i = absurd i
 rising-after [] (suc m) a b r at i = absurd i
 rising-after (x ∷ ps) zero a b r at i = subst (λ (c : List Entry). order_of c b ≡ Less) (some-is x a at) (r.0 b i)
 rising-after (x ∷ ps) (suc m) a b r at i = rising-after ps m a b r.1 at i
 
-in-take-more : (ps : List (List Entry)) (m : ℕ) (a b : List Entry) → slice_get ps m ≡ Some a → In b (take (suc m) ps) → In b (take m ps) ⊎ (b ≡ a)
+pub in-take-more : (ps : List (List Entry)) (m : ℕ) (a b : List Entry) → slice_get ps m ≡ Some a → In b (take (suc m) ps) → In b (take m ps) ⊎ (b ≡ a)
 in-take-more [] zero a b at i = absurd i
 in-take-more [] (suc m) a b at i = absurd i
 in-take-more (x ∷ ps) zero a b at i = elim i [ inl is ↦ inr (is ∙ some-is x a at) | inr none ↦ absurd none ]

@@ -1,5 +1,7 @@
 pub mod Forks
-pub mod Rows
+pub mod Seats
+pub mod Sizes
+pub mod Depths
 pub mod Search
 pub mod Tickets
 pub mod Walks

@@ -2,13 +2,14 @@
 //! back to what they were when an event is taken out.
 #![tactic(auto)]
 
+mod branch;
 mod children;
 mod forks;
 mod places;
-mod rows;
 mod search;
 mod tickets;
 mod uses;
+mod ways;
 
 pub use children::is_first_child;
 pub use places::PlaceTable;

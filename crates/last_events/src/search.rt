@@ -1,10 +1,12 @@
 // Looking for a place by halves.
 ghost use Rattle.std.specs.Prelude.{◌≡◌, map, List};
 ghost use Rattle.address.specs.declared.Entry.{Entry};
-ghost use Rattle.last_events.specs.walking.Search.{Rising, Splits, first_place};
+ghost use Rattle.last_events.specs.walking.Search.{Rising, Splits};
+ghost use Rattle.last_events.specs.walking.Seats.{seat_way};
 
+use crate::branch::Seat;
 use crate::forks::{fork, is_less};
-use address::{Address, Entry};
+use address::Entry;
 
 /// What stands at a place.
 pub(crate) trait Placed {
@@ -15,22 +17,11 @@ pub(crate) trait Placed {
         ensures { result.now ≡ place self.now };
 }
 
-impl Placed for (Address, u64) {
-    ghost place = { λ seat. seat.0 };
+impl Placed for Seat {
+    ghost place = { λ seat. seat_way seat };
 
     fn place(&self) -> &[Entry] {
-        self.0.entries()
-    }
-}
-
-impl Placed for Vec<(Address, u64)> {
-    ghost place = { λ row. first_place row.items };
-
-    fn place(&self) -> &[Entry] {
-        match self.first() {
-            Some(seat) => seat.0.entries(),
-            None => &[],
-        }
+        self.way()
     }
 }
 

@@ -1,0 +1,83 @@
+use Rattle.std.proofs.Common.{◌≡◌, ◌<◌, ◌≤◌, ◌+◌, ◌*◌, ◌-◌, ℕ, List, length, map, drop, suc, sym, ap, subst, ◌∙◌, arith}
+use Rattle.address.specs.declared.Entry.{Entry}
+use Rattle.syntax.specs.Lists.{In}
+use Rattle.last_events.specs.declared.branch.Seat.{Seat}
+use Rattle.last_events.specs.walking.Search.{Splits}
+use Rattle.last_events.specs.walking.Seats.{Places, ordered_of, seat_way, seat_places, flat, IsWay, IsSound, IsBranch}
+use Rattle.last_events.specs.walking.Sizes.{entries_of}
+use Rattle.last_events.specs.walking.Walks.{Related, AddedLast}
+use Rattle.last_events.proofs.CodeLaws.{item-in, each-more, entries-dropped, entries-item, entries-fall}
+use Rattle.last_events.proofs.LastLaws.{event-last, inner-last, related-behind, related-seat, related-dropped, branch-dropped, group-last}
+use Rattle.last_events.proofs.ListLaws.{every-in, if-ok}
+use Rattle.last_events.proofs.SeatLaws.{seat-is-way}
+use Rattle.last_events.proofs.branch.+last.Goals as goal
+
+pub Seat::add_last-add_last-requires : goal.Seat::add_last-add_last-requires
+Seat::add_last-add_last-requires t c =
+    let fall = entries-fall c.args.self.now c.in-Inner.field-0 c.in-Inner.inner c.in-Inner.is c.requires.sound in
+    let same : entries_of c.deref.result.now ≡ entries_of c.in-Inner.inner.value = ap entries_of c.deref.ensures in (
+      omega (arith, fall, same, c.decreases),
+      subst (λ (es : Places). Related es) (sym c.deref.ensures)
+          (related-behind c.in-Inner.field-0 c.in-Inner.inner.value (subst (λ (x : Seat). Related (seat_places x)) c.in-Inner.is c.requires.related)),
+    )
+
+pub Seat::add_last-returns-in_ok-push-in-Event : goal.Seat::add_last-returns-in_ok-push-in-Event
+Seat::add_last-returns-in_ok-push-in-Event t c =
+    subst (λ (x : Seat). AddedLast (seat_places x) c.args.found.now.items c.push.new.self.items) (sym c.in-Event.is)
+    (event-last c.in-Event.field-0 c.in-Event.ticket c.args.found.now.items c.push.new.self.items c.in_ok-push-in-Event.ensures.items)
+
+pub Seat::add_last-returns-in-Inner : goal.Seat::add_last-returns-in-Inner
+Seat::add_last-returns-in-Inner t c =
+    if-ok _ _ c.add_last.result
+    (λ x added.
+    subst (λ (x : Seat). AddedLast (seat_places x) c.args.found.now.items c.add_last.new.found.items) (sym c.in-Inner.is)
+    (inner-last c.in-Inner.field-0 c.in-Inner.inner.value c.args.found.now.items c.add_last.new.found.items (subst (λ (x : Seat). IsSound x) c.in-Inner.is c.requires.sound).0
+    (subst (λ (es : Places). AddedLast es c.args.found.now.items c.add_last.new.found.items) c.deref.ensures added)))
+    c.add_last.ensures
+
+pub add_each-add_last-requires : goal.add_each-add_last-requires
+add_each-add_last-requires t c =
+    let item = item-in c.args.seats.now c.loop-seat.seat-index c.seat-item.result c.loop-seat-test.true c.seat-item.is in
+    let less = entries-item c.args.seats.now c.seat-item.result item in (
+      omega (arith, less, c.decreases),
+      (every-in IsSound c.args.seats.now c.seat-item.result c.requires.branch.sound item, related-seat c.args.seats.now c.seat-item.result c.requires.branch item c.requires.related),
+    )
+
+pub add_each-loop-seat-preserved : goal.add_each-loop-seat-preserved
+add_each-loop-seat-preserved t c = record {
+  added = each-more c.args.seats.now c.loop-seat.seat-index (c.loop-seat.seat-index + 1) c.seat-item.result c.args.found.now.items c.loop-seat.found.items c.add_last.new.found.items
+      c.requires.branch c.loop-seat-test.true c.seat-item.is (omega arith) c.loop-seat.invariant.added c.in_ok-add_last.ensures;
+}
+
+pub add_last_among-ordered-requires : goal.add_last_among-ordered-requires
+add_last_among-ordered-requires t c =
+    let item = c.in-Some.ensures.item in
+    let some : 0 < length c.args.seats.now = item.3.0 in
+    let there = item-in c.args.seats.now (length c.args.seats.now - 1) c.in-Some.last.now (omega arith) item.1 in
+    subst (λ (w : List Entry). IsWay w) (sym c.way.ensures) (seat-is-way c.in-Some.last.now (every-in IsSound c.args.seats.now c.in-Some.last.now c.requires.branch.sound there))
+
+pub add_last_among-add_each-requires : goal.add_last_among-add_each-requires
+add_last_among-add_each-requires t c =
+    let less = entries-dropped c.args.seats.now c.count_less.result in
+    let same : entries_of (flat c.split_at.result.1.now) ≡ entries_of (flat (drop c.count_less.result c.args.seats.now)) =
+    ap (λ (xs : List Seat). entries_of (flat xs)) c.split_at.ensures.back in (
+      omega (arith, less, same, c.decreases),
+      (
+        subst IsBranch (sym c.split_at.ensures.back) (branch-dropped c.args.seats.now c.count_less.result c.requires.branch),
+        subst (λ (xs : List Seat). Related (flat xs)) (sym c.split_at.ensures.back)
+            (related-dropped c.args.seats.now c.count_less.result c.requires.branch c.requires.related),
+      ),
+    )
+
+pub add_last_among-returns : goal.add_last_among-returns
+add_last_among-returns t c =
+    let item = c.in-Some.ensures.item in
+    let some : 0 < length c.args.seats.now = item.3.0 in
+    let there = item-in c.args.seats.now (length c.args.seats.now - 1) c.in-Some.last.now (omega arith) item.1 in
+    let split : Splits (map seat_way c.args.seats.now) (ordered_of (seat_way c.in-Some.last.now)) c.count_less.result =
+    subst (λ (w : List Entry). Splits (map seat_way c.args.seats.now) w c.count_less.result) (c.ordered.ensures ∙ ap ordered_of c.way.ensures) c.count_less.ensures in
+    if-ok _ _ c.add_each.result
+    (λ x added.
+    group-last c.args.seats.now c.in-Some.last.now c.count_less.result c.requires.branch c.requires.related there split c.args.found.now.items c.add_each.new.found.items
+    (subst (λ (xs : List Seat). AddedLast (flat xs) c.args.found.now.items c.add_each.new.found.items) c.split_at.ensures.back added))
+    c.add_each.ensures

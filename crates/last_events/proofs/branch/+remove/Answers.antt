@@ -1,0 +1,81 @@
+use Rattle.std.proofs.Common.{◌≡◌, ◌<◌, ◌+◌, ◌*◌, ℕ, true, false, List, [], length, refl, sym, ap, subst, ◌∙◌, arith}
+use Rattle.address.specs.declared.Entry.{Entry}
+use Rattle.last_events.specs.LastEvents.{RemovedAt}
+use Rattle.last_events.specs.declared.branch.Seat.{Seat}
+use Rattle.last_events.specs.declared.branch.Seat.TheVariants.{Event, Inner}
+use Rattle.last_events.specs.walking.Search.{Splits}
+use Rattle.last_events.specs.walking.Seats.{Places, way_of, seat_way, seat_places, IsBranch, HasSeat, FitsBehind, TakenAt}
+use Rattle.last_events.proofs.SeatLaws.{Stands, stands-at, stands-sound, fits-behind, seat_left, left-less, event-removed, inner-taken, gone-branch, gone-removed, kept-branch, kept-removed, taken-all, taken-some, absent-as}
+use Rattle.last_events.proofs.branch.+remove.Goals as goal
+
+pub Seat::remove-returns-in-Event : goal.Seat::remove-returns-in-Event
+Seat::remove-returns-in-Event t c = event-removed c.args.self.now c.in-Event.field-0 c.in-Event.field-1 c.args.rest.now c.in-Event.is c.requires.fits
+
+pub Seat::remove-returns-in-Inner : goal.Seat::remove-returns-in-Inner
+Seat::remove-returns-in-Inner t c =
+    inner-taken c.args.self.now c.in-Inner.field-0 c.in-Inner.inner _ c.args.rest.now c.is_empty.result c.remove.new.self c.in-Inner.is c.requires.sound refl
+    (subst (λ (es : Places). RemovedAt es c.args.rest.now c.remove.new.self) c.deref_mut.ensures.value c.remove.ensures)
+    (λ holds. sym c.deref.ensures ∙ c.is_empty.ensures.none holds)
+    (λ fails. subst (λ (es : Places). 0 < length es) c.deref.ensures (c.is_empty.ensures.some fails))
+
+pub remove_among-remove-requires : goal.remove_among-remove-requires
+remove_among-remove-requires t c =
+    let st : Stands c.args.seats.now.items c.count_less-index.result c.index_mut.result.now c.args.place.now =
+    stands-at c.args.seats.now.items c.as_slice-2.result.now c.count_less-index.result c.split_at.result.0.now _ c.args.place.now c.index_mut.result.now
+    c.as_slice-2.ensures.value c.split_at.ensures.front c.way_length.ensures.way (c.has_way.ensures.yes c.if-has_way.true) c.index_mut.ensures.value in
+    let sound = stands-sound c.args.seats.now.items c.count_less-index.result c.index_mut.result.now c.args.place.now c.requires st in
+    let rest = c.split_at.ensures.back ∙ c.way_length.ensures.rest in
+    let less = left-less c.index_mut.result.now c.args.place.now c.split_at.result.1.now sound st.way rest in (
+      omega (arith, less, c.decreases),
+      (sound, subst (λ (r : List Entry). FitsBehind c.index_mut.result.now r) (sym rest) (fits-behind c.index_mut.result.now c.args.place.now sound st.way)),
+    )
+
+pub remove_among-remove-requires-then-remove : goal.remove_among-remove-requires-then-remove
+remove_among-remove-requires-then-remove t c =
+    let st : Stands c.args.seats.now.items c.count_less-index.result c.index_mut.result.now c.args.place.now =
+    stands-at c.args.seats.now.items c.as_slice-2.result.now c.count_less-index.result c.split_at.result.0.now _ c.args.place.now c.index_mut.result.now
+    c.as_slice-2.ensures.value c.split_at.ensures.front c.way_length.ensures.way (c.has_way.ensures.yes c.if-has_way.true) c.index_mut.ensures.value in
+    omega (arith, st.within, c.args.seats.now.ok)
+
+pub remove_among-returns-then-remove-clause-branch : goal.remove_among-returns-then-remove-clause-branch
+remove_among-returns-then-remove-clause-branch t c =
+    let st : Stands c.args.seats.now.items c.count_less-index.result c.index_mut.result.now c.args.place.now =
+    stands-at c.args.seats.now.items c.as_slice-2.result.now c.count_less-index.result c.split_at.result.0.now _ c.args.place.now c.index_mut.result.now
+    c.as_slice-2.ensures.value c.split_at.ensures.front c.way_length.ensures.way (c.has_way.ensures.yes c.if-has_way.true) c.index_mut.ensures.value in
+    let rest = c.split_at.ensures.back ∙ c.way_length.ensures.rest in
+    gone-branch c.args.seats.now.items c.count_less-index.result c.index_mut.result.now c.remove.new.self c.args.place.now c.split_at.result.1.now c.requires st rest
+    c.remove-then-remove.new.self.items c.remove-then-remove.ensures.items
+
+pub remove_among-returns-then-remove-clause-removed : goal.remove_among-returns-then-remove-clause-removed
+remove_among-returns-then-remove-clause-removed t c =
+    let st : Stands c.args.seats.now.items c.count_less-index.result c.index_mut.result.now c.args.place.now =
+    stands-at c.args.seats.now.items c.as_slice-2.result.now c.count_less-index.result c.split_at.result.0.now _ c.args.place.now c.index_mut.result.now
+    c.as_slice-2.ensures.value c.split_at.ensures.front c.way_length.ensures.way (c.has_way.ensures.yes c.if-has_way.true) c.index_mut.ensures.value in
+    let rest = c.split_at.ensures.back ∙ c.way_length.ensures.rest in
+    gone-removed c.args.seats.now.items c.count_less-index.result c.index_mut.result.now c.remove.new.self c.args.place.now c.split_at.result.1.now c.requires st rest
+    c.remove-then-remove.new.self.items c.remove-then-remove.ensures.items (taken-all c.index_mut.result.now c.split_at.result.1.now c.remove.result c.remove.new.self c.remove.ensures c.if-remove.true)
+
+pub remove_among-returns-else-remove-clause-branch : goal.remove_among-returns-else-remove-clause-branch
+remove_among-returns-else-remove-clause-branch t c =
+    let st : Stands c.args.seats.now.items c.count_less-index.result c.index_mut.result.now c.args.place.now =
+    stands-at c.args.seats.now.items c.as_slice-2.result.now c.count_less-index.result c.split_at.result.0.now _ c.args.place.now c.index_mut.result.now
+    c.as_slice-2.ensures.value c.split_at.ensures.front c.way_length.ensures.way (c.has_way.ensures.yes c.if-has_way.true) c.index_mut.ensures.value in
+    let rest = c.split_at.ensures.back ∙ c.way_length.ensures.rest in
+    let left = taken-some c.index_mut.result.now c.split_at.result.1.now c.remove.result c.remove.new.self c.remove.ensures c.if-remove.false in
+    kept-branch c.args.seats.now.items c.count_less-index.result c.index_mut.result.now c.remove.new.self c.args.place.now c.split_at.result.1.now c.requires st rest
+    left.0 left.1
+
+pub remove_among-returns-else-remove-clause-removed : goal.remove_among-returns-else-remove-clause-removed
+remove_among-returns-else-remove-clause-removed t c =
+    let st : Stands c.args.seats.now.items c.count_less-index.result c.index_mut.result.now c.args.place.now =
+    stands-at c.args.seats.now.items c.as_slice-2.result.now c.count_less-index.result c.split_at.result.0.now _ c.args.place.now c.index_mut.result.now
+    c.as_slice-2.ensures.value c.split_at.ensures.front c.way_length.ensures.way (c.has_way.ensures.yes c.if-has_way.true) c.index_mut.ensures.value in
+    let rest = c.split_at.ensures.back ∙ c.way_length.ensures.rest in
+    let left = taken-some c.index_mut.result.now c.split_at.result.1.now c.remove.result c.remove.new.self c.remove.ensures c.if-remove.false in
+    kept-removed c.args.seats.now.items c.count_less-index.result c.index_mut.result.now c.remove.new.self c.args.place.now c.split_at.result.1.now c.requires st rest
+    left.2
+
+pub remove_among-returns-else-has_way-clause-removed : goal.remove_among-returns-else-has_way-clause-removed
+remove_among-returns-else-has_way-clause-removed t c =
+    absent-as c.args.seats.now.items c.as_slice.result.now c.as_slice-2.result.now c.split_at.result.0.now _ c.args.place.now c.count_less-index.result c.requires
+    c.as_slice.ensures.value c.as_slice-2.ensures.value c.split_at.ensures.front c.way_length.ensures.way c.count_less-index.ensures (c.has_way.ensures.no c.if-has_way.false)

@@ -1,0 +1,10 @@
+use Rattle.std.proofs.Common.{◌≡◌, ◌+◌, suc, arith}
+use Rattle.last_events.proofs.ChildLaws.{child-past, child-here}
+use Rattle.last_events.proofs.branch.index_of_child.Goals as goal
+
+pub returns-then-has_way : goal.returns-then-has_way
+returns-then-has_way c =
+    child-past c.args.seats.now c.args.place.now c.args.index c.requires.branch c.requires.index (c.args.index + 1) (omega arith) (c.has_way.ensures.yes c.if-has_way.true)
+
+pub returns-else-has_way : goal.returns-else-has_way
+returns-else-has_way c = child-here c.args.seats.now c.args.place.now c.args.index c.requires.branch c.requires.index (c.has_way.ensures.no c.if-has_way.false)

@@ -1,0 +1,399 @@
+// What stands in a branch, in the order of places, with what stands in the branches of its parallels. No place is stored whole:
+// events of one branch share the way to it.
+ghost use Rattle.std.specs.Prelude.{◌≡◌, ◌<◌, ◌++◌, ◌∷◌, [], true, false, length, map, IfOk, OnOk, OnErr};
+ghost use Rattle.last_events.specs.LastEvents.{ticket_at, first_child, Orderly, PutAt, RemovedAt};
+ghost use Rattle.last_events.specs.walking.Search.{Splits};
+ghost use Rattle.last_events.specs.walking.Seats.{AllOrdered, seat_way, seat_places, flat, HasSeat, IsSound, IsBranch, IsMadeOf, FitsBehind, TakenAt};
+ghost use Rattle.last_events.specs.walking.Walks.{Related, AddedLast, AddedBefore, AddedInner, AddedLesser};
+
+use crate::children::is_first_child;
+use crate::search::count_less;
+use crate::ways::{ends_at_branch, ordered, way_length};
+use address::{Address, Entry};
+use std::alloc::{AllocError, Global};
+use std::marker::Model;
+
+/// The events of a branch. Contracts see their places from the beginning of the branch, with their tickets, in order.
+#[cycle(branch)]
+#[derive(Drop)]
+pub(crate) struct BranchEvents {
+    seats: Vec<Seat>,
+}
+
+/// What stands in a branch behind a way from its beginning.
+#[cycle(branch)]
+#[derive(Drop)]
+pub(crate) enum Seat {
+    /// an event, by its ticket; the way has no branch number
+    Event(Address, u64),
+    /// the events of a branch, of which there is one at least; the way ends with the number of the branch
+    Inner(Address, Box<BranchEvents>),
+}
+
+impl Model for BranchEvents {
+    ghost use Rattle.std.specs.Prelude.{ℕ, List};
+    ghost use Rattle.address.specs.declared.Entry.{Entry};
+
+    ghost Value = { List (List Entry × ℕ) };
+
+    ghost use Rattle.last_events.specs.walking.Seats.{flat, IsBranch};
+
+    ghost view = { λ branch. flat branch.seats.items };
+
+    ghost invariant = { λ branch. IsBranch branch.seats.items };
+
+    ghost use Rattle.last_events.specs.walking.Sizes.{entries_of};
+
+    ghost size = { entries_of };
+
+    ghost use Rattle.last_events.specs.walking.Depths.{depth_le-entries};
+
+    ghost size_decreases = { λ a h. depth_le-entries a.seats.items h };
+}
+
+impl BranchEvents {
+    /// No events. It takes no memory yet.
+    pub(crate) fn new(alloc: Global) -> BranchEvents
+        ensures { result ≡ [] }
+    {
+        BranchEvents {
+            seats: Vec::new(alloc),
+        }
+    }
+
+    /// One event.
+    #[cycle(make)]
+    fn with_one(alloc: Global, place: &[Entry], ticket: u64) -> Result<BranchEvents, AllocError>
+        ensures { IfOk result (λ made. made ≡ (place.now, ticket) ∷ []) }
+    {
+        let mut seats = Vec::with_capacity(alloc, 1)?;
+        seats.push(Seat::new(alloc, place, ticket)?)?;
+        Ok(BranchEvents { seats })
+    }
+
+    /// Whether there are none.
+    fn is_empty(&self) -> bool
+        ensures none { result ≡ true → self.now ≡ [] }
+        ensures some { result ≡ false → 0 < length self.now }
+    {
+        self.seats.is_empty()
+    }
+
+    /// Puts the event of this ticket at the place. Without memory for it all is as before.
+    #[cycle(put)]
+    pub(crate) fn put(
+        &mut self,
+        alloc: Global,
+        place: &[Entry],
+        ticket: u64,
+    ) -> Result<(), AllocError>
+        ensures put { OnOk result (PutAt self.old place.now ticket self.new) }
+        ensures refused { OnErr result (self.new ≡ self.old) }
+    {
+        put_among(&mut self.seats, alloc, place, ticket)
+    }
+
+    /// Takes out what stands at the place.
+    #[cycle(remove)]
+    pub(crate) fn remove(&mut self, place: &[Entry])
+        ensures { RemovedAt self.old place.now self.new }
+    {
+        remove_among(&mut self.seats, place);
+    }
+}
+
+impl Seat {
+    /// What stands where one event does.
+    #[cycle(make)]
+    fn new(alloc: Global, place: &[Entry], ticket: u64) -> Result<Seat, AllocError>
+        ensures { IfOk result (IsMadeOf place.now ticket) }
+    {
+        let (way, rest) = place.split_at(way_length(place));
+        let held = Address::new(alloc, way)?;
+        if !ends_at_branch(way) {
+            return Ok(Seat::Event(held, ticket));
+        }
+        let inner = Box::new(alloc, BranchEvents::with_one(alloc, rest, ticket)?)?;
+        Ok(Seat::Inner(held, inner))
+    }
+
+    /// The way to it.
+    pub(crate) fn way(&self) -> &[Entry]
+        ensures { result.now ≡ seat_way self.now }
+    {
+        match self {
+            Seat::Event(way, _) => way.entries(),
+            Seat::Inner(way, _) => way.entries(),
+        }
+    }
+
+    /// Puts the event behind the way.
+    #[cycle(put)]
+    fn put(&mut self, alloc: Global, rest: &[Entry], ticket: u64) -> Result<(), AllocError>
+        requires sound { IsSound self.old }
+        requires fits { FitsBehind self.old rest.now }
+        ensures sound { IsSound self.new }
+        ensures way { seat_way self.new ≡ seat_way self.old }
+        ensures put { OnOk result (PutAt (seat_places self.old) (seat_way self.old ++ rest.now) ticket (seat_places self.new)) }
+        ensures refused { OnErr result (seat_places self.new ≡ seat_places self.old) }
+    {
+        match self {
+            Seat::Event(_, held) => {
+                *held = ticket;
+                Ok(())
+            }
+            Seat::Inner(_, inner) => inner.put(alloc, rest, ticket),
+        }
+    }
+
+    /// Takes out what stands behind the way. Whether nothing is left.
+    #[cycle(remove)]
+    fn remove(&mut self, rest: &[Entry]) -> bool
+        requires sound { IsSound self.old }
+        requires fits { FitsBehind self.old rest.now }
+        ensures { TakenAt self.old rest.now result self.new }
+    {
+        match self {
+            Seat::Event(_, _) => true,
+            Seat::Inner(_, inner) => {
+                inner.remove(rest);
+                inner.is_empty()
+            }
+        }
+    }
+}
+
+/// Puts the event among what stands in a branch.
+#[cycle(put)]
+fn put_among(
+    seats: &mut Vec<Seat>,
+    alloc: Global,
+    place: &[Entry],
+    ticket: u64,
+) -> Result<(), AllocError>
+    requires { IsBranch seats.old.items }
+    ensures branch { IsBranch seats.new.items }
+    ensures put { OnOk result (PutAt (flat seats.old.items) place.now ticket (flat seats.new.items)) }
+    ensures refused { OnErr result (flat seats.new.items ≡ flat seats.old.items) }
+{
+    let (way, rest) = place.split_at(way_length(place));
+    let index = count_less(seats.as_slice(), way);
+    if has_way(seats.as_slice(), index, way) {
+        return seats[index].put(alloc, rest, ticket);
+    }
+    let seat = Seat::new(alloc, place, ticket)?;
+    seats.insert(index, seat)?;
+    Ok(())
+}
+
+/// Takes out what stands at the place.
+#[cycle(remove)]
+fn remove_among(seats: &mut Vec<Seat>, place: &[Entry])
+    requires { IsBranch seats.old.items }
+    ensures branch { IsBranch seats.new.items }
+    ensures removed { RemovedAt (flat seats.old.items) place.now (flat seats.new.items) }
+{
+    let (way, rest) = place.split_at(way_length(place));
+    let index = count_less(seats.as_slice(), way);
+    if has_way(seats.as_slice(), index, way) {
+        if seats[index].remove(rest) {
+            seats.remove(index);
+        }
+    }
+}
+
+/// Whether there is something at this index that has this way.
+fn has_way(seats: &[Seat], index: usize, way: &[Entry]) -> bool
+    ensures yes { result ≡ true → HasSeat seats.now index way.now }
+    ensures no { result ≡ false → HasSeat seats.now index way.now → ⊥ }
+{
+    match seats.get(index) {
+        Some(seat) => seat.way() == way,
+        None => false,
+    }
+}
+
+impl BranchEvents {
+    /// Adds the last events before the place, and tells whether there are any.
+    #[cycle(before)]
+    pub(crate) fn add_before(
+        &self,
+        place: &[Entry],
+        found: &mut Vec<u64>,
+    ) -> Result<bool, AllocError>
+        requires { Orderly self.now place.now }
+        ensures { IfOk result (λ some. AddedBefore self.now place.now some found.old.items found.new.items) }
+    {
+        add_before_among(self.seats.as_slice(), place, found)
+    }
+
+    /// Adds the last of all events: of each branch of the parallel at the end, if one stands there.
+    #[cycle(last)]
+    fn add_last(&self, found: &mut Vec<u64>) -> Result<(), AllocError>
+        requires { Related self.now }
+        ensures { IfOk result (λ _. AddedLast self.now found.old.items found.new.items) }
+    {
+        add_last_among(self.seats.as_slice(), found)
+    }
+
+    /// The ticket of the event that stands at the first child of the place. It takes no memory.
+    #[cycle(child)]
+    pub(crate) fn at_first_child(&self, place: &[Entry]) -> Option<u64>
+        ensures { result ≡ ticket_at self.now (first_child place.now) }
+    {
+        first_child_among(self.seats.as_slice(), place)
+    }
+}
+
+impl Seat {
+    /// Adds the last of the events that stand here.
+    #[cycle(last)]
+    fn add_last(&self, found: &mut Vec<u64>) -> Result<(), AllocError>
+        requires sound { IsSound self.now }
+        requires related { Related (seat_places self.now) }
+        ensures { IfOk result (λ _. AddedLast (seat_places self.now) found.old.items found.new.items) }
+    {
+        match self {
+            Seat::Event(_, ticket) => {
+                found.push(*ticket)?;
+                Ok(())
+            }
+            Seat::Inner(_, inner) => inner.add_last(found),
+        }
+    }
+}
+
+/// Adds the last events before the place: of the innermost of its branches in which one is before it.
+#[cycle(before)]
+fn add_before_among(
+    seats: &[Seat],
+    place: &[Entry],
+    found: &mut Vec<u64>,
+) -> Result<bool, AllocError>
+    requires branch { IsBranch seats.now }
+    requires orderly { Orderly (flat seats.now) place.now }
+    ensures { IfOk result (λ some. AddedBefore (flat seats.now) place.now some found.old.items found.new.items) }
+{
+    let inner = add_inner(seats, place, found)?;
+    if inner {
+        return Ok(true);
+    }
+    add_lesser(seats, place, found)
+}
+
+/// Adds the last events before the place in the branch that it goes into.
+#[cycle(before)]
+fn add_inner(seats: &[Seat], place: &[Entry], found: &mut Vec<u64>) -> Result<bool, AllocError>
+    requires branch { IsBranch seats.now }
+    requires orderly { Orderly (flat seats.now) place.now }
+    ensures { IfOk result (λ some. AddedInner (flat seats.now) place.now some found.old.items found.new.items) }
+{
+    let (way, rest) = place.split_at(way_length(place));
+    let index = count_less(seats, way);
+    if !has_way(seats, index, way) {
+        return Ok(false);
+    }
+    match &seats[index] {
+        Seat::Event(_, _) => Ok(false),
+        Seat::Inner(_, inner) => inner.add_before(rest, found),
+    }
+}
+
+/// Adds the last of the events that stand before all branches that are beside that of the place.
+fn add_lesser(seats: &[Seat], place: &[Entry], found: &mut Vec<u64>) -> Result<bool, AllocError>
+    requires branch { IsBranch seats.now }
+    requires orderly { Orderly (flat seats.now) place.now }
+    ensures { IfOk result (λ some. AddedLesser (flat seats.now) place.now some found.old.items found.new.items) }
+{
+    let (way, _) = place.split_at(way_length(place));
+    let (lesser, _) = seats.split_at(count_less(seats, ordered(way)));
+    if lesser.is_empty() {
+        return Ok(false);
+    }
+    add_last_among(lesser, found)?;
+    Ok(true)
+}
+
+/// Adds the last of these events: those of the last one's parallel, or the last one.
+#[cycle(last)]
+fn add_last_among(seats: &[Seat], found: &mut Vec<u64>) -> Result<(), AllocError>
+    requires branch { IsBranch seats.now }
+    requires related { Related (flat seats.now) }
+    ensures { IfOk result (λ _. AddedLast (flat seats.now) found.old.items found.new.items) }
+{
+    let Some(last) = seats.last() else {
+        return Ok(());
+    };
+    let (_, group) = seats.split_at(count_less(seats, ordered(last.way())));
+    add_each(group, found)
+}
+
+/// Adds the last events of each of these.
+#[cycle(last)]
+fn add_each(seats: &[Seat], found: &mut Vec<u64>) -> Result<(), AllocError>
+    requires branch { IsBranch seats.now }
+    requires related { Related (flat seats.now) }
+    ensures { IfOk result (λ _. AddedLast (flat seats.now) found.old.items found.new.items) }
+{
+    for seat in seats {
+        seat.add_last(found)?;
+    }
+    Ok(())
+}
+
+/// The ticket of the event that stands at the first child of the place.
+#[cycle(child)]
+fn first_child_among(seats: &[Seat], place: &[Entry]) -> Option<u64>
+    requires { IsBranch seats.now }
+    ensures { result ≡ ticket_at (flat seats.now) (first_child place.now) }
+{
+    let (way, rest) = place.split_at(way_length(place));
+    let index = count_less(seats, way);
+    if !ends_at_branch(way) {
+        return event_behind(seats, index, place);
+    }
+    if !has_way(seats, index, way) {
+        return None;
+    }
+    match &seats[index] {
+        Seat::Event(_, _) => None,
+        Seat::Inner(_, inner) => inner.at_first_child(rest),
+    }
+}
+
+/// The ticket of the event that stands at the first child of the place, which has no branch number: it is the next behind what
+/// is less than the place, or behind the place itself.
+fn event_behind(seats: &[Seat], index: usize, place: &[Entry]) -> Option<u64>
+    requires branch { IsBranch seats.now }
+    requires ordered { AllOrdered place.now }
+    requires index { Splits (map seat_way seats.now) place.now index }
+    ensures { result ≡ ticket_at (flat seats.now) (first_child place.now) }
+{
+    let next = index_of_child(seats, index, place);
+    let Some(seat) = seats.get(next) else {
+        return None;
+    };
+    match seat {
+        Seat::Inner(_, _) => None,
+        Seat::Event(way, ticket) => {
+            if is_first_child(way.entries(), place) {
+                Some(*ticket)
+            } else {
+                None
+            }
+        }
+    }
+}
+
+/// Behind how many of these the first child of the place stands or would stand.
+fn index_of_child(seats: &[Seat], index: usize, place: &[Entry]) -> usize
+    requires branch { IsBranch seats.now }
+    requires index { Splits (map seat_way seats.now) place.now index }
+    ensures { Splits (map seat_way seats.now) (first_child place.now) result }
+{
+    if has_way(seats, index, place) {
+        index + 1
+    } else {
+        index
+    }
+}

@@ -1,0 +1,52 @@
+// The way that a place takes in its branch.
+ghost use Rattle.std.specs.Prelude.{◌≡◌, ◌≤◌, length, take, drop, true, false};
+ghost use Rattle.last_events.specs.walking.Seats.{way_of, rest_of, ordered_of, AllOrdered, EndsAtBranch, IsWay};
+
+use crate::forks::is_ordered;
+use address::Entry;
+
+/// How many entries there are up to the first branch number, with it.
+pub(crate) fn way_length(place: &[Entry]) -> usize
+    ensures within { result ≤ length place.now }
+    ensures way { take result place.now ≡ way_of place.now }
+    ensures rest { drop result place.now ≡ rest_of place.now }
+{
+    let mut count = 0;
+    while is_ordered(place, count) {
+        count += 1;
+    }
+    if count < place.len() {
+        count + 1
+    } else {
+        count
+    }
+}
+
+/// The ordered entries of a way.
+pub(crate) fn ordered(way: &[Entry]) -> &[Entry]
+    requires { IsWay way.now }
+    ensures { result.now ≡ ordered_of way.now }
+{
+    let Some((last, before)) = way.split_last() else {
+        return way;
+    };
+    match last {
+        Entry::Branch(_) => before,
+        Entry::Ordered(_) => way,
+    }
+}
+
+/// Whether a way ends with a branch number.
+pub(crate) fn ends_at_branch(way: &[Entry]) -> bool
+    requires { IsWay way.now }
+    ensures event { result ≡ false → AllOrdered way.now }
+    ensures branch { result ≡ true → EndsAtBranch way.now }
+{
+    let Some((last, _)) = way.split_last() else {
+        return false;
+    };
+    match last {
+        Entry::Branch(_) => true,
+        Entry::Ordered(_) => false,
+    }
+}
