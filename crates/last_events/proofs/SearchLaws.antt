@@ -1,5 +1,5 @@
 -- Looking for a place by halves.
-use Rattle.std.proofs.Common.{◌≡◌, ◌⊎◌, inl, inr, ℕ, zero, suc, ◌<◌, ◌≤◌, Bool, true, false, List, [], ◌∷◌, length, take, drop, map, cond, get_or, Some, None, is_some, slice_get, refl, sym, ap, subst, ◌∙◌, true≢false, arith, Ordering, Less, Equal, Greater}
+use Rattle.std.proofs.Common.{◌≡◌, ◌⊎◌, inl, inr, ℕ, zero, suc, ◌-◌, ◌<◌, ◌≤◌, Bool, true, false, List, [], ◌∷◌, length, take, drop, map, cond, get_or, Some, None, is_some, slice_get, refl, sym, ap, subst, ◌∙◌, true≢false, arith, Ordering, Less, Equal, Greater}
 use Rattle.std.specs.Ordering.{is_lt, nat_cmp, ord_min}
 use Rattle.address.specs.declared.Entry.{Entry}
 use Rattle.address.specs.Order.{order_of}
@@ -7,7 +7,7 @@ use Rattle.address.specs.walking.OrderLaws.{less-not-equal, greater-not-less}
 use Rattle.address.proofs.Total.{order-transitive, order-itself}
 use Rattle.syntax.specs.Lists.{In}
 use Rattle.last_events.specs.walking.Forks.{IsFork, Shares}
-use Rattle.last_events.specs.walking.Search.{Rising, Splits}
+use Rattle.last_events.specs.walking.Search.{AllLess, LastNotLess, Rising, Splits}
 use Rattle.last_events.proofs.ForkLaws.{number-less, number-ties, number-more, shares-back, shares-on, shares-fewer, fork-shares, between-shares}
 
 -- ---- places by their number
@@ -192,3 +192,38 @@ min-first s t k is = subst (λ (n : ℕ). n ≤ s) (sym is) (least-first s t (na
 
 pub min-second : (s t k : ℕ) → k ≡ ord_min nat_cmp s t → k ≤ t
 min-second s t k is = subst (λ (n : ℕ). n ≤ t) (sym is) (least-second s t (nat_cmp t s) refl)
+
+-- ---- the last ones first
+module _ (ps : List (List Entry)) (p a : List Entry) (n m : ℕ) (b : Bool) (r : Rising ps) (at : slice_get ps m ≡ Some a) (some : n ≡ suc m) (test : b ≡ is_lt (order_of a p))
+  where
+    pub all-less : b ≡ true → AllLess ps n p
+    all-less holds =
+        let less : order_of a p ≡ Less = less-of (order_of a p) (sym test ∙ holds) in
+        subst (λ (k : ℕ). AllLess ps k p) (sym some)
+        (λ c i. elim (in-take-more ps m a c at i) [
+          | inl earlier ↦ order-transitive c a p (rising-before ps m a c r at earlier) less
+          | inr same ↦ subst (λ (d : List Entry). order_of d p ≡ Less) (sym same) less
+        ])
+
+    pub last-not-less : b ≡ false → LastNotLess ps n p
+    last-not-less fails =
+        let more : order_of a p ≡ Less → ⊥ = more-of (order_of a p) (sym test ∙ fails) in
+        let before : n - 1 ≡ m = omega arith in
+        record {
+          some = omega arith;
+          above = subst (λ (k : ℕ). (c : List Entry) → In c (drop k ps) → order_of c p ≡ Less → ⊥) (sym before)
+              (λ c i low. elim (in-drop-here ps m a c at i) [
+                | inl same ↦ more (subst (λ (d : List Entry). order_of d p ≡ Less) same low)
+                | inr later ↦ more (order-transitive a c p (rising-after ps m a c r at later) low)
+              ]);
+        }
+
+pub split-all : (ps : List (List Entry)) (p : List Entry) (n : ℕ) → n ≡ length ps → AllLess ps n p → Splits ps p n
+split-all ps p n is all = record { within = omega arith; below = all; above = λ a i less. none-behind ps n a is i }
+
+pub split-last : (ps : List (List Entry)) (p : List Entry) (n m : ℕ) → n ≡ length ps → m ≡ n - 1 → LastNotLess ps n p → AllLess ps m p → Splits ps p m
+split-last ps p n m is before last all = record {
+  within = let some : 0 < n = last.some in omega arith;
+  below = all;
+  above = subst (λ (k : ℕ). (a : List Entry) → In a (drop k ps) → order_of a p ≡ Less → ⊥) (sym before) last.above;
+}

@@ -1,7 +1,7 @@
 // Looking for a place by halves.
-ghost use Rattle.std.specs.Prelude.{◌≡◌, map, List};
+ghost use Rattle.std.specs.Prelude.{◌≡◌, ◌≤◌, map, length, true, false, List};
 ghost use Rattle.address.specs.declared.Entry.{Entry};
-ghost use Rattle.last_events.specs.walking.Search.{Rising, Splits};
+ghost use Rattle.last_events.specs.walking.Search.{AllLess, LastNotLess, Rising, Splits};
 ghost use Rattle.last_events.specs.walking.Seats.{seat_way};
 
 use crate::branch::Seat;
@@ -25,9 +25,42 @@ impl Placed for Seat {
     }
 }
 
+/// How many of these places, which rise, are less than this one. The last two are looked at first, since a new place is behind
+/// all others nearly always.
+pub(crate) fn count_less<T: Placed>(seats: &[T], place: &[Entry]) -> usize
+    requires { Rising (map T.place seats.now) }
+    ensures { Splits (map T.place seats.now) place.now result }
+{
+    let count = seats.len();
+    if is_behind(seats, count, place) {
+        return count;
+    }
+    let fewer = count - 1;
+    if is_behind(seats, fewer, place) {
+        return fewer;
+    }
+    count_by_halves(seats, place)
+}
+
+/// Whether the first so many of these places, which rise, are less than this one. Else there is a last of them, and it is not.
+fn is_behind<T: Placed>(seats: &[T], count: usize, place: &[Entry]) -> bool
+    requires rising { Rising (map T.place seats.now) }
+    requires within { count ≤ length seats.now }
+    ensures all { result ≡ true → AllLess (map T.place seats.now) count place.now }
+    ensures none { result ≡ false → LastNotLess (map T.place seats.now) count place.now }
+{
+    if count == 0 {
+        return true;
+    }
+    let last = count - 1;
+    let seat = seats[last].place();
+    let parted = fork(seat, place, 0);
+    is_less(seat, place, parted)
+}
+
 /// How many of these places, which rise, are less than this one. What lies between two places that share some entries with it
 /// shares them too, so no look begins at the first entry again.
-pub(crate) fn count_less<T: Placed>(seats: &[T], place: &[Entry]) -> usize
+fn count_by_halves<T: Placed>(seats: &[T], place: &[Entry]) -> usize
     requires { Rising (map T.place seats.now) }
     ensures { Splits (map T.place seats.now) place.now result }
 {

@@ -1,52 +1,16 @@
-use Rattle.std.proofs.Common.{◌≤◌, ◌<◌, ◌+◌, ◌-◌, ◌/◌, ℕ, length, map, subst, arith}
-use Rattle.last_events.proofs.SearchLaws.{narrowed-shares, narrowed-up, narrowed-down, place-read, length-places, min-first, min-second}
+use Rattle.std.proofs.Common.{◌≡◌, ◌<◌, ◌-◌, length, map, refl, sym, arith}
+use Rattle.last_events.proofs.SearchLaws.{split-all, split-last, length-places}
 use Rattle.last_events.proofs.search.count_less.Goals as goal
 
-pub fork-parted-requires : goal.fork-parted-requires
-fork-parted-requires g c =
-    let order : c.loop-low.low ≤ c.loop-low.high = c.loop-low.invariant.narrowed.order in
-    let within : c.loop-low.high ≤ length c.args.seats.now =
-    subst (λ (k : ℕ). c.loop-low.high ≤ k) (length-places g.T.Placed.place c.args.seats.now) c.loop-low.invariant.narrowed.within in
-    let test : c.loop-low.low < c.loop-low.high = omega (arith, c.loop-low-test.true) in
-    let from : c.loop-low.low ≤ c.loop-low.low + (c.loop-low.high - c.loop-low.low) / 2 = omega arith in
-    let under : c.loop-low.low + (c.loop-low.high - c.loop-low.low) / 2 < c.loop-low.high = omega arith in
-    narrowed-shares (map g.T.Placed.place c.args.seats.now) c.args.place.now c.loop-low.low c.loop-low.high c.loop-low.low_shared c.loop-low.high_shared
-    (c.loop-low.low + (c.loop-low.high - c.loop-low.low) / 2) c.min.result c.place-seat.result.now c.loop-low.invariant.narrowed from under
-    (min-first c.loop-low.low_shared c.loop-low.high_shared c.min.result c.min.ensures) (min-second c.loop-low.low_shared c.loop-low.high_shared c.min.result c.min.ensures)
-    (place-read g.T.Placed.place c.args.seats.now (c.loop-low.low + (c.loop-low.high - c.loop-low.low) / 2) c.index-seats-middle.result c.place-seat.result.now
-    (omega arith) c.index-seats-middle.is c.place-seat.ensures)
+pub returns-then-is_behind : goal.returns-then-is_behind
+returns-then-is_behind g c =
+    split-all (map g.T.Placed.place c.args.seats.now) c.args.place.now (length c.args.seats.now) (sym (length-places g.T.Placed.place c.args.seats.now))
+    (c.is_behind.ensures.all c.if-is_behind.true)
 
-pub loop-low-preserved-then-is_less : goal.loop-low-preserved-then-is_less
-loop-low-preserved-then-is_less g c =
-    let order : c.loop-low.low ≤ c.loop-low.high = c.loop-low.invariant.narrowed.order in
-    let within : c.loop-low.high ≤ length c.args.seats.now =
-    subst (λ (k : ℕ). c.loop-low.high ≤ k) (length-places g.T.Placed.place c.args.seats.now) c.loop-low.invariant.narrowed.within in
-    let test : c.loop-low.low < c.loop-low.high = omega (arith, c.loop-low-test.true) in
-    let from : c.loop-low.low ≤ c.loop-low.low + (c.loop-low.high - c.loop-low.low) / 2 = omega arith in
-    let under : c.loop-low.low + (c.loop-low.high - c.loop-low.low) / 2 < c.loop-low.high = omega arith in
-    record {
-      narrowed =
-          narrowed-up (map g.T.Placed.place c.args.seats.now) c.args.place.now c.loop-low.low c.loop-low.high c.loop-low.low_shared c.loop-low.high_shared
-          (c.loop-low.low + (c.loop-low.high - c.loop-low.low) / 2) c.fork-parted.result (c.loop-low.low + (c.loop-low.high - c.loop-low.low) / 2 + 1) c.place-seat.result.now
-          c.is_less.result c.requires c.loop-low.invariant.narrowed from under
-          (place-read g.T.Placed.place c.args.seats.now (c.loop-low.low + (c.loop-low.high - c.loop-low.low) / 2) c.index-seats-middle.result c.place-seat.result.now
-          (omega arith) c.index-seats-middle.is c.place-seat.ensures)
-          c.fork-parted.ensures c.is_less.ensures c.if-is_less.true (omega arith);
-    }
+pub returns-then-is_behind-2 : goal.returns-then-is_behind-2
+returns-then-is_behind-2 g c =
+    split-last (map g.T.Placed.place c.args.seats.now) c.args.place.now (length c.args.seats.now) (length c.args.seats.now - 1)
+    (sym (length-places g.T.Placed.place c.args.seats.now)) refl (c.is_behind.ensures.none c.if-is_behind.false) (c.is_behind-2.ensures.all c.if-is_behind-2.true)
 
-pub loop-low-preserved : goal.loop-low-preserved
-loop-low-preserved g c =
-    let order : c.loop-low.low ≤ c.loop-low.high = c.loop-low.invariant.narrowed.order in
-    let within : c.loop-low.high ≤ length c.args.seats.now =
-    subst (λ (k : ℕ). c.loop-low.high ≤ k) (length-places g.T.Placed.place c.args.seats.now) c.loop-low.invariant.narrowed.within in
-    let test : c.loop-low.low < c.loop-low.high = omega (arith, c.loop-low-test.true) in
-    let from : c.loop-low.low ≤ c.loop-low.low + (c.loop-low.high - c.loop-low.low) / 2 = omega arith in
-    let under : c.loop-low.low + (c.loop-low.high - c.loop-low.low) / 2 < c.loop-low.high = omega arith in
-    record {
-      narrowed =
-          narrowed-down (map g.T.Placed.place c.args.seats.now) c.args.place.now c.loop-low.low c.loop-low.high c.loop-low.low_shared c.loop-low.high_shared
-          (c.loop-low.low + (c.loop-low.high - c.loop-low.low) / 2) c.fork-parted.result c.place-seat.result.now c.is_less.result c.requires c.loop-low.invariant.narrowed from under
-          (place-read g.T.Placed.place c.args.seats.now (c.loop-low.low + (c.loop-low.high - c.loop-low.low) / 2) c.index-seats-middle.result c.place-seat.result.now
-          (omega arith) c.index-seats-middle.is c.place-seat.ensures)
-          c.fork-parted.ensures c.is_less.ensures c.if-is_less.false;
-    }
+pub overflow_sub-fewer : goal.overflow_sub-fewer
+overflow_sub-fewer g c = let last = c.is_behind.ensures.none c.if-is_behind.false in let some : 0 < length c.args.seats.now = last.some in omega arith
