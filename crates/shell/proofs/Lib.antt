@@ -1,0 +1,3 @@
+pub mod LawLemmas
+pub mod LeavesLemmas
+pub mod TakenLemmas
