@@ -1,5 +1,5 @@
 // The beginning of a session.
-ghost use Rattle.std.specs.Prelude.{◌≡◌, [], IfOk, IfErr, MatchResult};
+ghost use Rattle.std.specs.Prelude.{◌≡◌, [], Ok, Err, IfOk, IfErr, MatchResult};
 ghost use Rattle.std.specs.Option.{option_copied};
 ghost use Rattle.system.specs.declared.system.System.{System};
 ghost use Rattle.machine.specs.AtMachine.{AtMachine};
@@ -22,12 +22,14 @@ pub fn setting_of<'a>(alloc: Global, texts: Texts<'a>) -> Result<Setting<'a>, Fa
     ensures texts { IfOk result (λ setting. setting.texts ≡ texts) }
     ensures fault { IfErr result (λ fault. fault ≡ Memory) }
 {
-    let elements = Elements::of(alloc, texts.source)?;
-    Ok(Setting {
-        alloc,
-        texts,
-        elements,
-    })
+    match Elements::of(alloc, texts.source) {
+        Ok(elements) => Ok(Setting {
+            alloc,
+            texts,
+            elements,
+        }),
+        Err(_) => Err(Fault::Memory),
+    }
 }
 
 /// A session on the system of these texts, behind the trace if there is one.
@@ -64,8 +66,18 @@ fn new_machine(alloc: Global, texts: &Texts<'_>) -> Result<Machine, Fault>
         (IsRefused texts.now.source.now texts.now.stimulus.now) }
 {
     match accept(alloc, texts.source, texts.stimulus) {
-        Ok(checked) => Ok(Machine::new(alloc, checked)?),
+        Ok(checked) => or_memory(Machine::new(alloc, checked)),
         Err(fault) => Err(fault),
+    }
+}
+
+/// A machine that was made, or that there was no memory for it.
+fn or_memory(made: Result<Machine, machine::Fault>) -> Result<Machine, Fault>
+    ensures { MatchResult made (λ machine. result ≡ Ok machine) (λ _. result ≡ Err Memory) }
+{
+    match made {
+        Ok(machine) => Ok(machine),
+        Err(_) => Err(Fault::Memory),
     }
 }
 

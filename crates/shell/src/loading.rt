@@ -1,9 +1,10 @@
 // Another execution in place of the one at hand.
-ghost use Rattle.std.specs.Prelude.{◌≡◌, MatchResult};
+ghost use Rattle.std.specs.Prelude.{◌≡◌, Ok, Err, MatchResult};
 ghost use Rattle.shell_desk.specs.Does.{TurnsTo};
 ghost use Rattle.shell_desk.specs.declared.word.Word.TheVariants as words;
 ghost use Rattle.system.specs.declared.system.System.{System};
 ghost use Rattle.debug_session.specs.Accepting.{AcceptedAs};
+ghost use Rattle.debug_session.specs.Wrapping.{of_trace};
 ghost use Rattle.trace_file.specs.Loading.{IsLoaded};
 ghost use Rattle.shell.specs.Beginning.{IsOfTrace, RefusesTexts};
 ghost use Rattle.shell.specs.Lines.{Leaves};
@@ -91,8 +92,18 @@ pub(crate) fn machine_of(alloc: Global, texts: &Texts<'_>, trace: &[u8]) -> Resu
         (RefusesTexts texts.now.source.now texts.now.stimulus.now trace.now) }
 {
     match accept(alloc, texts.source, texts.stimulus) {
-        Ok(checked) => Ok(load_text(alloc, checked, trace)?),
+        Ok(checked) => or_refused(load_text(alloc, checked, trace)),
         Err(fault) => Err(fault),
+    }
+}
+
+/// A machine that was loaded, or why none was.
+fn or_refused(loaded: Result<Machine, trace_file::Fault>) -> Result<Machine, Fault>
+    ensures { MatchResult loaded (λ machine. result ≡ Ok machine) (λ fault. result ≡ Err (of_trace fault)) }
+{
+    match loaded {
+        Ok(machine) => Ok(machine),
+        Err(fault) => Err(Fault::from(fault)),
     }
 }
 

@@ -80,9 +80,19 @@ impl Notes {
         shown.into_bytes().ok()
     }
 
-    /// Adds a line that asks for no command.
-    pub(crate) fn add_line(&mut self, line: &[u8]) {
+    /// Adds a line of this session that asks for no command.
+    pub(crate) fn add_line(&mut self, session: u32, line: &[u8]) {
+        self.turn_to(session);
         self.script.add(line);
+    }
+
+    /// Adds a line that names the session, where it is another than before.
+    fn turn_to(&mut self, session: u32) {
+        if session != self.session {
+            self.session = session;
+            self.script
+                .add_counted(b"session ", u64::from(session), b"\n");
+        }
     }
 
     /// The lines so far, `None` where there was no memory for some.
@@ -92,11 +102,7 @@ impl Notes {
 
     /// Adds the line of a command of this session.
     fn add_command(&mut self, system: &System, session: u32, command: &Command) {
-        if session != self.session {
-            self.session = session;
-            self.script
-                .add_counted(b"session ", u64::from(session), b"\n");
-        }
+        self.turn_to(session);
         add_command(&mut self.script, system, command);
     }
 

@@ -1,33 +1,49 @@
 // What is written for people.
+ghost use Rattle.std.specs.Prelude.{List, ℕ, ◌++◌, IfSome, OnOk};
+ghost use Rattle.std.specs.Io.KnownBytes.{Appends};
+ghost use Rattle.devices.specs.Counting.{device};
+
 use crate::{Answer, Outcome};
 use debug_session::{Counted, Fault, write_out};
 use plain_words::Text;
 use std::io::Write;
 
-/// Writes an answer: that of a script, and the words behind it.
-pub(crate) fn write_answer<W: Write>(out: &mut Counted<W>, answer: &Answer) -> Result<(), Fault> {
-    if answer.outcome != Outcome::Unread {
-        write_own(out, &answer.own)?;
-    }
+/// Writes an answer: that of a script first, and words behind it.
+pub(crate) fn write_answer<W: Write>(out: &mut Counted<W>, answer: &Answer) -> Result<(), Fault>
+    ensures { OnOk result (IfSome answer.now.own (λ own. (words : List ℕ)
+        × Appends (W.contents (device out.old)) (W.contents (device out.new)) (own.items ++ words))) }
+{
+    write_own(out, answer)?;
     write_text(out, &answer.words)
 }
 
 /// Writes the answer of a script, or that there was no memory for it.
-fn write_own<W: Write>(out: &mut Counted<W>, own: &Option<Vec<u8>>) -> Result<(), Fault> {
-    match own {
+fn write_own<W: Write>(out: &mut Counted<W>, answer: &Answer) -> Result<(), Fault>
+    ensures { OnOk result (IfSome answer.now.own (λ own.
+        Appends (W.contents (device out.old)) (W.contents (device out.new)) own.items)) }
+{
+    match &answer.own {
         Some(bytes) => write_some(out, bytes.as_slice()),
-        None => write_out(
-            out,
-            b"  the line was done, but there was no memory for its answer\n",
-        ),
+        None => write_some(out, lost(answer.outcome)),
+    }
+}
+
+/// What is said where there was no memory for the answer of a script.
+fn lost(outcome: Outcome) -> &'static [u8] {
+    match outcome {
+        Outcome::Unread => b"",
+        _ => b"  the line was done, but there was no memory for its answer\n",
     }
 }
 
 /// Writes words, or that there was no memory for them.
-pub(crate) fn write_text<W: Write>(out: &mut Counted<W>, text: &Text) -> Result<(), Fault> {
+pub(crate) fn write_text<W: Write>(out: &mut Counted<W>, text: &Text) -> Result<(), Fault>
+    ensures { OnOk result ((words : List ℕ)
+        × Appends (W.contents (device out.old)) (W.contents (device out.new)) words) }
+{
     match text.whole() {
         Some(bytes) => write_some(out, bytes),
-        None => write_out(
+        None => write_some(
             out,
             b"  there was no memory for the words that belong here\n",
         ),
@@ -35,7 +51,9 @@ pub(crate) fn write_text<W: Write>(out: &mut Counted<W>, text: &Text) -> Result<
 }
 
 /// Writes the bytes, where there are some.
-pub(crate) fn write_some<W: Write>(out: &mut Counted<W>, bytes: &[u8]) -> Result<(), Fault> {
+pub(crate) fn write_some<W: Write>(out: &mut Counted<W>, bytes: &[u8]) -> Result<(), Fault>
+    ensures { OnOk result (Appends (W.contents (device out.old)) (W.contents (device out.new)) bytes.now) }
+{
     if bytes.is_empty() {
         return Ok(());
     }

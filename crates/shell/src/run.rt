@@ -1,8 +1,10 @@
 // A session from its first line to its last.
-ghost use Rattle.std.specs.Prelude.{◌≡◌, ◌≢◌, true};
+ghost use Rattle.std.specs.Prelude.{◌≡◌, ◌≢◌, true, IfOk};
 ghost use Rattle.std.specs.Option.{option_copied};
 ghost use Rattle.std.specs.Io.Buffered.{reader_remaining};
 ghost use Rattle.devices.specs.Counting.{device};
+ghost use Rattle.shell.specs.Lines.{LineLeaves};
+ghost use Rattle.shell.specs.declared.answer.Outcome.{Outcome};
 ghost use Rattle.shell.specs.declared.answer.Outcome.TheVariants.{Over};
 ghost use Rattle.shell.specs.Taken.{SessionEnds, TakenLeave};
 ghost use Rattle.shell.specs.walking.Next.{NextLeaves};
@@ -72,7 +74,7 @@ impl Session {
             self.new.bench }
     {
         let mut line = Vec::new(setting.alloc);
-        for _ in 0..u64::MAX {
+        for taken in 0..u64::MAX {
             match self.answer_next(setting, reader, out, files, is_terminal, &mut line) {
                 Ok(true) => {}
                 Ok(false) => return Ok(()),
@@ -96,11 +98,36 @@ impl Session {
             (reader_remaining R.remaining (device reader.old)) (reader_remaining R.remaining (device reader.new))
             result self.new.bench }
     {
-        write_some(out, prompt(is_terminal))?;
-        let is_complete = next_line(reader, line)?;
-        let answer = self.answer_line(setting, files, line.as_slice());
-        write_answer(out, &answer)?;
-        Ok(goes_on(is_complete, answer.outcome))
+        if let Err(fault) = write_some(out, prompt(is_terminal)) {
+            return Err(fault);
+        }
+        match next_line(reader, line) {
+            Ok(is_complete) => {
+                self.answer_taken(setting, out, files, line.as_slice(), is_complete)
+            }
+            Err(fault) => Err(fault),
+        }
+    }
+
+    /// Answers a line that was taken, with its end or without, and tells whether others may follow.
+    fn answer_taken<O: Write, F: Files>(
+        &mut self,
+        setting: &Setting<'_>,
+        out: &mut Counted<O>,
+        files: &F,
+        line: &[u8],
+        is_complete: bool,
+    ) -> Result<bool, Fault>
+        ensures leaves { (outcome : Outcome)
+            × LineLeaves setting.now.texts.source.now setting.now.texts.stimulus.now self.old.bench line.now outcome
+            self.new.bench }
+        ensures more { IfOk result (λ more. more ≡ true → is_complete ≡ true) }
+    {
+        let answer = self.answer_line(setting, files, line);
+        match write_answer(out, &answer) {
+            Ok(()) => Ok(goes_on(is_complete, answer.outcome)),
+            Err(fault) => Err(fault),
+        }
     }
 }
 

@@ -73,7 +73,7 @@ impl Session {
         ensures own { IfSome result.own (λ text.
             SaidAsScript setting.now.texts.source.now self.old.bench lines.View text.items self.new.bench) }
     {
-        self.notes.add_line(b"view\n");
+        self.notes.add_line(self.bench.session(), b"view\n");
         let desk = self.bench.desk();
         let breaks = desk.breaks(self.bench.session());
         let own = view(setting.alloc, desk.machine(), breaks, setting.texts.source);
@@ -87,7 +87,7 @@ impl Session {
         ensures own { IfSome result.own (λ text.
             SaidAsScript setting.now.texts.source.now self.old.bench lines.Trace text.items self.new.bench) }
     {
-        self.notes.add_line(b"trace\n");
+        self.notes.add_line(self.bench.session(), b"trace\n");
         let own = write_trace(setting.alloc, self.bench.desk().machine());
         answered(own, Text::new(setting.alloc))
     }

@@ -180,10 +180,19 @@ impl Session {
         let scene = self.scene(setting);
         match done {
             Done::Rested => Text::new(setting.alloc),
-            Done::Told(reply) => reply_text(&scene, &asked_by(deed), reply),
+            Done::Told(reply) => reply_text(&scene, &self.asked_by(deed), reply),
             Done::Unknown => unknown_text(&scene, deed),
             Done::Ran(end) => run_text(&scene, *end, self.notes.steps()),
             Done::Back(last) => way_text(&scene, last, self.notes.steps()),
+        }
+    }
+
+    /// The command by which the reply to what was done is told in words.
+    fn asked_by(&self, deed: &Deed) -> Command {
+        match (deed, self.bench.branch()) {
+            (Deed::Next(branch), _) => Command::Branch(*branch),
+            (Deed::NextAgain, Some(branch)) => Command::Branch(branch),
+            _ => Command::Ready,
         }
     }
 }
@@ -193,13 +202,5 @@ fn shows_of(deed: &Deed) -> Shows {
     match deed {
         Deed::Run(_) => Shows::Steps,
         _ => Shows::All,
-    }
-}
-
-/// The command by which a reply is told in words.
-fn asked_by(deed: &Deed) -> Command {
-    match deed {
-        Deed::Next(branch) => Command::Branch(*branch),
-        _ => Command::Ready,
     }
 }

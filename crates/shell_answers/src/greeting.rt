@@ -133,7 +133,10 @@ fn add_port(text: &mut Text, outline: &Outline, branch: &BranchEntry) {
 fn add_live(text: &mut Text, scene: &Scene<'_>) {
     let live = scene.machine().live_events().len() as u64;
     if live > 0 {
-        text.add_counted(b"The trace has ", live, steps_word(live));
-        text.add(b", which are taken. ");
+        text.add_number(live);
+        text.add(steps_word(live));
+        text.add(b" of the trace ");
+        text.add(if live == 1 { b"is" } else { b"are" });
+        text.add(b" taken. ");
     }
 }

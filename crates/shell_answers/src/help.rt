@@ -5,8 +5,7 @@ use crate::usage::usage_of;
 use plain_words::Text;
 
 /// All words.
-const SCREEN: &[u8] = b"\
-  ready, r       number the steps that can be taken; a bare number takes one
+const SCREEN: &[u8] = b"  ready, r       number the steps that can be taken; a bare number takes one
   run [N]        step the branches in turn: to a breakpoint, to the end, N steps
   next [K], n    the next step of branch K, or of the branch stepped last
   undo, back [N] take back the newest step, the newest N

@@ -59,12 +59,21 @@ fn add_dependents(text: &mut Text, scene: &Scene<'_>, ticket: u64) {
         if others.is_empty() {
             text.add(b"  no step depends on it: `undo` takes it back alone\n");
         } else {
-            text.add(b"  on it depend");
+            text.add(b" ");
             text.add(steps_word(others.len() as u64));
             text.add(b" ");
             add_numbers(text, others);
-            text.add(b"\n");
+            text.add(depend_word(others.len()));
         }
+    }
+}
+
+/// That so many depend on it.
+fn depend_word(count: usize) -> &'static [u8] {
+    if count == 1 {
+        b" depends on it\n"
+    } else {
+        b" depend on it\n"
     }
 }
 

@@ -10,7 +10,10 @@ pub(crate) fn add_variables(text: &mut Text, scene: &Scene<'_>) {
         text.add(b"  ");
         text.add_qualified(&variable.name);
         text.add(b" = ");
-        add_value_of(text, scene, index as u32);
+        match u32::try_from(index) {
+            Ok(number) => add_value_of(text, scene, number),
+            Err(_) => text.add(b"?"),
+        }
         text.add(b"\n");
     }
     if variables.is_empty() {
