@@ -101,15 +101,6 @@ impl Text {
         }
     }
 
-    /// The bytes so far, unless there was no memory for some.
-    pub fn whole(&self) -> Option<&[u8]> {
-        if self.is_whole {
-            Some(self.bytes.as_slice())
-        } else {
-            None
-        }
-    }
-
     /// The bytes, unless there was no memory for some.
     pub fn into_bytes(self) -> Result<Vec<u8>, AllocError> {
         let Text { bytes, is_whole } = self;

@@ -3,7 +3,7 @@
 #![tactic(auto)]
 
 mod answer;
-mod begin;
+mod beginning;
 mod files;
 mod input;
 mod keeping;
@@ -11,18 +11,18 @@ mod laws;
 mod loading;
 mod notes;
 mod output;
-mod run;
+mod running;
 mod script_line;
 mod session;
 mod spoken;
 mod texts;
 
 pub use answer::{Answer, Outcome};
-pub use begin::{begin, setting_of};
+pub use beginning::{begin, setting_of};
 pub use debug_session::Fault;
 pub use devices::Counted;
 pub use files::{Disk, FileFault, Files};
 pub use laws::session_laws;
-pub use run::run;
+pub use running::run;
 pub use session::{Session, Setting};
 pub use texts::Texts;

@@ -20,7 +20,9 @@ pub(crate) enum Shows {
 #[derive(Drop)]
 pub struct Notes {
     alloc: Global,
-    script: Text,
+    script: Vec<u8>,
+    /// Whether there was memory for all lines of the script.
+    is_whole: bool,
     /// The session whose lines come in the script.
     session: u32,
     shows: Shows,
@@ -34,7 +36,8 @@ impl Notes {
     pub(crate) fn new(alloc: Global) -> Notes {
         Notes {
             alloc,
-            script: Text::new(alloc),
+            script: Vec::new(alloc),
+            is_whole: true,
             session: 0,
             shows: Shows::None,
             shown: Text::new(alloc),
@@ -44,7 +47,8 @@ impl Notes {
 
     /// Begins with the steps of this machine, in place of what was recorded.
     pub(crate) fn begin_again(&mut self, machine: &Machine) {
-        self.script = Text::new(self.alloc);
+        self.script.clear();
+        self.is_whole = true;
         self.session = 0;
         for index in 0..machine.live_events().len() as u64 {
             self.add_live(machine, index);
@@ -57,8 +61,8 @@ impl Notes {
             return;
         };
         match event.choice(self.alloc) {
-            Ok(choice) => add_step(&mut self.script, &choice),
-            Err(error) => self.script.add_if(Err(error), b""),
+            Ok(choice) => self.add_command(machine.checked().system(), 0, &Command::Step(choice)),
+            Err(_) => self.is_whole = false,
         }
     }
 
@@ -82,28 +86,46 @@ impl Notes {
 
     /// Adds a line of this session that asks for no command.
     pub(crate) fn add_line(&mut self, session: u32, line: &[u8]) {
-        self.turn_to(session);
-        self.script.add(line);
-    }
-
-    /// Adds a line that names the session, where it is another than before.
-    fn turn_to(&mut self, session: u32) {
-        if session != self.session {
-            self.session = session;
-            self.script
-                .add_counted(b"session ", u64::from(session), b"\n");
-        }
+        let mut text = self.begin_text(session);
+        text.add(line);
+        self.keep(text);
     }
 
     /// The lines so far, `None` where there was no memory for some.
     pub(crate) fn script(&self) -> Option<&[u8]> {
-        self.script.whole()
+        if self.is_whole {
+            Some(self.script.as_slice())
+        } else {
+            None
+        }
     }
 
     /// Adds the line of a command of this session.
     fn add_command(&mut self, system: &System, session: u32, command: &Command) {
-        self.turn_to(session);
-        add_command(&mut self.script, system, command);
+        let mut text = self.begin_text(session);
+        add_command(&mut text, system, command);
+        self.keep(text);
+    }
+
+    /// A text with the line that names the session, where it is another than before.
+    fn begin_text(&mut self, session: u32) -> Text {
+        let mut text = Text::new(self.alloc);
+        if session != self.session {
+            self.session = session;
+            text.add_counted(b"session ", u64::from(session), b"\n");
+        }
+        text
+    }
+
+    /// Keeps these lines.
+    fn keep(&mut self, text: Text) {
+        let kept = match text.into_bytes() {
+            Ok(bytes) => self.script.extend_from_slice(bytes.as_slice()).is_ok(),
+            Err(_) => false,
+        };
+        if !kept {
+            self.is_whole = false;
+        }
     }
 
     /// Keeps the answer to a command, where it is to be shown.

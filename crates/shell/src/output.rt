@@ -9,22 +9,31 @@ use plain_words::Text;
 use std::io::Write;
 
 /// Writes an answer: that of a script first, and words behind it.
-pub(crate) fn write_answer<W: Write>(out: &mut Counted<W>, answer: &Answer) -> Result<(), Fault>
-    ensures { OnOk result (IfSome answer.now.own (λ own. (words : List ℕ)
+pub(crate) fn write_answer<W: Write>(out: &mut Counted<W>, answer: Answer) -> Result<(), Fault>
+    ensures { OnOk result (IfSome answer.own (λ own. (words : List ℕ)
         × Appends (W.contents (device out.old)) (W.contents (device out.new)) (own.items ++ words))) }
 {
-    write_own(out, answer)?;
-    write_text(out, &answer.words)
+    let Answer {
+        outcome,
+        own,
+        words,
+    } = answer;
+    write_own(out, &own, outcome)?;
+    write_text(out, words)
 }
 
 /// Writes the answer of a script, or that there was no memory for it.
-fn write_own<W: Write>(out: &mut Counted<W>, answer: &Answer) -> Result<(), Fault>
-    ensures { OnOk result (IfSome answer.now.own (λ own.
+fn write_own<W: Write>(
+    out: &mut Counted<W>,
+    own: &Option<Vec<u8>>,
+    outcome: Outcome,
+) -> Result<(), Fault>
+    ensures { OnOk result (IfSome own.now (λ own.
         Appends (W.contents (device out.old)) (W.contents (device out.new)) own.items)) }
 {
-    match &answer.own {
+    match own {
         Some(bytes) => write_some(out, bytes.as_slice()),
-        None => write_some(out, lost(answer.outcome)),
+        None => write_some(out, lost(outcome)),
     }
 }
 
@@ -37,13 +46,13 @@ fn lost(outcome: Outcome) -> &'static [u8] {
 }
 
 /// Writes words, or that there was no memory for them.
-pub(crate) fn write_text<W: Write>(out: &mut Counted<W>, text: &Text) -> Result<(), Fault>
+pub(crate) fn write_text<W: Write>(out: &mut Counted<W>, text: Text) -> Result<(), Fault>
     ensures { OnOk result ((words : List ℕ)
         × Appends (W.contents (device out.old)) (W.contents (device out.new)) words) }
 {
-    match text.whole() {
-        Some(bytes) => write_some(out, bytes),
-        None => write_some(
+    match text.into_bytes() {
+        Ok(bytes) => write_some(out, bytes.as_slice()),
+        Err(_) => write_some(
             out,
             b"  there was no memory for the words that belong here\n",
         ),

@@ -1,6 +1,6 @@
 // How a run, a way back and a number that means nothing ended.
 use crate::Scene;
-use crate::refusals::add_refused;
+use crate::refused::add_refused;
 use crate::steps::steps_word;
 use locked_execution::{Command, Reply};
 use plain_words::{Text, add_reason};

@@ -2,14 +2,14 @@
 #![tactic(auto)]
 
 mod ends;
-mod greeting;
+mod first_lines;
 mod help;
 mod listing;
 mod mistakes;
 mod names;
 mod numbering;
 mod questions_asked;
-mod refusals;
+mod refused;
 mod replies;
 mod scene;
 mod showing;
@@ -18,7 +18,7 @@ mod usage;
 mod values;
 
 pub use ends::{run_text, unknown_text, way_text};
-pub use greeting::greeting;
+pub use first_lines::greeting;
 pub use mistakes::mistake_text;
 pub use questions_asked::question_text;
 pub use replies::reply_text;

@@ -1,7 +1,7 @@
 // What is said behind the answer to a command.
 use crate::Scene;
 use crate::numbering::add_numbered;
-use crate::refusals::add_refused;
+use crate::refused::add_refused;
 use crate::steps::{add_done, add_step, add_step_lines, steps_word};
 use crate::values::add_valued;
 use locked_execution::{Command, Reply};

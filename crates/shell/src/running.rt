@@ -9,7 +9,7 @@ ghost use Rattle.shell.specs.declared.answer.Outcome.TheVariants.{Over};
 ghost use Rattle.shell.specs.Taken.{SessionEnds, TakenLeave};
 ghost use Rattle.shell.specs.walking.Next.{NextLeaves};
 
-use crate::begin::{begin, setting_of};
+use crate::beginning::{begin, setting_of};
 use crate::input::next_line;
 use crate::output::{write_answer, write_some, write_text};
 use crate::{Counted, Fault, Files, Outcome, Session, Setting, Texts};
@@ -55,7 +55,7 @@ fn run_on<R: Read, O: Write, F: Files>(
         session.new.bench }
 {
     let setting = setting_of(alloc, *texts)?;
-    write_text(out, &greeting(&session.scene(&setting)))?;
+    write_text(out, greeting(&session.scene(&setting)))?;
     session.answer_lines(&setting, reader, out, files, is_terminal)
 }
 
@@ -124,8 +124,9 @@ impl Session {
         ensures more { IfOk result (λ more. more ≡ true → is_complete ≡ true) }
     {
         let answer = self.answer_line(setting, files, line);
-        match write_answer(out, &answer) {
-            Ok(()) => Ok(goes_on(is_complete, answer.outcome)),
+        let more = goes_on(is_complete, answer.outcome);
+        match write_answer(out, answer) {
+            Ok(()) => Ok(more),
             Err(fault) => Err(fault),
         }
     }
