@@ -25,16 +25,9 @@ comes-still source stimulus d d' e = (d, inl refl, ([], [], (refl, e)))
 
 -- what comes of what came
 comes-then : (source stimulus : List ℕ) (d m d' : AtDesk) → Comes source stimulus d m → Comes source stimulus m d' → Comes source stimulus d d'
-comes-then source stimulus d m d' first (from, inl same, (commands, replies, answered)) =
-    let on : Answered m commands replies d' = subst (λ (x : AtDesk). Answered x commands replies d') same answered in (
-      first.0,
-      first.1,
-      (
-        first.2 ++ commands,
-        first.3 ++ replies,
-        answered-joins first.0 m d' first.2 commands first.3 replies first.4 on,
-      ),
-    )
+comes-then source stimulus d m d' (start, how, (cs, rs, before)) (from, inl same, (commands, replies, answered)) =
+    let on : Answered m commands replies d' = subst (λ (x : AtDesk). Answered x commands replies d') same answered in
+    (start, how, (cs ++ commands, rs ++ replies, answered-joins start m d' cs commands rs replies before on))
 comes-then source stimulus d m d' first (from, inr loaded, rest) = (from, inr loaded, rest)
 
 -- what one line leaves
@@ -43,8 +36,8 @@ comes-line : (source stimulus : List ℕ) (b m : AtBench) (line : List ℕ) (out
 comes-line source stimulus b m line Outcome.Done each (deed, done, asks, does) =
     let left = each b m deed done does in (b.desk, inl refl, (of_session b.session left.0, left.1, left.2))
 comes-line source stimulus b m line Outcome.Unread each h = comes-still source stimulus b.desk m.desk (ap (λ (x : AtBench). x.desk) h)
-comes-line source stimulus b m line Outcome.Loaded each h =
-    (new_desk h.1, inr (h.1, h.2, refl), (h.3, h.4, h.6))
+comes-line source stimulus b m line Outcome.Loaded each (begins, (machine, of, turns)) =
+    (new_desk machine, inr (machine, of, refl), (turns.0, turns.1, turns.3))
 comes-line source stimulus b m line Outcome.NotLoaded each h =
     comes-still source stimulus b.desk m.desk (ap (λ (x : AtBench). x.desk) h.1)
 comes-line source stimulus b m line Outcome.Over each h =

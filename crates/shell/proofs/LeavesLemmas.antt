@@ -41,7 +41,7 @@ done-leaves A B source stimulus b b' outcome deed e asks h =
 pub rest-leaves : (A : Deed → Type 0) (B : Word → Type 0) (source stimulus : List ℕ) (b : AtBench) (outcome : Outcome)
     → outcome ≡ Outcome.Done → A Deed.Rest → Leaves A B source stimulus b outcome b
 rest-leaves A B source stimulus b outcome e asks =
-    subst (λ (o : Outcome). Leaves A B source stimulus b o b) (sym e) (Deed.Rest, Done.Rested, asks, refl, refl)
+    subst (λ (o : Outcome). Leaves A B source stimulus b o b) (sym e) (Deed.Rest, Done.Rested, asks, (refl, refl))
 
 -- there was no memory to read it
 pub unread-leaves : (A : Deed → Type 0) (B : Word → Type 0) (source stimulus : List ℕ) (b : AtBench) (outcome : Outcome)

@@ -15,8 +15,8 @@ use Rattle.shell.specs.Lines.{SaidAsScript}
 pub own-by : {V E : Type 0} (items : V → List ℕ) (Q P : List ℕ → Type 0) (r : Result V E) (o : Option V)
     → MatchResult r (λ v. o ≡ Some v) (λ _. o ≡ None) → ((t : List ℕ) → Q t → P t) → IfOk r (λ v. Q (items v))
     → IfSome o (λ v. P (items v))
-own-by {V} items Q P (Ok v) o e f h = subst (λ (x : Option V). IfSome x (λ v. P (items v))) (sym e) (f (items v) h)
-own-by {V} items Q P (Err x) o e f h = subst (λ (x : Option V). IfSome x (λ v. P (items v))) (sym e) tt
+own-by items Q P (Ok v) o e f h = subst (λ x. IfSome x (λ v. P (items v))) (sym e) (f (items v) h)
+own-by items Q P (Err fault) o e f h = subst (λ x. IfSome x (λ v. P (items v))) (sym e) tt
 
 -- a command is answered by the text of its reply
 pub asked-own : (source : List ℕ) (b b' : AtBench) (s : System) (c : Command) (reply : Reply) → Asked b c reply b'

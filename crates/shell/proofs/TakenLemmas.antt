@@ -1,13 +1,12 @@
 -- The lines that are taken, one after another.
-use Rattle.std.proofs.Common.{◌≡◌, ◌⊎◌, inl, inr, ℕ, List, [], ◌∷◌, ◌++◌, Bool, true, false, Option, Result, refl, sym, ap, ◌∙◌, append_assoc, MatchBool}
-use Rattle.std.specs.Option.{IfSome}
+use Rattle.std.proofs.Common.{◌≡◌, ◌⊎◌, inl, inr, ℕ, List, [], ◌∷◌, ◌++◌, Bool, true, false, Option, refl, sym, ap, ◌∙◌, append_assoc, MatchBool}
 use Rattle.std.specs.List.{flat_map}
-use Rattle.std.specs.Io.KnownBytes.{Consumes, IsAtEnd}
+use Rattle.std.specs.Io.KnownBytes.{Consumes}
+use Rattle.std.proofs.lemmas.Bool.{false≢true}
 use Rattle.std.proofs.lemmas.List.Elements.{All-nil}
 use Rattle.devices.specs.Counting.{IsNoEnd}
 use Rattle.devices.proofs.KnownLemmas.{Consumes-none, Consumes-then}
 use Rattle.debug_session.specs.Script.{AreLines, IsLine, with_end}
-use Rattle.debug_session.specs.declared.fault.Fault.{Fault}
 use Rattle.debug_session.specs.walking.OneLine.{TakesLine}
 use Rattle.shell_desk.specs.AtBench.{AtBench}
 use Rattle.shell.specs.Lines.{LineLeaves, LinesLeave}
@@ -72,7 +71,7 @@ one-line : (source stimulus : List ℕ) (b b' : AtBench) (read left : Option (Li
     → complete ≡ true → TakesLine read left line complete → LineLeaves source stimulus b line outcome b'
     → OneLeaves source stimulus b read left b'
 one-line source stimulus b b' read left line true outcome e takes leaves = (line, outcome, takes.0, takes.1, leaves)
-one-line source stimulus b b' read left line false outcome e takes leaves = cc
+one-line source stimulus b b' read left line false outcome e takes leaves = absurd (false≢true e)
 
 -- a line was taken, and others follow or not
 pub next-line : (source stimulus : List ℕ) (b b' : AtBench) (read left : Option (List ℕ)) (line : List ℕ) (complete more : Bool) (outcome : Outcome)

@@ -1,5 +1,5 @@
 -- The lines that a session takes from its reader, and what they leave.
-use Rattle.std.specs.Prelude.{ℕ, ◌≡◌, ◌⊎◌, List, [], ◌∷◌, ◌++◌, Option, Result, Err, Unit}
+use Rattle.std.specs.Prelude.{ℕ, ◌≡◌, ◌⊎◌, List, [], ◌∷◌, ◌++◌, Option, Result, Err}
 use Rattle.std.specs.Io.KnownBytes.{Consumes}
 use Rattle.machine.specs.AtMachine.{AtMachine}
 use Rattle.machine.specs.Headline.{Headline}

@@ -19,7 +19,8 @@ use std::alloc::Global;
 
 /// What a session on the system of these texts is begun with.
 pub fn setting_of<'a>(alloc: Global, texts: Texts<'a>) -> Result<Setting<'a>, Fault>
-    ensures texts { IfOk result (λ setting. setting.texts ≡ texts) }
+    ensures source { IfOk result (λ setting. setting.texts.source.now ≡ texts.entry.source.now) }
+    ensures stimulus { IfOk result (λ setting. setting.texts.stimulus.now ≡ texts.entry.stimulus.now) }
     ensures fault { IfErr result (λ fault. fault ≡ Memory) }
 {
     match Elements::of(alloc, texts.source) {

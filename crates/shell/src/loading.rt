@@ -6,7 +6,7 @@ ghost use Rattle.system.specs.declared.system.System.{System};
 ghost use Rattle.debug_session.specs.Accepting.{AcceptedAs};
 ghost use Rattle.debug_session.specs.Wrapping.{of_trace};
 ghost use Rattle.trace_file.specs.Loading.{IsLoaded};
-ghost use Rattle.shell.specs.Beginning.{IsOfTrace, RefusesTexts};
+ghost use Rattle.shell.specs.Beginning.{RefusesTexts};
 ghost use Rattle.shell.specs.Lines.{Leaves};
 ghost use Rattle.shell.specs.walking.Parts.{AsksNoDeedAtAll, Begun};
 ghost use Rattle.shell.specs.declared.answer.Outcome.TheVariants as outcomes;
@@ -31,7 +31,7 @@ impl Session {
             self.old.bench result.outcome self.new.bench }
     {
         let Some(name) = name_in(rest) else {
-            let words = question_text(&self.scene(setting), Word::Load, b"");
+            let words = self.load_usage(setting);
             return spoken(setting.alloc, Outcome::NotLoaded, words);
         };
         match files.read(setting.alloc, name) {
@@ -69,6 +69,11 @@ impl Session {
         self.bench.turn_to(machine, last_line, &mut self.notes);
         let words = self.loaded_text(setting.alloc);
         spoken(setting.alloc, Outcome::Loaded, words)
+    }
+
+    /// How the word is written.
+    fn load_usage(&self, setting: &Setting<'_>) -> Text {
+        question_text(&self.scene(setting), Word::Load, b"")
     }
 
     /// How many steps were loaded.

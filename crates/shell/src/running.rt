@@ -30,7 +30,7 @@ pub fn run<R: Read, O: Write, F: Files>(
     texts: Texts<'_>,
     is_terminal: bool,
 ) -> Result<(), Fault>
-    ensures { SessionEnds texts.source.now texts.stimulus.now (option_copied texts.trace)
+    ensures { SessionEnds texts.entry.source.now texts.entry.stimulus.now (option_copied texts.entry.trace)
         ((reader.new ≡ reader.old) × (out.new ≡ out.old))
         (reader_remaining R.remaining (device reader.old)) (reader_remaining R.remaining (device reader.new)) result }
 {

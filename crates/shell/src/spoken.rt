@@ -2,8 +2,6 @@
 ghost use Rattle.std.specs.Prelude.{◌≡◌, ◌⊎◌, IfSome};
 ghost use Rattle.debug_session.specs.Lines.{AsksNothing};
 ghost use Rattle.shell_desk.specs.Does.{Does, NamesSession};
-ghost use Rattle.shell_desk.specs.Words.{AsksDeed};
-ghost use Rattle.shell_desk.specs.walking.Spelled.{AsksNoDeed};
 ghost use Rattle.shell_desk.specs.declared.deed.Deed.TheVariants.{Rest};
 ghost use Rattle.shell_desk.specs.declared.deed.Done.{Done as DoneAt};
 ghost use Rattle.shell.specs.Asking.{BeginsWith, ShellAsks, TextAsks};

@@ -2,7 +2,7 @@ use Rattle.std.proofs.Common.{List, ℕ, Option}
 use Rattle.std.specs.Io.Buffered.{reader_remaining}
 use Rattle.shell_desk.specs.AtBench.{AtBench}
 use Rattle.shell.specs.Taken.{TakenLeave}
-use Rattle.shell.proofs.running.Session.answer_lines.Given as goal
+use Rattle.shell.proofs.session.Session.answer_lines.Given as goal
 
 -- whatever lines are taken from here on, so are those from the beginning
 abbrev pub invariant-loop-taken : goal.invariant-loop-taken
