@@ -61,6 +61,8 @@ mod sessions;
 #[cfg(test)]
 mod shared_sessions;
 #[cfg(test)]
+mod shells;
+#[cfg(test)]
 mod sharing;
 #[cfg(test)]
 mod specified;
