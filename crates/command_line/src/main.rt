@@ -7,6 +7,7 @@ mod drawing;
 mod explaining;
 mod files;
 mod running;
+mod shells;
 mod telling;
 mod texts;
 
