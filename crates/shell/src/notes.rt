@@ -1,5 +1,5 @@
 // What a session keeps in mind of its commands: the lines of a script that does the same, and the answers of one line.
-use debug_session::write_reply;
+use debug_session::write_answer;
 use locked_execution::{Choice, Command, Desk, Machine, Reply};
 use plain_words::Text;
 use shell_desk::Watch;
@@ -133,7 +133,7 @@ impl Notes {
         if self.shows == Shows::None {
             return;
         }
-        match write_reply(self.alloc, desk.machine().checked(), command, reply) {
+        match write_answer(self.alloc, desk.machine().checked(), command, reply) {
             Ok(bytes) => self.shown.add(bytes.as_slice()),
             Err(error) => self.shown.add_if(Err(error), b""),
         }

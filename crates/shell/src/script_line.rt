@@ -11,7 +11,7 @@ ghost use Rattle.shell.specs.declared.answer.Outcome.TheVariants as outcomes;
 use crate::answer::spoken;
 use crate::notes::Shows;
 use crate::{Answer, Outcome, Session, Setting};
-use debug_session::{Line, write_reply, write_session};
+use debug_session::{Line, write_answer, write_session};
 use locked_execution::Command;
 use plain_words::Text;
 use shell_answers::reply_text;
@@ -48,7 +48,7 @@ impl Session {
         self.notes.begin_line(Shows::None);
         let reply = self.bench.ask(command, &mut self.notes);
         let checked = self.bench.desk().machine().checked();
-        let own = write_reply(setting.alloc, checked, command, &reply);
+        let own = write_answer(setting.alloc, checked, command, &reply);
         let words = reply_text(&self.scene(setting), command, &reply);
         answered(own, words)
     }
