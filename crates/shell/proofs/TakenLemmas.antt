@@ -64,7 +64,7 @@ pub taken-line : (source stimulus : List ℕ) (b b' : AtBench) (read left : Opti
 taken-line source stimulus b b' read left line true outcome takes leaves =
     taken-more source stimulus b b' b' read left left (line, outcome, takes.0, takes.1, leaves) (taken-nothing source stimulus b' left)
 taken-line source stimulus b b' read left line false outcome takes leaves =
-    taken-last source stimulus b b' read left line outcome takes.0 takes.1 leaves
+    taken-last source stimulus b b' read left line outcome takes.0 takes.1.0 leaves
 
 -- a line was taken with its end
 one-line : (source stimulus : List ℕ) (b b' : AtBench) (read left : Option (List ℕ)) (line : List ℕ) (complete : Bool) (outcome : Outcome)

@@ -35,7 +35,11 @@ pub fn run<R: Read, O: Write, F: Files>(
         (reader_remaining R.remaining (device reader.old)) (reader_remaining R.remaining (device reader.new)) result }
 {
     match begin(alloc, &texts) {
-        Ok(mut session) => run_on(alloc, &mut session, reader, out, files, &texts, is_terminal),
+        Ok(mut session) => {
+            let done = run_on(alloc, &mut session, reader, out, files, &texts, is_terminal);
+            session.bench.is_sound();
+            done
+        }
         Err(fault) => Err(fault),
     }
 }
