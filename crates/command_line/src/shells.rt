@@ -56,7 +56,7 @@ fn keep_steps<F: Files>(
         (NotHad (F.holds files.now trace.now)) }
 {
     texts.last = Part::Trace;
-    let steps = files.read(alloc, trace)?;
+    let steps = files.read(alloc, trace, &mut texts.why)?;
     texts.trace = steps;
     Ok(())
 }
