@@ -12,7 +12,7 @@ returns-in-Ok g c = inr (
     c.run_on-done.new.session.bench,
     subst (λ (b : AtBench). TakenLeave c.args.texts.source.now c.args.texts.stimulus.now b (reader_remaining g.R.Read.remaining c.args.reader.now.device)
         (reader_remaining g.R.Read.remaining c.run_on-done.new.reader.device) c.run_on-done.new.session.bench)
-        c.in-Ok.ensures.2 c.run_on-done.ensures,
+    c.in-Ok.ensures.2 c.run_on-done.ensures,
     c.is_sound.ensures,
   ),
 )
