@@ -1,0 +1,3 @@
+pub mod Goes
+pub mod Kinds
+pub mod Stops
