@@ -177,6 +177,11 @@ no_work rows (inl none) (Request.Work file stimulus crew explain) h = none file.
 no_work rows (inr none) (Request.Work file stimulus crew explain) h = none crew (h.2, h.3)
 no_work rows none other h = unlike h.0 refl
 
+-- nor that of `shell` where no files are
+pub no_shell : (rows : List Row) → NamesNoFiles rows → IsNoRequest (codes "shell") rows
+no_shell rows none (Request.Shell file stimulus trace) h = none file.now stimulus.now h.1
+no_shell rows none other h = unlike h.0 refl
+
 -- nor that of `why` where no files are, or nothing is asked about
 pub no_why : (rows : List Row) → NamesNoTrace rows ⊎ ((s : Text) → first_of (codes "X") rows ≡ Some s → ⊥)
     → IsNoRequest (codes "why") rows

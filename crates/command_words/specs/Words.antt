@@ -1,5 +1,6 @@
 -- What the words of the command line ask for, of which the first is the program's name.
 use Rattle.std.specs.Prelude.{◌≡◌, ◌≢◌, ◌⊎◌, [], ◌∷◌, ℕ, Bool, IsTrue, List, Option, Some, None, pos, codes, false, true}
+use Rattle.std.specs.Prelude.{option_map}
 use Rattle.std.specs.Str.Parse.{IsNumeral, digits_value, without_leading_plus}
 use Rattle.clap.specs.Kinds.{IsAmong}
 use Rattle.clap.specs.declared.error.kind.ErrorKind.{ErrorKind}
@@ -59,6 +60,13 @@ abbrev pub work : App
 work = explaining (with_rule (with_rule (over_ports (new_app (codes "work")))
     (number (codes "workers") (Signed (pos 1) (pos 16)))) (number (codes "turns") (Unsigned 0 1000000)))
 
+-- a word that may be left out
+abbrev pub optional : Text → Rule
+optional name = record (new_rule name) { action = Some Set }
+
+abbrev pub shell : App
+shell = with_rule (over_ports (new_app (codes "shell"))) (optional (codes "TRACE"))
+
 abbrev pub explain : App
 explain = with_rule (new_app (codes "explain")) refusal_number
 
@@ -83,7 +91,7 @@ with_subcommands over (command ∷ rest) = with_subcommands (with_subcommand ove
 
 -- the program with those that run a description
 abbrev pub running : App
-running = with_subcommands bare (check ∷ debug ∷ replay ∷ work ∷ [])
+running = with_subcommands bare (check ∷ debug ∷ replay ∷ work ∷ shell ∷ [])
 
 -- and with those that people ask
 abbrev pub asking : App
@@ -135,6 +143,9 @@ IsRequest name rows (Request.Work file stimulus crew explain) =
     (name ≡ codes "work") × AreFiles rows file.now stimulus.now
     × IsNumber (one_of (codes "workers") rows) crew.workers × IsNumber (one_of (codes "turns") rows) crew.turns
     × IsFlag (one_of (codes "explain") rows) explain
+IsRequest name rows (Request.Shell file stimulus trace) =
+    (name ≡ codes "shell") × AreFiles rows file.now stimulus.now
+    × (option_map (λ text. text.now) trace ≡ first_of (codes "TRACE") rows)
 IsRequest name rows (Request.Explain page) = (name ≡ codes "explain") × TellsPage rows page.now
 IsRequest name rows (Request.Outline file) = (name ≡ codes "outline") × (first_of (codes "FILE") rows ≡ Some file.now)
 IsRequest name rows (Request.Waiting file stimulus trace) =

@@ -106,6 +106,26 @@ fn work_asked<'a>(words: &ArgMatches<'a>) -> Option<Request<'a>>
     })
 }
 
+/// The name of a trace, where one is among the words.
+fn trace_asked<'a>(words: &ArgMatches<'a>) -> Option<&'a str>
+    ensures { option_map (λ text. text.now) result ≡ first_of (codes "TRACE") (rows_in words.now) }
+{
+    words.get_str("TRACE")
+}
+
+fn shell_asked<'a>(words: &ArgMatches<'a>) -> Option<Request<'a>>
+    ensures { MatchOption result (IsNoRequest (codes "shell") (rows_in words.now))
+        (spec.IsRequest (codes "shell") (rows_in words.now)) }
+{
+    let (file, stimulus) = files_asked(words)?;
+    let trace = trace_asked(words);
+    Some(Request::Shell {
+        file,
+        stimulus,
+        trace,
+    })
+}
+
 fn explain_asked<'a>(words: &ArgMatches<'a>) -> Option<Request<'a>>
     ensures { MatchOption result (IsNoRequest (codes "explain") (rows_in words.now))
         (spec.IsRequest (codes "explain") (rows_in words.now)) }
@@ -160,6 +180,7 @@ fn request_of<'a>(name: &str, words: &ArgMatches<'a>) -> Option<Request<'a>>
         "debug" => debug_asked(words),
         "replay" => replay_asked(words),
         "work" => work_asked(words),
+        "shell" => shell_asked(words),
         "explain" => explain_asked(words),
         "outline" => outline_asked(words),
         "waiting" => waiting_asked(words),

@@ -172,6 +172,29 @@ fn work<'a>(alloc: Global) -> Result<Command<'a>, AllocError>
     explaining(alloc, with_argument(hired, turns(alloc)))
 }
 
+/// A word that may be left out.
+fn optional<'a>(alloc: Global, name: &'a str, help: &'a str) -> Arg<'a>
+    ensures { IsArgument (spec.optional name.now) result }
+{
+    Arg::new(alloc, name).action(ArgAction::Set).help(help)
+}
+
+fn shell<'a>(alloc: Global) -> Result<Command<'a>, AllocError>
+    ensures { IfOk result (IsCommand spec.shell) }
+{
+    let command = begun(
+        alloc,
+        "shell",
+        help::SHELL,
+        help::SHELL_LONG,
+        help::SHELL_REFUSALS,
+    );
+    with_argument(
+        over_ports(alloc, command),
+        optional(alloc, "TRACE", help::TRACE),
+    )
+}
+
 fn explain<'a>(alloc: Global) -> Result<Command<'a>, AllocError>
     ensures { IfOk result (IsCommand spec.explain) }
 {
@@ -271,7 +294,8 @@ fn running<'a>(alloc: Global) -> Result<Command<'a>, AllocError>
     let program = with_command(bare(alloc), check(alloc));
     let program = with_command(program, debug(alloc));
     let program = with_command(program, replay(alloc));
-    with_command(program, work(alloc))
+    let program = with_command(program, work(alloc));
+    with_command(program, shell(alloc))
 }
 
 /// The program with the words that people ask, too.

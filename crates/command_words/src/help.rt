@@ -17,7 +17,8 @@ port o, what comes in at its ports, and a script of steps forth and back:
   balsadbg debug examples/one.balsa examples/one.stimulus < examples/one.script
 
 The lines of a script can be typed by hand just as well, with Ctrl-D behind the
-last. `balsadbg debug --help` explains them.
+last. `balsadbg debug --help` explains them. `shell` takes them too, answers in
+plain words, and no mistake ends it.
 
 Where a description is refused, `check --explain` shows the place and says what
 helps. Where a run stands still, `waiting` tells who waits for whom; where a
@@ -146,6 +147,18 @@ Example:
 It answers:
   stepped 2
   live 2";
+
+pub const SHELL: &str = "Step a description by hand, with answers in plain words";
+
+pub const SHELL_LONG: &str = "\
+Step a description by hand: a session of lines, each answered in plain words. It
+begins at the end of a trace where one is named. All lines of a script work and
+have their own answer first; `ready` numbers what can be stepped, and a number
+takes it; `help` lists what else can be typed. No mistake ends the session:
+`quit` or Ctrl-D does. Lines from a pipe are answered as typed ones are.
+
+Example:
+  balsadbg shell examples/adder.balsa examples/adder.stimulus";
 
 pub const NUMBER: &str = "The number behind `refused`";
 
@@ -417,6 +430,10 @@ pub const WORK_REFUSALS: &str = refusal_lines_over_ports!(
     []
     ["  41  FILE or STIMULUS is missing, or reading it failed\n"]
     []
+);
+
+pub const SHELL_REFUSALS: &str = refusal_lines_over_traces!(
+    []["  41  a file is missing, or reading it or the lines failed\n"]
 );
 
 pub const TRACE_REFUSALS: &str = refusal_lines_over_traces!(

@@ -32,6 +32,12 @@ pub enum Request<'a> {
         crew: CrewSize,
         explain: bool,
     },
+    /// Answer a person who steps the description in `file`, from the end of a trace where one is named.
+    Shell {
+        file: &'a str,
+        stimulus: &'a str,
+        trace: Option<&'a str>,
+    },
     /// Show the page of a refusal.
     Explain {
         page: &'static Page,
