@@ -70,6 +70,9 @@ shell = with_rule (over_ports (new_app (codes "shell"))) (optional (codes "TRACE
 abbrev pub explain : App
 explain = with_rule (new_app (codes "explain")) refusal_number
 
+abbrev pub dap : App
+dap = new_app (codes "dap")
+
 abbrev pub outline : App
 outline = over_file (new_app (codes "outline"))
 
@@ -99,7 +102,7 @@ asking = with_subcommands running (explain ∷ outline ∷ waiting ∷ why ∷ [
 
 -- the program
 abbrev pub program : App
-program = asking
+program = with_subcommands asking (dap ∷ [])
 
 -- the name of a subcommand and its values
 abbrev pub Named : Type 0
@@ -147,6 +150,8 @@ IsRequest name rows (Request.Shell file stimulus trace) =
     (name ≡ codes "shell") × AreFiles rows file.now stimulus.now
     × (option_map (λ text. text.now) trace ≡ first_of (codes "TRACE") rows)
 IsRequest name rows (Request.Explain page) = (name ≡ codes "explain") × TellsPage rows page.now
+-- (nothing stands behind its name)
+IsRequest name rows Request.Dap = (name ≡ codes "dap") × Unit {0}
 IsRequest name rows (Request.Outline file) = (name ≡ codes "outline") × (first_of (codes "FILE") rows ≡ Some file.now)
 IsRequest name rows (Request.Waiting file stimulus trace) =
     (name ≡ codes "waiting") × AreTraced rows file.now stimulus.now trace.now

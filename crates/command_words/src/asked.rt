@@ -182,6 +182,7 @@ fn request_of<'a>(name: &str, words: &ArgMatches<'a>) -> Option<Request<'a>>
         "work" => work_asked(words),
         "shell" => shell_asked(words),
         "explain" => explain_asked(words),
+        "dap" => Some(Request::Dap),
         "outline" => outline_asked(words),
         "waiting" => waiting_asked(words),
         "why" => why_asked(words),

@@ -242,6 +242,13 @@ fn why<'a>(alloc: Global) -> Result<Command<'a>, AllocError>
     with_argument(asking, flag(alloc, "all", help::ALL))
 }
 
+fn dap<'a>(alloc: Global) -> Result<Command<'a>, AllocError>
+    ensures { IfOk result (IsCommand spec.dap) }
+{
+    let command = begun(alloc, "dap", help::DAP, help::DAP_LONG, help::DAP_REFUSALS);
+    Ok(command)
+}
+
 /// The program without its commands.
 fn bare<'a>(alloc: Global) -> Result<Command<'a>, AllocError>
     ensures { IfOk result (IsCommand spec.bare) }
@@ -312,5 +319,5 @@ fn asking<'a>(alloc: Global) -> Result<Command<'a>, AllocError>
 pub fn balsadbg<'a>(alloc: Global) -> Result<Command<'a>, AllocError>
     ensures { IfOk result (IsCommand spec.program) }
 {
-    asking(alloc)
+    with_command(asking(alloc), dap(alloc))
 }

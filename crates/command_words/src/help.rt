@@ -190,6 +190,27 @@ status 1:
 A command line that cannot be read, also one with a number that no refusal has,
 ends with status 2. All else ends with status 0.";
 
+pub const DAP: &str = "Serve an editor, by the Debug Adapter Protocol";
+
+pub const DAP_LONG: &str = "\
+Serve an editor over standard input and output, by the Debug Adapter Protocol:
+branches are its threads, and each step of a thread can be taken back. An editor
+starts it; docs/guide/editors.md has the settings of each.
+
+Example of what an editor runs:
+  balsadbg dap";
+
+pub const DAP_REFUSALS: &str = "\
+Refusals. The line `balsadbg: refused N` on standard error ends a run with
+status 1:
+
+   1  memory is used up
+  41  reading standard input failed
+  42  writing the answers failed
+
+What is wrong with a description or a request is told to the editor. A command
+line that cannot be read ends with status 2. All else ends with status 0.";
+
 pub const OUTLINE: &str = "Tell which branches, variables and channels a description has";
 
 pub const OUTLINE_LONG: &str = "\

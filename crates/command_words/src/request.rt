@@ -42,6 +42,8 @@ pub enum Request<'a> {
     Explain {
         page: &'static Page,
     },
+    /// Answer an editor, by the debug adapter protocol.
+    Dap,
     /// Tell what the description in `file` has.
     Outline {
         file: &'a str,
