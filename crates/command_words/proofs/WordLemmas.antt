@@ -189,6 +189,11 @@ no_why rows (inl none) (Request.Why file stimulus trace subject all) h = none fi
 no_why rows (inr none) (Request.Why file stimulus trace subject all) h = none subject.now h.2
 no_why rows none other h = unlike h.0 refl
 
+-- nor that of `picture`, with a trace
+pub no_picture : (rows : List Row) → NamesNoTrace rows → IsNoRequest (codes "picture") rows
+no_picture rows none (Request.Picture file stimulus trace drawing) h = none file.now stimulus.now trace.now h.1
+no_picture rows none other h = unlike h.0 refl
+
 -- nor that of `explain` where the number is that of no refusal
 pub no_explain : (rows : List Row) → TellsNoPage rows → IsNoRequest (codes "explain") rows
 no_explain rows none (Request.Explain page) h = none page.now h.1

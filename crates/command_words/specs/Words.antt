@@ -13,6 +13,7 @@ use Rattle.clap.specs.declared.builder.value_parser.ValueParser.{ValueParser}
 use Rattle.clap.specs.declared.builder.value_parser.ValueParser.TheVariants.{Signed, Unsigned}
 use Rattle.refusal_pages.specs.Numbers.{is_refusal}
 use Rattle.refusal_pages.specs.declared.writing.Page.{Page}
+use Rattle.command_words.specs.declared.drawing.Drawing.{Drawing}
 use Rattle.command_words.specs.declared.request.Request.{Request}
 use Rattle.command_words.specs.declared.unasked.Unasked.{Unasked}
 
@@ -79,6 +80,9 @@ outline = over_file (new_app (codes "outline"))
 abbrev pub waiting : App
 waiting = over_trace (new_app (codes "waiting"))
 
+abbrev pub picture : App
+picture = with_rule (over_trace (new_app (codes "picture"))) (flag (codes "json"))
+
 abbrev pub why : App
 why = with_rule (with_rule (over_trace (new_app (codes "why"))) (word (codes "X"))) (flag (codes "all"))
 
@@ -98,7 +102,7 @@ running = with_subcommands bare (check ∷ debug ∷ replay ∷ work ∷ shell �
 
 -- and with those that people ask
 abbrev pub asking : App
-asking = with_subcommands running (explain ∷ outline ∷ waiting ∷ why ∷ [])
+asking = with_subcommands running (explain ∷ outline ∷ waiting ∷ why ∷ picture ∷ [])
 
 -- the program
 abbrev pub program : App
@@ -132,6 +136,11 @@ AreTraced rows file stimulus trace = AreFiles rows file stimulus × (first_of (c
 abbrev pub TellsPage : List Row → Page → Type 0
 TellsPage rows page = IsNumber (one_of (codes "N") rows) page.number × IsTrue (is_refusal page.number)
 
+-- the picture for which the option `json` asks
+abbrev pub IsDrawing : Option Text → Drawing → Type 0
+IsDrawing json Drawing.Page = IsFlag json false
+IsDrawing json Drawing.Data = IsFlag json true
+
 -- the subcommand of this name with these values is this request
 abbrev pub IsRequest : Text → List Row → Request → Type 0
 IsRequest name rows (Request.Check file explain) =
@@ -158,6 +167,9 @@ IsRequest name rows (Request.Waiting file stimulus trace) =
 IsRequest name rows (Request.Why file stimulus trace subject all) =
     (name ≡ codes "why") × AreTraced rows file.now stimulus.now trace.now
     × (first_of (codes "X") rows ≡ Some subject.now) × IsFlag (one_of (codes "all") rows) all
+IsRequest name rows (Request.Picture file stimulus trace drawing) =
+    (name ≡ codes "picture") × AreTraced rows file.now stimulus.now trace.now
+    × IsDrawing (one_of (codes "json") rows) drawing
 
 -- whether a refusal of the request is told in words too
 abbrev pub explains : Request → Bool

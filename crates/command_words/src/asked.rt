@@ -6,7 +6,7 @@ ghost use Rattle.command_words.specs.Words as spec;
 ghost use Rattle.command_words.specs.walking.Building.{Chooses, ChoosesNone, IsNoRequest, NamesNoFiles, NamesNoTrace};
 ghost use Rattle.command_words.specs.walking.Building.{rows_in, TellsCrew, TellsNoCrew, TellsNoPage};
 
-use crate::{CrewSize, Request};
+use crate::{CrewSize, Drawing, Request};
 use clap::ArgMatches;
 use refusal_pages::{Page, page_of};
 
@@ -170,6 +170,31 @@ fn why_asked<'a>(words: &ArgMatches<'a>) -> Option<Request<'a>>
     })
 }
 
+/// The picture for which the words ask.
+fn drawing_asked(words: &ArgMatches<'_>) -> Drawing
+    ensures { spec.IsDrawing (one_of (codes "json") (rows_in words.now)) result }
+{
+    if flag_asked(words, "json") {
+        Drawing::Data
+    } else {
+        Drawing::Page
+    }
+}
+
+fn picture_asked<'a>(words: &ArgMatches<'a>) -> Option<Request<'a>>
+    ensures { MatchOption result (IsNoRequest (codes "picture") (rows_in words.now))
+        (spec.IsRequest (codes "picture") (rows_in words.now)) }
+{
+    let (file, stimulus, trace) = traced_asked(words)?;
+    let drawing = drawing_asked(words);
+    Some(Request::Picture {
+        file,
+        stimulus,
+        trace,
+        drawing,
+    })
+}
+
 /// The request of the command of this name with these words.
 fn request_of<'a>(name: &str, words: &ArgMatches<'a>) -> Option<Request<'a>>
     ensures { MatchOption result (IsNoRequest name.now (rows_in words.now))
@@ -186,6 +211,7 @@ fn request_of<'a>(name: &str, words: &ArgMatches<'a>) -> Option<Request<'a>>
         "outline" => outline_asked(words),
         "waiting" => waiting_asked(words),
         "why" => why_asked(words),
+        "picture" => picture_asked(words),
         _ => None,
     }
 }

@@ -234,6 +234,19 @@ fn waiting<'a>(alloc: Global) -> Result<Command<'a>, AllocError>
     over_trace(alloc, command)
 }
 
+fn picture<'a>(alloc: Global) -> Result<Command<'a>, AllocError>
+    ensures { IfOk result (IsCommand spec.picture) }
+{
+    let command = begun(
+        alloc,
+        "picture",
+        help::PICTURE,
+        help::PICTURE_LONG,
+        help::TRACE_REFUSALS,
+    );
+    with_argument(over_trace(alloc, command), flag(alloc, "json", help::JSON))
+}
+
 fn why<'a>(alloc: Global) -> Result<Command<'a>, AllocError>
     ensures { IfOk result (IsCommand spec.why) }
 {
@@ -312,7 +325,8 @@ fn asking<'a>(alloc: Global) -> Result<Command<'a>, AllocError>
     let program = with_command(running(alloc), explain(alloc));
     let program = with_command(program, outline(alloc));
     let program = with_command(program, waiting(alloc));
-    with_command(program, why(alloc))
+    let program = with_command(program, why(alloc));
+    with_command(program, picture(alloc))
 }
 
 /// The program.

@@ -22,7 +22,7 @@ plain words, and no mistake ends it.
 
 Where a description is refused, `check --explain` shows the place and says what
 helps. Where a run stands still, `waiting` tells who waits for whom; where a
-value is wrong, `why` tells the steps that led to it.";
+value is wrong, `why` tells the steps that led to it; `picture` draws the run.";
 
 pub const FILE: &str = "The description, a text of Balsa";
 
@@ -287,6 +287,20 @@ Example:
 It answers:
   x is 5, written by step 1
     1 line 7: i carries 5 into x";
+
+pub const JSON: &str = "Write the data of the page alone, as one JSON value";
+
+pub const PICTURE: &str = "Draw the run that a trace is";
+
+pub const PICTURE_LONG: &str = "\
+Draw the run that a trace is, with time going down and a column for each branch:
+a page for a browser, which needs no other file. It shows what led to the step
+under the pointer, and what came of it. Steps are numbered from 1 as they stand
+in the trace. A refusal is told in words too.
+
+Example:
+  balsadbg picture examples/adder.balsa examples/adder.stimulus \\
+    examples/adder.trace > adder.html";
 
 /// What each refusal of a command means: a line for each of a description, or one for all (`together`); with lines for
 /// a trace, for the files, for a stimulus and for a script.

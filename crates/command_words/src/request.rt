@@ -1,7 +1,7 @@
 ghost use Rattle.std.specs.Prelude.{◌≡◌};
 ghost use Rattle.command_words.specs.Words.{explains};
 
-use crate::CrewSize;
+use crate::{CrewSize, Drawing};
 use refusal_pages::Page;
 
 /// What a run is to do. With `explain` a refusal is told in words too.
@@ -62,6 +62,13 @@ pub enum Request<'a> {
         trace: &'a str,
         subject: &'a str,
         all: bool,
+    },
+    /// Draw a picture of the run that a trace is.
+    Picture {
+        file: &'a str,
+        stimulus: &'a str,
+        trace: &'a str,
+        drawing: Drawing,
     },
 }
 

@@ -1,0 +1,10 @@
+use Rattle.std.proofs.Common.{refl}
+use Rattle.command_words.specs.walking.Building.{rows_in}
+use Rattle.command_words.proofs.WordLemmas.{no_picture}
+use Rattle.command_words.proofs.asked.picture_asked.Goals as goal
+
+pub returns : goal.returns
+returns c = (refl, c.in_ok-file.ensures, c.drawing_asked-drawing.ensures)
+
+pub returns-in_err-file : goal.returns-in_err-file
+returns-in_err-file c = rw c.from_residual.ensures (no_picture (rows_in c.args.words.now) c.in_err-file.ensures)
