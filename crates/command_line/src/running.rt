@@ -18,6 +18,7 @@ use command_words::{Request, Unasked, requested};
 use debug_session::{Counted, Fault, debug_keeping, write_out};
 use std::alloc::Global;
 use std::convert::AsStr;
+use std::fs;
 use std::io::{BufReader, Read, Write};
 use std::sync::Wait;
 use std::thread::Threads;
@@ -50,7 +51,7 @@ fn debug_files<F: Files, I: Read, O: Write>(
 
 /// Does what is asked for with the files that it names. What was read of them is left in `texts`, and in `said` the last line
 /// of a script, or the words that tell of a refusal.
-fn perform<W: AllocGlobal + Threads + Wait + Sync, F: Files, I: Read, O: Write>(
+fn perform<W: fs::Files + Input + AllocGlobal + Threads + Wait + Sync, F: Files, I: Read, O: Write>(
     rt: &W,
     request: Request<'_>,
     files: &F,
@@ -151,7 +152,13 @@ fn finish<E: Write>(done: Result<(), Fault>, words: &[u8], err: &mut Counted<E>)
 
 /// Does what is asked for with the files that it names, and tells on `err` why it ended early: in a line, and in words where
 /// these are asked for.
-pub fn serve<W: AllocGlobal + Threads + Wait + Sync, F: Files, I: Read, O: Write, E: Write>(
+pub fn serve<
+    W: fs::Files + Input + AllocGlobal + Threads + Wait + Sync,
+    F: Files,
+    I: Read,
+    O: Write,
+    E: Write,
+>(
     rt: &W,
     request: Request<'_>,
     files: &F,
@@ -221,7 +228,14 @@ fn tell_unasked<O: Write, E: Write>(
 ///
 /// Answers the status to end with: 0 where it was done, 1 where it was refused, 2 where `words`
 /// could not be read.
-pub fn run<R: AllocGlobal + Threads + Wait + Sync, S: AsStr, F: Files, I: Read, O: Write, E: Write>(
+pub fn run<
+    R: fs::Files + Input + AllocGlobal + Threads + Wait + Sync,
+    S: AsStr,
+    F: Files,
+    I: Read,
+    O: Write,
+    E: Write,
+>(
     rt: &R,
     words: &[S],
     files: &F,
