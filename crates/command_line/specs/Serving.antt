@@ -1,11 +1,13 @@
 -- What a run does for a request: what the libraries give for the bytes of the files that it names.
 use Rattle.std.specs.Prelude.{◌≡◌, ◌⊎◌, ℕ, List, ◌++◌, [], Ok, Err}
+use Rattle.std.specs.Option.{option_copied}
 use Rattle.debug_session.specs.Transcript.{Debugged}
 use Rattle.debug_session.specs.declared.fault.Fault.{Fault}
 use Rattle.command_line.specs.Answering.{Holding, TextsHad, TextsNotHad, CheckGives, CheckRefuses}
 use Rattle.command_line.specs.Answering.{ReplayGives, ReplayRefuses, WorkGives, WorkRefuses}
 use Rattle.command_line.specs.Answering.{OutlineGives, PageRefuses, WaitingGives, WhyGives, WhyRefuses}
 use Rattle.command_line.specs.FaultLine.{fault_line}
+use Rattle.command_line.specs.Shells.{ShellsFiles}
 use Rattle.command_line.specs.Used.{Outcome, Used, IsUntouched, ReaderBlamed, WriterBlamed, Tells}
 use Rattle.command_line.specs.Used.{bytes_before, bytes_behind}
 use Rattle.command_words.specs.declared.request.Request.{Request}
@@ -47,6 +49,8 @@ Serves holds (Request.Check file explain) reader out done =
     IsUntouched reader × Answers (CheckGives holds file.now) (CheckRefuses holds file.now) out done
 Serves holds (Request.Debug file stimulus explain) reader out done =
     DebugsFiles holds file.now stimulus.now reader out done
+Serves holds (Request.Shell file stimulus trace) reader out done =
+    ShellsFiles holds file.now stimulus.now (option_copied trace) reader out done
 Serves holds (Request.Replay file stimulus trace explain) reader out done =
     IsUntouched reader
     × Answers (ReplayGives holds file.now stimulus.now trace.now) (ReplayRefuses holds file.now stimulus.now trace.now)

@@ -6,6 +6,7 @@ mod asking;
 mod explaining;
 mod files;
 mod running;
+mod shells;
 mod telling;
 mod texts;
 

@@ -12,6 +12,7 @@ use crate::answering::{check, read_texts, replay_files, work_files};
 use crate::asking::{Question, outline_file, show_page, waiting_files, why_files};
 use crate::explaining::words_behind;
 use crate::files::Files;
+use crate::shells::{Start, shell_files};
 use crate::telling::{tell, write_refusal};
 use crate::texts::{Part, Texts};
 use command_words::{Request, Unasked, requested};
@@ -69,6 +70,22 @@ fn perform<W: fs::Files + Input + AllocGlobal + Threads + Wait + Sync, F: Files,
         Request::Debug { file, stimulus, .. } => {
             debug_files(alloc, files, file, stimulus, reader, out, texts, said)
         }
+        Request::Shell {
+            file,
+            stimulus,
+            trace,
+        } => shell_files(
+            rt,
+            files,
+            &Start {
+                file,
+                stimulus,
+                trace,
+            },
+            reader,
+            out,
+            texts,
+        ),
         Request::Replay {
             file,
             stimulus,

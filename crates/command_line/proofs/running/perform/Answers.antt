@@ -16,6 +16,9 @@ returns-in-Check g c = rw c.in-Check.is (
 pub returns-in-Debug : goal.returns-in-Debug
 returns-in-Debug g c = rw c.in-Debug.is c.debug_files.ensures
 
+pub returns-in-Shell : goal.returns-in-Shell
+returns-in-Shell g c = rw c.in-Shell.is c.shell_files.ensures
+
 pub returns-in-Replay : goal.returns-in-Replay
 returns-in-Replay g c = rw c.in-Replay.is (
   refl,
