@@ -1,3 +1,4 @@
+pub mod Adapter
 pub mod Answering
 pub mod FaultLine
 pub mod Running

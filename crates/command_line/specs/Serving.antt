@@ -3,6 +3,8 @@ use Rattle.std.specs.Prelude.{◌≡◌, ◌⊎◌, ℕ, List, ◌++◌, [], Ok,
 use Rattle.std.specs.Option.{option_copied}
 use Rattle.debug_session.specs.Transcript.{Debugged}
 use Rattle.debug_session.specs.declared.fault.Fault.{Fault}
+use Rattle.std.specs.Prelude.{IfErr}
+use Rattle.command_line.specs.Adapter.{IsOfStreams}
 use Rattle.command_line.specs.Answering.{Holding, TextsHad, TextsNotHad, CheckGives, CheckRefuses}
 use Rattle.command_line.specs.Answering.{ReplayGives, ReplayRefuses, WorkGives, WorkRefuses}
 use Rattle.command_line.specs.Answering.{OutlineGives, PageRefuses, WaitingGives, WhyGives, WhyRefuses}
@@ -61,6 +63,7 @@ Serves holds (Request.Work file stimulus crew explain) reader out done =
     out done
 Serves holds (Request.Explain page) reader out done =
     IsUntouched reader × Answers (λ text. Unit {0}) PageRefuses out done
+Serves holds Request.Dap reader out done = IsUntouched reader × IfErr done IsOfStreams
 Serves holds (Request.Outline file) reader out done =
     IsUntouched reader × Answers (λ text. OutlineGives holds file.now) (CheckRefuses holds file.now) out done
 Serves holds (Request.Waiting file stimulus trace) reader out done =

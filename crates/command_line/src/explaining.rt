@@ -46,7 +46,7 @@ fn names_of<'a>(request: &Request<'a>) -> Names<'a> {
             trace,
             ..
         } => (file, stimulus, trace),
-        Request::Explain { .. } => ("", "", ""),
+        Request::Explain { .. } | Request::Dap => ("", "", ""),
     };
     Names {
         file,

@@ -1,6 +1,7 @@
 //! `balsadbg`, the program: a causal-consistent reversible debugger for Balsa.
 #![tactic(auto)]
 
+mod adapter;
 mod answering;
 mod asking;
 mod explaining;

@@ -8,6 +8,7 @@ ghost use Rattle.command_line.specs.Serving.{status_of, told_with, DebugsFiles, 
 ghost use Rattle.command_line.specs.Used.{Outcome, Tells, used};
 ghost use Rattle.command_line.specs.walking.Unasked.{HasText, TellsUnasked};
 
+use crate::adapter::serve_editor;
 use crate::answering::{check, read_texts, replay_files, work_files};
 use crate::asking::{Question, outline_file, show_page, waiting_files, why_files};
 use crate::explaining::words_behind;
@@ -105,6 +106,7 @@ fn perform<W: fs::Files + Input + AllocGlobal + Threads + Wait + Sync, F: Files,
             out,
         ),
         Request::Explain { page } => tell(show_page(alloc, page), out),
+        Request::Dap => serve_editor(rt, files, out),
         Request::Outline { file } => tell(outline_file(alloc, files, file, texts), out),
         Request::Waiting {
             file,

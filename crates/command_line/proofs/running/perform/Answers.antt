@@ -43,6 +43,9 @@ returns-in-Explain g c = rw c.in-Explain.is (
       c.tell-in-Explain.ensures,
 )
 
+pub returns-in-Dap : goal.returns-in-Dap
+returns-in-Dap g c = rw c.in-Dap.is (refl, c.serve_editor.ensures)
+
 pub returns-in-Outline : goal.returns-in-Outline
 returns-in-Outline g c = rw c.in-Outline.is (
   refl,
