@@ -1,5 +1,6 @@
 pub mod Adapter
 pub mod Answering
+pub mod Drawing
 pub mod FaultLine
 pub mod Running
 pub mod Serving

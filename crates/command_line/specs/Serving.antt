@@ -8,6 +8,7 @@ use Rattle.command_line.specs.Adapter.{IsOfStreams}
 use Rattle.command_line.specs.Answering.{Holding, TextsHad, TextsNotHad, CheckGives, CheckRefuses}
 use Rattle.command_line.specs.Answering.{ReplayGives, ReplayRefuses, WorkGives, WorkRefuses}
 use Rattle.command_line.specs.Answering.{OutlineGives, PageRefuses, WaitingGives, WhyGives, WhyRefuses}
+use Rattle.command_line.specs.Drawing.{PictureGives}
 use Rattle.command_line.specs.FaultLine.{fault_line}
 use Rattle.command_line.specs.Shells.{ShellsFiles}
 use Rattle.command_line.specs.Used.{Outcome, Used, IsUntouched, ReaderBlamed, WriterBlamed, Tells}
@@ -74,3 +75,7 @@ Serves holds (Request.Why file stimulus trace subject all) reader out done =
     IsUntouched reader
     × Answers (λ text. WhyGives holds file.now stimulus.now trace.now subject.now)
     (WhyRefuses holds file.now stimulus.now trace.now subject.now) out done
+Serves holds (Request.Picture file stimulus trace drawing) reader out done =
+    IsUntouched reader
+    × Answers (λ text. PictureGives holds file.now stimulus.now trace.now)
+    (ReplayRefuses holds file.now stimulus.now trace.now) out done

@@ -29,7 +29,13 @@ fn names_of<'a>(request: &Request<'a>) -> Names<'a> {
         Request::Debug { file, stimulus, .. } | Request::Work { file, stimulus, .. } => {
             (file, stimulus, "")
         }
-        Request::Replay {
+        Request::Picture {
+            file,
+            stimulus,
+            trace,
+            ..
+        }
+        | Request::Replay {
             file,
             stimulus,
             trace,

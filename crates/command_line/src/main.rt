@@ -4,6 +4,7 @@
 mod adapter;
 mod answering;
 mod asking;
+mod drawing;
 mod explaining;
 mod files;
 mod running;

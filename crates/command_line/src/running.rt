@@ -11,6 +11,7 @@ ghost use Rattle.command_line.specs.walking.Unasked.{HasText, TellsUnasked};
 use crate::adapter::serve_editor;
 use crate::answering::{check, read_texts, replay_files, work_files};
 use crate::asking::{Question, outline_file, show_page, waiting_files, why_files};
+use crate::drawing::{Drawn, picture_files};
 use crate::explaining::words_behind;
 use crate::files::Files;
 use crate::shells::{Start, shell_files};
@@ -135,6 +136,25 @@ fn perform<W: fs::Files + Input + AllocGlobal + Threads + Wait + Sync, F: Files,
                 },
                 texts,
                 said,
+            ),
+            out,
+        ),
+        Request::Picture {
+            file,
+            stimulus,
+            trace,
+            drawing,
+        } => tell(
+            picture_files(
+                alloc,
+                files,
+                &Drawn {
+                    file,
+                    stimulus,
+                    trace,
+                    drawing,
+                },
+                texts,
             ),
             out,
         ),

@@ -2,6 +2,7 @@ use Rattle.std.proofs.Common.{refl}
 use Rattle.command_line.specs.Used.{used}
 use Rattle.command_line.specs.Answering.{CheckGives, CheckRefuses, ReplayGives, ReplayRefuses, WorkGives, WorkRefuses}
 use Rattle.command_line.specs.Answering.{OutlineGives, PageRefuses, WaitingGives, WhyGives, WhyRefuses}
+use Rattle.command_line.specs.Drawing.{PictureGives}
 use Rattle.command_line.proofs.AnsweringLemmas.{answered}
 use Rattle.command_line.proofs.running.perform.Goals as goal
 
@@ -68,4 +69,12 @@ returns-in-Why g c = rw c.in-Why.is (
   answered (λ text. WhyGives (g.F.Files.holds c.args.files.now) c.in-Why.file.now c.in-Why.stimulus.now c.in-Why.trace.now c.in-Why.subject.now) (WhyRefuses (g.F.Files.holds c.args.files.now) c.in-Why.file.now c.in-Why.stimulus.now c.in-Why.trace.now c.in-Why.subject.now)
       c.why_files.result (used g.O.Write.contents c.args.out.now c.tell-in-Why.new.out) c.tell-in-Why.result c.why_files.ensures
       c.tell-in-Why.ensures,
+)
+
+pub returns-in-Picture : goal.returns-in-Picture
+returns-in-Picture g c = rw c.in-Picture.is (
+  refl,
+  answered (λ text. PictureGives (g.F.Files.holds c.args.files.now) c.in-Picture.file.now c.in-Picture.stimulus.now c.in-Picture.trace.now) (ReplayRefuses (g.F.Files.holds c.args.files.now) c.in-Picture.file.now c.in-Picture.stimulus.now c.in-Picture.trace.now)
+      c.picture_files.result (used g.O.Write.contents c.args.out.now c.tell-in-Picture.new.out) c.tell-in-Picture.result c.picture_files.ensures
+      c.tell-in-Picture.ensures,
 )
