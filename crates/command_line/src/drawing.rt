@@ -25,6 +25,7 @@ pub struct Drawn<'a> {
 fn form_of(drawing: Drawing) -> picture::Drawing {
     match drawing {
         Drawing::Page => picture::Drawing::Page,
+        Drawing::Waves => picture::Drawing::Waves,
         Drawing::Data => picture::Drawing::Data,
     }
 }

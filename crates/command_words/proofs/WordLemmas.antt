@@ -28,6 +28,7 @@ use Rattle.refusal_pages.specs.declared.writing.Page.{Page}
 use Rattle.command_words.specs.declared.request.Request.{Request}
 use Rattle.command_words.specs.declared.unasked.Unasked.{Unasked}
 use Rattle.command_words.specs.Words.{AskFor, AskForSome, AskForNone, AskNothing, IsFaultOf, IsFlag, IsNumber, IsRequest, Named, TellsPage, program}
+use Rattle.command_words.specs.Words.{drawing_in}
 use Rattle.command_words.specs.declared.crew_size.CrewSize.{CrewSize}
 use Rattle.command_words.specs.walking.Building.{Chooses, ChoosesNone, IsArgument, IsCommand, IsNoRequest}
 use Rattle.command_words.specs.walking.Building.{Finds, NamesNoFiles, NamesNoTrace, Refuses, TellsCrew, TellsError, TellsNoCrew, TellsNoPage}
@@ -189,9 +190,11 @@ no_why rows (inl none) (Request.Why file stimulus trace subject all) h = none fi
 no_why rows (inr none) (Request.Why file stimulus trace subject all) h = none subject.now h.2
 no_why rows none other h = unlike h.0 refl
 
--- nor that of `picture`, with a trace
-pub no_picture : (rows : List Row) → NamesNoTrace rows → IsNoRequest (codes "picture") rows
-no_picture rows none (Request.Picture file stimulus trace drawing) h = none file.now stimulus.now trace.now h.1
+-- nor that of `picture`, with a trace, or where no picture is asked for
+pub no_picture : (rows : List Row) → NamesNoTrace rows ⊎ (drawing_in rows ≡ None) → IsNoRequest (codes "picture") rows
+no_picture rows (inl none) (Request.Picture file stimulus trace drawing) h = none file.now stimulus.now trace.now h.1
+no_picture rows (inr none) (Request.Picture file stimulus trace drawing) h =
+    let gone : None ≡ Some drawing = sym none ∙ h.2 in cc
 no_picture rows none other h = unlike h.0 refl
 
 -- nor that of `explain` where the number is that of no refusal

@@ -1,6 +1,7 @@
 -- What the words of the command line ask for, of which the first is the program's name.
 use Rattle.std.specs.Prelude.{◌≡◌, ◌≢◌, ◌⊎◌, [], ◌∷◌, ℕ, Bool, IsTrue, List, Option, Some, None, pos, codes, false, true}
 use Rattle.std.specs.Prelude.{option_map}
+use Rattle.std.specs.Str.{bytes_eq}
 use Rattle.std.specs.Str.Parse.{IsNumeral, digits_value, without_leading_plus}
 use Rattle.clap.specs.Kinds.{IsAmong}
 use Rattle.clap.specs.declared.error.kind.ErrorKind.{ErrorKind}
@@ -81,7 +82,8 @@ abbrev pub waiting : App
 waiting = over_trace (new_app (codes "waiting"))
 
 abbrev pub picture : App
-picture = with_rule (over_trace (new_app (codes "picture"))) (flag (codes "json"))
+picture =
+    with_rule (with_rule (over_trace (new_app (codes "picture"))) (flag (codes "vcd"))) (flag (codes "json"))
 
 abbrev pub why : App
 why = with_rule (with_rule (over_trace (new_app (codes "why"))) (word (codes "X"))) (flag (codes "all"))
@@ -136,10 +138,21 @@ AreTraced rows file stimulus trace = AreFiles rows file stimulus × (first_of (c
 abbrev pub TellsPage : List Row → Page → Type 0
 TellsPage rows page = IsNumber (one_of (codes "N") rows) page.number × IsTrue (is_refusal page.number)
 
--- the picture for which the option `json` asks
-abbrev pub IsDrawing : Option Text → Drawing → Type 0
-IsDrawing json Drawing.Page = IsFlag json false
-IsDrawing json Drawing.Data = IsFlag json true
+-- an option without a value is among the words, where it has this text
+abbrev pub is_on : Option Text → Bool
+is_on None = false
+is_on (Some text) = bytes_eq text (codes "true")
+
+-- the picture of these options, of one form at most
+abbrev pub drawing_of : (vcd json : Bool) → Option Drawing
+drawing_of false false = Some Drawing.Page
+drawing_of true false = Some Drawing.Waves
+drawing_of false true = Some Drawing.Data
+drawing_of true true = None
+
+-- the picture for which the values ask
+abbrev pub drawing_in : List Row → Option Drawing
+drawing_in rows = drawing_of (is_on (first_of (codes "vcd") rows)) (is_on (first_of (codes "json") rows))
 
 -- the subcommand of this name with these values is this request
 abbrev pub IsRequest : Text → List Row → Request → Type 0
@@ -169,7 +182,7 @@ IsRequest name rows (Request.Why file stimulus trace subject all) =
     × (first_of (codes "X") rows ≡ Some subject.now) × IsFlag (one_of (codes "all") rows) all
 IsRequest name rows (Request.Picture file stimulus trace drawing) =
     (name ≡ codes "picture") × AreTraced rows file.now stimulus.now trace.now
-    × IsDrawing (one_of (codes "json") rows) drawing
+    × (drawing_in rows ≡ Some drawing)
 
 -- whether a refusal of the request is told in words too
 abbrev pub explains : Request → Bool

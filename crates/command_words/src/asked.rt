@@ -6,6 +6,7 @@ ghost use Rattle.command_words.specs.Words as spec;
 ghost use Rattle.command_words.specs.walking.Building.{Chooses, ChoosesNone, IsNoRequest, NamesNoFiles, NamesNoTrace};
 ghost use Rattle.command_words.specs.walking.Building.{rows_in, TellsCrew, TellsNoCrew, TellsNoPage};
 
+use crate::drawing::drawing_of;
 use crate::{CrewSize, Drawing, Request};
 use clap::ArgMatches;
 use refusal_pages::{Page, page_of};
@@ -170,15 +171,21 @@ fn why_asked<'a>(words: &ArgMatches<'a>) -> Option<Request<'a>>
     })
 }
 
-/// The picture for which the words ask.
-fn drawing_asked(words: &ArgMatches<'_>) -> Drawing
-    ensures { spec.IsDrawing (one_of (codes "json") (rows_in words.now)) result }
+/// Whether the option of this name, which has no value, is among the words.
+fn is_among(words: &ArgMatches<'_>, name: &str) -> bool
+    ensures { result ≡ spec.is_on (first_of name.now (rows_in words.now)) }
 {
-    if flag_asked(words, "json") {
-        Drawing::Data
-    } else {
-        Drawing::Page
+    match words.get_str(name) {
+        Some(text) => text == "true",
+        None => false,
     }
+}
+
+/// The picture for which the words ask.
+fn drawing_asked(words: &ArgMatches<'_>) -> Option<Drawing>
+    ensures { result ≡ spec.drawing_in (rows_in words.now) }
+{
+    drawing_of(is_among(words, "vcd"), is_among(words, "json"))
 }
 
 fn picture_asked<'a>(words: &ArgMatches<'a>) -> Option<Request<'a>>
@@ -186,7 +193,7 @@ fn picture_asked<'a>(words: &ArgMatches<'a>) -> Option<Request<'a>>
         (spec.IsRequest (codes "picture") (rows_in words.now)) }
 {
     let (file, stimulus, trace) = traced_asked(words)?;
-    let drawing = drawing_asked(words);
+    let drawing = drawing_asked(words)?;
     Some(Request::Picture {
         file,
         stimulus,

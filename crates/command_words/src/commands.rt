@@ -244,7 +244,8 @@ fn picture<'a>(alloc: Global) -> Result<Command<'a>, AllocError>
         help::PICTURE_LONG,
         help::TRACE_REFUSALS,
     );
-    with_argument(over_trace(alloc, command), flag(alloc, "json", help::JSON))
+    let drawn = with_argument(over_trace(alloc, command), flag(alloc, "vcd", help::VCD));
+    with_argument(drawn, flag(alloc, "json", help::JSON))
 }
 
 fn why<'a>(alloc: Global) -> Result<Command<'a>, AllocError>

@@ -288,6 +288,8 @@ It answers:
   x is 5, written by step 1
     1 line 7: i carries 5 into x";
 
+pub const VCD: &str = "Write waves, as GTKWave shows them (a value change dump)";
+
 pub const JSON: &str = "Write the data of the page alone, as one JSON value";
 
 pub const PICTURE: &str = "Draw the run that a trace is";
@@ -296,11 +298,14 @@ pub const PICTURE_LONG: &str = "\
 Draw the run that a trace is, with time going down and a column for each branch:
 a page for a browser, which needs no other file. It shows what led to the step
 under the pointer, and what came of it. Steps are numbered from 1 as they stand
-in the trace. A refusal is told in words too.
+in the trace. --vcd and --json exclude one another. A refusal is told in words
+too.
 
 Example:
   balsadbg picture examples/adder.balsa examples/adder.stimulus \\
     examples/adder.trace > adder.html";
+
+pub const NO_PICTURE: &str = "--vcd and --json exclude one another";
 
 /// What each refusal of a command means: a line for each of a description, or one for all (`together`); with lines for
 /// a trace, for the files, for a stimulus and for a script.

@@ -25,6 +25,14 @@ fn found<'a, S: AsStr>(
     Ok(chosen(&matches))
 }
 
+/// Why words of a command in good form ask for no request.
+fn why_none<S: AsStr>(words: &[S]) -> &'static str {
+    match words.get(1) {
+        Some(name) if name.as_str() == "picture" => help::NO_PICTURE,
+        _ => help::NO_REFUSAL,
+    }
+}
+
 /// The request for which the words ask, as this program reads them.
 fn asked<'a, S: AsStr>(program: &mut Command<'a>, words: &'a [S]) -> Result<Request<'a>, Error>
     requires { IsCommand spec.program program.now }
@@ -34,7 +42,7 @@ fn asked<'a, S: AsStr>(program: &mut Command<'a>, words: &'a [S]) -> Result<Requ
     match found {
         Some(request) => Ok(request),
         // As of `explain 18`: the command, its files and its numbers are required.
-        None => Err(program.error(ErrorKind::MissingSubcommand, help::NO_REFUSAL)?),
+        None => Err(program.error(ErrorKind::MissingSubcommand, why_none(words))?),
     }
 }
 
