@@ -1,5 +1,5 @@
 -- The sides that are left over are those that wait.
-use Rattle.std.proofs.Common.{◌≡◌, ◌⊎◌, ◌↔◌, inl, inr, List, [], ◌∷◌, Bool, true, false, ◌&&◌, ◌||◌, cond, Option, Some, None, refl, sym, ◌∙◌, ap, subst}
+use Rattle.std.proofs.Common.{◌≡◌, ◌⊎◌, inl, inr, List, [], ◌∷◌, Bool, true, false, ◌&&◌, ◌||◌, cond, Option, Some, None, refl, sym, ◌∙◌, ap, subst}
 use Rattle.std.specs.List.{filter}
 use Rattle.std.proofs.lemmas.Bool.{and_parts}
 use Rattle.syntax.specs.Lists.{In, Every}
@@ -7,16 +7,15 @@ use Rattle.runs.specs.InOrder.{InOrder}
 use Rattle.runs.specs.Events.{places, places_of}
 use Rattle.runs.specs.Moves.{Place}
 use Rattle.runs.specs.Ready.{ReadyList}
-use Rattle.runs.specs.Steps.{State, Allowed}
+use Rattle.runs.specs.Steps.{State}
 use Rattle.runs.specs.Tests.{same_place}
 use Rattle.runs.specs.declared.event.Event.{Event}
 use Rattle.runs.proofs.Lists.{every-of, every-in}
-use Rattle.offered_sides.specs.Sides.{Offered, OffersExactly, NotBehind}
+use Rattle.offered_sides.specs.Sides.{OffersExactly, NotBehind}
 use Rattle.offered_sides.specs.declared.side.OfferedSide.{OfferedSide}
 use Rattle.offered_sides.proofs.PlacedSides.{place-true, place-itself}
-use Rattle.waiting.specs.Waits.{Waits, ListsWaiting}
+use Rattle.waiting.specs.Waits.{ListsWaiting}
 use Rattle.waiting.specs.Progress.{is_outlet, NoneAllowed, StandsLike}
-use Rattle.waiting.specs.declared.progress.Progress.TheVariants.{GoesOn, Done, Stuck}
 use Rattle.waiting.specs.walking.Among.{is_second, has_place, has_any, left_over, all_outlets, at_rest, progress_of}
 
 or-parts : (a b : Bool) → (a || b) ≡ true → (a ≡ true) ⊎ (b ≡ true)

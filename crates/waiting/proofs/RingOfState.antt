@@ -1,5 +1,5 @@
 -- Rings of exactly the sides that wait are rings of the state.
-use Rattle.std.proofs.Common.{◌≡◌, ◌↔◌, ℕ, List, [], ◌∷◌}
+use Rattle.std.proofs.Common.{◌↔◌, ℕ, List, [], ◌∷◌}
 use Rattle.syntax.specs.Lists.{In}
 use Rattle.runs.specs.Moves.{Place}
 use Rattle.runs.specs.Steps.{State}

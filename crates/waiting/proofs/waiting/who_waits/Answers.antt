@@ -7,10 +7,8 @@ use Rattle.offered_sides.specs.View.{state_of}
 use Rattle.offered_sides.specs.declared.side.OfferedSide.{OfferedSide}
 use Rattle.rings.specs.Partners.{partner_in}
 use Rattle.rings.specs.Rings.{TellsRing}
-use Rattle.rings.specs.declared.partner.Partner.{Partner}
 use Rattle.waiting.specs.Waits.{ListsWaiting}
 use Rattle.waiting.specs.Progress.{StandsLike}
-use Rattle.waiting.specs.Rings.{NamesRing}
 use Rattle.waiting.specs.declared.progress.Progress.{Progress}
 use Rattle.waiting.specs.walking.Among.{left_over, progress_of}
 use Rattle.waiting.proofs.Leftover.{lists-waiting, stands-like}
