@@ -5,7 +5,7 @@
 
 kept=out/balsadbg
 kept_trial=out/balsadbg-trial
-# What docs/development/STATUS.md measured.
+# As README.md says.
 build_takes="about an hour on 4 processors"
 
 needs_toolchain() {

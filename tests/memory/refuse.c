@@ -12,7 +12,8 @@
    reads FILE FIRST EACH N    The same for reads, which fail with error N. Each read and each write moves one byte then.
    writes FILE FIRST EACH N   The same for writes; where N is 0 the write takes no byte.
    one FILE NUMBER 0 0        That request for memory is refused in this process: for a program with threads, which a child
-                              does not inherit.
+                              does not inherit, or with files that it writes.
+   one_write FILE NUMBER 0 N  The same for that write.
 
    Where REFUSE_BY_LINE stands in the environment a read of standard input moves one byte in any case, so that each line is read
    alone, and answered before the next.
@@ -43,7 +44,7 @@ int *__errno_location(void);
 enum { READ = 0, WRITE = 1, EXIT_GROUP = 231, NO_MEMORY = 12, FROM_START = 0, FROM_HERE = 1, FROM_END = 2 };
 enum { FILES = 16, SECONDS = 20, SLOWER = 64, FAILED = 99, ALL_DONE = 1 << 30 };
 
-enum way { NOTHING, MEMORY, FLOOD, ONE, READS, WRITES };
+enum way { NOTHING, MEMORY, FLOOD, ONE, READS, WRITES, ONE_WRITE };
 
 static enum way way;
 static int by_line;
@@ -98,8 +99,8 @@ static void tell_end(size_t number, size_t on, size_t before, int status)
 
 static enum way way_of(const char *said)
 {
-    static const char *const words[] = {"", "memory ", "flood ", "one ", "reads ", "writes "};
-    for (int at = MEMORY; at <= WRITES; at++) {
+    static const char *const words[] = {"", "memory ", "flood ", "one ", "reads ", "writes ", "one_write "};
+    for (int at = MEMORY; at <= ONE_WRITE; at++) {
         size_t length = 0;
         while (words[at][length])
             length++;
@@ -171,7 +172,7 @@ static int is_next(int on)
     size_t number = __atomic_add_fetch(&asked, 1, __ATOMIC_SEQ_CST);
     if (number != first)
         return 0;
-    if (way == ONE)
+    if (way == ONE || way == ONE_WRITE)
         return 1;
     first += each ? 1 : 1 + number / SLOWER;
     each -= each ? 1 : 0;
@@ -213,7 +214,7 @@ static long failed(void)
 
 static size_t moved(int file_read, size_t count)
 {
-    return (way == READS || way == WRITES || (by_line && file_read == 0)) && count ? 1 : count;
+    return (way == READS || way == WRITES || way == ONE_WRITE || (by_line && file_read == 0)) && count ? 1 : count;
 }
 
 long read(int from, void *bytes, size_t count)
@@ -223,7 +224,7 @@ long read(int from, void *bytes, size_t count)
 
 long write(int to, const void *bytes, size_t count)
 {
-    return way == WRITES && is_next(to) ? failed() : syscall(WRITE, to, bytes, moved(to, count));
+    return (way == WRITES || way == ONE_WRITE) && is_next(to) ? failed() : syscall(WRITE, to, bytes, moved(to, count));
 }
 
 long __write(int to, const void *bytes, size_t count)

@@ -3,6 +3,11 @@ pairs, so this is slow and simple."""
 
 from __future__ import annotations
 
+import json
+from dataclasses import replace
+from random import Random
+
+from cases import Case
 from reference.debugger import accept
 from reference.elaboration import System
 from reference.events import Event, depends_directly
@@ -71,10 +76,10 @@ def lines_of(event: Event) -> list[int]:
     return [move.command.line if move.command is not None else 0 for move in event.moves]
 
 
-def facts(source: bytes, stimulus: bytes, trace: bytes) -> dict:
+def facts(case: Case) -> dict:
     """The parts of the data that follow from the rules alone."""
-    system = accept(source, stimulus)
-    machine: Machine = load(system, trace)
+    system = accept(case.source, case.stimulus)
+    machine: Machine = load(system, case.trace)
     events = [entry.event for entry in machine.live]
     causes, depth = direct_causes(events), []
     for kept in causes:
@@ -155,3 +160,98 @@ def faults_of(data: dict) -> list[str]:
         if any(not 0 <= one < places for one in ring):
             found.append(f"ring {ring}")
     return found
+
+
+class Facts:
+    """The facts of a run."""
+
+    def __init__(self, case: Case) -> None:
+        self.case, self.all = case, facts(case)
+        self.events = self.all["events"]
+
+    def other_order(self) -> Case:
+        """The same events in another order that respects dependence, as a trace of version 1, which may stand in any."""
+        machine = load(accept(self.case.source, self.case.stimulus), self.case.trace)
+        lines = [step_line(entry.event) for entry in machine.live]
+        waits = [0] * len(lines)
+        for at, row in enumerate(self.events):
+            for ahead in row["followers"]:
+                waits[at + ahead] += 1
+        random, free, order = Random(len(lines)), [at for at, count in enumerate(waits) if not count], []
+        while free:
+            at = free.pop(random.randrange(len(free)))
+            order.append(at)
+            for ahead in self.events[at]["followers"]:
+                waits[at + ahead] -= 1
+                if not waits[at + ahead]:
+                    free.append(at + ahead)
+        trace = "balsadbg trace 1\n" + "".join(lines[at] + "\n" for at in order)
+        return replace(self.case, trace=trace.encode())
+
+    def consequences(self, at: int) -> list[int]:
+        """The indexes of the events that depend on this one, but for itself."""
+        found, work = set(), [at]
+        while work:
+            one = work.pop()
+            for ahead in self.events[one]["followers"]:
+                if one + ahead not in found:
+                    found.add(one + ahead)
+                    work.append(one + ahead)
+        return sorted(found)
+
+    def causes(self, at: int) -> list[int]:
+        """The indexes of the events on which this one depends, but for itself."""
+        return [one for one in range(at) if at in self.consequences(one)]
+
+    def cone_sizes(self, at: int) -> tuple[int, int]:
+        """How many causes the event has, and how many consequences."""
+        return len(self.causes(at)), len(self.consequences(at))
+
+
+def difference(told_data: object, wanted: object, way: str = "") -> str:
+    """Where both differ first."""
+    if isinstance(wanted, dict) and isinstance(told_data, dict):
+        for key in wanted:
+            if told_data.get(key) != wanted[key]:
+                return difference(told_data.get(key), wanted[key], f"{way}.{key}")
+    if isinstance(wanted, list) and isinstance(told_data, list) and len(wanted) == len(told_data):
+        for number, (one, other) in enumerate(zip(told_data, wanted)):
+            if one != other:
+                return difference(one, other, f"{way}[{number}]")
+    return f"{way}: told {told_data!r}, wanted {wanted!r}"
+
+
+def data_faults(case: Case, drawer: object) -> list[str]:
+    """What is wrong with the data that a program has written of the run."""
+    text = drawer.draw("--json")
+    if drawer.draw("--json") != text:
+        return ["two calls differ"]
+    if any(not 32 <= byte < 127 or byte == 60 for byte in text):
+        return ["a byte that is no plain ASCII, or `<`"]
+    data = json.loads(text)
+    if data["picture"] != 1 or data["tickets"] != 1 or data["source"] != case.source.decode("utf-8", "replace"):
+        return ["version, tickets or source"]
+    if found := faults_of(data):
+        return found
+    if len(data["events"]) >= 4000:
+        return []
+    shown = told(data)
+    return [] if shown == drawer.facts.all else [difference(shown, drawer.facts.all)]
+
+
+def by_event(data: dict) -> dict:
+    """What the data say of each event, by its text: all but its number."""
+    texts = [row[0] for row in data["events"]]
+    told_of = {row[0]: [row[1:8], sorted(texts[at + ahead] for ahead in row[8]), row[9:]] for at, row in enumerate(data["events"])}
+    races = sorted([texts[cause], texts[event], variable] for cause, event, variable in data["races"])
+    rest = {name: part for name, part in data.items() if name not in ("events", "races", "tickets")}
+    return {"events": told_of, "races": races, "rest": rest}
+
+
+def order_faults(drawer: object, other: object) -> list[str]:
+    """Whether the run in another order has the same picture but for the numbers of its events, and the same waves."""
+    found = []
+    if drawer.draw("--vcd") != other.draw("--vcd"):
+        found.append("the waves differ")
+    one, two = by_event(json.loads(drawer.draw("--json"))), by_event(json.loads(other.draw("--json")))
+    return found if one == two else found + [difference(two, one)]

@@ -1,5 +1,5 @@
 -- How what the libraries give becomes the answer to a request, or the reason why there is none.
-use Rattle.std.proofs.Common.{◌≡◌, inl, inr, ℕ, List, Some, Result, Ok, Err, subst}
+use Rattle.std.proofs.Common.{◌≡◌, inl, inr, ℕ, List, Option, Some, Result, Ok, Err, subst}
 use Rattle.std.specs.Prelude.{IfOk, IfErr, MatchResult}
 use Rattle.system.specs.declared.system.System.{System}
 use Rattle.trace_file.specs.Loading as trace_text
@@ -7,17 +7,24 @@ use Rattle.trace_file.specs.declared.fault.Fault.{Fault as TraceFault}
 use Rattle.trace_file.specs.declared.fault.Fault.TheVariants as not_loaded
 use Rattle.questions.specs.Asking.{IsAnswered}
 use Rattle.questions.specs.declared.why.Why.{Why}
+use Rattle.trace_file.specs.Loading.{ticketed}
+use Rattle.picture_drawing.specs.Asked.{IsMissing, IsThere}
+use Rattle.picture.specs.Pictures.{IsPictured, asked_event}
+use Rattle.picture.specs.declared.Drawing.{Drawing as Form}
+use Rattle.picture.specs.declared.Pictured.{Pictured}
+use Rattle.command_words.specs.declared.drawing.Drawing.{Drawing}
 use Rattle.debug_session.specs.Replaying.{RefusesTrace}
 use Rattle.debug_session.specs.Wrapping.{of_trace}
 use Rattle.debug_session.specs.Accepting.{AcceptedAs, IsRefused}
 use Rattle.debug_session.specs.Transcript.{Debugged}
 use Rattle.debug_session.specs.declared.fault.Fault.{Fault}
 use Rattle.command_line.specs.Answering.{Holding, TextsHad, FilesGive, FilesRefuse, WhyGives, WhyRefuses}
+use Rattle.command_line.specs.Drawing.{PictureGives, PictureRefuses, marked_step}
 use Rattle.command_line.specs.Serving.{Answers, DebugsFiles}
 use Rattle.command_line.specs.Used.{Outcome, Used, IsUntouched, ReaderBlamed, WriterBlamed, Tells}
 use Rattle.command_line.specs.Used.{bytes_before, bytes_behind}
 use Rattle.command_line.specs.declared.answering.Answer.{Answer}
-use Rattle.command_line.specs.walking.Answers.{AnswersWhyOf, answer_text}
+use Rattle.command_line.specs.walking.Answers.{AnswersPictureOf, AnswersWhyOf, answer_text}
 
 -- both texts were had, and make a system or are refused
 pub texts-accepted : (holds : Holding) (file stimulus source values slice text : List ℕ) (r : Result System Fault)
@@ -85,3 +92,27 @@ why-answered holds file stimulus trace subject system text (Why.Refused reason w
     absurd of
 why-answered holds file stimulus trace subject system text (Why.Refused reason words) (Err fault) files held answered of =
     inr (system, text, answered.0, reason, files, held, answered.1, answered.2, of)
+
+-- a picture, or the reason why there is none
+pub picture-answered : (holds : Holding) (file stimulus trace : List ℕ) (drawing : Drawing) (form : Form) (system : System)
+    (text : List ℕ) (pictured : Pictured) (made : Result Answer Fault) → FilesGive holds file stimulus system
+    → holds trace (Some text) → IsPictured system text form pictured → asked_event form ≡ marked_step drawing
+    → AnswersPictureOf pictured made
+    → MatchResult made (λ _. PictureGives holds file stimulus trace drawing) (PictureRefuses holds file stimulus trace drawing)
+picture-answered holds file stimulus trace drawing form system text (Pictured.Text lines) (Ok answer) files held drawn same of =
+    (system, text, drawn.0, files, held, drawn.1, subst (λ (e : Option ℕ). IsThere (ticketed 1 drawn.0) e) same drawn.2)
+picture-answered holds file stimulus trace drawing form system text (Pictured.Text lines) (Err fault) files held drawn same of =
+    absurd of
+picture-answered holds file stimulus trace drawing form system text (Pictured.NoSuchStep words) (Ok answer) files held drawn same of =
+    absurd of
+picture-answered holds file stimulus trace drawing form system text (Pictured.NoSuchStep words) (Err fault) files held drawn same of =
+    inr (
+      system,
+      text,
+      drawn.0,
+      files,
+      held,
+      drawn.1,
+      subst (λ (e : Option ℕ). IsMissing (ticketed 1 drawn.0) e) same drawn.2,
+      of,
+    )

@@ -5,7 +5,7 @@ use Rattle.runs.specs.declared.command.Refusal.{Refusal}
 use Rattle.runs.specs.declared.event.Event.{Event}
 use Rattle.trace_file.specs.Loading.{ticketed}
 use Rattle.trace_file.specs.TraceText.{StandsFor}
-use Rattle.questions.specs.Asking.{IsAbout, IsAboutNone, IsTraced}
+use Rattle.questions.specs.Asking.{IsAbout, IsAboutNone, IsOutlineText, IsWaitingText}
 use Rattle.locked_execution.specs.Working.{Worked}
 use Rattle.debug_session.specs.Accepting.{AcceptedAs, IsRefused}
 use Rattle.debug_session.specs.Replaying.{Replays, RefusesTrace}
@@ -86,15 +86,17 @@ WorkRefuses holds file stimulus fault =
 abbrev pub PageRefuses : Fault → Type 0
 PageRefuses fault = fault ≡ Memory
 
--- `outline` on the file of this name gives an answer: where `check` does
-abbrev pub OutlineGives : Holding → List ℕ → Type 0
-OutlineGives holds file = (source : List ℕ) × (system : System) × holds file (Some source) × AcceptedAs source [] system
+-- `outline` on the file of this name gives this answer: the text of the outline, where `check` accepts the description
+abbrev pub OutlineGives : Holding → List ℕ → List ℕ → Type 0
+OutlineGives holds file answer =
+    (source : List ℕ) × (system : System) × holds file (Some source) × AcceptedAs source [] system
+    × IsOutlineText system answer
 
--- `waiting` on the files of these names gives an answer: where `replay` does
-abbrev pub WaitingGives : Holding → List ℕ → List ℕ → List ℕ → Type 0
-WaitingGives holds file stimulus trace =
+-- `waiting` on the files of these names gives this answer: the text that tells who waits, where `replay` gives one
+abbrev pub WaitingGives : Holding → List ℕ → List ℕ → List ℕ → List ℕ → Type 0
+WaitingGives holds file stimulus trace answer =
     (system : System) × (text : List ℕ) × FilesGive holds file stimulus system × holds trace (Some text)
-    × IsTraced system text
+    × IsWaitingText system text answer
 
 -- `why` does: the subject is the name of a variable that a step of the trace wrote, or the ticket of one
 abbrev pub WhyGives : Holding → List ℕ → List ℕ → List ℕ → List ℕ → Type 0

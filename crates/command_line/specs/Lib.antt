@@ -1,8 +1,10 @@
+pub mod Adapter
 pub mod Answering
 pub mod Drawing
 pub mod FaultLine
 pub mod Running
 pub mod Serving
+pub mod Shells
 pub mod Used
 pub mod Working
 pub mod walking

@@ -1,12 +1,16 @@
 -- What a run does for a request: what the libraries give for the bytes of the files that it names.
 use Rattle.std.specs.Prelude.{◌≡◌, ◌⊎◌, ℕ, List, ◌++◌, [], Ok, Err}
+use Rattle.std.specs.Option.{option_copied}
 use Rattle.debug_session.specs.Transcript.{Debugged}
 use Rattle.debug_session.specs.declared.fault.Fault.{Fault}
+use Rattle.std.specs.Prelude.{IfErr}
+use Rattle.command_line.specs.Adapter.{IsOfStreams}
 use Rattle.command_line.specs.Answering.{Holding, TextsHad, TextsNotHad, CheckGives, CheckRefuses}
 use Rattle.command_line.specs.Answering.{ReplayGives, ReplayRefuses, WorkGives, WorkRefuses}
 use Rattle.command_line.specs.Answering.{OutlineGives, PageRefuses, WaitingGives, WhyGives, WhyRefuses}
-use Rattle.command_line.specs.Drawing.{PictureGives}
+use Rattle.command_line.specs.Drawing.{PictureGives, PictureRefuses}
 use Rattle.command_line.specs.FaultLine.{fault_line}
+use Rattle.command_line.specs.Shells.{ShellsFiles}
 use Rattle.command_line.specs.Used.{Outcome, Used, IsUntouched, ReaderBlamed, WriterBlamed, Tells}
 use Rattle.command_line.specs.Used.{bytes_before, bytes_behind}
 use Rattle.command_words.specs.declared.request.Request.{Request}
@@ -48,6 +52,8 @@ Serves holds (Request.Check file explain) reader out done =
     IsUntouched reader × Answers (CheckGives holds file.now) (CheckRefuses holds file.now) out done
 Serves holds (Request.Debug file stimulus explain) reader out done =
     DebugsFiles holds file.now stimulus.now reader out done
+Serves holds (Request.Shell file stimulus trace) reader out done =
+    ShellsFiles holds file.now stimulus.now (option_copied trace) reader out done
 Serves holds (Request.Replay file stimulus trace explain) reader out done =
     IsUntouched reader
     × Answers (ReplayGives holds file.now stimulus.now trace.now) (ReplayRefuses holds file.now stimulus.now trace.now)
@@ -58,11 +64,12 @@ Serves holds (Request.Work file stimulus crew explain) reader out done =
     out done
 Serves holds (Request.Explain page) reader out done =
     IsUntouched reader × Answers (λ text. Unit {0}) PageRefuses out done
+Serves holds Request.Dap reader out done = IsUntouched reader × IfErr done IsOfStreams
 Serves holds (Request.Outline file) reader out done =
-    IsUntouched reader × Answers (λ text. OutlineGives holds file.now) (CheckRefuses holds file.now) out done
+    IsUntouched reader × Answers (OutlineGives holds file.now) (CheckRefuses holds file.now) out done
 Serves holds (Request.Waiting file stimulus trace) reader out done =
     IsUntouched reader
-    × Answers (λ text. WaitingGives holds file.now stimulus.now trace.now)
+    × Answers (WaitingGives holds file.now stimulus.now trace.now)
     (ReplayRefuses holds file.now stimulus.now trace.now) out done
 Serves holds (Request.Why file stimulus trace subject all) reader out done =
     IsUntouched reader
@@ -70,5 +77,5 @@ Serves holds (Request.Why file stimulus trace subject all) reader out done =
     (WhyRefuses holds file.now stimulus.now trace.now subject.now) out done
 Serves holds (Request.Picture file stimulus trace drawing) reader out done =
     IsUntouched reader
-    × Answers (λ text. PictureGives holds file.now stimulus.now trace.now)
-    (ReplayRefuses holds file.now stimulus.now trace.now) out done
+    × Answers (λ text. PictureGives holds file.now stimulus.now trace.now drawing)
+    (PictureRefuses holds file.now stimulus.now trace.now drawing) out done

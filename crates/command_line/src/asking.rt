@@ -3,7 +3,7 @@
 ghost use Rattle.std.specs.Prelude.{MatchResult};
 ghost use Rattle.command_line.specs.Answering.{CheckRefuses, OutlineGives, PageRefuses, ReplayRefuses, WaitingGives};
 ghost use Rattle.command_line.specs.Answering.{WhyGives, WhyRefuses};
-ghost use Rattle.command_line.specs.walking.Answers.{AnswersWhyOf};
+ghost use Rattle.command_line.specs.walking.Answers.{AnswersWhyOf, answer_text};
 
 use crate::answering::{Answer, read_source, read_system, read_trace};
 use crate::files::Files;
@@ -38,12 +38,13 @@ pub fn outline_file<F: Files>(
     file: &str,
     texts: &mut Texts,
 ) -> Result<Answer, Fault>
-    ensures { MatchResult result (λ _. OutlineGives (F.holds files.now) file.now)
+    ensures { MatchResult result (λ answer. OutlineGives (F.holds files.now) file.now (answer_text answer))
         (CheckRefuses (F.holds files.now) file.now) }
 {
     read_source(alloc, files, file, texts)?;
     let checked = accept(alloc, texts.source.as_slice(), b"")?;
-    Ok(Answer::Lines(outline_text(alloc, &checked)?))
+    let source = texts.source.as_slice();
+    Ok(Answer::Lines(outline_text(alloc, &checked, source)?))
 }
 
 /// Who waits behind the trace in `trace`.
@@ -55,7 +56,8 @@ pub fn waiting_files<F: Files>(
     trace: &str,
     texts: &mut Texts,
 ) -> Result<Answer, Fault>
-    ensures { MatchResult result (λ _. WaitingGives (F.holds files.now) file.now stimulus.now trace.now)
+    ensures { MatchResult result
+        (λ answer. WaitingGives (F.holds files.now) file.now stimulus.now trace.now (answer_text answer))
         (ReplayRefuses (F.holds files.now) file.now stimulus.now trace.now) }
 {
     let checked = read_system(alloc, files, file, stimulus, texts)?;

@@ -20,6 +20,11 @@ struct Names<'a> {
 /// The names of the files of a request.
 fn names_of<'a>(request: &Request<'a>) -> Names<'a> {
     let (file, stimulus, trace) = match *request {
+        Request::Shell {
+            file,
+            stimulus,
+            trace,
+        } => (file, stimulus, trace.unwrap_or("")),
         Request::Check { file, .. } | Request::Outline { file } => (file, "", ""),
         Request::Debug { file, stimulus, .. } | Request::Work { file, stimulus, .. } => {
             (file, stimulus, "")
@@ -47,7 +52,7 @@ fn names_of<'a>(request: &Request<'a>) -> Names<'a> {
             trace,
             ..
         } => (file, stimulus, trace),
-        Request::Explain { .. } => ("", "", ""),
+        Request::Explain { .. } | Request::Dap => ("", "", ""),
     };
     Names {
         file,

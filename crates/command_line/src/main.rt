@@ -1,12 +1,14 @@
 //! `balsadbg`, the program: a causal-consistent reversible debugger for Balsa.
 #![tactic(auto)]
 
+mod adapter;
 mod answering;
 mod asking;
 mod drawing;
 mod explaining;
 mod files;
 mod running;
+mod shells;
 mod telling;
 mod texts;
 

@@ -8,20 +8,24 @@ ghost use Rattle.command_line.specs.Serving.{status_of, told_with, DebugsFiles, 
 ghost use Rattle.command_line.specs.Used.{Outcome, Tells, used};
 ghost use Rattle.command_line.specs.walking.Unasked.{HasText, TellsUnasked};
 
+use crate::adapter::serve_editor;
 use crate::answering::{check, read_texts, replay_files, work_files};
 use crate::asking::{Question, outline_file, show_page, waiting_files, why_files};
 use crate::drawing::{Drawn, picture_files};
 use crate::explaining::words_behind;
 use crate::files::Files;
+use crate::shells::{Start, shell_files};
 use crate::telling::{tell, write_refusal};
 use crate::texts::{Part, Texts};
 use command_words::{Request, Unasked, requested};
 use debug_session::{Counted, Fault, debug_keeping, write_out};
 use std::alloc::Global;
 use std::convert::AsStr;
-use std::io::{BufReader, Read, Write};
+use std::fs;
+use std::io::{BufReader, Eprint, Read, Write};
 use std::sync::Wait;
 use std::thread::Threads;
+use std::time::Clock;
 
 /// Answers a script over the description in `file`. `line` has the last line of it behind.
 fn debug_files<F: Files, I: Read, O: Write>(
@@ -51,7 +55,12 @@ fn debug_files<F: Files, I: Read, O: Write>(
 
 /// Does what is asked for with the files that it names. What was read of them is left in `texts`, and in `said` the last line
 /// of a script, or the words that tell of a refusal.
-fn perform<W: AllocGlobal + Threads + Wait + Sync, F: Files, I: Read, O: Write>(
+fn perform<
+    W: fs::Files + Input + Eprint + Clock + AllocGlobal + Threads + Wait + Sync,
+    F: Files,
+    I: Read,
+    O: Write,
+>(
     rt: &W,
     request: Request<'_>,
     files: &F,
@@ -69,6 +78,22 @@ fn perform<W: AllocGlobal + Threads + Wait + Sync, F: Files, I: Read, O: Write>(
         Request::Debug { file, stimulus, .. } => {
             debug_files(alloc, files, file, stimulus, reader, out, texts, said)
         }
+        Request::Shell {
+            file,
+            stimulus,
+            trace,
+        } => shell_files(
+            rt,
+            files,
+            &Start {
+                file,
+                stimulus,
+                trace,
+            },
+            reader,
+            out,
+            texts,
+        ),
         Request::Replay {
             file,
             stimulus,
@@ -88,6 +113,7 @@ fn perform<W: AllocGlobal + Threads + Wait + Sync, F: Files, I: Read, O: Write>(
             out,
         ),
         Request::Explain { page } => tell(show_page(alloc, page), out),
+        Request::Dap => serve_editor(rt, files, out),
         Request::Outline { file } => tell(outline_file(alloc, files, file, texts), out),
         Request::Waiting {
             file,
@@ -135,6 +161,7 @@ fn perform<W: AllocGlobal + Threads + Wait + Sync, F: Files, I: Read, O: Write>(
                     drawing,
                 },
                 texts,
+                said,
             ),
             out,
         ),
@@ -171,7 +198,13 @@ fn finish<E: Write>(done: Result<(), Fault>, words: &[u8], err: &mut Counted<E>)
 
 /// Does what is asked for with the files that it names, and tells on `err` why it ended early: in a line, and in words where
 /// these are asked for.
-pub fn serve<W: AllocGlobal + Threads + Wait + Sync, F: Files, I: Read, O: Write, E: Write>(
+pub fn serve<
+    W: fs::Files + Input + Eprint + Clock + AllocGlobal + Threads + Wait + Sync,
+    F: Files,
+    I: Read,
+    O: Write,
+    E: Write,
+>(
     rt: &W,
     request: Request<'_>,
     files: &F,
@@ -241,7 +274,14 @@ fn tell_unasked<O: Write, E: Write>(
 ///
 /// Answers the status to end with: 0 where it was done, 1 where it was refused, 2 where `words`
 /// could not be read.
-pub fn run<R: AllocGlobal + Threads + Wait + Sync, S: AsStr, F: Files, I: Read, O: Write, E: Write>(
+pub fn run<
+    R: fs::Files + Input + Eprint + Clock + AllocGlobal + Threads + Wait + Sync,
+    S: AsStr,
+    F: Files,
+    I: Read,
+    O: Write,
+    E: Write,
+>(
     rt: &R,
     words: &[S],
     files: &F,

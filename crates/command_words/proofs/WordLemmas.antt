@@ -7,6 +7,8 @@ use Rattle.std.specs.Str.{bytes_eq}
 use Rattle.std.specs.Bool.{Decides}
 use Rattle.std.specs.List.{list_all}
 use Rattle.std.proofs.lemmas.Bool.Decides.{nat_tests}
+use Rattle.std.proofs.lemmas.Fmt.{decimal_is_IsNumeral}
+use Rattle.decimal.specs.Reading.{IsNoNumber, Reads}
 use Rattle.std.specs.Prelude.{IfSome, IsSome, IfOk, IsErrAnd, MatchOption, MatchResult, option_map, unwrap_or}
 use Rattle.std.specs.Borrow.{Bor}
 use Rattle.std.specs.Str.Parse.{IsNumeral, digits_value, without_leading_plus}
@@ -25,12 +27,13 @@ use Rattle.clap.specs.declared.error.kind.ErrorKind.TheVariants.{MissingSubcomma
 use Rattle.clap.proofs.OnLiterals.{clap_on_literals}
 use Rattle.refusal_pages.specs.Numbers.{among, is_refusal, of_files, of_lines, of_sources}
 use Rattle.refusal_pages.specs.declared.writing.Page.{Page}
+use Rattle.command_words.specs.declared.drawing.Drawing.{Drawing}
 use Rattle.command_words.specs.declared.request.Request.{Request}
 use Rattle.command_words.specs.declared.unasked.Unasked.{Unasked}
 use Rattle.command_words.specs.Words.{AskFor, AskForSome, AskForNone, AskNothing, IsFaultOf, IsFlag, IsNumber, IsRequest, Named, TellsPage, program}
-use Rattle.command_words.specs.Words.{drawing_in}
+use Rattle.command_words.specs.Words.{AskDrawing, TellsStep, drawing_of, is_on}
 use Rattle.command_words.specs.declared.crew_size.CrewSize.{CrewSize}
-use Rattle.command_words.specs.walking.Building.{Chooses, ChoosesNone, IsArgument, IsCommand, IsNoRequest}
+use Rattle.command_words.specs.walking.Building.{AsksNoDrawing, Chooses, ChoosesNone, IsArgument, IsCommand, IsNoRequest}
 use Rattle.command_words.specs.walking.Building.{Finds, NamesNoFiles, NamesNoTrace, Refuses, TellsCrew, TellsError, TellsNoCrew, TellsNoPage}
 
 -- one more argument
@@ -178,6 +181,11 @@ no_work rows (inl none) (Request.Work file stimulus crew explain) h = none file.
 no_work rows (inr none) (Request.Work file stimulus crew explain) h = none crew (h.2, h.3)
 no_work rows none other h = unlike h.0 refl
 
+-- nor that of `shell` where no files are
+pub no_shell : (rows : List Row) → NamesNoFiles rows → IsNoRequest (codes "shell") rows
+no_shell rows none (Request.Shell file stimulus trace) h = none file.now stimulus.now h.1
+no_shell rows none other h = unlike h.0 refl
+
 -- nor that of `why` where no files are, or nothing is asked about
 pub no_why : (rows : List Row) → NamesNoTrace rows ⊎ ((s : Text) → first_of (codes "X") rows ≡ Some s → ⊥)
     → IsNoRequest (codes "why") rows
@@ -185,11 +193,41 @@ no_why rows (inl none) (Request.Why file stimulus trace subject all) h = none fi
 no_why rows (inr none) (Request.Why file stimulus trace subject all) h = none subject.now h.2
 no_why rows none other h = unlike h.0 refl
 
+-- a text is that of one number alone
+one_number_of : (text : Text) (t u : ℕ) → Reads text t → Reads text u → t ≡ u
+one_number_of text t u h k =
+    sym (decimal_is_IsNumeral t h.0).1 ∙ (ap (digits_value 10) (h.1 ∙ sym k.1) ∙ (decimal_is_IsNumeral u k.0).1)
+
+-- an option tells of one step alone
+one_step : (o : Option Text) (a b : Option ℕ) → TellsStep o a → TellsStep o b → a ≡ b
+one_step None a b h k = h ∙ sym k
+one_step (Some text) a b h k =
+    h.1 ∙ (ap (λ (t : ℕ). Some t) (one_number_of text h.0 k.0 h.2 k.2) ∙ sym k.1)
+
+-- the step that an option tells of
+pub step_told : (o : Option Text) (text : Text) (t : ℕ) → o ≡ Some text → Reads text t → TellsStep o (Some t)
+step_told o text t is h = subst (λ (p : Option Text). TellsStep p (Some t)) (sym is) (t, refl, h)
+
+-- it tells of none where its text is no number
+pub no_step_told : (o : Option Text) (text : Text) → o ≡ Some text → IsNoNumber text → (event : Option ℕ) → TellsStep o event → ⊥
+no_step_told o text is none event h =
+    let tells : TellsStep (Some text) event = subst (λ (p : Option Text). TellsStep p event) is h in none tells.0 tells.2
+
+-- the picture of the options with the step that they tell of
+pub drawing_told : (rows : List Row) (event : Option ℕ) (o : Option Drawing) → TellsStep (first_of (codes "event") rows) event
+    → o ≡ drawing_of (is_on (first_of (codes "svg") rows)) (is_on (first_of (codes "vcd") rows)) (is_on (first_of (codes "json") rows)) event (is_on (first_of (codes "quiet") rows))
+    → MatchOption o (AsksNoDrawing rows) (AskDrawing rows)
+drawing_told rows event None tells is = λ drawing asked.
+    let same : asked.0 ≡ event = one_step (first_of (codes "event") rows) asked.0 event asked.1 tells in
+    let other : drawing_of (is_on (first_of (codes "svg") rows)) (is_on (first_of (codes "vcd") rows)) (is_on (first_of (codes "json") rows)) event (is_on (first_of (codes "quiet") rows)) ≡ Some drawing =
+    subst (λ (e : Option ℕ). drawing_of (is_on (first_of (codes "svg") rows)) (is_on (first_of (codes "vcd") rows)) (is_on (first_of (codes "json") rows)) e (is_on (first_of (codes "quiet") rows)) ≡ Some drawing) same asked.2 in
+    let gone : None ≡ Some drawing = is ∙ other in cc
+drawing_told rows event (Some drawing) tells is = (event, tells, sym is)
+
 -- nor that of `picture`, with a trace, or where no picture is asked for
-pub no_picture : (rows : List Row) → NamesNoTrace rows ⊎ (drawing_in rows ≡ None) → IsNoRequest (codes "picture") rows
+pub no_picture : (rows : List Row) → NamesNoTrace rows ⊎ AsksNoDrawing rows → IsNoRequest (codes "picture") rows
 no_picture rows (inl none) (Request.Picture file stimulus trace drawing) h = none file.now stimulus.now trace.now h.1
-no_picture rows (inr none) (Request.Picture file stimulus trace drawing) h =
-    let gone : None ≡ Some drawing = sym none ∙ h.2 in cc
+no_picture rows (inr none) (Request.Picture file stimulus trace drawing) h = none drawing h.2
 no_picture rows none other h = unlike h.0 refl
 
 -- nor that of `explain` where the number is that of no refusal

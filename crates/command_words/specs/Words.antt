@@ -1,5 +1,6 @@
 -- What the words of the command line ask for, of which the first is the program's name.
 use Rattle.std.specs.Prelude.{◌≡◌, ◌≢◌, ◌⊎◌, [], ◌∷◌, ℕ, Bool, IsTrue, List, Option, Some, None, pos, codes, false, true}
+use Rattle.std.specs.Prelude.{option_map}
 use Rattle.std.specs.Str.{bytes_eq}
 use Rattle.std.specs.Str.Parse.{IsNumeral, digits_value, without_leading_plus}
 use Rattle.clap.specs.Kinds.{IsAmong}
@@ -11,6 +12,7 @@ use Rattle.clap.specs.Simple.{on_top}
 use Rattle.clap.specs.declared.builder.action.ArgAction.TheVariants.{Set, SetTrue}
 use Rattle.clap.specs.declared.builder.value_parser.ValueParser.{ValueParser}
 use Rattle.clap.specs.declared.builder.value_parser.ValueParser.TheVariants.{Signed, Unsigned}
+use Rattle.decimal.specs.Reading.{Reads}
 use Rattle.refusal_pages.specs.Numbers.{is_refusal}
 use Rattle.refusal_pages.specs.declared.writing.Page.{Page}
 use Rattle.command_words.specs.declared.drawing.Drawing.{Drawing}
@@ -62,8 +64,18 @@ abbrev pub work : App
 work = explaining (with_rule (with_rule (over_ports (new_app (codes "work")))
     (number (codes "workers") (Signed (pos 1) (pos 16)))) (number (codes "turns") (Unsigned 0 1000000)))
 
+-- a word that may be left out
+abbrev pub optional : Text → Rule
+optional name = record (new_rule name) { action = Some Set }
+
+abbrev pub shell : App
+shell = with_rule (over_ports (new_app (codes "shell"))) (optional (codes "TRACE"))
+
 abbrev pub explain : App
 explain = with_rule (new_app (codes "explain")) refusal_number
+
+abbrev pub dap : App
+dap = new_app (codes "dap")
 
 abbrev pub outline : App
 outline = explaining (over_file (new_app (codes "outline")))
@@ -71,9 +83,17 @@ outline = explaining (over_file (new_app (codes "outline")))
 abbrev pub waiting : App
 waiting = explaining (over_trace (new_app (codes "waiting")))
 
+-- `--event T`, the number of a step
+abbrev pub event_number : Rule
+event_number = record (new_rule (codes "event")) { long = Some (codes "event"); action = Some Set; value_names = 1 }
+
+-- `picture` with the forms of a drawing, and with what goes with one of them
+abbrev pub drawn : App
+drawn = with_rule (with_rule (with_rule (over_trace (new_app (codes "picture"))) (flag (codes "svg"))) (flag (codes "vcd")))
+    (flag (codes "json"))
+
 abbrev pub picture : App
-picture =
-    with_rule (with_rule (over_trace (new_app (codes "picture"))) (flag (codes "vcd"))) (flag (codes "json"))
+picture = with_rule (with_rule drawn event_number) (flag (codes "quiet"))
 
 abbrev pub why : App
 why = explaining (with_rule (with_rule (over_trace (new_app (codes "why"))) (word (codes "X"))) (flag (codes "all")))
@@ -90,7 +110,7 @@ with_subcommands over (command ∷ rest) = with_subcommands (with_subcommand ove
 
 -- the program with those that run a description
 abbrev pub running : App
-running = with_subcommands bare (check ∷ debug ∷ replay ∷ work ∷ [])
+running = with_subcommands bare (check ∷ debug ∷ replay ∷ work ∷ shell ∷ [])
 
 -- and with those that people ask
 abbrev pub asking : App
@@ -98,7 +118,7 @@ asking = with_subcommands running (explain ∷ outline ∷ waiting ∷ why ∷ p
 
 -- the program
 abbrev pub program : App
-program = asking
+program = with_subcommands asking (dap ∷ [])
 
 -- the name of a subcommand and its values
 abbrev pub Named : Type 0
@@ -133,16 +153,34 @@ abbrev pub is_on : Option Text → Bool
 is_on None = false
 is_on (Some text) = bytes_eq text (codes "true")
 
--- the picture of these options, of one form at most
-abbrev pub drawing_of : (vcd json : Bool) → Option Drawing
-drawing_of false false = Some Drawing.Page
-drawing_of true false = Some Drawing.Waves
-drawing_of false true = Some Drawing.Data
-drawing_of true true = None
+-- a picture, where no step is given and nothing is to be left out
+abbrev pub unmarked : Drawing → Option ℕ → Bool → Option Drawing
+unmarked drawing None false = Some drawing
+unmarked drawing None true = None
+unmarked drawing (Some t) quiet = None
 
--- the picture for which the values ask
-abbrev pub drawing_in : List Row → Option Drawing
-drawing_in rows = drawing_of (is_on (first_of (codes "vcd") rows)) (is_on (first_of (codes "json") rows))
+-- the picture of these options: of one form at most, and only a drawing marks a step, or leaves something out
+abbrev pub drawing_of : (svg vcd json : Bool) → Option ℕ → Bool → Option Drawing
+drawing_of true false false event quiet = Some (Drawing.Sheet event quiet)
+drawing_of false false false event quiet = unmarked Drawing.Page event quiet
+drawing_of false true false event quiet = unmarked Drawing.Waves event quiet
+drawing_of false false true event quiet = unmarked Drawing.Data event quiet
+drawing_of true true false event quiet = None
+drawing_of true false true event quiet = None
+drawing_of false true true event quiet = None
+drawing_of true true true event quiet = None
+
+-- the step of which an option tells: none where there is no option, and else the one of this number
+abbrev pub TellsStep : Option Text → Option ℕ → Type 0
+TellsStep None event = event ≡ None
+TellsStep (Some text) event = (t : ℕ) × (event ≡ Some t) × Reads text t
+
+-- the values ask for this picture
+abbrev pub AskDrawing : List Row → Drawing → Type 0
+AskDrawing rows drawing =
+    (event : Option ℕ) × TellsStep (first_of (codes "event") rows) event
+    × (drawing_of (is_on (first_of (codes "svg") rows)) (is_on (first_of (codes "vcd") rows))
+    (is_on (first_of (codes "json") rows)) event (is_on (first_of (codes "quiet") rows)) ≡ Some drawing)
 
 -- the subcommand of this name with these values is this request
 abbrev pub IsRequest : Text → List Row → Request → Type 0
@@ -158,7 +196,12 @@ IsRequest name rows (Request.Work file stimulus crew explain) =
     (name ≡ codes "work") × AreFiles rows file.now stimulus.now
     × IsNumber (one_of (codes "workers") rows) crew.workers × IsNumber (one_of (codes "turns") rows) crew.turns
     × IsFlag (one_of (codes "explain") rows) explain
+IsRequest name rows (Request.Shell file stimulus trace) =
+    (name ≡ codes "shell") × AreFiles rows file.now stimulus.now
+    × (option_map (λ text. text.now) trace ≡ first_of (codes "TRACE") rows)
 IsRequest name rows (Request.Explain page) = (name ≡ codes "explain") × TellsPage rows page.now
+-- (nothing stands behind its name)
+IsRequest name rows Request.Dap = (name ≡ codes "dap") × Unit {0}
 IsRequest name rows (Request.Outline file) = (name ≡ codes "outline") × (first_of (codes "FILE") rows ≡ Some file.now)
 IsRequest name rows (Request.Waiting file stimulus trace) =
     (name ≡ codes "waiting") × AreTraced rows file.now stimulus.now trace.now
@@ -167,7 +210,7 @@ IsRequest name rows (Request.Why file stimulus trace subject all) =
     × (first_of (codes "X") rows ≡ Some subject.now) × IsFlag (one_of (codes "all") rows) all
 IsRequest name rows (Request.Picture file stimulus trace drawing) =
     (name ≡ codes "picture") × AreTraced rows file.now stimulus.now trace.now
-    × (drawing_in rows ≡ Some drawing)
+    × AskDrawing rows drawing
 
 -- whether a refusal of the request is told in words too
 abbrev pub explains : Request → Bool
@@ -175,6 +218,7 @@ explains (Request.Check file explain) = explain
 explains (Request.Debug file stimulus explain) = explain
 explains (Request.Replay file stimulus trace explain) = explain
 explains (Request.Work file stimulus crew explain) = explain
+explains Request.Dap = false
 explains other = true
 
 -- `clap` finds no fault in the words, and they ask for this request

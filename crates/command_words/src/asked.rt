@@ -4,11 +4,12 @@ ghost use Rattle.std.specs.Prelude.{◌≡◌, codes, MatchOption, option_map};
 ghost use Rattle.clap.specs.Words.{first_of, one_of};
 ghost use Rattle.command_words.specs.Words as spec;
 ghost use Rattle.command_words.specs.walking.Building.{Chooses, ChoosesNone, IsNoRequest, NamesNoFiles, NamesNoTrace};
-ghost use Rattle.command_words.specs.walking.Building.{rows_in, TellsCrew, TellsNoCrew, TellsNoPage};
+ghost use Rattle.command_words.specs.walking.Building.{rows_in, AsksNoDrawing, TellsCrew, TellsNoCrew, TellsNoPage, TellsNoStep};
 
-use crate::drawing::drawing_of;
+use crate::drawing::{Forms, drawing_of};
 use crate::{CrewSize, Drawing, Request};
 use clap::ArgMatches;
+use decimal::read_number;
 use refusal_pages::{Page, page_of};
 
 /// Whether the option of this name is among the words.
@@ -107,6 +108,26 @@ fn work_asked<'a>(words: &ArgMatches<'a>) -> Option<Request<'a>>
     })
 }
 
+/// The name of a trace, where one is among the words.
+fn trace_asked<'a>(words: &ArgMatches<'a>) -> Option<&'a str>
+    ensures { option_map (λ text. text.now) result ≡ first_of (codes "TRACE") (rows_in words.now) }
+{
+    words.get_str("TRACE")
+}
+
+fn shell_asked<'a>(words: &ArgMatches<'a>) -> Option<Request<'a>>
+    ensures { MatchOption result (IsNoRequest (codes "shell") (rows_in words.now))
+        (spec.IsRequest (codes "shell") (rows_in words.now)) }
+{
+    let (file, stimulus) = files_asked(words)?;
+    let trace = trace_asked(words);
+    Some(Request::Shell {
+        file,
+        stimulus,
+        trace,
+    })
+}
+
 fn explain_asked<'a>(words: &ArgMatches<'a>) -> Option<Request<'a>>
     ensures { MatchOption result (IsNoRequest (codes "explain") (rows_in words.now))
         (spec.IsRequest (codes "explain") (rows_in words.now)) }
@@ -161,11 +182,31 @@ fn is_among(words: &ArgMatches<'_>, name: &str) -> bool
     }
 }
 
+/// The number of the step that the words give, if they give one; `None` where they give what is no number.
+fn event_asked(words: &ArgMatches<'_>) -> Option<Option<u64>>
+    ensures { MatchOption result (TellsNoStep (rows_in words.now))
+        (spec.TellsStep (first_of (codes "event") (rows_in words.now))) }
+{
+    match words.get_str("event") {
+        Some(text) => match read_number(text.as_bytes()) {
+            Some(ticket) => Some(Some(ticket)),
+            None => None,
+        },
+        None => Some(None),
+    }
+}
+
 /// The picture for which the words ask.
 fn drawing_asked(words: &ArgMatches<'_>) -> Option<Drawing>
-    ensures { result ≡ spec.drawing_in (rows_in words.now) }
+    ensures { MatchOption result (AsksNoDrawing (rows_in words.now)) (spec.AskDrawing (rows_in words.now)) }
 {
-    drawing_of(is_among(words, "vcd"), is_among(words, "json"))
+    let event = event_asked(words)?;
+    let forms = Forms {
+        svg: is_among(words, "svg"),
+        vcd: is_among(words, "vcd"),
+        json: is_among(words, "json"),
+    };
+    drawing_of(forms, event, is_among(words, "quiet"))
 }
 
 fn picture_asked<'a>(words: &ArgMatches<'a>) -> Option<Request<'a>>
@@ -192,7 +233,9 @@ fn request_of<'a>(name: &str, words: &ArgMatches<'a>) -> Option<Request<'a>>
         "debug" => debug_asked(words),
         "replay" => replay_asked(words),
         "work" => work_asked(words),
+        "shell" => shell_asked(words),
         "explain" => explain_asked(words),
+        "dap" => Some(Request::Dap),
         "outline" => outline_asked(words),
         "waiting" => waiting_asked(words),
         "why" => why_asked(words),

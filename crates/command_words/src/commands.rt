@@ -172,6 +172,29 @@ fn work<'a>(alloc: Global) -> Result<Command<'a>, AllocError>
     explaining(alloc, with_argument(hired, turns(alloc)))
 }
 
+/// A word that may be left out.
+fn optional<'a>(alloc: Global, name: &'a str, help: &'a str) -> Arg<'a>
+    ensures { IsArgument (spec.optional name.now) result }
+{
+    Arg::new(alloc, name).action(ArgAction::Set).help(help)
+}
+
+fn shell<'a>(alloc: Global) -> Result<Command<'a>, AllocError>
+    ensures { IfOk result (IsCommand spec.shell) }
+{
+    let command = begun(
+        alloc,
+        "shell",
+        help::SHELL,
+        help::SHELL_LONG,
+        help::SHELL_REFUSALS,
+    );
+    with_argument(
+        over_ports(alloc, command),
+        optional(alloc, "TRACE", help::TRACE),
+    )
+}
+
 fn explain<'a>(alloc: Global) -> Result<Command<'a>, AllocError>
     ensures { IfOk result (IsCommand spec.explain) }
 {
@@ -211,18 +234,38 @@ fn waiting<'a>(alloc: Global) -> Result<Command<'a>, AllocError>
     explaining(alloc, over_trace(alloc, command))
 }
 
-fn picture<'a>(alloc: Global) -> Result<Command<'a>, AllocError>
-    ensures { IfOk result (IsCommand spec.picture) }
+/// The number of a step to mark.
+fn event<'a>(alloc: Global) -> Arg<'a>
+    ensures { IsArgument spec.event_number result }
+{
+    Arg::new(alloc, "event")
+        .long("event")
+        .action(ArgAction::Set)
+        .value_name("T")
+        .help(help::EVENT)
+}
+
+/// `picture` with the forms of a drawing.
+fn drawn<'a>(alloc: Global) -> Result<Command<'a>, AllocError>
+    ensures { IfOk result (IsCommand spec.drawn) }
 {
     let command = begun(
         alloc,
         "picture",
         help::PICTURE,
         help::PICTURE_LONG,
-        help::TRACE_REFUSALS,
+        help::PICTURE_REFUSALS,
     );
-    let drawn = with_argument(over_trace(alloc, command), flag(alloc, "vcd", help::VCD));
-    with_argument(drawn, flag(alloc, "json", help::JSON))
+    let as_sheet = with_argument(over_trace(alloc, command), flag(alloc, "svg", help::SVG));
+    let as_waves = with_argument(as_sheet, flag(alloc, "vcd", help::VCD));
+    with_argument(as_waves, flag(alloc, "json", help::JSON))
+}
+
+fn picture<'a>(alloc: Global) -> Result<Command<'a>, AllocError>
+    ensures { IfOk result (IsCommand spec.picture) }
+{
+    let marked = with_argument(drawn(alloc), event(alloc));
+    with_argument(marked, flag(alloc, "quiet", help::QUIET))
 }
 
 fn why<'a>(alloc: Global) -> Result<Command<'a>, AllocError>
@@ -231,6 +274,13 @@ fn why<'a>(alloc: Global) -> Result<Command<'a>, AllocError>
     let command = begun(alloc, "why", help::WHY, help::WHY_LONG, help::WHY_REFUSALS);
     let asking = with_argument(over_trace(alloc, command), word(alloc, "X", help::SUBJECT));
     explaining(alloc, with_argument(asking, flag(alloc, "all", help::ALL)))
+}
+
+fn dap<'a>(alloc: Global) -> Result<Command<'a>, AllocError>
+    ensures { IfOk result (IsCommand spec.dap) }
+{
+    let command = begun(alloc, "dap", help::DAP, help::DAP_LONG, help::DAP_REFUSALS);
+    Ok(command)
 }
 
 /// The program without its commands.
@@ -285,7 +335,8 @@ fn running<'a>(alloc: Global) -> Result<Command<'a>, AllocError>
     let program = with_command(bare(alloc), check(alloc));
     let program = with_command(program, debug(alloc));
     let program = with_command(program, replay(alloc));
-    with_command(program, work(alloc))
+    let program = with_command(program, work(alloc));
+    with_command(program, shell(alloc))
 }
 
 /// The program with the words that people ask, too.
@@ -303,5 +354,5 @@ fn asking<'a>(alloc: Global) -> Result<Command<'a>, AllocError>
 pub fn balsadbg<'a>(alloc: Global) -> Result<Command<'a>, AllocError>
     ensures { IfOk result (IsCommand spec.program) }
 {
-    asking(alloc)
+    with_command(asking(alloc), dap(alloc))
 }

@@ -17,11 +17,13 @@ port o, what comes in at its ports, and a script of steps forth and back:
   balsadbg debug examples/one.balsa examples/one.stimulus < examples/one.script
 
 The lines of a script can be typed by hand just as well, with Ctrl-D behind the
-last. `balsadbg debug --help` explains them.
+last. `balsadbg debug --help` explains them. `shell` takes them too, answers in
+plain words, and no mistake ends it.
 
 Where a description is refused, `check --explain` shows the place and says what
 helps. Where a run stands still, `waiting` tells who waits for whom; where a
-value is wrong, `why` tells the steps that led to it; `picture` draws the run.";
+value is wrong, `why` tells the steps that led to it; `picture` draws the run.
+`dap` serves an editor.";
 
 pub const FILE: &str = "The description, a text of Balsa";
 
@@ -147,6 +149,18 @@ It answers:
   stepped 2
   live 2";
 
+pub const SHELL: &str = "Step a description by hand, with answers in plain words";
+
+pub const SHELL_LONG: &str = "\
+Step a description by hand: a session of lines, each answered in plain words. It
+begins at the end of a trace where one is named. All lines of a script work and
+have their own answer first; `ready` numbers what can be stepped, and a number
+takes it; `help` lists what else can be typed. No mistake ends the session:
+`quit` or Ctrl-D does. Lines from a pipe are answered as typed ones are.
+
+Example:
+  balsadbg shell examples/adder.balsa examples/adder.stimulus";
+
 pub const NUMBER: &str = "The number behind `refused`";
 
 pub const EXPLAIN: &str = "Tell what a refusal means";
@@ -177,46 +191,81 @@ status 1:
 A command line that cannot be read, also one with a number that no refusal has,
 ends with status 2. All else ends with status 0.";
 
+pub const DAP: &str = "Serve an editor, by the Debug Adapter Protocol";
+
+pub const DAP_LONG: &str = "\
+Serve an editor over standard input and output, by the Debug Adapter Protocol:
+branches are its threads, and each step of a thread can be taken back. An editor
+starts it; docs/guide/editors.md has the settings of each.
+
+Example of what an editor runs:
+  balsadbg dap";
+
+pub const DAP_REFUSALS: &str = "\
+Refusals. The line `balsadbg: refused N` on standard error ends a run with
+status 1:
+
+   1  memory is used up
+  41  reading standard input failed
+  42  writing the answers failed
+
+What is wrong with a description or a request is told to the editor. A command
+line that cannot be read ends with status 2. All else ends with status 0.";
+
 pub const OUTLINE: &str = "Tell which branches, variables and channels a description has";
 
 pub const OUTLINE_LONG: &str = "\
 Tell which branches, variables and channels a description has, by the numbers
-and names that lines of a script and answers use. Calls are replaced by the
-bodies of their procedures: `2:x` is the x of the second call. A line of a
-branch says what it does on a channel. A refusal is told in words too.
+and names that lines of a script and answers use: `branch 2` means the branch
+with the number 2. Calls are replaced by the bodies of their procedures: `2:x`
+is the x of the second call, which is told with its place, in a loop with that
+of the first turn. A line of a branch says what it does on a channel. A refusal
+is told in words too.
 
 Example:
-  balsadbg outline examples/one.balsa
+  balsadbg outline examples/fib_ring.balsa
 
 It answers:
   branches 3
-    0 /0 line 7
-      receives i line 7
-      sends o line 8
-    1 /1 environment
-      sends i
-    2 /2 environment
+    0 /0/0 line 9, 1:keeper
+      sends c line 11
+      receives n line 12
+    1 /0/1 line 19, 2:adder
+      opens arm 0 c line 20
+      sends n line 21
+      sends o line 21
+    2 /1 environment
       receives o
-  variables 1
-    x 8 bits
-  channels 2
-    i 8 bits
-      receives, branch 0 line 7
-      sends, branch 1
-    o 8 bits
-      sends, branch 0 line 8
-      receives, branch 2";
+  variables 2
+    1:b 8 bits line 7
+    2:a 8 bits line 17
+  channels 3
+    o 8 bits line 27
+      sends, branch 1 line 21
+      receives, branch 2
+    c 8 bits line 28
+      sends, branch 0 line 11
+      opens arm 0, branch 1 line 20
+    n 8 bits line 28
+      receives, branch 0 line 12
+      sends, branch 1 line 21
+  calls 2
+    1:keeper /0/0 line 30
+    2:adder /0/1 line 30
+  enumerations 0";
 
 pub const WAITING: &str = "Tell who waits behind a trace, on what and for whom";
 
 pub const WAITING_LONG: &str = "\
 Take the steps of a trace again, and tell who waits behind them: `goes on` where
-a step can be taken; `done` where none can and nothing waits but an output port
-for more to come; `stuck` where something else waits, as an input whose values
-are used up. Then comes each end of a channel that waits, with its place, its
-line, and the place behind which the end that it waits for stands. Where each of
-some waits for the next, they are told as a ring. A refusal is told in words
-too. A trace is what the script line `trace` answers.
+a step can be taken, which are told as `ready` does; `done` where none can and
+nothing waits but an output port for more to come; `out of input` where what
+waits does so for want of more in the stimulus; `stuck` where something else
+waits. Then comes each end of a channel that waits, with its place, its line,
+and the place behind which the end that it waits for stands. Where each of some
+waits for the next, they are told as a ring. Before each place stands its
+branch, by the number that `branch` takes; `outline` names them. A refusal is
+told in words too. A trace is what the script line `trace` answers.
 
 Example:
   balsadbg waiting examples/mutex.balsa examples/mutex.stimulus \\
@@ -225,12 +274,12 @@ Example:
 It answers:
   stuck
   waiting 3
-    /0/0.1.0.1 line 19: is held on lock_a, behind /0/2.1.1
-    /0/1.1.0.0 line 19: syncs on lock_b, behind /0/2.1
-    /0/2.1.1.0 line 9: syncs on unlock_a, behind /0/0.1.0
+    branch 0 /0/0.1.0.1 line 19: is held on lock_a, behind branch 2 /0/2.1.1
+    branch 1 /0/1.1.0.0 line 19: syncs on lock_b, behind branch 2 /0/2.1
+    branch 2 /0/2.1.1.0 line 9: syncs on unlock_a, behind branch 0 /0/0.1.0
   ring 2
-    /0/0.1.0.1
-    /0/2.1.1.0";
+    branch 0 /0/0.1.0.1
+    branch 2 /0/2.1.1.0";
 
 pub const SUBJECT: &str = "The name of a variable, or the number of a step of the trace";
 
@@ -254,9 +303,15 @@ It answers:
   x is 5, written by step 1
     1 line 7: i carries 5 into x";
 
+pub const SVG: &str = "Write a drawing for a document (SVG)";
+
 pub const VCD: &str = "Write waves, as GTKWave shows them (a value change dump)";
 
 pub const JSON: &str = "Write the data of the page alone, as one JSON value";
+
+pub const EVENT: &str = "With --svg: mark causes and consequences of the step T";
+
+pub const QUIET: &str = "With --svg: leave out turns of loops and tests";
 
 pub const PICTURE: &str = "Draw the run that a trace is";
 
@@ -264,14 +319,18 @@ pub const PICTURE_LONG: &str = "\
 Draw the run that a trace is, with time going down and a column for each branch:
 a page for a browser, which needs no other file. It shows what led to the step
 under the pointer, and what came of it. Steps are numbered from 1 as they stand
-in the trace. --vcd and --json exclude one another. A refusal is told in words
-too.
+in the trace. --svg, --vcd and --json exclude one another; --event and --quiet
+go with --svg. A refusal is told in words too.
 
-Example:
+Examples:
   balsadbg picture examples/adder.balsa examples/adder.stimulus \\
-    examples/adder.trace > adder.html";
+    examples/adder.trace > adder.html
+  balsadbg picture examples/adder.balsa examples/adder.stimulus \\
+    examples/adder.trace --svg --event 3 > adder.svg";
 
-pub const NO_PICTURE: &str = "--vcd and --json exclude one another";
+pub const NO_PICTURE: &str =
+    "--svg, --vcd and --json exclude one another; --event, with the number of a step, \
+and --quiet go with --svg";
 
 /// What each refusal of a command means: a line for each of a description, or one for all (`together`); with lines for
 /// a trace, for the files, for a stimulus and for a script.
@@ -438,6 +497,10 @@ pub const WORK_REFUSALS: &str = refusal_lines_over_ports!(
     []
 );
 
+pub const SHELL_REFUSALS: &str = refusal_lines_over_traces!(
+    []["  41  a file is missing, or reading it or the lines failed\n"]
+);
+
 pub const TRACE_REFUSALS: &str = refusal_lines_over_traces!(
     []["  41  FILE, STIMULUS or TRACE is missing, or reading it failed\n"]
 );
@@ -448,4 +511,10 @@ pub const WHY_REFUSALS: &str = refusal_lines_over_traces!(
         "  25  X is the name of no variable, or of one that no step of TRACE wrote\n"
     ]
     ["  41  FILE, STIMULUS or TRACE is missing, or reading it failed\n"]
+);
+
+pub const PICTURE_REFUSALS: &str = refusal_lines_over_traces!(
+    [
+        "  23  with --event: TRACE has no step of this number\n"
+    ]["  41  FILE, STIMULUS or TRACE is missing, or reading it failed\n"]
 );

@@ -32,10 +32,18 @@ pub enum Request<'a> {
         crew: CrewSize,
         explain: bool,
     },
+    /// Answer a person who steps the description in `file`, from the end of a trace where one is named.
+    Shell {
+        file: &'a str,
+        stimulus: &'a str,
+        trace: Option<&'a str>,
+    },
     /// Show the page of a refusal.
     Explain {
         page: &'static Page,
     },
+    /// Answer an editor, by the debug adapter protocol.
+    Dap,
     /// Tell what the description in `file` has.
     Outline {
         file: &'a str,
@@ -65,7 +73,8 @@ pub enum Request<'a> {
 }
 
 impl Request<'_> {
-    /// Whether a refusal is told in words too: where that is asked for, and always where people alone ask.
+    /// Whether a refusal is told in words too: where that is asked for, and always where people alone ask. An editor is told of faults by
+    /// messages.
     pub fn explains(&self) -> bool
         ensures { result ≡ explains self.now }
     {
@@ -74,6 +83,7 @@ impl Request<'_> {
             | Request::Debug { explain, .. }
             | Request::Replay { explain, .. }
             | Request::Work { explain, .. } => *explain,
+            Request::Dap => false,
             _ => true,
         }
     }

@@ -1,2 +1,6 @@
+pub mod Arguments
+pub mod Json
 pub mod Messages
 pub mod Notes
+pub mod Written
+pub mod walking

@@ -1,5 +1,11 @@
 // Objects and lists of JSON that are being made. Where there is no memory for a part this is kept in mind, and told at the end: so
 // whoever makes a message need not ask after each part.
+ghost use Rattle.std.specs.Prelude.{◌≡◌, false, IfSome};
+ghost use Rattle.serde_json.specs.Data.{boolean, no_members, object, string, unsigned};
+ghost use Rattle.serde_json.specs.Data as json;
+ghost use Rattle.serde_json.specs.View.{members_view, view};
+ghost use Rattle.dap_messages.specs.Written.{Puts, PutsSome};
+
 use serde_json::{Map, Value, push, put};
 use std::alloc::Global;
 
@@ -13,7 +19,9 @@ pub struct Members {
 
 impl Members {
     /// An object without members.
-    pub fn new(alloc: Global) -> Members {
+    pub fn new(alloc: Global) -> Members
+        ensures { members_view result.made.entries ≡ no_members }
+    {
         Members {
             alloc,
             made: Map::new(alloc),
@@ -22,24 +30,33 @@ impl Members {
     }
 
     /// Adds a value.
-    pub fn value(&mut self, name: &str, value: Value) {
-        if put(&mut self.made, self.alloc, name, value).is_err() {
-            self.lacks = true;
+    pub fn value(&mut self, name: &str, value: Value)
+        ensures { Puts self.old name.now (view value) self.new }
+    {
+        match put(&mut self.made, self.alloc, name, value) {
+            Ok(()) => {}
+            Err(_) => self.lacks = true,
         }
     }
 
     /// Adds a number.
-    pub fn number(&mut self, name: &str, number: u64) {
+    pub fn number(&mut self, name: &str, number: u64)
+        ensures { Puts self.old name.now (json.number (unsigned number)) self.new }
+    {
         self.value(name, Value::from(number));
     }
 
     /// Adds `true` or `false`.
-    pub fn flag(&mut self, name: &str, flag: bool) {
+    pub fn flag(&mut self, name: &str, flag: bool)
+        ensures { Puts self.old name.now (boolean flag) self.new }
+    {
         self.value(name, Value::from(flag));
     }
 
     /// Adds a text.
-    pub fn text(&mut self, name: &str, text: &str) {
+    pub fn text(&mut self, name: &str, text: &str)
+        ensures { Puts self.old name.now (string text.now) self.new }
+    {
         match Value::try_from_str(self.alloc, text) {
             Ok(value) => self.value(name, value),
             Err(_) => self.lacks = true,
@@ -47,7 +64,9 @@ impl Members {
     }
 
     /// Adds an object.
-    pub fn object(&mut self, name: &str, members: Members) {
+    pub fn object(&mut self, name: &str, members: Members)
+        ensures { PutsSome self.old name.now self.new }
+    {
         match members.into_value() {
             Some(value) => self.value(name, value),
             None => self.lacks = true,
@@ -55,7 +74,9 @@ impl Members {
     }
 
     /// Adds a list.
-    pub fn list(&mut self, name: &str, list: Listed) {
+    pub fn list(&mut self, name: &str, list: Listed)
+        ensures { PutsSome self.old name.now self.new }
+    {
         match list.into_value() {
             Some(value) => self.value(name, value),
             None => self.lacks = true,
@@ -68,7 +89,9 @@ impl Members {
     }
 
     /// The object; `None` where there was no memory for a part.
-    pub fn into_value(self) -> Option<Value> {
+    pub fn into_value(self) -> Option<Value>
+        ensures { IfSome result (λ value. (self.lacks ≡ false) × (view value ≡ object (members_view self.made.entries))) }
+    {
         let Members {
             alloc: _,
             made,

@@ -1,5 +1,9 @@
-ghost use Rattle.std.specs.Prelude.{◌≡◌, ◌∷◌, [], ◌++◌, ◌+◌, IfOk, OnOk};
+ghost use Rattle.std.specs.Prelude.{◌≡◌, ◌∷◌, [], ◌++◌, ◌+◌, IfOk, OnOk, codes};
+ghost use Rattle.serde_json.specs.Data.{number, string, unsigned};
+ghost use Rattle.dap_messages.specs.Json.{IsJsonOf};
 ghost use Rattle.dap_messages.specs.Messages.{IsAnswerTo, EventsAdded};
+ghost use Rattle.dap_messages.specs.Written.{Has};
+ghost use Rattle.dap_messages.specs.walking.Heads.{KeepsHead};
 
 use crate::answer::{Answer, Note, Outcome};
 use crate::members::Members;
@@ -79,28 +83,50 @@ fn following(seq: u64) -> Result<u64, AllocError>
 }
 
 /// The members of the response.
-fn response(alloc: Global, request: &Request, outcome: Outcome) -> Members {
+fn response(alloc: Global, request: &Request, outcome: Outcome) -> Members
+    ensures type_is { Has result (codes "type") (string (codes "response")) }
+    ensures request { Has result (codes "request_seq") (number (unsigned request.now.seq)) }
+{
     let mut members = Members::new(alloc);
     members.text("type", "response");
     members.number("request_seq", request.seq);
     members.text("command", request.command.as_str());
-    match outcome {
-        Outcome::Done(body) => add_done(&mut members, body),
-        Outcome::Refused(number, words) => add_refusal(alloc, &mut members, number, words.as_str()),
-    }
+    add_outcome(alloc, &mut members, outcome);
     members
 }
 
+/// Adds whether the request is done, and what it gives.
+fn add_outcome(alloc: Global, members: &mut Members, outcome: Outcome)
+    ensures { KeepsHead members.old members.new }
+{
+    match outcome {
+        Outcome::Done(body) => add_done(members, body),
+        Outcome::Refused(number, words) => add_refusal(alloc, members, number, words.as_str()),
+    }
+}
+
 /// Adds that the request is done.
-fn add_done(members: &mut Members, body: Option<Value>) {
+fn add_done(members: &mut Members, body: Option<Value>)
+    ensures { KeepsHead members.old members.new }
+{
     members.flag("success", true);
-    if let Some(body) = body {
-        members.value("body", body);
+    add_body(members, body);
+}
+
+/// Adds the body, if there is one.
+fn add_body(members: &mut Members, body: Option<Value>)
+    ensures { KeepsHead members.old members.new }
+{
+    match body {
+        Some(body) => members.value("body", body),
+        None => {}
     }
 }
 
 /// Adds that the request is refused. A client may show the words, in which no `{` stands.
-fn add_refusal(alloc: Global, members: &mut Members, number: u64, words: &str) {
+fn add_refusal(alloc: Global, members: &mut Members, number: u64, words: &str)
+    ensures { KeepsHead members.old members.new }
+{
     let mut error = Members::new(alloc);
     error.number("id", number);
     error.text("format", words);
@@ -113,19 +139,21 @@ fn add_refusal(alloc: Global, members: &mut Members, number: u64, words: &str) {
 }
 
 /// The members of the event.
-fn event(alloc: Global, note: Note) -> Members {
+fn event(alloc: Global, note: Note) -> Members
+    ensures { Has result (codes "type") (string (codes "event")) }
+{
     let Note { told, body } = note;
     let mut members = Members::new(alloc);
     members.text("type", "event");
     members.text("event", told.name());
-    if let Some(body) = body {
-        members.value("body", body);
-    }
+    add_body(&mut members, body);
     members
 }
 
 /// The JSON of the message. It is an error if there is no memory, or was none for a part of it.
-pub fn write_message(alloc: Global, message: Message) -> Result<Vec<u8>, AllocError> {
+pub fn write_message(alloc: Global, message: Message) -> Result<Vec<u8>, AllocError>
+    ensures { IfOk result (λ bytes. IsJsonOf message bytes.items) }
+{
     let Message {
         seq,
         answers: _,

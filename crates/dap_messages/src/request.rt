@@ -1,3 +1,7 @@
+ghost use Rattle.std.specs.Prelude.{◌≡◌};
+ghost use Rattle.serde_json.specs.View.{view};
+ghost use Rattle.dap_messages.specs.Arguments.{number_named};
+
 use crate::kind::{Kind, kind_of};
 use crate::members::{field, number_in, text_in};
 use serde_json::{Map, Value};
@@ -36,8 +40,13 @@ impl From<AllocError> for Unread {
 
 impl Request {
     /// The argument of this name, where it is a whole number from 0 on.
-    pub fn number(&self, name: &str) -> Option<u64> {
-        number_in(&self.arguments, name)
+    pub fn number(&self, name: &str) -> Option<u64>
+        ensures { result ≡ number_named name.now (view self.now.arguments) }
+    {
+        match self.arguments.get(name) {
+            Some(value) => value.as_u64(),
+            None => None,
+        }
     }
 
     /// The argument of this name, where it is a text.

@@ -1,3 +1,5 @@
 pub mod Backward
 pub mod Leading
+pub mod Listing
+pub mod Passing
 pub mod Targets

@@ -4,5 +4,6 @@ pub mod Laws
 pub mod Led
 pub mod Moves
 pub mod Parts
+pub mod Passing
 pub mod Stops
 pub mod walking

@@ -1,1 +1,2 @@
 pub mod StopParts
+pub mod Turning

@@ -1,12 +1,20 @@
 // A run: the branches step in turn, one step each, until something stops them.
-ghost use Rattle.std.specs.Prelude.{◌≡◌, ◌<◌};
+ghost use Rattle.std.specs.Prelude.{◌≡◌, ◌<◌, ℕ, List, [], IfSome, MatchOption, false};
+ghost use Rattle.syntax.specs.Lists.{In};
+ghost use Rattle.system.specs.Expression.{is_in};
+ghost use Rattle.runs.specs.Choices.{choice_of};
+ghost use Rattle.locked_execution.specs.AtDesk.{AtDesk};
+ghost use Rattle.locked_execution.specs.declared.command.Command as asked;
 ghost use Rattle.dap_moves.specs.Led.{Led};
+ghost use Rattle.dap_moves.specs.Passing.{EndsTruly, IsReady, MayAsk, PassesBy, PassesNone, StopsAt, IsAtLine, stands_on};
+ghost use Rattle.dap_moves.specs.walking.Turning.{TurnsTruly};
 
 use crate::QUIET;
 use crate::forth::step_at;
 use crate::known::ready_events;
 use crate::parts::acts_in;
 use crate::seen::{Watched, is_seen, is_watched};
+use address::Address;
 use event_places::line_after;
 use locked_execution::{Command, Desk, Machine, Reply};
 use runs::{Choice, Event, Refusal};
@@ -24,9 +32,9 @@ pub struct Plan<'a> {
     /// lines with a breakpoint
     pub lines: &'a [u64],
     pub watched: &'a [Watched],
-    /// steps before which the run does not stop, since it stands there
+    /// steps before which the run does not stop at first, since it stands there
     pub seen: &'a [Choice],
-    /// the most steps
+    /// the most steps, at least one
     pub most: u64,
 }
 
@@ -53,21 +61,69 @@ enum Turn {
     Ended(Ended),
 }
 
-/// Goes on as planned. Each step is one command. Where it stops before a step, `kept` has the choice of that, if there was memory
-/// for it.
+/// Goes on as planned. Each step is one command, and none passes a line with a breakpoint, but for the first, before which the
+/// run may have stood already. Where it stops before a step, `kept` has the choice of that, if there was memory for it.
 pub fn go_on(alloc: Global, desk: &mut Desk, plan: &Plan<'_>, kept: &mut Vec<Choice>) -> Ended
     ensures led { Led desk.old desk.new }
     ensures system { desk.new.machine.checked ≡ desk.old.machine.checked }
+    ensures passes { PassesNone plan.now.lines.now plan.now.seen.now desk.old desk.new }
+    ensures truly { EndsTruly plan.now.lines.now desk.new result }
 {
     let count = branch_count(desk.machine().checked().system());
-    let mut turn = plan.first;
-    for _ in 0..plan.most {
-        match take_turn(alloc, desk, plan, kept, turn, count) {
+    match take_turn(alloc, desk, plan, plan.seen, kept, plan.first, count) {
+        Turn::Went(branch) => {
+            go_on_from(alloc, desk, plan, kept, branch.saturating_add(1), count)
+        }
+        Turn::Ended(ended) => ended,
+    }
+}
+
+/// Goes on behind the first step, where it is the turn of this branch, of so many.
+fn go_on_from(
+    alloc: Global,
+    desk: &mut Desk,
+    plan: &Plan<'_>,
+    kept: &mut Vec<Choice>,
+    first: u32,
+    count: u32,
+) -> Ended
+    ensures led { Led desk.old desk.new }
+    ensures system { desk.new.machine.checked ≡ desk.old.machine.checked }
+    ensures passes { PassesNone plan.now.lines.now [] desk.old desk.new }
+    ensures truly { EndsTruly plan.now.lines.now desk.new result }
+{
+    let mut turn = first;
+    for _ in 1..plan.most {
+        match take_turn(alloc, desk, plan, &[], kept, turn, count) {
             Turn::Went(branch) => turn = branch.saturating_add(1),
             Turn::Ended(ended) => return ended,
         }
     }
-    Ended::Most(turn)
+    after_most(desk, plan, turn, count)
+}
+
+/// Why a run ends that took as many steps as there may be: no step is ready, or that is why.
+fn after_most(desk: &mut Desk, plan: &Plan<'_>, turn: u32, count: u32) -> Ended
+    ensures same { desk.new ≡ desk.old }
+    ensures truly { (lines : List ℕ) (d : AtDesk) → EndsTruly lines d result }
+{
+    if is_stuck(desk, plan, turn, count) {
+        return Ended::Nothing;
+    }
+    Ended::Most(if turn < count { turn } else { 0 })
+}
+
+/// Whether no step is ready. Without memory to look it is not known, so it is not.
+fn is_stuck(desk: &mut Desk, plan: &Plan<'_>, turn: u32, count: u32) -> bool
+    ensures { desk.new ≡ desk.old }
+{
+    match ready_events(desk) {
+        Ok(events) => {
+            let system = desk.machine().checked().system();
+            next_in_turn(system, events.as_slice(), plan, turn, count).is_none()
+        }
+        Err(_) => false,
+    }
 }
 
 /// One step, of this branch or of the next that has one. Where no line has a breakpoint nobody looks at the step before it is
@@ -76,16 +132,31 @@ fn take_turn(
     alloc: Global,
     desk: &mut Desk,
     plan: &Plan<'_>,
+    seen: &[Choice],
     kept: &mut Vec<Choice>,
     turn: u32,
     count: u32,
 ) -> Turn
     ensures led { Led desk.old desk.new }
     ensures system { desk.new.machine.checked ≡ desk.old.machine.checked }
+    ensures passes { PassesNone plan.now.lines.now seen.now desk.old desk.new }
+    ensures truly { TurnsTruly plan.now.lines.now desk.new result }
 {
-    if !plan.lines.is_empty() {
-        return look_and_step(alloc, desk, plan, kept, turn, count);
+    if plan.lines.is_empty() {
+        step_freely(desk, plan, turn, count)
+    } else {
+        look_and_step(alloc, desk, plan, seen, kept, turn, count)
     }
+}
+
+/// One step, of this branch or of the next that has one, whatever it is.
+fn step_freely(desk: &mut Desk, plan: &Plan<'_>, turn: u32, count: u32) -> Turn
+    requires { plan.now.lines.now ≡ [] }
+    ensures led { Led desk.old desk.new }
+    ensures system { desk.new.machine.checked ≡ desk.old.machine.checked }
+    ensures passes { PassesNone plan.now.lines.now [] desk.old desk.new }
+    ensures truly { TurnsTruly plan.now.lines.now desk.new result }
+{
     match plan.only {
         Some(branch) => step_branch(desk, plan, branch),
         None => step_next(desk, plan, turn, count),
@@ -94,8 +165,11 @@ fn take_turn(
 
 /// One step of the first branch in turn that has one.
 fn step_next(desk: &mut Desk, plan: &Plan<'_>, turn: u32, count: u32) -> Turn
+    requires { plan.now.lines.now ≡ [] }
     ensures led { Led desk.old desk.new }
     ensures system { desk.new.machine.checked ≡ desk.old.machine.checked }
+    ensures passes { PassesNone plan.now.lines.now [] desk.old desk.new }
+    ensures truly { TurnsTruly plan.now.lines.now desk.new result }
 {
     for ahead in 0..count {
         let outcome = step_branch(desk, plan, in_turn(turn, ahead, count));
@@ -121,15 +195,20 @@ fn in_turn(turn: u32, ahead: u32, count: u32) -> u32
 
 /// The first step of the branch.
 fn step_branch(desk: &mut Desk, plan: &Plan<'_>, branch: u32) -> Turn
+    requires { plan.now.lines.now ≡ [] }
     ensures led { Led desk.old desk.new }
     ensures system { desk.new.machine.checked ≡ desk.old.machine.checked }
+    ensures passes { PassesNone plan.now.lines.now [] desk.old desk.new }
+    ensures truly { TurnsTruly plan.now.lines.now desk.new result }
 {
     let reply = desk.perform(QUIET, &Command::Branch(branch));
     told(plan, branch, reply)
 }
 
 /// What came of a step of the branch that was answered so.
-fn told(plan: &Plan<'_>, branch: u32, reply: Reply) -> Turn {
+fn told(plan: &Plan<'_>, branch: u32, reply: Reply) -> Turn
+    ensures { (d : AtDesk) → TurnsTruly plan.now.lines.now d result }
+{
     match reply {
         Reply::Stepped(ticket, event) => went(plan, branch, ticket, &event),
         Reply::Refused(why) => Turn::Ended(Ended::Refused(branch, why)),
@@ -138,7 +217,9 @@ fn told(plan: &Plan<'_>, branch: u32, reply: Reply) -> Turn {
 }
 
 /// What comes of a step of the branch that was taken.
-fn went(plan: &Plan<'_>, branch: u32, ticket: u64, event: &Event) -> Turn {
+fn went(plan: &Plan<'_>, branch: u32, ticket: u64, event: &Event) -> Turn
+    ensures { (d : AtDesk) → TurnsTruly plan.now.lines.now d result }
+{
     if is_watched(plan.watched, event) {
         Turn::Ended(Ended::Watched(branch, ticket))
     } else {
@@ -151,12 +232,15 @@ fn look_and_step(
     alloc: Global,
     desk: &mut Desk,
     plan: &Plan<'_>,
+    seen: &[Choice],
     kept: &mut Vec<Choice>,
     turn: u32,
     count: u32,
 ) -> Turn
     ensures led { Led desk.old desk.new }
     ensures system { desk.new.machine.checked ≡ desk.old.machine.checked }
+    ensures passes { PassesNone plan.now.lines.now seen.now desk.old desk.new }
+    ensures truly { TurnsTruly plan.now.lines.now desk.new result }
 {
     let events = match ready_events(desk) {
         Ok(events) => events,
@@ -170,7 +254,7 @@ fn look_and_step(
         count,
     );
     match next {
-        Some((branch, event)) => step_or_stop(alloc, desk, plan, kept, branch, event),
+        Some((branch, event)) => step_or_stop(alloc, desk, plan, seen, kept, branch, event),
         None => Turn::Ended(Ended::Nothing),
     }
 }
@@ -180,19 +264,44 @@ fn step_or_stop(
     alloc: Global,
     desk: &mut Desk,
     plan: &Plan<'_>,
+    seen: &[Choice],
     kept: &mut Vec<Choice>,
     branch: u32,
     event: &Event,
 ) -> Turn
+    requires { IsReady desk.old event.now }
     ensures led { Led desk.old desk.new }
     ensures system { desk.new.machine.checked ≡ desk.old.machine.checked }
+    ensures passes { PassesNone plan.now.lines.now seen.now desk.old desk.new }
+    ensures truly { TurnsTruly plan.now.lines.now desk.new result }
 {
-    if !is_seen(plan.seen, event) {
-        if let Some((side, line)) = line_among(desk.machine(), plan.lines, event) {
-            keep(alloc, kept, event);
-            return Turn::Ended(Ended::AtLine(side, line));
-        }
+    if is_seen(seen, event) {
+        return step_past(alloc, desk, plan, seen, branch, event);
     }
+    match line_among(desk.machine(), plan.lines, event) {
+        Some((side, line)) => {
+            keep(alloc, kept, event);
+            Turn::Ended(Ended::AtLine(side, line))
+        }
+        None => step_past(alloc, desk, plan, seen, branch, event),
+    }
+}
+
+/// The step, which may be taken: no side of it is on a line with a breakpoint, or the run has stood before it already.
+fn step_past(
+    alloc: Global,
+    desk: &mut Desk,
+    plan: &Plan<'_>,
+    seen: &[Choice],
+    branch: u32,
+    event: &Event,
+) -> Turn
+    requires { MayAsk desk.old plan.now.lines.now seen.now (asked.Command.Step (choice_of event.now)) }
+    ensures led { Led desk.old desk.new }
+    ensures system { desk.new.machine.checked ≡ desk.old.machine.checked }
+    ensures passes { PassesNone plan.now.lines.now seen.now desk.old desk.new }
+    ensures truly { TurnsTruly plan.now.lines.now desk.new result }
+{
     let reply = step_at(alloc, desk, event);
     told(plan, branch, reply)
 }
@@ -206,13 +315,16 @@ pub(crate) fn keep(alloc: Global, kept: &mut Vec<Choice>, event: &Event) {
 }
 
 /// The first of these events that acts in the first branch in turn in which one does, and that branch.
+#[tactic(auto, using(crate::proofs::Passing::here_in))]
 fn next_in_turn<'a>(
     system: &System,
     events: &'a [Event],
     plan: &Plan<'_>,
     turn: u32,
     count: u32,
-) -> Option<(u32, &'a Event)> {
+) -> Option<(u32, &'a Event)>
+    ensures { IfSome result (λ found. In found.1.now events.now) }
+{
     let mut nearest: Option<(u32, &'a Event)> = None;
     let mut least = u64::MAX;
     for event in events {
@@ -246,13 +358,22 @@ fn distance(turn: u32, branch: u32, count: u32) -> u64 {
 }
 
 /// The branch and the line of a side of the event that is on one of these lines, the acting side before the other.
-pub(crate) fn line_among(machine: &Machine, lines: &[u64], event: &Event) -> Option<(u32, u64)> {
+pub(crate) fn line_among(machine: &Machine, lines: &[u64], event: &Event) -> Option<(u32, u64)>
+    ensures { MatchOption result (PassesBy machine.now lines.now event.now) (λ hit. StopsAt machine.now lines.now event.now hit.1) }
+{
     if lines.is_empty() {
         return None;
     }
-    if let Some(found) = line_at(machine, lines, event.acting_place()) {
-        return Some(found);
+    match line_at(machine, lines, event.acting_place()) {
+        Some(found) => Some(found),
+        None => line_of_sides(machine, lines, event),
     }
+}
+
+/// The branch and the line of the first side of the event, else of the second, where that is one of these.
+fn line_of_sides(machine: &Machine, lines: &[u64], event: &Event) -> Option<(u32, u64)>
+    ensures { MatchOption result (PassesBy machine.now lines.now event.now) (λ hit. StopsAt machine.now lines.now event.now hit.1) }
+{
     if let Some(found) = line_at(machine, lines, &event.first) {
         return Some(found);
     }
@@ -263,12 +384,26 @@ pub(crate) fn line_among(machine: &Machine, lines: &[u64], event: &Event) -> Opt
 }
 
 /// The branch and the line of the place, where that is one of these.
-fn line_at(machine: &Machine, lines: &[u64], place: &address::Address) -> Option<(u32, u64)> {
+#[tactic(auto, using(crate::proofs::Passing::on_lines))]
+fn line_at(machine: &Machine, lines: &[u64], place: &Address) -> Option<(u32, u64)>
+    ensures { MatchOption result (stands_on machine.now lines.now place.now ≡ false) (λ hit. IsAtLine machine.now lines.now place.now hit.1) }
+{
     let line = line_after(machine.checked(), machine.live_events(), place)?;
-    let branch = branch_at(machine.checked().system(), place)?;
-    if lines.contains(&line) {
-        Some((branch, line))
-    } else {
-        None
+    if !is_among(lines, line) {
+        return None;
     }
+    let branch = branch_at(machine.checked().system(), place).unwrap_or(0);
+    Some((branch, line))
+}
+
+/// Whether the line is one of these.
+fn is_among(lines: &[u64], line: u64) -> bool
+    ensures { result ≡ is_in line lines.now }
+{
+    for held in lines {
+        if line == *held {
+            return true;
+        }
+    }
+    false
 }

@@ -1,4 +1,8 @@
 // What a run looks at: variables and channels that are watched, and steps before which it has stopped already.
+ghost use Rattle.std.specs.Prelude.{◌≡◌, true};
+ghost use Rattle.syntax.specs.Lists.{In};
+ghost use Rattle.runs.specs.Choices.{choice_of};
+
 use runs::{Choice, Event};
 
 /// What is watched.
@@ -25,12 +29,18 @@ pub fn is_watched(watched: &[Watched], event: &Event) -> bool {
 }
 
 /// Whether this is the choice of the event.
-pub fn has_choice(choice: &Choice, event: &Event) -> bool {
+#[tactic(auto, using(crate::proofs::Passing::same_choice))]
+pub fn has_choice(choice: &Choice, event: &Event) -> bool
+    ensures { result ≡ true → choice.now ≡ choice_of event.now }
+{
     choice.arm == event.arm_to_open() && choice.place.equals(event.acting_place())
 }
 
 /// Whether one of the choices is that of the event.
-pub(crate) fn is_seen(seen: &[Choice], event: &Event) -> bool {
+#[tactic(auto, using(crate::proofs::Passing::seen_here))]
+pub(crate) fn is_seen(seen: &[Choice], event: &Event) -> bool
+    ensures { result ≡ true → In (choice_of event.now) seen.now }
+{
     for choice in seen {
         if has_choice(choice, event) {
             return true;

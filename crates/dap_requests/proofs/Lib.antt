@@ -1,2 +1,3 @@
+pub mod Forward
 pub mod Reading
 pub mod Saying

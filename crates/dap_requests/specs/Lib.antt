@@ -1,3 +1,4 @@
+pub mod Forth
 pub mod Reading
 pub mod Said
 pub mod Stands

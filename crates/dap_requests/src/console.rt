@@ -4,7 +4,7 @@ ghost use Rattle.dap_moves.specs.Led.{Led};
 ghost use Rattle.dap_requests.specs.Reading.{reads};
 
 use crate::moves::{back_in, reverse_in};
-use crate::said::stop;
+use crate::said::{stop, tell};
 use dap_messages::{Answer, Members, Request};
 use dap_moves::{Command, Desk, Machine, Reply};
 use dap_threads::{channel_words, frame_in};
@@ -57,10 +57,7 @@ pub fn evaluate(
 
 /// Whether the expression was typed as a line.
 fn is_typed(request: &Request, text: &str) -> bool {
-    match request.text("context") {
-        None => true,
-        Some(context) => context == "repl" || text.starts_with('!'),
-    }
+    text.starts_with('!') || request.text("context") == Some("repl")
 }
 
 /// Answers a line that was typed.
@@ -83,6 +80,7 @@ fn typed(
     }
     match program.index.find(instance, line) {
         Some(thing) if !is_bare(line) => told(alloc, desk.machine(), program, thing, answer),
+        None if is_several(program, line) => tell_several(alloc, program, line, answer),
         _ => typed_line(alloc, desk, program, branch, line, answer),
     }
 }
@@ -100,8 +98,23 @@ fn looked_at(
 {
     match program.index.find(instance, line) {
         Some(thing) => told(alloc, desk.machine(), program, thing, answer),
+        None if is_several(program, line) => tell_several(alloc, program, line, answer),
         None => looked_at_line(alloc, desk, program, line, answer),
     }
+}
+
+/// Whether the line is a name that means more than one thing, where it does not mean one.
+fn is_several(program: &Program, line: &str) -> bool {
+    !is_bare(line) && program.index.is_declared(line)
+}
+
+/// Refuses a name that may mean more than one thing, and tells which.
+fn tell_several(alloc: Global, program: &Program, name: &str, answer: &mut Answer) {
+    let mut words = Words::of(alloc, "the call of this frame does not declare `");
+    words.add(name);
+    words.add("`, and others do: with the number of its call it is ");
+    program.index.add_candidates(name, &mut words);
+    answer.refuse(61, words.as_str());
 }
 
 /// Whether the line is understood here alone.
@@ -296,6 +309,11 @@ fn ask(
 {
     let reply = asked(desk, command);
     show_reply(alloc, desk.machine(), command, &reply, answer);
+    if let Command::Break(_) = command {
+        let words =
+            "`branch` in the console stops there. `continue` stops where the editor has a breakpoint.";
+        tell(alloc, words, "console", answer);
+    }
     if has_moved(&reply) {
         program.sight = None;
         program.seen.clear();
@@ -331,8 +349,16 @@ fn look(alloc: Global, desk: &mut Desk, command: &Command, line: &str, answer: &
         let reply = asked_alone(desk, command);
         show_reply(alloc, desk.machine(), command, &reply, answer);
     } else {
-        no_line(alloc, line, answer);
+        only_typed(alloc, line, answer);
     }
+}
+
+/// Refuses a line that changes something where it was not typed for that.
+fn only_typed(alloc: Global, line: &str, answer: &mut Answer) {
+    let mut words = Words::of(alloc, "`");
+    words.add(line);
+    words.add("` changes something: type it in the console, or put a `!` before it");
+    answer.refuse(61, words.as_str());
 }
 
 /// Asks the desk what changes nothing.

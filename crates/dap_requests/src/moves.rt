@@ -1,8 +1,10 @@
 // Requests to run: forth and back. Each that succeeds ends with one `stopped`.
-ghost use Rattle.std.specs.Prelude.{◌≡◌};
+ghost use Rattle.std.specs.Prelude.{◌≡◌, slice_get};
+ghost use Rattle.locked_execution.specs.declared.command.Reply.{Reply as Replied};
 ghost use Rattle.dap_moves.specs.Led.{Led};
-ghost use Rattle.dap_moves.specs.Moves.{StepsBack};
+ghost use Rattle.dap_moves.specs.Moves.{StepsAt, StepsBack, targets};
 ghost use Rattle.dap_moves.specs.declared.back.Back.{Back as MovedBack};
+ghost use Rattle.dap_requests.specs.Forth.{StepsForth, Takes};
 ghost use Rattle.dap_requests.specs.Said.{Runs, TellsOutputs, TellsStop};
 
 use crate::said::{stop, stop_at_line, tell, tell_outputs, tell_refused, tell_step, words_of};
@@ -38,8 +40,8 @@ pub fn next(
     }
 }
 
-/// One step of the branch, that of this number among those that it can be.
-fn next_in(
+/// One step of the branch, that of this number among those that it can be, counted from 0.
+pub fn next_in(
     alloc: Global,
     desk: &mut Desk,
     program: &mut Program,
@@ -50,6 +52,7 @@ fn next_in(
     ensures led { Led desk.old desk.new }
     ensures system { desk.new.machine.checked ≡ desk.old.machine.checked }
     ensures stops { TellsStop answer.old answer.new }
+    ensures forth { StepsForth desk.old branch number desk.new }
 {
     match desk.machine().ready() {
         Ok(events) => take_target(alloc, desk, program, &events, branch, number, answer),
@@ -73,6 +76,7 @@ fn take_target(
     ensures led { Led desk.old desk.new }
     ensures system { desk.new.machine.checked ≡ desk.old.machine.checked }
     ensures stops { TellsStop answer.old answer.new }
+    ensures forth { Takes desk.old (slice_get (targets desk.old.machine.checked branch events.now) number) desk.new }
 {
     let system = desk.machine().checked().system();
     match target_at(system, events.as_slice(), branch, number) {
@@ -93,6 +97,7 @@ fn take(
     ensures led { Led desk.old desk.new }
     ensures system { desk.new.machine.checked ≡ desk.old.machine.checked }
     ensures stops { TellsStop answer.old answer.new }
+    ensures steps { (reply : Replied) × StepsAt desk.old event.now reply desk.new }
 {
     let before = desk.machine().live_events().len();
     let refusal = refusal_in(&step_at(alloc, desk, event));
@@ -344,7 +349,11 @@ fn stop_after_most(alloc: Global, program: &Program, answer: &mut Answer, branch
 {
     let mut words = Words::of(alloc, "Paused after ");
     words.number(program.launch.most);
-    words.add(" steps");
+    words.add(if program.launch.most == 1 {
+        " step"
+    } else {
+        " steps"
+    });
     stop(alloc, answer, "pause", branch, words.as_str());
 }
 
@@ -361,7 +370,11 @@ fn nothing_words(alloc: Global, machine: &Machine, only: Option<u32>) -> Words {
     );
     words.add(", ");
     words.number(live as u64);
-    words.add(" steps are live");
+    words.add(if live == 1 {
+        " step is live"
+    } else {
+        " steps are live"
+    });
     words
 }
 
@@ -562,7 +575,7 @@ pub fn reverse_in(
     ensures stops { TellsStop answer.old answer.new }
 {
     let ended = rewind_in(alloc, desk, program, branch, single);
-    tell_rewound(alloc, program, branch, ended, answer);
+    tell_rewound(alloc, program, branch, single, ended, answer);
 }
 
 /// Takes steps back until something stops it; why it ended.
@@ -610,18 +623,28 @@ fn tell_rewound(
     alloc: Global,
     program: &mut Program,
     branch: u32,
+    single: bool,
     ended: Rewound,
     answer: &mut Answer,
 )
     ensures { TellsStop answer.old answer.new }
 {
     match ended {
-        Rewound::AtBeginning => stop(alloc, answer, "entry", branch, "At the beginning"),
+        Rewound::AtBeginning => stop(alloc, answer, "entry", branch, beginning_text(single)),
         Rewound::AtLine(side, line) => stop_at_line(alloc, program, answer, side, line),
         Rewound::Watched(branch, ticket) => stop_before(alloc, branch, ticket, answer),
         Rewound::Refused(why) => {
             tell_refused(alloc, program, answer, branch, why, words_of(why));
         }
+    }
+}
+
+/// Where nothing is left to take back: of this thread alone, or of all.
+fn beginning_text(single: bool) -> &'static str {
+    if single {
+        "At its beginning: no step of this thread is live"
+    } else {
+        "At the beginning"
     }
 }
 

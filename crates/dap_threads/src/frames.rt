@@ -1,32 +1,53 @@
 // Threads and their frames.
-ghost use Rattle.std.specs.Prelude.{◌≡◌, MatchOption};
+ghost use Rattle.std.specs.Prelude.{◌≡◌, MatchOption, codes};
+ghost use Rattle.serde_json.specs.View.{view};
+ghost use Rattle.runs.specs.Tests.{same_place};
+ghost use Rattle.system_places.specs.SystemBranches.{branch_count};
+ghost use Rattle.dap_messages.specs.Arguments.{number_named};
 ghost use Rattle.dap_messages.specs.Notes.{IsRefusal};
+ghost use Rattle.dap_threads.specs.Frames.{HasNoFrame, IsFrame, frame_count, is_again, is_branch, is_place_in};
+ghost use Rattle.dap_threads.specs.Threads.{branch_of, branch_named};
 
+use address::Address;
 use dap_messages::{Answer, Listed, Members, Request};
 use dap_moves::{Machine, frame_id, frame_of};
-use dap_views::{Program, Rank, Sight, Words, add_side, add_waits, line_at, variable_of};
+use dap_views::{Program, Rank, Sight, Words, add_side, add_waits, line_at};
 use offered_sides::OfferedSide;
 use std::alloc::Global;
-use system::{Action, Branch, System};
+use system::{Branch, System};
 use system_places::{branch_at, branch_count};
 
 /// The most frames that are shown of a thread.
 const MOST_FRAMES: u64 = 1_000;
 
-/// The thread that the request names; a thread is a branch, counted from 1.
+/// The branch of the thread that the request names: threads count from 1. It is refused where there is no such thread.
 pub fn thread_in(request: &Request, machine: &Machine, answer: &mut Answer) -> Option<u32>
-    ensures { MatchOption result (IsRefusal answer.new.outcome × (answer.new.notes ≡ answer.old.notes)) (λ _. answer.new ≡ answer.old) }
+    ensures thread { result
+        ≡ branch_named (branch_count machine.now.checked)
+        (number_named (codes "threadId") (view request.now.arguments)) }
+    ensures outcome { MatchOption result (IsRefusal answer.new.outcome × (answer.new.notes ≡ answer.old.notes))
+        (λ _. answer.new ≡ answer.old) }
 {
     let Some(number) = request.number("threadId") else {
         answer.refuse(104, "`threadId` is missing or no number");
         return None;
     };
-    let count = u64::from(branch_count(machine.checked().system()));
-    if number < 1 || number > count {
+    let Some(branch) = branch_of(number, branch_count(machine.checked().system())) else {
         answer.refuse(105, "there is no such thread");
         return None;
+    };
+    Some(branch)
+}
+
+/// The branch of the thread of this number, where there are so many.
+fn branch_of(number: u64, count: u32) -> Option<u32>
+    ensures { result ≡ branch_of count number }
+{
+    if number >= 1 && number <= u64::from(count) {
+        Some((number - 1) as u32)
+    } else {
+        None
     }
-    Some(number.saturating_sub(1) as u32)
 }
 
 /// Answers `threads`: all branches, with how each stands.
@@ -44,50 +65,89 @@ pub fn threads(alloc: Global, machine: &Machine, program: &Program, answer: &mut
 fn thread_list(alloc: Global, machine: &Machine, program: &Program, sight: &Sight) -> Members {
     let mut list = Listed::new(alloc);
     for branch in 0..branch_count(machine.checked().system()) {
-        let mut words = thread_name(alloc, machine, program, branch);
-        words.add(sight.state(machine, branch));
-        let mut thread = Members::new(alloc);
-        thread.number("id", u64::from(branch).saturating_add(1));
-        thread.text("name", words.as_str());
-        list.push(thread);
+        list.push(thread(alloc, machine, program, sight, branch));
     }
     let mut body = Members::new(alloc);
     body.list("threads", list);
     body
 }
 
-/// The name of a thread: the procedure and the line on which it begins, or the port.
-pub fn thread_name(alloc: Global, machine: &Machine, program: &Program, branch: u32) -> Words {
+/// A thread, with its name.
+fn thread(
+    alloc: Global,
+    machine: &Machine,
+    program: &Program,
+    sight: &Sight,
+    branch: u32,
+) -> Members {
+    let mut words = thread_name(alloc, machine, program, sight, branch);
+    words.add(sight.state(machine, branch));
+    let mut thread = Members::new(alloc);
+    thread.number("id", u64::from(branch).saturating_add(1));
+    thread.text("name", words.as_str());
+    thread
+}
+
+/// The name of a thread: the procedure that begins there, with the number of its call where there are several of it, and the line on
+/// which it stands now; or the port.
+fn thread_name(
+    alloc: Global,
+    machine: &Machine,
+    program: &Program,
+    sight: &Sight,
+    branch: u32,
+) -> Words {
     let system = machine.checked().system();
     let mut words = Words::new(alloc);
-    match line_of_branch(system, branch) {
-        Some(line) => {
-            words.add(program.lines.procedure(line));
-            words.add(", line ");
-            words.number(line);
-        }
-        None => add_port(alloc, system, branch, &mut words),
+    if is_outside(system, branch) {
+        add_port(alloc, system, branch, &mut words);
+    } else {
+        let instance = program.index.instance_of_branch(branch);
+        program.index.add_title(instance, &mut words);
+        add_line(machine, sight, branch, &mut words);
     }
     words
 }
 
-/// The line on which a branch of the body begins.
-fn line_of_branch(system: &System, branch: u32) -> Option<u64> {
-    match system.main.action.get() {
-        Action::Parallel(children) => Some(children.as_slice().get(branch as usize)?.line),
-        _ if branch == 0 => Some(system.main.line),
-        _ => None,
+/// Adds the line on which the branch stands, where it is not done: that of its first frame.
+fn add_line(machine: &Machine, sight: &Sight, branch: u32, words: &mut Words) {
+    let Some(number) = first_place(machine, sight, branch) else {
+        return;
+    };
+    if let Some(offered) = sight.sides.as_slice().get(number) {
+        if let Some(line) = line_at(machine, &offered.place) {
+            words.add(", line ");
+            words.number(line);
+        }
     }
+}
+
+/// The index of the first side at the place of the branch that goes on first.
+fn first_place(machine: &Machine, sight: &Sight, branch: u32) -> Option<usize> {
+    if let Some(acting) = first_of(machine, sight, branch, Rank::Acts) {
+        return Some(acting);
+    }
+    if let Some(joining) = first_of(machine, sight, branch, Rank::Joins) {
+        return Some(joining);
+    }
+    first_of(machine, sight, branch, Rank::Waits)
+}
+
+/// The index of the first side of the branch at a place of this rank.
+fn first_of(machine: &Machine, sight: &Sight, branch: u32, rank: Rank) -> Option<usize> {
+    let system = machine.checked().system();
+    for (index, offered) in sight.sides.as_slice().iter().enumerate() {
+        if branch_at(system, &offered.place) == Some(branch) && sight.rank(&offered.place) == rank {
+            return Some(index);
+        }
+    }
+    None
 }
 
 /// Adds the port at which a branch of the environment stands.
 fn add_port(alloc: Global, system: &System, branch: u32, words: &mut Words) {
-    let body = (branch_count(system) as usize).saturating_sub(environment_within(system));
-    match system
-        .environment
-        .as_slice()
-        .get((branch as usize).saturating_sub(body))
-    {
+    let number = (branch as usize).saturating_sub(body_branches(system));
+    match system.environment.as_slice().get(number) {
         Some(Branch::Feed(channel, _, _)) => port(alloc, system, "input ", *channel, words),
         Some(Branch::Drain(channel)) => port(alloc, system, "output ", *channel, words),
         Some(Branch::Syncs(channel, _)) => port(alloc, system, "sync ", *channel, words),
@@ -95,9 +155,9 @@ fn add_port(alloc: Global, system: &System, branch: u32, words: &mut Words) {
     }
 }
 
-/// How many branches the environment is, of those that are counted.
-fn environment_within(system: &System) -> usize {
-    system.environment.len().min(branch_count(system) as usize)
+/// How many branches the body is.
+fn body_branches(system: &System) -> usize {
+    (branch_count(system) as usize).saturating_sub(system.environment.len())
 }
 
 fn port(alloc: Global, system: &System, word: &str, channel: u32, words: &mut Words) {
@@ -193,27 +253,15 @@ fn add_places(
 ) -> Option<()> {
     let system = machine.checked().system();
     let sides = sight.sides.as_slice();
-    for (index, offered) in sides.iter().enumerate() {
-        if branch_at(system, &offered.place) == Some(branch)
-            && !is_again(sides, index)
-            && sight.rank(&offered.place) == rank
+    for index in 0..sides.len() {
+        if is_place_in(system, sides, branch, index)
+            && sight.rank(&sides[index].place) == rank
             && (found.len() as u64) < MOST_FRAMES
         {
             found.push(index).ok()?;
         }
     }
     Some(())
-}
-
-/// Whether the side before this has the same place.
-fn is_again(sides: &[OfferedSide], index: usize) -> bool {
-    let Some(before) = index.checked_sub(1) else {
-        return false;
-    };
-    match (sides.get(before), sides.get(index)) {
-        (Some(one), Some(other)) => one.place.equals(&other.place),
-        _ => false,
-    }
 }
 
 /// A frame: what stands at a place, and where.
@@ -231,8 +279,7 @@ fn frame(
     let mut words = Words::of(alloc, if index > 0 { "also " } else { "" });
     match line_at(machine, &offered.place) {
         Some(line) => {
-            words.add(program.lines.procedure(line));
-            words.add(": ");
+            add_call(machine, program, offered, &mut words);
             program.add_place(alloc, &mut frame, line);
         }
         None => add_port_place(alloc, machine, program, offered, &mut frame),
@@ -245,6 +292,14 @@ fn frame(
     }
     frame.text("name", words.as_str());
     frame
+}
+
+/// Adds what the call is called to which the place belongs.
+fn add_call(machine: &Machine, program: &Program, offered: &OfferedSide, words: &mut Words) {
+    if let Some(instance) = program.index.instance_at(machine, &offered.place) {
+        program.index.add_title(instance, words);
+        words.add(": ");
+    }
 }
 
 /// Adds where the port of the environment's side is declared.
@@ -280,8 +335,8 @@ fn done_frame(alloc: Global, branch: u32) -> Members {
     frame
 }
 
-/// The branch and the instance of the frame that a request names; those of the first step that is ready where it names none. It is
-/// refused where there is no such frame.
+/// The branch and the instance of the frame that a request names; where it names none, the branch of the first step that is ready, and
+/// the root. It is refused where there is no such frame.
 pub fn frame_in(
     alloc: Global,
     machine: &Machine,
@@ -308,32 +363,126 @@ fn frame_at(
     id: u64,
     answer: &mut Answer,
 ) -> Option<(u32, usize)> {
-    let (thread, index) = frame_of(id);
-    let count = u64::from(branch_count(machine.checked().system()));
-    if thread >= 1 && thread <= count {
-        let branch = thread.saturating_sub(1) as u32;
-        let Some(places) = places_in(alloc, machine, sight, branch) else {
-            answer.lacks = true;
-            return None;
-        };
-        if let Some(number) = places.as_slice().get(index as usize) {
-            return Some((branch, instance_at(program, sight, *number)));
-        }
-        if index == 0 {
-            return Some((branch, 0));
+    let system = machine.checked().system();
+    let Some((branch, index)) = frame_named(system, sight.sides.as_slice(), id) else {
+        answer.refuse(109, "there is no such frame any more");
+        return None;
+    };
+    let Some(places) = places_in(alloc, machine, sight, branch) else {
+        answer.lacks = true;
+        return None;
+    };
+    match instance_of(
+        machine,
+        program,
+        sight,
+        branch,
+        places.as_slice().get(index),
+    ) {
+        Some(instance) => Some((branch, instance)),
+        None => {
+            answer.refuse(109, "the call of this frame is not known");
+            None
         }
     }
-    answer.refuse(109, "there is no such frame any more");
-    None
 }
 
-/// The instance of the command whose side this is, as far as its variables tell; else the root.
-fn instance_at(program: &Program, sight: &Sight, number: usize) -> usize {
-    match sight.sides.as_slice().get(number) {
-        Some(offered) => match variable_of(&offered.side) {
-            Some(variable) => program.index.instance_of(variable),
-            None => 0,
-        },
-        None => 0,
+/// The branch and the index of the frame of this number, where there is one.
+fn frame_named(system: &System, sides: &[OfferedSide], id: u64) -> Option<(u32, usize)>
+    ensures { MatchOption result (HasNoFrame system.now sides.now id)
+        (λ frame. IsFrame system.now sides.now id frame.0 frame.1) }
+{
+    let (thread, index) = frame_of(id);
+    match branch_of(thread, branch_count(system)) {
+        Some(branch) => {
+            let index = index as usize;
+            if index < frame_count(system, sides, branch) {
+                Some((branch, index))
+            } else {
+                None
+            }
+        }
+        None => None,
     }
+}
+
+/// How many frames the branch has: one for each place in it, at most 1,000; and one where it has none.
+fn frame_count(system: &System, sides: &[OfferedSide], branch: u32) -> usize
+    ensures { result ≡ frame_count system.now sides.now branch }
+{
+    let mut count = 0;
+    for index in 0..sides.len() {
+        if is_place_in(system, sides, branch, index) {
+            count += 1;
+        }
+    }
+    count.max(1).min(MOST_FRAMES as usize)
+}
+
+/// Whether the side at the index stands in the branch, and the one before it at another place.
+fn is_place_in(system: &System, sides: &[OfferedSide], branch: u32, index: usize) -> bool
+    ensures { result ≡ is_place_in system.now sides.now branch index }
+{
+    match sides.get(index) {
+        Some(offered) => {
+            is_branch(branch, branch_at(system, &offered.place)) && !is_again(sides, index)
+        }
+        None => false,
+    }
+}
+
+/// Whether this branch was found.
+fn is_branch(branch: u32, found: Option<u32>) -> bool
+    ensures { result ≡ is_branch branch found }
+{
+    match found {
+        Some(number) => number == branch,
+        None => false,
+    }
+}
+
+/// Whether the side before this has the same place.
+fn is_again(sides: &[OfferedSide], index: usize) -> bool
+    ensures { result ≡ is_again sides.now index }
+{
+    if index == 0 {
+        return false;
+    }
+    match (sides.get(index - 1), sides.get(index)) {
+        (Some(one), Some(other)) => same_place(&one.place, &other.place),
+        _ => false,
+    }
+}
+
+/// Whether both are one place.
+fn same_place(one: &Address, other: &Address) -> bool
+    ensures { result ≡ same_place one.now other.now }
+{
+    one.equals(other)
+}
+
+/// The instance of a frame of the branch: the call to which the place of the side belongs that has this index. A side of the
+/// environment stands at a port of the root; a branch that is done, where it began.
+fn instance_of(
+    machine: &Machine,
+    program: &Program,
+    sight: &Sight,
+    branch: u32,
+    number: Option<&usize>,
+) -> Option<usize> {
+    if is_outside(machine.checked().system(), branch) {
+        return Some(0);
+    }
+    match number {
+        Some(number) => {
+            let offered = sight.sides.as_slice().get(*number)?;
+            program.index.instance_at(machine, &offered.place)
+        }
+        None => Some(program.index.instance_of_branch(branch)),
+    }
+}
+
+/// Whether the branch is one of the environment.
+fn is_outside(system: &System, branch: u32) -> bool {
+    branch as usize >= body_branches(system)
 }

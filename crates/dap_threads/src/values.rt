@@ -1,4 +1,10 @@
 // Variables, channels and the newest steps, as a client unfolds them.
+ghost use Rattle.std.specs.Prelude.{◌≡◌, ◌↔◌, IsTrue, MatchOption, codes};
+ghost use Rattle.serde_json.specs.View.{view};
+ghost use Rattle.dap_messages.specs.Arguments.{number_named};
+ghost use Rattle.dap_messages.specs.Notes.{IsRefusal};
+ghost use Rattle.dap_threads.specs.Unfolded.{HasHandle, IsFound, NamesHandle, is_shown};
+
 use crate::frames::frame_in;
 use dap_messages::{Answer, Listed, Members, Request};
 use dap_moves::{Handle, Machine, handle_of, newest_below, reference};
@@ -29,7 +35,11 @@ pub fn scopes(
 
 /// The scopes of a frame.
 fn scope_list(alloc: Global, program: &Program, branch: u32, instance: u64) -> Members {
-    let title = program.index.prefix(instance as usize);
+    let mut title = Words::new(alloc);
+    if instance > 0 {
+        program.index.add_title(instance as usize, &mut title);
+    }
+    let title = title.as_str();
     let mut list = Listed::new(alloc);
     list.push(scope(
         alloc,
@@ -57,8 +67,8 @@ fn scope_list(alloc: Global, program: &Program, branch: u32, instance: u64) -> M
 fn scope(alloc: Global, name: &str, title: &str, handle: Handle, is_wide: bool) -> Members {
     let mut words = Words::of(alloc, name);
     if !title.is_empty() {
-        words.add(" of call ");
-        words.add(title.strip_suffix(':').unwrap_or(title));
+        words.add(" of ");
+        words.add(title);
     }
     let mut scope = Members::new(alloc);
     scope.text("name", words.as_str());
@@ -78,46 +88,74 @@ pub fn variables(
     request: &Request,
     answer: &mut Answer,
 ) {
-    let Some(number) = request.number("variablesReference") else {
-        answer.refuse(104, "`variablesReference` is missing or no number");
-        return;
-    };
-    let handle = handle_of(number);
-    if !is_known(machine, program, handle) {
-        answer.refuse(110, "there are no variables with this reference");
-        return;
+    let threads = branch_count(machine.checked().system());
+    let instances = u32::try_from(program.index.count()).unwrap_or(u32::MAX);
+    if let Some(handle) = handle_in(request, instances, threads, answer) {
+        let list = unfolded(alloc, machine, program, handle);
+        let mut body = Members::new(alloc);
+        body.list("variables", list);
+        answer.body(body);
     }
-    let list = unfolded(alloc, machine, program, handle);
-    let mut body = Members::new(alloc);
-    body.list("variables", list);
-    answer.body(body);
 }
 
-/// Whether the state has what is to be unfolded.
-fn is_known(machine: &Machine, program: &Program, handle: Option<Handle>) -> bool {
+/// What the request names, of so many instances and threads. It is refused where there is none with this number.
+fn handle_in(request: &Request, instances: u32, threads: u32, answer: &mut Answer) -> Option<Handle>
+    ensures handle { NamesHandle instances threads
+        (number_named (codes "variablesReference") (view request.now.arguments)) result }
+    ensures outcome { MatchOption result (IsRefusal answer.new.outcome × (answer.new.notes ≡ answer.old.notes))
+        (λ _. answer.new ≡ answer.old) }
+{
+    let Some(number) = request.number("variablesReference") else {
+        answer.refuse(104, "`variablesReference` is missing or no number");
+        return None;
+    };
+    let Some(handle) = handle_at(number, instances, threads) else {
+        answer.refuse(110, "there are no variables with this reference");
+        return None;
+    };
+    Some(handle)
+}
+
+/// What has this number, of so many instances and threads.
+fn handle_at(number: u64, instances: u32, threads: u32) -> Option<Handle>
+    ensures { IsFound instances threads number result }
+{
+    match handle_of(number) {
+        Some(handle) if has_number(handle, number, instances, threads) => Some(handle),
+        _ => None,
+    }
+}
+
+/// Whether this is shown, and has the number.
+fn has_number(handle: Handle, number: u64, instances: u32, threads: u32) -> bool
+    ensures { IsTrue result ↔ HasHandle instances threads number handle }
+{
+    is_shown(handle, instances, threads) && reference(handle) == number
+}
+
+/// Whether it is one of so many instances, or a thread of so many.
+fn is_shown(handle: Handle, instances: u32, threads: u32) -> bool
+    ensures { result ≡ is_shown instances threads handle }
+{
     match handle {
-        Some(Handle::Variables(number) | Handle::Channels(number) | Handle::Instance(number)) => {
-            number < program.index.instances.len() as u64
+        Handle::Variables(number) | Handle::Channels(number) | Handle::Instance(number) => {
+            number < u64::from(instances)
         }
-        Some(Handle::Steps(thread)) => {
-            thread >= 1 && thread <= u64::from(branch_count(machine.checked().system()))
-        }
-        None => false,
+        Handle::Steps(thread) => thread >= 1 && thread <= u64::from(threads),
     }
 }
 
 /// What is unfolded.
-fn unfolded(alloc: Global, machine: &Machine, program: &Program, handle: Option<Handle>) -> Listed {
+fn unfolded(alloc: Global, machine: &Machine, program: &Program, handle: Handle) -> Listed {
     match handle {
-        Some(Handle::Variables(number)) => variables_of(alloc, machine, program, number as usize),
-        Some(Handle::Channels(number)) => channels_of(alloc, machine, program, number as usize),
-        Some(Handle::Steps(thread)) => { steps_of(alloc, machine, branch_of(thread)) }
-        Some(Handle::Instance(number)) => {
+        Handle::Variables(number) => variables_of(alloc, machine, program, number as usize),
+        Handle::Channels(number) => channels_of(alloc, machine, program, number as usize),
+        Handle::Steps(thread) => steps_of(alloc, machine, branch_of(thread)),
+        Handle::Instance(number) => {
             let mut list = variables_of(alloc, machine, program, number as usize);
             add_calls(alloc, program, number as usize, &mut list);
             list
         }
-        None => Listed::new(alloc),
     }
 }
 
@@ -157,7 +195,7 @@ fn variable(alloc: Global, machine: &Machine, named: &Named, number: u32) -> Mem
     members
 }
 
-/// The channels of an instance, each with who stands there.
+/// The channels of an instance and its ports, each with who stands there; a port with the channel for which it stands.
 fn channels_of(alloc: Global, machine: &Machine, program: &Program, instance: usize) -> Listed {
     match &program.sight {
         Some(sight) => channels_in(alloc, machine, program, sight, instance),
@@ -179,7 +217,13 @@ fn channels_in(
     let mut list = Listed::new(alloc);
     for named in &program.index.names {
         if let (true, Thing::Channel(number)) = (named.instance == instance, named.thing) {
-            let words = channel_words(alloc, machine, program, sight, number);
+            let mut words = Words::new(alloc);
+            if named.stands {
+                words.add("stands for ");
+                words.channel(alloc, machine.checked().system(), number);
+                words.add(": ");
+            }
+            words.add(channel_words(alloc, machine, program, sight, number).as_str());
             list.push(plain(alloc, named.own.as_str(), words.as_str()));
         }
     }
@@ -206,7 +250,10 @@ pub fn channel_words(
         }
     }
     match count {
-        0 => words.add("nobody"),
+        0 => {
+            words.add("nobody at ");
+            words.channel(alloc, machine.checked().system(), channel);
+        }
         1 => words.add(" (waits)"),
         _ => {}
     }
@@ -266,29 +313,23 @@ fn add_step(alloc: Global, machine: &Machine, index: usize, list: &mut Listed) {
 
 /// Adds the calls that are made in an instance.
 fn add_calls(alloc: Global, program: &Program, instance: usize, list: &mut Listed) {
-    let prefix = program.index.prefix(instance);
-    for (index, name) in program.index.instances.iter().enumerate() {
-        if let Some(own) = name.as_str().strip_prefix(prefix) {
-            if is_call(own) {
-                let mut call = Members::new(alloc);
-                let mut words = Words::of(alloc, "call ");
-                words.add(own.strip_suffix(':').unwrap_or(own));
-                call.text("name", words.as_str());
-                call.text("value", "");
-                call.number(
-                    "variablesReference",
-                    reference(Handle::Instance(index as u64)),
-                );
-                list.push(call);
-            }
+    for index in 0..program.index.count() {
+        if program.index.around(index) == Some(instance) {
+            list.push(call(alloc, program, index));
         }
     }
 }
 
-/// Whether this is one number of a call, with its `:`.
-fn is_call(own: &str) -> bool {
-    match own.strip_suffix(':') {
-        Some(number) => !number.contains(':'),
-        None => false,
-    }
+/// A call, which can be unfolded.
+fn call(alloc: Global, program: &Program, index: usize) -> Members {
+    let mut words = Words::new(alloc);
+    program.index.add_title(index, &mut words);
+    let mut call = Members::new(alloc);
+    call.text("name", words.as_str());
+    call.text("value", "");
+    call.number(
+        "variablesReference",
+        reference(Handle::Instance(index as u64)),
+    );
+    call
 }

@@ -1,7 +1,18 @@
 // The names of variables and channels, by the call to which they belong.
+ghost use Rattle.std.specs.Prelude.{◌≡◌, None};
+ghost use Rattle.dap_views.specs.Named.{differs, has_name, is_named, same_thing};
+
+use crate::words::Words;
+use address::Address;
+use dap_moves::Machine;
+use source_calls::{Call, Calls};
 use std::alloc::{AllocError, Global};
 use std::str;
-use system::{QualifiedName, System};
+use typed::{LocalKind, Procedure};
+use typed_source::typed_source;
+
+/// The most names that are told of those that may be meant.
+const MOST_TOLD: u64 = 10;
 
 /// A variable or a channel.
 #[derive(Clone, Copy, Debug, PartialEq, Eq)]
@@ -17,133 +28,335 @@ pub struct Named {
     pub instance: usize,
     pub own: String,
     pub thing: Thing,
+    /// whether it is a port, which stands for a channel of the call around
+    pub stands: bool,
 }
 
-/// All names. An instance is a call, named by the numbers of the calls around it, a `:` behind each; the root has an empty name,
-/// and stands first.
+/// All names. An instance is a call: its names begin with the numbers of the calls around it and its own, a `:` behind each. The root
+/// has no such beginning, and stands first.
 #[derive(Drop)]
 pub struct Index {
-    pub instances: Vec<String>,
+    calls: Calls,
+    /// the variables by their numbers, then the channels so, then the ports of the calls
     pub names: Vec<Named>,
 }
 
 impl Index {
-    /// The names of the system. It is an error if there is no memory.
-    pub fn new(alloc: Global, system: &System) -> Result<Index, AllocError> {
-        let mut index = Index {
-            instances: Vec::new(alloc),
-            names: Vec::new(alloc),
-        };
-        index.instances.push(String::new(alloc))?;
-        index.add_variables(alloc, system)?;
-        index.add_channels(alloc, system)?;
-        Ok(index)
+    ghost use Rattle.dap_views.specs.Named as model;
+
+    /// The names of a source that was accepted. It is an error if there is no memory.
+    pub fn new(alloc: Global, source: &[u8]) -> Result<Index, AllocError> {
+        let calls = calls_of(alloc, source)?;
+        let names = names_of(alloc, &calls)?;
+        Ok(Index { calls, names })
     }
 
-    fn add_variables(&mut self, alloc: Global, system: &System) -> Result<(), AllocError> {
-        let mut number = 0u32;
-        for variable in system.variables.as_slice() {
-            self.add(alloc, &variable.name, Thing::Variable(number))?;
-            number = number.saturating_add(1);
-        }
-        Ok(())
+    /// How many instances there are.
+    pub fn count(&self) -> usize {
+        self.calls.as_slice().len()
     }
 
-    fn add_channels(&mut self, alloc: Global, system: &System) -> Result<(), AllocError> {
-        let mut number = 0u32;
-        for channel in system.channels.as_slice() {
-            self.add(alloc, &channel.name, Thing::Channel(number))?;
-            number = number.saturating_add(1);
-        }
-        Ok(())
-    }
-
-    /// Adds a name.
-    fn add(&mut self, alloc: Global, name: &QualifiedName, thing: Thing) -> Result<(), AllocError> {
-        let mut bytes = Vec::new(alloc);
-        name.write_to(&mut bytes)?;
-        let (prefix, own) = parts_of(str::from_utf8(bytes.as_slice()).unwrap_or("?"));
-        let instance = self.instance_for(alloc, prefix)?;
-        let own = String::from_str(alloc, own)?;
-        self.names.push(Named {
-            instance,
-            own,
-            thing,
-        })?;
-        Ok(())
-    }
-
-    /// The index of the instance of this name, which is added where it is new. Names of one instance stand together.
-    fn instance_for(&mut self, alloc: Global, prefix: &str) -> Result<usize, AllocError> {
-        if let Some(last) = self.names.last() {
-            if self.prefix(last.instance) == prefix {
-                return Ok(last.instance);
-            }
-        }
-        if let Some(found) = self.instance(prefix) {
-            return Ok(found);
-        }
-        self.instances.push(String::from_str(alloc, prefix)?)?;
-        Ok(self.instances.len().saturating_sub(1))
-    }
-
-    /// The name of the instance at this index; empty for one that is not there.
+    /// What stands before the names of the instance at this index; nothing for one that is not there.
     pub fn prefix(&self, instance: usize) -> &str {
-        match self.instances.as_slice().get(instance) {
-            Some(prefix) => prefix.as_str(),
+        match self.calls.as_slice().get(instance) {
+            Some(call) => call.prefix.as_str(),
             None => "",
         }
     }
 
-    /// The index of the instance of this name.
+    /// The index of the instance around this one; none for the root.
+    pub fn around(&self, instance: usize) -> Option<usize> {
+        let call = self.calls.as_slice().get(instance)?;
+        if instance == 0 {
+            None
+        } else {
+            Some(call.parent)
+        }
+    }
+
+    /// Adds what the instance at this index is called: its procedure, and the number of its call where there is more than one of it.
+    pub fn add_title(&self, instance: usize, words: &mut Words) {
+        let Some(procedure) = self.calls.procedure(instance) else {
+            return;
+        };
+        words.bytes(procedure.name.text());
+        if self.has_others(instance) {
+            let prefix = self.prefix(instance);
+            words.add(" ");
+            words.add(prefix.strip_suffix(':').unwrap_or(prefix));
+        }
+    }
+
+    /// Whether there are other instances of the same procedure.
+    fn has_others(&self, instance: usize) -> bool {
+        let Some(call) = self.calls.as_slice().get(instance) else {
+            return false;
+        };
+        for (index, other) in self.calls.as_slice().iter().enumerate() {
+            if index != instance && other.procedure == call.procedure {
+                return true;
+            }
+        }
+        false
+    }
+
+    /// The index of the instance to which a place of the body belongs as the machine stands; none for a place of the environment.
+    pub fn instance_at(&self, machine: &Machine, place: &Address) -> Option<usize> {
+        self.calls.at(machine.live_events(), place)
+    }
+
+    /// The index of the instance in which this branch of the body begins.
+    pub fn instance_of_branch(&self, branch: u32) -> usize {
+        self.calls.of_branch(branch)
+    }
+
+    /// The index of the instance whose names begin so.
     pub fn instance(&self, prefix: &str) -> Option<usize> {
-        for (index, name) in self.instances.iter().enumerate() {
-            if name.as_str() == prefix {
+        for (index, call) in self.calls.as_slice().iter().enumerate() {
+            if call.prefix.as_str() == prefix {
                 return Some(index);
             }
         }
         None
     }
 
-    /// What a name means that is read in an instance: its own, else the first that has it; or a whole name, as `1:x`.
+    /// What a name means that is read in an instance: what that declares; else, where all that declare it mean the same by it, that; or
+    /// a whole name, as `1:x`. None where it is not declared, and where it may mean more than one thing.
     pub fn find(&self, instance: usize, name: &str) -> Option<Thing> {
         let (prefix, own) = parts_of(name);
-        if !prefix.is_empty() {
-            return self.own(self.instance(prefix)?, own);
+        if prefix.is_empty() {
+            self.meant(instance, own)
+        } else {
+            self.own(self.instance(prefix)?, own)
         }
+    }
+
+    /// What a name that is no whole one means in this instance.
+    fn meant(&self, instance: usize, own: &str) -> Option<Thing>
+        ensures { result ≡ model.meant self.now.names.items instance own.now }
+    {
         match self.own(instance, own) {
             Some(thing) => Some(thing),
-            None => self.first(own),
+            None => self.agreed(own),
         }
     }
 
-    /// What the name means in this instance.
-    fn own(&self, instance: usize, own: &str) -> Option<Thing> {
+    /// What the instance declares by this name.
+    fn own(&self, instance: usize, own: &str) -> Option<Thing>
+        ensures { result ≡ model.declared self.now.names.items instance own.now }
+    {
         for named in &self.names {
-            if named.instance == instance && named.own.as_str() == own {
+            if is_named(named, instance, own) {
                 return Some(named.thing);
             }
         }
         None
     }
 
-    /// The first thing that was declared by this name.
-    fn first(&self, own: &str) -> Option<Thing> {
+    /// What all that declare the name mean by it.
+    fn agreed(&self, own: &str) -> Option<Thing>
+        ensures { result ≡ model.agreed None self.now.names.items own.now }
+    {
+        let mut found = None;
         for named in &self.names {
-            if named.own.as_str() == own {
-                return Some(named.thing);
+            if has_name(named, own) {
+                if differs(found, named.thing) {
+                    return None;
+                }
+                found = Some(named.thing);
             }
         }
-        None
+        found
     }
 
-    /// The instance to which the variable of this number belongs.
-    pub fn instance_of(&self, variable: u32) -> usize {
-        match self.names.as_slice().get(variable as usize) {
-            Some(named) => named.instance,
-            None => 0,
+    /// Whether something has the name, wherever it is declared.
+    pub fn is_declared(&self, own: &str) -> bool {
+        for named in &self.names {
+            if has_name(named, own) {
+                return true;
+            }
+        }
+        false
+    }
+
+    /// Adds the whole names that this one may mean, at most ten.
+    pub fn add_candidates(&self, own: &str, words: &mut Words) {
+        let mut count = 0u64;
+        for named in &self.names {
+            if has_name(named, own) {
+                if count < MOST_TOLD {
+                    words.add(if count > 0 { ", " } else { "" });
+                    words.add(self.prefix(named.instance));
+                    words.add(own);
+                }
+                count = count.saturating_add(1);
+            }
+        }
+        if count > MOST_TOLD {
+            words.add(" and ");
+            words.number(count.saturating_sub(MOST_TOLD));
+            words.add(" more");
         }
     }
+}
+
+/// Whether it is declared in this instance, and has the name.
+fn is_named(named: &Named, instance: usize, own: &str) -> bool
+    ensures { result ≡ is_named instance own.now named.now }
+{
+    named.instance == instance && has_name(named, own)
+}
+
+/// Whether it has the name.
+fn has_name(named: &Named, own: &str) -> bool
+    ensures { result ≡ has_name own.now named.now }
+{
+    named.own.as_bytes() == own.as_bytes()
+}
+
+/// Whether the thing is another one than was found.
+fn differs(found: Option<Thing>, thing: Thing) -> bool
+    ensures { result ≡ differs found thing }
+{
+    match found {
+        Some(found) => !same_thing(found, thing),
+        None => false,
+    }
+}
+
+/// Whether both are one thing.
+fn same_thing(one: Thing, other: Thing) -> bool
+    ensures { result ≡ same_thing one other }
+{
+    match (one, other) {
+        (Thing::Variable(one), Thing::Variable(other)) => one == other,
+        (Thing::Channel(one), Thing::Channel(other)) => one == other,
+        _ => false,
+    }
+}
+
+/// The calls of a source that was accepted.
+fn calls_of(alloc: Global, source: &[u8]) -> Result<Calls, AllocError> {
+    match typed_source(alloc, source) {
+        Ok(typed) => Calls::new(alloc, typed),
+        // It was accepted, so there is no memory.
+        Err(_) => Err(AllocError),
+    }
+}
+
+/// The names of the calls.
+fn names_of(alloc: Global, calls: &Calls) -> Result<Vec<Named>, AllocError> {
+    let mut names = Vec::new(alloc);
+    add_locals(alloc, calls, true, &mut names)?;
+    add_root_ports(alloc, calls, &mut names)?;
+    add_locals(alloc, calls, false, &mut names)?;
+    add_ports(alloc, calls, &mut names)?;
+    Ok(names)
+}
+
+/// Adds the variables of all calls, or their channels.
+fn add_locals(
+    alloc: Global,
+    calls: &Calls,
+    variables: bool,
+    names: &mut Vec<Named>,
+) -> Result<(), AllocError> {
+    for (instance, call) in calls.as_slice().iter().enumerate() {
+        if let Some(procedure) = calls.procedures().get(call.procedure) {
+            add_locals_of(alloc, instance, call, procedure, variables, names)?;
+        }
+    }
+    Ok(())
+}
+
+/// Adds the variables of a call, or its channels.
+fn add_locals_of(
+    alloc: Global,
+    instance: usize,
+    call: &Call,
+    procedure: &Procedure,
+    variables: bool,
+    names: &mut Vec<Named>,
+) -> Result<(), AllocError> {
+    for (place, local) in procedure.locals.as_slice().iter().enumerate() {
+        let number = number_at(call.locals.as_slice(), place);
+        let thing = thing_of(local.kind, number);
+        if is_variable(thing) == variables {
+            add(alloc, instance, local.name.text(), thing, false, names)?;
+        }
+    }
+    Ok(())
+}
+
+/// What a local of this kind and this number is.
+fn thing_of(kind: LocalKind, number: u32) -> Thing {
+    match kind {
+        LocalKind::Variable(_) | LocalKind::SharedVariable(_) => Thing::Variable(number),
+        LocalKind::Channel(_) | LocalKind::Sync => Thing::Channel(number),
+    }
+}
+
+/// Whether the thing is a variable.
+fn is_variable(thing: Thing) -> bool {
+    matches!(thing, Thing::Variable(_))
+}
+
+/// The number at the place.
+fn number_at(numbers: &[u32], place: usize) -> u32 {
+    numbers.get(place).copied().unwrap_or(u32::MAX)
+}
+
+/// Adds the ports of the root, which are channels of its own.
+fn add_root_ports(alloc: Global, calls: &Calls, names: &mut Vec<Named>) -> Result<(), AllocError> {
+    match (calls.as_slice().first(), calls.procedure(0)) {
+        (Some(root), Some(procedure)) => { add_ports_of(alloc, 0, root, procedure, false, names) }
+        _ => Ok(()),
+    }
+}
+
+/// Adds the ports of the other calls.
+fn add_ports(alloc: Global, calls: &Calls, names: &mut Vec<Named>) -> Result<(), AllocError> {
+    for (instance, call) in calls.as_slice().iter().enumerate() {
+        if let (true, Some(procedure)) = (instance > 0, calls.procedure(instance)) {
+            add_ports_of(alloc, instance, call, procedure, true, names)?;
+        }
+    }
+    Ok(())
+}
+
+/// Adds the ports of a call.
+fn add_ports_of(
+    alloc: Global,
+    instance: usize,
+    call: &Call,
+    procedure: &Procedure,
+    stands: bool,
+    names: &mut Vec<Named>,
+) -> Result<(), AllocError> {
+    for (place, port) in procedure.ports.as_slice().iter().enumerate() {
+        let thing = Thing::Channel(number_at(call.ports.as_slice(), place));
+        add(alloc, instance, port.name.text(), thing, stands, names)?;
+    }
+    Ok(())
+}
+
+/// Adds a name.
+fn add(
+    alloc: Global,
+    instance: usize,
+    text: &[u8],
+    thing: Thing,
+    stands: bool,
+    names: &mut Vec<Named>,
+) -> Result<(), AllocError> {
+    let own = String::from_str(alloc, str::from_utf8(text).unwrap_or("?"))?;
+    names.push(Named {
+        instance,
+        own,
+        thing,
+        stands,
+    })?;
+    Ok(())
 }
 
 /// The numbers of calls before a name, with the `:` behind the last, and what was declared.

@@ -4,7 +4,6 @@
 mod index;
 mod lines;
 mod program;
-mod replay;
 mod short;
 mod sight;
 mod words;

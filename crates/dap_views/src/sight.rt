@@ -3,16 +3,16 @@ ghost use Rattle.std.specs.Prelude.{IfOk};
 ghost use Rattle.runs.specs.Object.{Reaches};
 ghost use Rattle.runs.specs.Ready.{ReadyList};
 ghost use Rattle.runs.specs.Steps.{State};
+ghost use Rattle.offered_sides.specs.Sides.{OffersExactly};
 ghost use Rattle.machine.specs.AtMachine.{object};
 ghost use Rattle.dap_views.specs.Seen.{SeesState};
 
 use crate::lines::Lines;
-use crate::replay::made_again;
 use crate::words::Words;
 use address::Address;
 use dap_moves::{Machine, acts_in, takes_part};
 use event_places::line_after;
-use offered_sides::{OfferedSide, Side, sides_of};
+use offered_sides::{OfferedSide, Side};
 use runs::Event;
 use std::alloc::{AllocError, Global};
 use syntax::Items;
@@ -38,15 +38,25 @@ pub enum Rank {
     Waits,
 }
 
-/// What the state of the machine offers. It makes the live events again. It is an error if there is no memory.
-pub fn sight_of(alloc: Global, machine: &Machine) -> Result<Sight, AllocError>
+/// What the state of the machine offers. It is an error if there is no memory.
+pub fn sight_of(machine: &Machine) -> Result<Sight, AllocError>
     ensures { IfOk result (λ sight. SeesState machine.now sight) }
 {
     machine.is_sound();
-    let state = made_again(alloc, machine)?;
-    let sides = sides_of(alloc, &state.tree, &state.store)?;
+    let sides = offered_sides(machine)?;
     let ready = ready_events(machine)?;
     Ok(Sight { ready, sides })
+}
+
+/// The sides that are offered now. It is an error if there is no memory.
+fn offered_sides(machine: &Machine) -> Result<Items<OfferedSide>, AllocError>
+    ensures { IfOk result (λ sides. (T : State) × Reaches (object machine.now) T × OffersExactly T sides) }
+{
+    match machine.sides() {
+        Ok(sides) => Ok(sides),
+        // No other refusal is told.
+        Err(_) => Err(AllocError),
+    }
 }
 
 /// The steps that may be taken now. It is an error if there is no memory.

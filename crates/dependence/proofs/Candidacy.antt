@@ -2,10 +2,10 @@
 use Rattle.std.proofs.Common.{◌≡◌, ◌⊎◌, ◌↔◌, inl, inr, ℕ, suc, ◌+◌, ◌^◌, ◌<◌, ◌≤◌, List, [], ◌∷◌, ◌++◌, Bool, true, false, not, cond, Some, None, IsTrue, length, take, get_or, refl, sym, ◌∙◌, subst, arith}
 use Rattle.std.specs.Prelude.{slice_get}
 use Rattle.std.proofs.lemmas.Bool.{cases_lt}
-use Rattle.address.specs.Places.{Before}
+use Rattle.address.specs.Places.{Before, Apart}
 use Rattle.address.proofs.Places.{before-asymmetric, before-not-apart, apart-symmetric}
 use Rattle.syntax.specs.Lists.{In}
-use Rattle.last_events.specs.LastEvents.{IsAt, Uses, LastUse, LastBefore}
+use Rattle.last_events.specs.LastEvents.{IsAt, Uses, LastUse, PutAt, LastBefore}
 use Rattle.last_events.specs.declared.places.PlaceTable.{PlaceTable}
 use Rattle.runs.specs.Dependence.{SomeBefore}
 use Rattle.runs.specs.Events.{places}
@@ -24,7 +24,7 @@ use Rattle.dependence.specs.walking.Tabled.{IsTabled}
 use Rattle.dependence.specs.walking.Tables.{Candidates}
 use Rattle.dependence.proofs.Following.{follows-on}
 use Rattle.dependence.proofs.ListPlaces.{in-at}
-use Rattle.dependence.proofs.Tabling.{place-is, one-at, read-next}
+use Rattle.dependence.proofs.Tabling.{place-is, second-in, one-at, put-kept, put-only, read-next}
 
 -- by the one address
 pub places-one : (table : PlaceTable) (f : Event) (old new : List ℕ) → f.second ≡ None → LastBefore table f.first old new → FoundByPlace table (places f) old new
@@ -37,20 +37,34 @@ places-one table f old new none h = record {
   ];
 }
 
--- by both addresses
-pub places-two : (table : PlaceTable) (f : Event) (s : Place) (old mid new : List ℕ) → f.second ≡ Some s → In s (places f) → LastBefore table f.first old mid →
-    LastBefore table s mid new → FoundByPlace table (places f) old new
-places-two table f s old mid new second is_place h k = record {
+-- by both addresses, of which the first is put before the second is looked for
+pub places-two : (old mid : PlaceTable) (n : ℕ) (f : Event) (p : Place) (ts ms us : List ℕ) → ((a : Place) (t : ℕ) → In a (places f) → IsAt old a t → ⊥) →
+    ((z : Place) → f.second ≡ Some z → Apart f.first z) → PutAt old f.first n mid → f.second ≡ Some p → LastBefore old f.first ts ms → LastBefore mid p ms us →
+    FoundByPlace old (places f) ts us
+places-two old mid n f p ts ms us free own put second h k = record {
   kept = λ t i. k.kept t (h.kept t i);
   sound = λ t i. elim (k.sound t i) [
     | inl j ↦ elim (h.sound t j) [ inl m ↦ inl m | inr m ↦ inr (m.0, f.first, m.1, inl refl, m.2) ]
-    | inr m ↦ inr (m.0, s, m.1, is_place, m.2)
+    | inr m ↦ elim (put-only old mid f.first n put m.0 t m.1) [
+      | inl there ↦ inr (m.0, p, there, second-in f p second, m.2)
+      | inr new ↦ absurd (before-not-apart f.first p (subst (λ (x : Place). Before x p) new.0 m.2) (own p second))
+    ]
   ];
   complete = λ a b t at ib before. elim (place-is f b ib) [
-    | inl is ↦
-        let c = h.complete a t at (subst (λ (x : Place). Before a x) is before) in
-        (c.0, c.1, c.2, k.kept c.1 c.3, c.4)
-    | inr is ↦ k.complete a t at (subst (λ (x : Place). Before a x) (some-injective b s (sym is ∙ second)) before)
+    | inl is ↦ let c = h.complete a t at (subst (λ (x : Place). Before a x) is before) in (c.0, c.1, c.2, k.kept c.1 c.3, c.4)
+    | inr is ↦
+        let c =
+        k.complete a t (put-kept old mid f.first n put (λ u i. free f.first u (inl refl) i) a t at)
+        (subst (λ (x : Place). Before a x) (some-injective b p (sym is ∙ second)) before) in
+        elim (put-only old mid f.first n put c.0 c.1 c.2) [
+          | inl there ↦ (c.0, c.1, there, c.3, c.4)
+          | inr new ↦ elim c.4 [
+            | inl one ↦ absurd (free f.first t (inl refl) (subst (λ (x : Place). IsAt old x t) (one ∙ new.0) at))
+            | inr low ↦
+                let d = h.complete a t at (subst (λ (x : Place). Before a x) new.0 low) in
+                (d.0, d.1, d.2, k.kept d.1 d.3, d.4)
+          ]
+        ]
   ];
 }
 

@@ -118,8 +118,8 @@ written-in (Some y) x = (
 )
 
 -- nothing is put yet, one use more is put, and all are
-pub uses-none : (table : UseTable) (n : ℕ) → MoreUses table n [] table
-uses-none table n = record { kept = λ x t u. u; only = λ x t u. inl u }
+pub uses-kept : (table : UseTable) (n : ℕ) (xs : List ℕ) → MoreUses table n xs table
+uses-kept table n xs = record { kept = λ x t u. u; only = λ x t u. inl u }
 
 pub uses-in : (old new : UseTable) (n : ℕ) (xs ys : List ℕ) → ((x : ℕ) → In x xs → In x ys) → MoreUses old n xs new → MoreUses old n ys new
 uses-in old new n xs ys inside m = record { kept = m.kept; only = λ x t u. elim (m.only x t u) [ inl k ↦ inl k | inr k ↦ inr (inside x k.0, k.1) ] }
@@ -363,6 +363,37 @@ orderly-behind next l tables f b r h behind ib = record {
       elim (behind.placed t e.0 a b e.1 e.2 ib) [ inl k ↦ inr (inl k) | inr k ↦ inr (inr (inr k)) ];
 }
 
+-- the other way round
+tree-back : (a b : Place) → OneTree a b → OneTree b a
+tree-back a b h = elim h [
+  | inl is ↦ inl (sym is)
+  | inr (inl low) ↦ inr (inr (inl low))
+  | inr (inr (inl high)) ↦ inr (inl high)
+  | inr (inr (inr apart)) ↦ inr (inr (inr (apart-symmetric a b apart)))
+]
+
+-- and where the first of the new event's is put, with the second
+pub orderly-put : (old new : PlaceTable) (n : ℕ) (f : Event) (p : Place) → ((b : Place) → In b (places f) → Orderly old b) → ((z : Place) → f.second ≡ Some z → Apart f.first z) →
+    PutAt old f.first n new → f.second ≡ Some p → Orderly new p
+orderly-put old new n f p orderly own put second =
+    let first = orderly f.first (inl refl) in
+    record {
+      inside = λ b c t u at cu. elim (put-only old new f.first n put b t at) [
+        | inl low ↦ elim (put-only old new f.first n put c u cu) [
+          | inl high ↦ first.inside b c t u low high
+          | inr is ↦ subst (λ (x : Place). OneTree b x) (sym is.0) (first.outside b t low)
+        ]
+        | inr is ↦ elim (put-only old new f.first n put c u cu) [
+          | inl high ↦ subst (λ (x : Place). OneTree x c) (sym is.0) (tree-back c f.first (first.outside c u high))
+          | inr two ↦ inl (is.0 ∙ sym two.0)
+        ]
+      ];
+      outside = λ b t at. elim (put-only old new f.first n put b t at) [
+        | inl low ↦ (orderly p (second-in f p second)).outside b t low
+        | inr is ↦ inr (inr (inr (subst (λ (x : Place). Apart x p) (sym is.0) (own p second))))
+      ];
+    }
+
 -- places that hold the same
 pub places-same : (old mid new : PlaceTable) (n : ℕ) (ps : List Place) → ((a : Place) → ticket_at new a ≡ ticket_at mid a) → MorePlaces old n ps mid → MorePlaces old n ps new
 places-same old mid new n ps same m = record { kept = λ a t i. same a ∙ m.kept a t i; only = λ a t i. m.only a t (sym (same a) ∙ i) }
@@ -407,7 +438,16 @@ tabled-taken next l k old new t e r i left h fewer = record {
   placed = placed-taken next l k t e r i left h.placed;
 }
 
--- what holds anyway holds of an error
-pub on-err-of : {A E : Type 0} (r : Result A E) (P : Type 0) → P → OnErr r P
-on-err-of (Ok x) P p = tt
-on-err-of (Err e) P p = p
+-- what follows of an answer
+pub ok-weaker : {A E P Q : Type 0} (r : Result A E) → (P → Q) → OnOk r P → OnOk r Q
+ok-weaker (Ok x) f p = f p
+ok-weaker (Err e) f p = tt
+
+pub err-weaker : {A E P Q : Type 0} (r : Result A E) → (P → Q) → OnErr r P → OnErr r Q
+err-weaker (Ok x) f p = tt
+err-weaker (Err e) f p = f p
+
+-- what holds anyway holds of an answer
+pub on-ok-of : {A E : Type 0} (r : Result A E) (P : Type 0) → P → OnOk r P
+on-ok-of (Ok x) P p = p
+on-ok-of (Err e) P p = tt

@@ -1,12 +1,11 @@
 // What a new event finds by the variables that it writes and reads. What has a place before one of its own is left out, and so
 // is a write that such an event has read: both are reached from what the places give, and else each read would sweep back to an
 // old write.
-ghost use Rattle.std.specs.Prelude.{◌≡◌, ◌≤◌, ◌⊎◌, ◌↔◌, ℕ, Some, IsTrue, IfOk};
+ghost use Rattle.std.specs.Prelude.{◌≡◌, ◌≤◌, ◌⊎◌, ◌↔◌, ◌++◌, ◌∷◌, [], ℕ, Some, cond, IsTrue, IfOk};
 ghost use Rattle.syntax.specs.Lists.{In};
 ghost use Rattle.runs.specs.Live.{IsLive, LastWriter};
 ghost use Rattle.dependence.specs.walking.Found.{AccessesFound, FirstBehind, IsBefore, IsDirect, IsReadBefore, ReaderSince, WritesOneRead, UsesWritten, IsNewcomer};
 
-use crate::candidates::add_if;
 use crate::indexes::index_of_live;
 use crate::live::LiveEvent;
 use crate::tables::Tables;
@@ -173,4 +172,14 @@ fn behind_all(tickets: &[u64]) -> u64
         }
     }
     end
+}
+
+/// Adds the ticket where it is one of those that are looked for.
+pub(crate) fn add_if(is_one: bool, ticket: u64, found: &mut Vec<u64>) -> Result<(), AllocError>
+    ensures { IfOk result (λ _. found.new.items ≡ cond is_one (found.old.items ++ ticket ∷ []) found.old.items) }
+{
+    if is_one {
+        found.push(ticket)?;
+    }
+    Ok(())
 }

@@ -7,12 +7,10 @@ ghost use Rattle.syntax.specs.Lists.{In};
 ghost use Rattle.runs.specs.Live.{Rising, LiveAt, NoDependent, IsLive};
 ghost use Rattle.dependence.specs.declared.links.Links.{Links};
 ghost use Rattle.dependence.specs.Behind.{ComesBehind};
-ghost use Rattle.dependence.specs.walking.Found.{IsNewcomer};
-ghost use Rattle.dependence.specs.walking.Tabled.{IsTabled};
+ghost use Rattle.dependence.specs.walking.Found.{IsNewcomer, PlacesFound};
 ghost use Rattle.dependence.specs.walking.Tables.{IsRising, StandsAt, Falling, Linked, PartLinked, Candidates, Topmost, LinkedBehind};
 
 use crate::accesses::Newcomer;
-use crate::candidates::candidates;
 use crate::held::HeldLinks;
 use crate::indexes::index_of_live;
 use crate::links::{link_all, unlink_all};
@@ -23,20 +21,21 @@ use runs::Event;
 use std::alloc::{AllocError, Global};
 use syntax::Boxed;
 
-/// The tickets of the live events that a new event follows, falling.
+/// The tickets of the live events that a new event follows, falling. `found` are those that its places give.
 pub(crate) fn leads_of(
     alloc: Global,
     links: &[HeldLinks],
     new: &Newcomer<'_>,
+    mut found: Vec<u64>,
 ) -> Result<Vec<u64>, AllocError>
     requires new { IsNewcomer new.now }
-    requires tabled { IsTabled new.now.live.now new.now.tables.now }
+    requires found { PlacesFound new.now.live.now new.now.event.now found.items }
     requires behind { ComesBehind new.now.live.now new.now.event.now }
     requires linked { Linked new.now.live.now links.now }
     ensures falling { IfOk result (λ leads. Falling leads.items) }
-    ensures topmost { IfOk result (λ leads. (found : List ℕ) × Candidates new.now.live.now new.now.event.now found × ((t : ℕ) → In t leads.items ↔ Topmost new.now.live.now found t)) }
+    ensures topmost { IfOk result (λ leads. (all : List ℕ) × Candidates new.now.live.now new.now.event.now all × ((t : ℕ) → In t leads.items ↔ Topmost new.now.live.now all t)) }
 {
-    let found = candidates(alloc, new)?;
+    new.add_by_variables(alloc, &mut found)?;
     if found.len() <= 1 {
         return Ok(found);
     }
@@ -59,7 +58,24 @@ fn ascending(mut tickets: Vec<u64>) -> Vec<u64>
     tickets
 }
 
-/// Links a new event to those that it follows. Without memory for it the tables are as before.
+/// Room for one more event with its links and its mark.
+pub(crate) fn make_room(
+    pairs: &mut Vec<LiveEvent>,
+    links: &mut Vec<HeldLinks>,
+    marks: &mut Vec<bool>,
+) -> Result<(), AllocError>
+    ensures pairs { pairs.new.items ≡ pairs.old.items }
+    ensures links { links.new.items ≡ links.old.items }
+    ensures marks { marks.new.items ≡ marks.old.items }
+    ensures room { OnOk result ((vec_len pairs.new < vec_capacity pairs.new) × (vec_len links.new < vec_capacity links.new) × (vec_len marks.new < vec_capacity marks.new)) }
+{
+    pairs.reserve(1)?;
+    links.reserve(1)?;
+    marks.reserve(1)
+}
+
+/// Links a new event to those that it follows, where there is room for its own links. Without memory for the others the tables
+/// are as before.
 pub(crate) fn link_new(
     alloc: Global,
     live: &[LiveEvent],
@@ -71,6 +87,7 @@ pub(crate) fn link_new(
     requires live { (t : ℕ) → In t leads.items → IsLive live.now t }
     requires falling { Falling leads.items }
     requires linked { PartLinked live.now ticket (λ t. In t []) links.old.items }
+    requires room { vec_len links.old < vec_capacity links.old }
     ensures ok { OnOk result (LinkedBehind live.now ticket leads.items links.new.items) }
     ensures err { OnErr result (PartLinked live.now ticket (λ t. In t []) links.new.items) }
 {
@@ -81,26 +98,8 @@ pub(crate) fn link_new(
         entry.get().leads.as_slice(),
         ticket,
     )?;
-    if let Err(refused) = links.push(entry) {
-        unlink_all(
-            live,
-            links.as_mut_slice(),
-            refused.value.get().leads.as_slice(),
-            ticket,
-        );
-        return Err(AllocError);
-    }
+    links.push_reserved(entry);
     Ok(())
-}
-
-/// Room for one more event and its mark.
-pub(crate) fn make_room(pairs: &mut Vec<LiveEvent>, marks: &mut Vec<bool>) -> Result<(), AllocError>
-    ensures pairs { pairs.new.items ≡ pairs.old.items }
-    ensures marks { marks.new.items ≡ marks.old.items }
-    ensures room { OnOk result ((vec_len pairs.new < vec_capacity pairs.new) × (vec_len marks.new < vec_capacity marks.new)) }
-{
-    pairs.reserve(1)?;
-    marks.reserve(1)
 }
 
 /// Puts the event and its mark behind the others, where there is room for them.
@@ -115,14 +114,8 @@ pub(crate) fn push_pair(
     ensures pairs { pairs.new.items ≡ pairs.old.items ++ (ticket, event) ∷ [] }
     ensures marks { marks.new.items ≡ marks.old.items ++ false ∷ [] }
 {
-    match pairs.push((ticket, event)) {
-        Ok(()) => {}
-        Err(_) => unreachable!(),
-    }
-    match marks.push(false) {
-        Ok(()) => {}
-        Err(_) => unreachable!(),
-    }
+    pairs.push_reserved((ticket, event));
+    marks.push_reserved(false);
 }
 
 /// Takes the event at this index, on which no other depends, out of the tables.

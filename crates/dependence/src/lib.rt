@@ -3,7 +3,6 @@
 
 mod accesses;
 mod acting;
-mod candidates;
 mod consequences;
 mod count;
 mod entries;

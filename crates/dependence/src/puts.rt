@@ -2,29 +2,33 @@
 ghost use Rattle.std.specs.Prelude.{◌≡◌, ℕ, Some, OnOk};
 ghost use Rattle.address.specs.Places.{Apart};
 ghost use Rattle.syntax.specs.Lists.{In};
-ghost use Rattle.last_events.specs.LastEvents.{IsAt, Uses};
+ghost use Rattle.last_events.specs.LastEvents.{IsAt, Uses, Orderly};
 ghost use Rattle.runs.specs.Events.{places};
 ghost use Rattle.runs.specs.Moves.{Place};
+ghost use Rattle.dependence.specs.walking.Found.{FoundByPlace};
 ghost use Rattle.dependence.specs.walking.Tabled.{MorePlaces, MoreUses, FewerPlaces, FewerUses, written_of};
 
 use last_events::{PlaceTable, UseTable};
 use runs::Event;
 use std::alloc::AllocError;
 
-/// Puts the event at its places, where none stands, or at those that there is memory for.
+/// Puts the event at its places, where none stands, or at those that there is memory for, and adds the last events before each.
 pub(crate) fn put_places(
     table: &mut PlaceTable,
     ticket: u64,
     event: &Event,
+    found: &mut Vec<u64>,
 ) -> Result<(), AllocError>
     requires free { (a : Place) (t : ℕ) → In a (places event.now) → IsAt table.old a t → ⊥ }
     requires own { (b : Place) → event.now.second ≡ Some b → Apart event.now.first b }
+    requires orderly { (b : Place) → In b (places event.now) → Orderly table.old b }
     ensures more { MorePlaces table.old ticket (places event.now) table.new }
     ensures all { OnOk result ((a : Place) → In a (places event.now) → IsAt table.new a ticket) }
+    ensures found { OnOk result (FoundByPlace table.old (places event.now) found.old.items found.new.items) }
 {
-    table.put(&event.first, ticket)?;
+    table.put(&event.first, ticket, found)?;
     match &event.second {
-        Some(second) => table.put(second, ticket),
+        Some(second) => table.put(second, ticket, found),
         None => Ok(()),
     }
 }

@@ -1,12 +1,10 @@
 // Which live event stands at which place, and which of them write and read which variable.
-ghost use Rattle.std.specs.Prelude.{ℕ, [], OnOk, OnErr};
-ghost use Rattle.last_events.specs.LastEvents.{IsAt, Uses};
-ghost use Rattle.runs.specs.Live.{Live};
-ghost use Rattle.dependence.specs.walking.Tabled.{TablesOf, MoreTables, HasEvent, FewerTables, SameTables, IsFresh};
+ghost use Rattle.std.specs.Prelude.{◌≡◌, ℕ, [], OnOk};
+ghost use Rattle.syntax.specs.Lists.{In};
+ghost use Rattle.last_events.specs.LastEvents.{Uses};
+ghost use Rattle.dependence.specs.walking.Tabled.{TablesOf, MoreUses, FewerTables, written_of};
 
-use crate::puts::{
-    put_places, put_reads, put_written, remove_places, remove_reads, remove_written,
-};
+use crate::puts::{put_reads, put_written, remove_places, remove_reads, remove_written};
 use last_events::{PlaceTable, UseTable};
 use runs::Event;
 use std::alloc::{AllocError, Global};
@@ -31,27 +29,14 @@ impl Tables {
         }
     }
 
-    /// Puts an event into the tables. Without memory for it they hold what they held.
-    pub(crate) fn put(&mut self, ticket: u64, event: &Event) -> Result<(), AllocError>
-        requires { IsFresh self.old ticket event.now }
-        ensures more { OnOk result (MoreTables self.old ticket event.now self.new) }
-        ensures all { OnOk result (HasEvent ticket event.now self.new) }
-        ensures refused { OnErr result (SameTables self.old self.new) }
+    /// Puts the uses of an event into the tables, or those that there is memory for.
+    pub(crate) fn put_uses(&mut self, ticket: u64, event: &Event) -> Result<(), AllocError>
+        ensures places { self.new.places ≡ self.old.places }
+        ensures writers { MoreUses self.old.writers ticket (written_of event.now.written) self.new.writers }
+        ensures readers { MoreUses self.old.readers ticket event.now.read self.new.readers }
+        ensures written { OnOk result ((x : ℕ) → In x (written_of event.now.written) → Uses self.new.writers x ticket) }
+        ensures read { OnOk result ((x : ℕ) → In x event.now.read → Uses self.new.readers x ticket) }
     {
-        let done = self.put_all(ticket, event);
-        if done.is_err() {
-            self.remove(ticket, event);
-        }
-        done
-    }
-
-    /// Puts an event into the tables, or what of it there is memory for.
-    fn put_all(&mut self, ticket: u64, event: &Event) -> Result<(), AllocError>
-        requires { IsFresh self.old ticket event.now }
-        ensures more { MoreTables self.old ticket event.now self.new }
-        ensures all { OnOk result (HasEvent ticket event.now self.new) }
-    {
-        put_places(&mut self.places, ticket, event)?;
         put_written(&mut self.writers, ticket, event.written)?;
         put_reads(&mut self.readers, ticket, event.read.as_slice())
     }

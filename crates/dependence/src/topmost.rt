@@ -8,7 +8,7 @@ ghost use Rattle.runs.specs.Live.{IsLive};
 ghost use Rattle.dependence.specs.walking.Tables.{IsRising, StandsAt, Falling, Linked, Topmost};
 ghost use Rattle.dependence.specs.walking.Sweeping.{StandWithin, FlagAt};
 
-use crate::candidates::add_if;
+use crate::accesses::add_if;
 use crate::held::HeldLinks;
 use crate::indexes::index_of_live;
 use crate::live::LiveEvent;

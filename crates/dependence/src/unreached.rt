@@ -6,7 +6,7 @@ ghost use Rattle.runs.specs.Live.{IsLive};
 ghost use Rattle.dependence.specs.walking.Tables.{IsRising, Falling, Linked, Topmost};
 ghost use Rattle.dependence.specs.walking.Sweeping.{IsUnreached};
 
-use crate::candidates::add_if;
+use crate::accesses::add_if;
 use crate::held::HeldLinks;
 use crate::live::LiveEvent;
 use crate::whole::least_dependent;

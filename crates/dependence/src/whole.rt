@@ -1,22 +1,24 @@
 // The tables as one: what is asked of them, an event more, an event less.
-ghost use Rattle.std.specs.Prelude.{◌≡◌, ◌<◌, ◌++◌, ◌∷◌, [], ℕ, MatchOption, IfErr, OnOk};
+ghost use Rattle.std.specs.Prelude.{◌≡◌, ◌<◌, ◌++◌, ◌∷◌, [], ℕ, vec_len, MatchOption, IfErr, OnOk, OnErr};
+ghost use Rattle.std.specs.Vec.{vec_capacity};
 ghost use Rattle.runs.specs.Dependence.{Without};
-ghost use Rattle.runs.specs.Live.{LiveAt, NoDependent, FirstDependent, WithoutTickets, IsLive, LastWriter, NoWriter};
+ghost use Rattle.runs.specs.Live.{Rising, LiveAt, NoDependent, FirstDependent, WithoutTickets, IsLive, LastWriter, NoWriter};
 ghost use Rattle.dependence.specs.Behind.{ComesBehind};
 ghost use Rattle.dependence.specs.Followers.{ListsFollowers, ListsLeads};
 ghost use Rattle.dependence.specs.Shown.{tickets_marked};
 ghost use Rattle.dependence.specs.walking.Tables.{IsRising, Linked};
-ghost use Rattle.dependence.specs.walking.Tabled.{IsTabled, TablesOf};
-ghost use Rattle.dependence.specs.walking.Whole.{IsWhole};
+ghost use Rattle.dependence.specs.walking.Tabled.{IsTabled, TablesOf, MoreTables};
+ghost use Rattle.dependence.specs.walking.Whole.{IsWhole, IsEntered};
 
 use crate::accesses::Newcomer;
 use crate::entries::{leads_of, link_new, make_room, push_pair, take_out};
 use crate::held::HeldLinks;
 use crate::indexes::index_of_live;
 use crate::live::LiveEvent;
+use crate::puts::put_places;
 use crate::tables::Tables;
 use runs::{Event, writes};
-use std::alloc::Global;
+use std::alloc::{AllocError, Global};
 use syntax::Boxed;
 
 /// The tickets of the followers of the live event of this ticket.
@@ -86,29 +88,49 @@ pub(crate) fn add_event(
     ensures added { OnOk result ((pairs.new.items ≡ pairs.old.items ++ (ticket, event) ∷ []) × (tickets_marked pairs.new.items marks.new.items ≡ tickets_marked pairs.old.items marks.old.items)) }
     ensures refused { IfErr result (λ back. (back ≡ event) × (pairs.new.items ≡ pairs.old.items) × (marks.new.items ≡ marks.old.items)) }
 {
-    let new = Newcomer {
-        live: pairs.as_slice(),
-        tables,
-        ticket,
-        event: event.get(),
-    };
-    let found = leads_of(alloc, links.as_slice(), &new);
-    let Ok(leads) = found else {
-        return Err(event);
-    };
-    if make_room(pairs, marks).is_err() {
-        return Err(event);
-    }
-    if tables.put(ticket, event.get()).is_err() {
-        return Err(event);
-    }
-    let linked = link_new(alloc, pairs.as_slice(), links, leads, ticket);
-    if linked.is_err() {
+    let entered = enter(alloc, pairs, links, marks, tables, ticket, event.get());
+    if entered.is_err() {
         tables.remove(ticket, event.get());
         return Err(event);
     }
     push_pair(pairs, marks, ticket, event);
     Ok(())
+}
+
+/// Puts an event into the tables and links it to those that it follows, and makes room for it and its mark. Without memory for
+/// all that, what there is memory for is in the tables, and nothing is linked.
+fn enter(
+    alloc: Global,
+    pairs: &mut Vec<LiveEvent>,
+    links: &mut Vec<HeldLinks>,
+    marks: &mut Vec<bool>,
+    tables: &mut Tables,
+    ticket: u64,
+    event: &Event,
+) -> Result<(), AllocError>
+    requires rising { Rising 0 pairs.old.items ticket }
+    requires linked { Linked pairs.old.items links.old.items }
+    requires tabled { IsTabled pairs.old.items tables.old }
+    requires behind { ComesBehind pairs.old.items event.now }
+    ensures pairs { pairs.new.items ≡ pairs.old.items }
+    ensures marks { marks.new.items ≡ marks.old.items }
+    ensures more { MoreTables tables.old ticket event.now tables.new }
+    ensures entered { OnOk result (IsEntered pairs.old.items ticket event.now links.new.items tables.new) }
+    ensures room { OnOk result ((vec_len pairs.new < vec_capacity pairs.new) × (vec_len marks.new < vec_capacity marks.new)) }
+    ensures refused { OnErr result (Linked pairs.old.items links.new.items) }
+{
+    let mut found = Vec::new(alloc);
+    put_places(&mut tables.places, ticket, event, &mut found)?;
+    let new = Newcomer {
+        live: pairs.as_slice(),
+        tables,
+        ticket,
+        event,
+    };
+    let leads = leads_of(alloc, links.as_slice(), &new, found)?;
+    make_room(pairs, links, marks)?;
+    tables.put_uses(ticket, event)?;
+    link_new(alloc, pairs.as_slice(), links, leads, ticket)
 }
 
 /// Takes out the live event of this ticket, on which no other live event depends, with its mark.

@@ -1,1 +1,3 @@
 pub mod Plain
+pub mod Growing
+pub mod ReadBack

@@ -3,8 +3,10 @@
 //! Bytes that are no UTF-8 are written as U+FFFD, one for each piece.
 #![tactic(auto)]
 
+mod item;
 mod string;
 mod writer;
 
-pub use string::{add_string, strings_are_plain};
+pub use item::Item;
+pub use string::{add_string, strings_are_plain, strings_read_back};
 pub use writer::Json;

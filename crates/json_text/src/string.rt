@@ -1,6 +1,7 @@
 // Strings of JSON.
 ghost use Rattle.std.specs.Prelude.{◌≡◌, ◌++◌, ◌<◌, OnOk, true};
 ghost use Rattle.bstr.specs.Utf8.{lossy_chars};
+ghost use Rattle.json_text.specs.Reading.{StringsReadBack};
 ghost use Rattle.json_text.specs.Strings.{StringsArePlain, character_text, escaped, hex_digit, is_literal, json_string, pair, unit};
 
 use bstr::ByteSlice;
@@ -88,4 +89,9 @@ fn hex_digit(number: u32) -> u8
 /// Each byte of a string is printable ASCII, and none is `<`. Nothing is done, the contract says it.
 pub fn strings_are_plain()
     ensures { StringsArePlain }
+{}
+
+/// A string is read as its characters. Nothing is done, the contract says it.
+pub fn strings_read_back()
+    ensures { StringsReadBack }
 {}

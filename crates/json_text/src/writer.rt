@@ -1,8 +1,11 @@
 // A JSON text as it grows.
-ghost use Rattle.std.specs.Prelude.{[], ◌≡◌, IfOk};
+ghost use Rattle.std.specs.Prelude.{◌≡◌, ◌++◌, false, IfOk, OnOk, map};
+ghost use Rattle.std.specs.Fmt.{decimal};
 ghost use Rattle.std.specs.List.{All};
 ghost use Rattle.json_text.specs.Strings.{IsPlain};
+ghost use Rattle.json_text.specs.Values as model;
 
+use crate::item::Item;
 use crate::string::{add_string, strings_are_plain};
 use itoa::Buffer;
 use std::alloc::{AllocError, Global};
@@ -10,7 +13,8 @@ use std::marker::Model;
 
 /// A JSON text as it grows, value by value. Each byte of it is printable ASCII, and none is `<`.
 ///
-/// Lists and objects are opened and closed; a comma is put before each further item by itself. Whoever opens is to close.
+/// Lists and objects are opened and closed; a comma is put before each further value by itself. Whoever opens is to close. Where a call
+/// is refused for want of memory, a part of what it adds may be there.
 #[derive(Drop)]
 pub struct Json {
     bytes: Vec<u8>,
@@ -19,13 +23,13 @@ pub struct Json {
 }
 
 impl Model for Json {
-    ghost use Rattle.std.specs.Prelude.{List, ℕ};
     ghost use Rattle.std.specs.List.{All};
     ghost use Rattle.json_text.specs.Strings.{IsPlain};
+    ghost use Rattle.json_text.specs.Values.{Growing};
 
-    ghost Value = { List ℕ };
+    ghost Value = { Growing };
 
-    ghost view = { λ json. json.bytes.items };
+    ghost view = { λ json. record { text = json.bytes.items; first = json.first } };
 
     ghost invariant = { λ json. All IsPlain json.bytes.items };
 }
@@ -33,7 +37,7 @@ impl Model for Json {
 impl Json {
     /// Nothing yet.
     pub fn new(alloc: Global) -> Json
-        ensures { result ≡ [] }
+        ensures { result ≡ model.nothing_yet }
     {
         Json {
             bytes: Vec::new(alloc),
@@ -43,120 +47,147 @@ impl Json {
 
     /// The text.
     pub fn into_bytes(self) -> Vec<u8>
-        ensures text { result.items ≡ self }
+        ensures text { result.items ≡ self.text }
         ensures plain { All IsPlain result.items }
     {
         let Json { bytes, first: _ } = self;
         bytes
     }
 
-    /// Adds a mark.
-    fn mark(&mut self, mark: u8) -> Result<(), AllocError>
-        requires { IsPlain mark }
-    {
-        self.bytes.push(mark)?;
-        Ok(())
-    }
-
-    /// Adds plain bytes.
+    /// Adds plain bytes as they are.
     fn plain(&mut self, bytes: &[u8]) -> Result<(), AllocError>
         requires { All IsPlain bytes.now }
+        ensures { OnOk result (self.new ≡ record { text = self.old.text ++ bytes.now; first = self.old.first }) }
     {
         self.bytes.extend_from_slice(bytes)
     }
 
-    /// Begins an item: a comma where another stands before it.
-    fn separate(&mut self) -> Result<(), AllocError> {
+    /// Begins a value: a comma where another stands before it.
+    fn separate(&mut self) -> Result<(), AllocError>
+        ensures { OnOk result (self.new ≡ record { text = self.old.text ++ model.comma self.old.first; first = false }) }
+    {
         if self.first {
             self.first = false;
             return Ok(());
         }
-        self.mark(b',')
+        self.plain(b",")
     }
 
-    /// Opens a list or an object by its mark.
-    fn open(&mut self, mark: u8) -> Result<(), AllocError>
-        requires { IsPlain mark }
+    /// Adds a value that is written so.
+    fn value(&mut self, text: &[u8]) -> Result<(), AllocError>
+        requires { All IsPlain text.now }
+        ensures { OnOk result (self.new ≡ model.with_value self.old text.now) }
     {
         self.separate()?;
-        self.first = true;
-        self.mark(mark)
+        self.plain(text)
     }
 
-    /// Closes one by its mark.
-    fn close(&mut self, mark: u8) -> Result<(), AllocError>
-        requires { IsPlain mark }
+    /// Says that what comes next is the first, or is not.
+    fn set_first(&mut self, first: bool)
+        ensures { self.new ≡ record { text = self.old.text; first = first } }
     {
-        self.first = false;
-        self.mark(mark)
+        self.first = first;
     }
 
     /// Begins a list.
-    pub fn open_list(&mut self) -> Result<(), AllocError> {
-        self.open(b'[')
+    pub fn open_list(&mut self) -> Result<(), AllocError>
+        ensures { OnOk result (self.new ≡ model.opened 91 self.old) }
+    {
+        self.value(b"[")?;
+        self.set_first(true);
+        Ok(())
     }
 
     /// Ends a list.
-    pub fn close_list(&mut self) -> Result<(), AllocError> {
-        self.close(b']')
+    pub fn close_list(&mut self) -> Result<(), AllocError>
+        ensures { OnOk result (self.new ≡ model.closed 93 self.old) }
+    {
+        self.plain(b"]")?;
+        self.set_first(false);
+        Ok(())
     }
 
     /// Begins an object.
-    pub fn open_object(&mut self) -> Result<(), AllocError> {
-        self.open(b'{')
+    pub fn open_object(&mut self) -> Result<(), AllocError>
+        ensures { OnOk result (self.new ≡ model.opened 123 self.old) }
+    {
+        self.value(b"{")?;
+        self.set_first(true);
+        Ok(())
     }
 
     /// Ends an object.
-    pub fn close_object(&mut self) -> Result<(), AllocError> {
-        self.close(b'}')
+    pub fn close_object(&mut self) -> Result<(), AllocError>
+        ensures { OnOk result (self.new ≡ model.closed 125 self.old) }
+    {
+        self.plain(b"}")?;
+        self.set_first(false);
+        Ok(())
     }
 
     /// The name of the member of an object whose value comes next.
-    pub fn name(&mut self, name: &str) -> Result<(), AllocError> {
+    pub fn name(&mut self, name: &str) -> Result<(), AllocError>
+        ensures { OnOk result (self.new ≡ model.named self.old name.now) }
+    {
         self.text(name.as_bytes())?;
-        self.first = true;
-        self.mark(b':')
+        self.plain(b":")?;
+        self.set_first(true);
+        Ok(())
     }
 
     /// A string. Bytes that are no UTF-8 are read as U+FFFD.
-    pub fn text(&mut self, text: &[u8]) -> Result<(), AllocError> {
-        self.separate()?;
+    pub fn text(&mut self, text: &[u8]) -> Result<(), AllocError>
+        ensures { OnOk result (self.new ≡ model.with_value self.old (model.string_text text.now)) }
+    {
         let string = string_of(*self.bytes.allocator(), text)?;
-        self.plain(string.as_slice())
+        self.value(string.as_slice())
     }
 
     /// A number.
-    pub fn number(&mut self, number: u64) -> Result<(), AllocError> {
-        self.separate()?;
+    pub fn number(&mut self, number: u64) -> Result<(), AllocError>
+        ensures { OnOk result (self.new ≡ model.with_value self.old (decimal number)) }
+    {
         let mut buffer = Buffer::new();
         let digits = buffer.format(number);
-        self.plain(digits.as_bytes())
+        self.value(digits.as_bytes())
     }
 
-    /// A number, or -1.
-    pub fn number_or_none(&mut self, number: Option<u64>) -> Result<(), AllocError> {
-        match number {
-            Some(number) => self.number(number),
-            None => {
-                self.separate()?;
-                self.mark(b'-')?;
-                self.mark(b'1')
-            }
+    /// A value that is no list.
+    pub fn item(&mut self, item: Item<'_>) -> Result<(), AllocError>
+        ensures { OnOk result (self.new ≡ model.with_value self.old (model.item_text item.entry)) }
+    {
+        match item {
+            Item::Text(text) => self.text(text),
+            Item::Number(number) => self.number(number),
+            Item::Optional(Some(number)) => self.number(number),
+            Item::Optional(None) => self.value(b"-1"),
         }
     }
 
-    /// An index, or -1.
-    pub fn index(&mut self, index: Option<usize>) -> Result<(), AllocError> {
-        match index {
-            Some(index) => self.number(index as u64),
-            None => self.number_or_none(None),
+    /// Such values, one behind another.
+    pub fn items(&mut self, items: &[Item<'_>]) -> Result<(), AllocError>
+        ensures { OnOk result (self.new ≡ model.with_values self.old (map model.item_text items.now)) }
+    {
+        for item in items {
+            self.item(*item)?;
         }
+        Ok(())
+    }
+
+    /// A list of such values.
+    pub fn list(&mut self, items: &[Item<'_>]) -> Result<(), AllocError>
+        ensures { OnOk result (self.new ≡ model.with_value self.old (model.list_text (map model.item_text items.now))) }
+    {
+        self.open_list()?;
+        self.items(items)?;
+        self.close_list()
     }
 }
 
 /// The string of JSON that stands for the text.
 fn string_of(alloc: Global, text: &[u8]) -> Result<Vec<u8>, AllocError>
-    ensures { IfOk result (λ made. All IsPlain made.items) }
+    ensures text { IfOk result (λ made. made.items ≡ model.string_text text.now) }
+    ensures plain { IfOk result (λ made. All IsPlain made.items) }
 {
     strings_are_plain();
     let mut made = Vec::new(alloc);

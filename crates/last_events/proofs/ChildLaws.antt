@@ -1,17 +1,17 @@
 -- The place of a first child comes right behind the place.
-use Rattle.std.proofs.Common.{◌≡◌, ◌⊎◌, inl, inr, ℕ, suc, ◌<◌, List, [], ◌∷◌, ◌++◌, length, take, drop, map, get_or, Some, None, slice_get, refl, sym, ap, subst, ◌∙◌, arith, Ordering, Less, Equal, Greater}
+use Rattle.std.proofs.Common.{◌≡◌, ◌⊎◌, inl, inr, ℕ, suc, ◌<◌, List, [], ◌∷◌, ◌++◌, length, take, drop, map, get_or, Some, None, refl, sym, ap, subst, ◌∙◌, arith, Ordering, Less, Equal, Greater}
 use Rattle.std.specs.Global.{Box}
 use Rattle.std.specs.Ordering.{nat_cmp, ordering_then}
 use Rattle.address.specs.declared.Entry.{Entry}
 use Rattle.address.specs.declared.Entry.TheVariants.{Ordered, Branch}
 use Rattle.address.specs.Order.{entry_order, order_of}
 use Rattle.address.specs.walking.OrderLaws.{less-not-equal, greater-not-less, greater-not-equal}
-use Rattle.address.proofs.Total.{order-itself, order-ties, order-total, order-transitive}
+use Rattle.address.proofs.Total.{order-itself, order-ties, order-transitive}
 use Rattle.syntax.specs.Lists.{In}
 use Rattle.last_events.specs.LastEvents.{ticket_at, first_child}
 use Rattle.last_events.specs.declared.branch.Seat.{Seat}
 use Rattle.last_events.specs.declared.branch.Seat.TheVariants.{Event, Inner}
-use Rattle.last_events.specs.walking.Search.{Rising, Splits}
+use Rattle.last_events.specs.walking.Search.{Splits}
 use Rattle.last_events.specs.walking.Seats.{Places, way_of, AllOrdered, EndsAtBranch, seat_way, seat_places, flat, HasSeat, IsSound, IsBranch}
 use Rattle.last_events.proofs.ForkLaws.{number-less}
 use Rattle.last_events.proofs.LastLaws.{look-middle}

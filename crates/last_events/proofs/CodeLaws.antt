@@ -1,20 +1,20 @@
 -- The laws of branches, of the slices and ways that the code looks at.
-use Rattle.std.proofs.Common.{◌≡◌, ◌⊎◌, inl, inr, ℕ, zero, suc, ◌+◌, ◌*◌, ◌<◌, ◌≤◌, Bool, eqb, true, false, true≢false, List, [], ◌∷◌, ◌++◌, append-nil, length, take, drop, map, get_or, Some, None, slice_get, refl, sym, ap, subst, ◌∙◌, length-append, arith}
+use Rattle.std.proofs.Common.{◌≡◌, inl, inr, ℕ, zero, suc, ◌+◌, ◌*◌, ◌<◌, ◌≤◌, Bool, eqb, false, true≢false, List, [], ◌∷◌, ◌++◌, append-nil, length, take, drop, map, get_or, Some, slice_get, refl, sym, ap, subst, ◌∙◌, arith}
 use Rattle.std.specs.Global.{Box}
 use Rattle.address.specs.declared.Entry.{Entry}
-use Rattle.syntax.specs.Lists.{In, Every}
-use Rattle.last_events.specs.LastEvents.{IsAt, ticket_at, PutAt, Orderly}
+use Rattle.syntax.specs.Lists.{In}
+use Rattle.last_events.specs.LastEvents.{PutAt, Orderly}
 use Rattle.last_events.specs.declared.branch.Seat.{Seat}
 use Rattle.last_events.specs.declared.branch.Seat.TheVariants.{Event, Inner}
 use Rattle.last_events.specs.walking.Depths.{entries-append, entries-inner}
-use Rattle.last_events.specs.walking.Search.{Rising, Splits}
+use Rattle.last_events.specs.walking.Search.{Splits}
 use Rattle.last_events.specs.walking.Seats.{Places, way_of, rest_of, ordered_of, AllOrdered, EndsAtBranch, IsWay, behind_way, seat_way, seat_places, flat, HasSeat, IsSound, IsBranch, IsMadeOf}
 use Rattle.last_events.specs.walking.Sizes.{entries_of}
-use Rattle.last_events.specs.walking.Walks.{Related, AddedLast, AddedOf, AddedInner}
-use Rattle.last_events.proofs.LastLaws.{absent-inner, branch-taken, each-next, related-seat}
-use Rattle.last_events.proofs.ListLaws.{every-in, whole, split-at, get-at}
+use Rattle.last_events.specs.walking.Walks.{Related, AddedLast, AddedInner, AddedFrom, IsGroup, IsNearer}
+use Rattle.last_events.proofs.LastLaws.{absent-inner, branch-taken, each-next, near-group, from-lesser, from-seat}
+use Rattle.last_events.proofs.ListLaws.{whole, get-at}
 use Rattle.last_events.proofs.SearchLaws.{length-places, in-at, some-is, none-some}
-use Rattle.last_events.proofs.SeatLaws.{flat-append, more-branch, more-put, split-low, split-high}
+use Rattle.last_events.proofs.SeatLaws.{Stands, stands-at, has-within, more-branch, more-put, split-low, split-high}
 use Rattle.last_events.proofs.WayLaws.{way-twice, event-way, way-and-rest, ordered-of-way}
 
 -- ---- ways
@@ -85,11 +85,49 @@ module _ (ss xs ys after : List Seat) (w p a : List Entry) (i : ℕ) (s : Seat) 
       (more-put (take i ss) (drop i ss) s a n parts made (split-low ss (way_of a) i splits) (split-high ss (way_of a) i h splits absent)))
 
 -- ---- walks
+get-dropped : (ss : List Seat) (i : ℕ) (d e : Seat) → i < length ss → get_or (drop i ss) 0 d ≡ get_or ss i e
+get-dropped [] i d e h = absurd (omega arith)
+get-dropped (x ∷ ss) zero d e h = refl
+get-dropped (x ∷ ss) (suc i) d e h = let less : i < length ss = omega arith in get-dropped ss i d e less
+
+-- the seat of the way is the first of those that are cut off
+pub stands-behind : (ss xs behind : List Seat) (i : ℕ) (w p a : List Entry) (d : Seat) → xs ≡ ss → w ≡ p → p ≡ way_of a → HasSeat xs i w → behind ≡ drop i ss →
+    Stands ss i (get_or behind 0 d) a
+stands-behind ss xs behind i w p a d same front way there back =
+    let within : i < length ss = subst (λ (ys : List Seat). i < length ys) same (has-within xs i w there) in
+    stands-at ss xs i w p a (get_or behind 0 d) same front way there
+    (ap (λ (ys : List Seat). get_or ys 0 d) back ∙ get-dropped ss i d (get_or behind 0 d) within)
+
 pub absent-inner-as : (ss : List Seat) (w p a : List Entry) (i : ℕ) (old : List ℕ) → IsBranch ss → w ≡ p → p ≡ way_of a → Splits (map seat_way ss) w i → (HasSeat ss i w → ⊥) →
     AddedInner (flat ss) a false old old
 absent-inner-as ss w p a i old h front way split none =
     absent-inner ss a i old h (subst (λ (q : List Entry). Splits (map seat_way ss) q i) (front ∙ way) split)
     (λ there. none (subst (λ (q : List Entry). HasSeat ss i q) (sym (front ∙ way)) there))
+
+-- one walk
+module _ (ss xs : List Seat) (w p a : List Entry) (i : ℕ) (before nearest nearer : List Seat) (h : IsBranch ss) (one : xs ≡ ss) (front : w ≡ p) (way : p ≡ way_of a)
+    (split : Splits (map seat_way xs) w i) (is : before ≡ take i ss) (near : IsNearer before (ordered_of w) nearest nearer) where
+  split-here : Splits (map seat_way ss) w i
+  split-here = subst (λ (ys : List Seat). Splits (map seat_way ys) w i) one split
+
+  split-way : Splits (map seat_way ss) (way_of a) i
+  split-way = subst (λ (q : List Entry). Splits (map seat_way ss) q i) (front ∙ way) split-here
+
+  near-way : IsNearer before (ordered_of a) nearest nearer
+  near-way = subst (λ (q : List Entry). IsNearer before q nearest nearer) (begins-ordered w p a front way) near
+
+  pub group-near : IsGroup nearest → Related (flat ss) → IsGroup nearer
+  group-near group related = near-group ss a i before nearest nearer h split-way is near-way group related
+
+  pub found-seat : (s : Seat) (v : List Entry) (old new : List ℕ) → Orderly (flat ss) a → Stands ss i s a → IsSound s → v ≡ a → AddedFrom (flat nearer) (seat_places s) v old new →
+      AddedFrom (flat nearest) (flat ss) a old new
+  found-seat s v old new orderly st sound place added = from-seat ss a i before nearest nearer h split-way is near-way s v old new orderly st sound place added
+
+  pub found-none : (ys : List Seat) (old new : List ℕ) → ys ≡ ss → (HasSeat ys i w → ⊥) → Orderly (flat ss) a → AddedLast (flat nearer) old new →
+      AddedFrom (flat nearest) (flat ss) a old new
+  found-none ys old new two none orderly last =
+      from-lesser ss a i before nearest nearer h split-way is near-way old new orderly
+      (absent-inner-as ss w p a i old h front way split-here (λ there. none (subst (λ (zs : List Seat). HasSeat zs i w) (sym two) there))) last
 
 pub item-in : (ss : List Seat) (i : ℕ) (s : Seat) → i < length ss → s ≡ get_or ss i s → In s ss
 item-in ss i s less is = in-at ss i s (get-at ss i s less ∙ ap Some (sym is))

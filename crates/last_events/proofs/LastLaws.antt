@@ -1,12 +1,11 @@
 -- The last events before a place: of each branch of the parallel before it that has some.
-use Rattle.std.proofs.Common.{◌≡◌, ◌≢◌, ◌⊎◌, inl, inr, ℕ, zero, suc, ◌+◌, ◌<◌, ◌≤◌, Bool, true, false, cond, List, [], ◌∷◌, ◌++◌, append_assoc, length, take, drop, map, get_or, Option, Some, None, slice_get, refl, sym, ap, subst, ◌∙◌, true≢false, arith, Ordering, Less, Equal, Greater}
+use Rattle.std.proofs.Common.{◌≡◌, ◌⊎◌, inl, inr, ℕ, suc, ◌<◌, ◌≤◌, Bool, true, false, cond, List, [], ◌∷◌, ◌++◌, append-nil, append_assoc, length, take, drop, map, Option, Some, None, refl, sym, ap, subst, ◌∙◌, true≢false, arith, Ordering, Less}
 use Rattle.std.specs.Global.{Box}
-use Rattle.std.specs.Map.{lookup}
-use Rattle.std.specs.Ordering.{is_eq, nat_cmp}
+use Rattle.std.specs.Ordering.{is_eq}
 use Rattle.address.specs.declared.Entry.{Entry}
 use Rattle.address.specs.declared.Entry.TheVariants.{Ordered, Branch}
-use Rattle.address.specs.Places.{Before, Apart}
-use Rattle.address.specs.Order.{entry_order, order_of}
+use Rattle.address.specs.Places.{Before}
+use Rattle.address.specs.Order.{order_of}
 use Rattle.address.specs.walking.OrderLaws.{less-not-equal, greater-not-less}
 use Rattle.address.proofs.Places.{before-end, before-transitive, before-left, apart-left, before-irreflexive, tail-injective, ordered-injective, nil-not-cons}
 use Rattle.address.proofs.Total.{order-itself}
@@ -14,14 +13,14 @@ use Rattle.syntax.specs.Lists.{In, Every}
 use Rattle.last_events.specs.LastEvents.{IsAt, ticket_at, OneTree, Orderly, LastBefore}
 use Rattle.last_events.specs.declared.branch.Seat.{Seat}
 use Rattle.last_events.specs.declared.branch.Seat.TheVariants.{Event, Inner}
-use Rattle.last_events.specs.walking.Search.{Rising, Splits}
-use Rattle.last_events.specs.walking.Seats.{Places, way_of, rest_of, ordered_of, AllOrdered, EndsAtBranch, IsWay, behind_way, seat_way, seat_places, flat, HasSeat, IsSound, IsBranch}
-use Rattle.last_events.specs.walking.Walks.{Related, Covered, AddedLast, AddedOf, AddedBefore, AddedInner, AddedLesser}
+use Rattle.last_events.specs.walking.Search.{Splits}
+use Rattle.last_events.specs.walking.Seats.{Places, way_of, rest_of, ordered_of, EndsAtBranch, behind_way, seat_way, seat_places, flat, HasSeat, IsSound, IsBranch, FitsBehind}
+use Rattle.last_events.specs.walking.Walks.{Related, Covered, AddedLast, AddedBefore, AddedInner, AddedLesser, AddedFrom, IsGroup, IsNearer}
 use Rattle.last_events.proofs.ForkLaws.{number-less, less-first, less-parts, less-rest, less-number}
-use Rattle.last_events.proofs.ListLaws.{in-left, in-right, in-either, in-map-take, every-in, every-left, every-right, whole, split-at, get-at}
-use Rattle.last_events.proofs.SearchLaws.{none-some}
-use Rattle.last_events.proofs.SeatLaws.{is_key, key-is, first_of, look-here, look-other, look-behind, in-behind, less-differs, seat-ways, flat-ways, look-append, look-parts, look-seat, left-none, right-none, split-low, split-not-high, rising-left, rising-right, Stands, absent-way}
-use Rattle.last_events.proofs.WayLaws.{ordered-way, way-behind, rest-behind, way-and-rest, ordered-of-way, event-way, same-rest}
+use Rattle.last_events.proofs.ListLaws.{in-left, in-right, in-either, every-in, every-left, every-right, whole, map-take, take-again, take-none, take-some, take-within, drop-either}
+use Rattle.last_events.proofs.SearchLaws.{none-some, length-places}
+use Rattle.last_events.proofs.SeatLaws.{is_key, key-is, first_of, look-here, look-behind, in-behind, less-differs, seat-ways, flat-ways, look-append, look-parts, look-seat, left-none, right-none, split-low, split-not-high, rising-left, rising-right, Stands, absent-way}
+use Rattle.last_events.proofs.WayLaws.{way-behind, rest-behind, way-and-rest, ordered-of-way, same-rest}
 
 -- ---- ways and what is before
 -- what is before a place is in the same branch or its way is less than the ordered entries
@@ -125,10 +124,6 @@ pub seat-has : (s : Seat) → IsSound s → (c : List Entry) × (u : ℕ) × IsA
 seat-has (Event w t) h = (w, t, look-here w t)
 seat-has (Inner w inner) h = inner-has w inner.value h.1
 
--- ---- what is covered
-covered-more : (es : Places) (mid new : List ℕ) (b : List Entry) → ((t : ℕ) → In t mid → In t new) → Covered es mid b → Covered es new b
-covered-more es mid new b kept h = (h.0, h.1, h.2, kept h.1 h.3, h.4)
-
 covered-behind : (es : Places) (new : List ℕ) (b c : List Entry) → Before b c → Covered es new c → Covered es new b
 covered-behind es new b c low h = (
   h.0,
@@ -201,6 +196,70 @@ inner-last w es old new h added = record {
         ]),
       );
 }
+
+pub orderly-behind : (w : List Entry) (es : Places) (r : List Entry) → Orderly (behind_way w es) (w ++ r) → Orderly es r
+orderly-behind w es r orderly = record {
+  inside = related-behind w es orderly.inside;
+  outside = λ b t at. tree-behind w b r (orderly.outside (w ++ b) t (behind-at w es b t at));
+}
+
+before-in : (w b r : List Entry) → b ≡ w ++ rest_of b → Before b (w ++ r) → Before (rest_of b) r
+before-in w b r parts low = (before-left w (rest_of b) r).0 (subst (λ (x : List Entry). Before x (w ++ r)) parts low)
+
+before-behind : (w : List Entry) (es : Places) (r : List Entry) (some : Bool) (old new : List ℕ) → EndsAtBranch w → AddedBefore es r some old new →
+    AddedBefore (behind_way w es) (w ++ r) some old new
+before-behind w es r some old new h added = record {
+  kept = added.kept;
+  sound = λ t j. elim (added.sound t j) [
+    | inl earlier ↦ inl earlier
+    | inr at ↦ inr (w ++ at.0, behind-at w es at.0 t at.1, (before-left w at.0 r).1 at.2)
+  ];
+  complete = λ b t at low any.
+      let q = at-behind w es b t h at in
+      let c = added.complete (rest_of b) t q.1 (before-in w b r q.0 low) tt in (
+        w ++ c.0,
+        c.1,
+        behind-at w es c.0 c.1 c.2,
+        c.3,
+        subst (λ (d : List Entry). (d ≡ w ++ c.0) ⊎ Before d (w ++ c.0)) (sym q.0) (elim c.4 [
+          | inl same ↦ inl (ap (λ (x : List Entry). w ++ x) same)
+          | inr less ↦ inr ((before-left w (rest_of b) c.0).1 less)
+        ]),
+      );
+  found = λ holds. let c = added.found holds in (w ++ c.0, c.1, behind-at w es c.0 c.1 c.2, (before-left w c.0 r).1 c.3, tt, c.5);
+  none = λ fails b t at low any. let q = at-behind w es b t h at in added.none fails (rest_of b) t q.1 (before-in w b r q.0 low) tt;
+}
+
+-- the same of a walk
+pub from-behind : (near : Places) (w : List Entry) (es : Places) (r : List Entry) (old new : List ℕ) → EndsAtBranch w → AddedFrom near es r old new →
+    AddedFrom near (behind_way w es) (w ++ r) old new
+from-behind near w es r old new h added = elim added [
+  | inl some ↦ inl (before-behind w es r true old new h some)
+  | inr none ↦ inr (before-behind w es r false old old h none.0, none.1)
+]
+
+-- at an event there is nothing before it
+event-at : (w : List Entry) (n : ℕ) (b : List Entry) (t : ℕ) → IsAt ((w, n) ∷ []) b t → b ≡ w
+event-at w n b t at =
+    let e = at-in ((w, n) ∷ []) b t at in
+    elim e.1 [ inl same ↦ e.2 ∙ ap (λ (x : List Entry × ℕ). x.0) same | inr none ↦ absurd none ]
+
+event-before : (w : List Entry) (n : ℕ) (old : List ℕ) → AddedBefore ((w, n) ∷ []) w false old old
+event-before w n old = record {
+  kept = λ t i. i;
+  sound = λ t i. inl i;
+  complete = λ b t at low any. absurd (before-irreflexive w (subst (λ (x : List Entry). Before x w) (event-at w n b t at) low));
+  found = λ holds. absurd (true≢false (sym holds));
+  none = λ fails b t at low any. before-irreflexive w (subst (λ (x : List Entry). Before x w) (event-at w n b t at) low);
+}
+
+pub from-event : (near : Places) (s : Seat) (w : List Entry) (n : ℕ) (r : List Entry) (old new : List ℕ) → s ≡ Event w n → FitsBehind s r → AddedLast near old new →
+    AddedFrom near (seat_places s) (seat_way s ++ r) old new
+from-event near s w n r old new is fits last =
+    subst (λ (x : Seat). AddedFrom near (seat_places x) (seat_way x ++ r) old new) (sym is)
+    (subst (λ (x : List Entry). AddedFrom near ((w, n) ∷ []) x old new)
+    (sym (ap (λ (x : List Entry). w ++ x) (subst (λ (x : Seat). FitsBehind x r) is fits) ∙ append-nil w))
+    (inr (event-before w n old, last)))
 
 -- ---- one seat after another
 branch-left : (xs ys : List Seat) → IsBranch (xs ++ ys) → IsBranch xs
@@ -402,12 +461,30 @@ module _ (ss : List Seat) (i : ℕ) (s : Seat) (a : List Entry) (h : IsBranch ss
       ap (λ (xs : List Seat). ticket_at (flat xs) b) st.parts
       ∙ look-middle (take i ss) (drop (suc i) ss) s b (subst IsBranch st.parts h) (st.way ∙ sym way)
 
-  -- an event at the place itself
-  pub event-inner : (w : List Entry) (n : ℕ) (old : List ℕ) → s ≡ Event w n → IsSound s → AddedInner (flat ss) a false old old
-  event-inner w n old is sound =
-      let ordered : AllOrdered (way_of a) = subst AllOrdered (ap seat_way (sym is) ∙ st.way) (subst IsSound is sound) in
-      inner-none ss a old (λ b t at way low.
-      before-irreflexive a (subst (λ (c : List Entry). Before c a) (sym (event-way b (subst AllOrdered (sym way) ordered)) ∙ (way ∙ event-way a ordered)) low))
+  there : (b : List Entry) (t : ℕ) → IsAt (seat_places s) b t → IsAt (flat ss) b t
+  there b t at =
+      subst (λ (xs : List Seat). IsAt (flat xs) b t) (sym st.parts)
+      (seat-there (take i ss) (drop (suc i) ss) s b t (subst IsBranch st.parts h) at)
+
+  pub orderly-seat : (v : List Entry) → v ≡ a → Orderly (flat ss) a → Orderly (seat_places s) v
+  orderly-seat v is orderly = record {
+    inside = λ b c t u at cu. orderly.inside b c t u (there b t at) (there c u cu);
+    outside = λ b t at. subst (λ (x : List Entry). OneTree b x) (sym is) (orderly.outside b t (there b t at));
+  }
+
+  -- what is before the place in the seat is all that takes the same way
+  pub seat-inner : (some : Bool) (old new : List ℕ) → IsSound s → AddedBefore (seat_places s) a some old new → AddedInner (flat ss) a some old new
+  seat-inner some old new sound added = record {
+    kept = added.kept;
+    sound = λ t j. elim (added.sound t j) [ inl earlier ↦ inl earlier | inr at ↦ inr (at.0, there at.0 t at.1, at.2) ];
+    complete = λ b t at low way.
+        let c = added.complete b t (sym (middle b way) ∙ at) low tt in
+        (c.0, c.1, there c.0 c.1 c.2, c.3, c.4);
+    found = λ holds.
+        let c = added.found holds in
+        (c.0, c.1, there c.0 c.1 c.2, c.3, seat-at-way s c.0 c.1 sound c.2 ∙ st.way, c.5);
+    none = λ fails b t at low way. added.none fails b t (sym (middle b way) ∙ at) low tt;
+  }
 
 module _ (ss : List Seat) (i : ℕ) (s : Seat) (a r : List Entry) (h : IsBranch ss) (st : Stands ss i s a) (rest : r ≡ rest_of a) (w : List Entry) (inner : Box Places)
     (is : s ≡ Inner w inner) (ends : EndsAtBranch w) where
@@ -416,53 +493,6 @@ module _ (ss : List Seat) (i : ℕ) (s : Seat) (a r : List Entry) (h : IsBranch 
 
   goes : w ++ r ≡ a
   goes = ap (λ (v : List Entry). v ++ r) own ∙ (ap (λ (x : List Entry). way_of a ++ x) rest ∙ way-and-rest a)
-
-  out : (b : List Entry) (t : ℕ) → IsAt inner.value b t → IsAt (flat ss) (w ++ b) t
-  out b t at =
-      middle ss i s a h st (w ++ b) (way-behind w b ends ∙ own)
-      ∙ (ap (λ (x : Seat). ticket_at (seat_places x) (w ++ b)) is ∙ behind-at w inner.value b t at)
-
-  back : (b : List Entry) (t : ℕ) → way_of b ≡ way_of a → IsAt (flat ss) b t → (b ≡ w ++ rest_of b) × IsAt inner.value (rest_of b) t
-  back b t way at =
-      at-behind w inner.value b t ends (ap (λ (x : Seat). ticket_at (seat_places x) b) (sym is) ∙ (sym (middle ss i s a h st b way) ∙ at))
-
-  pub orderly-inner : Orderly (flat ss) a → Orderly inner.value r
-  orderly-inner orderly = record {
-    inside = λ b c t u at cu. tree-behind w b c (orderly.inside (w ++ b) (w ++ c) t u (out b t at) (out c u cu));
-    outside = λ b t at. tree-behind w b r (subst (λ (x : List Entry). OneTree (w ++ b) x) (sym goes) (orderly.outside (w ++ b) t (out b t at)));
-  }
-
-  before-out : (b : List Entry) → Before b r → Before (w ++ b) a
-  before-out b low = subst (λ (x : List Entry). Before (w ++ b) x) goes ((before-left w b r).1 low)
-
-  before-in : (b : List Entry) → b ≡ w ++ rest_of b → Before b a → Before (rest_of b) r
-  before-in b parts low =
-      (before-left w (rest_of b) r).0 (subst (λ (x : List Entry). Before x (w ++ r)) parts (subst (λ (x : List Entry). Before b x) (sym goes) low))
-
-  pub inner-before : (some : Bool) (old new : List ℕ) → AddedBefore inner.value r some old new → AddedInner (flat ss) a some old new
-  inner-before some old new added = record {
-    kept = added.kept;
-    sound = λ t j. elim (added.sound t j) [
-      | inl earlier ↦ inl earlier
-      | inr at ↦ inr (w ++ at.0, out at.0 t at.1, before-out at.0 at.2)
-    ];
-    complete = λ b t at low way.
-        let q = back b t way at in
-        let c = added.complete (rest_of b) t q.1 (before-in b q.0 low) tt in (
-          w ++ c.0,
-          c.1,
-          out c.0 c.1 c.2,
-          c.3,
-          subst (λ (d : List Entry). (d ≡ w ++ c.0) ⊎ Before d (w ++ c.0)) (sym q.0) (elim c.4 [
-            | inl same ↦ inl (ap (λ (x : List Entry). w ++ x) same)
-            | inr less ↦ inr ((before-left w (rest_of b) c.0).1 less)
-          ]),
-        );
-    found = λ holds.
-        let c = added.found holds in
-        (w ++ c.0, c.1, out c.0 c.1 c.2, before-out c.0 c.3, way-behind w c.0 ends ∙ own, c.5);
-    none = λ fails b t at low way. let q = back b t way at in added.none fails (rest_of b) t q.1 (before-in b q.0 low) tt;
-  }
 
   pub child-inner : ticket_at (flat ss) (a ++ Ordered 0 ∷ []) ≡ ticket_at inner.value (r ++ Ordered 0 ∷ [])
   child-inner =
@@ -508,10 +538,93 @@ lesser-all es a some old mid new inner lesser = record {
   ];
 }
 
--- what `last_before` promises
-pub all-before : (es : Places) (a : List Entry) (some : Bool) (old new : List ℕ) → AddedBefore es a some old new → LastBefore es a old new
-all-before es a some old new added = record {
-  kept = added.kept;
-  sound = added.sound;
-  complete = λ b t at low. added.complete b t at low tt;
+-- ---- one walk
+-- what splits the first of them below the way splits all of them
+split-more : (ps : List (List Entry)) (w p : List Entry) (i n : ℕ) → Splits ps w i → ((b : List Entry) → order_of b p ≡ Less → order_of b w ≡ Less) → Splits (take i ps) p n →
+    Splits ps p n
+split-more ps w p i n split under low = record {
+  within = let h : n ≤ length (take i ps) = low.within in omega (arith, h, take-within ps i);
+  below = λ b at. low.below b (subst (λ (qs : List (List Entry)). In b qs) (sym (take-again ps n i low.within)) at);
+  above = λ b at less. elim (drop-either ps n i b low.within at) [
+    | inl there ↦ low.above b there less
+    | inr high ↦ split.above b high (under b less)
+  ];
 }
+
+less-ordered : (b a : List Entry) → order_of b (ordered_of a) ≡ Less → order_of b (way_of a) ≡ Less
+less-ordered b [] h = h
+less-ordered b (Branch i ∷ a) h = absurd (not-under-none b h)
+less-ordered [] (Ordered i ∷ a) h = refl
+less-ordered (x ∷ b) (Ordered i ∷ a) h = elim (less-parts x (Ordered i) b (ordered_of a) h) [
+  | inl less ↦ less-first x (Ordered i) b (way_of a) less
+  | inr both ↦ less-rest x (Ordered i) b (way_of a) both.0 (less-ordered b a both.1)
+]
+
+-- the nearest of those before the way are the nearest of all
+module _ (ss : List Seat) (a : List Entry) (i : ℕ) (before nearest nearer : List Seat) (h : IsBranch ss) (split : Splits (map seat_way ss) (way_of a) i)
+    (is : before ≡ take i ss) (near : IsNearer before (ordered_of a) nearest nearer) where
+  splits-taken : Splits (take i (map seat_way ss)) (ordered_of a) near.count
+  splits-taken =
+      subst (λ (ps : List (List Entry)). Splits ps (ordered_of a) near.count) (map-take seat_way i ss)
+      (subst (λ (xs : List Seat). Splits (map seat_way xs) (ordered_of a) near.count) is near.splits)
+
+  splits-all : Splits (map seat_way ss) (ordered_of a) near.count
+  splits-all = split-more (map seat_way ss) (way_of a) (ordered_of a) i near.count split (λ b less. less-ordered b a less) splits-taken
+
+  fewer : near.count ≤ length (take i ss)
+  fewer =
+      let within : near.count ≤ length (map seat_way before) = near.splits.within in
+      let same : length (map seat_way before) ≡ length before = length-places seat_way before in
+      let long : length before ≡ length (take i ss) = ap length is in
+      omega (arith, within, same, long)
+
+  lesser-is : take near.count before ≡ take near.count ss
+  lesser-is = ap (λ (xs : List Seat). take near.count xs) is ∙ take-again ss near.count i fewer
+
+  pub near-group : IsGroup nearest → Related (flat ss) → IsGroup nearer
+  near-group group related = elim near.are [
+    | inl none ↦ subst IsGroup (sym none.1) group
+    | inr some ↦
+        subst IsGroup (sym (some.1 ∙ lesser-is))
+        (record { branch = branch-taken ss near.count h; related = related-taken ss near.count related })
+  ]
+
+  pub from-lesser : (old new : List ℕ) → Orderly (flat ss) a → AddedInner (flat ss) a false old old → AddedLast (flat nearer) old new → AddedFrom (flat nearest) (flat ss) a old new
+  from-lesser old new orderly inner last = elim near.are [
+    | inl none ↦ inr (
+      lesser-all (flat ss) a false old old old inner
+          (lesser-none ss a (ordered_of a) near.count h orderly refl splits-all old (ap (λ (n : ℕ). take n ss) none.0 ∙ take-none ss)),
+      subst (λ (xs : List Seat). AddedLast (flat xs) old new) none.1 last,
+    )
+    | inr some ↦
+        inl (lesser-all (flat ss) a true old old new inner
+        (lesser-some ss a (ordered_of a) near.count h orderly refl splits-all old new
+        (subst (λ (xs : List Seat). 0 < length xs) (take-again ss near.count i fewer) (take-some (take i ss) near.count some.0 fewer))
+        (subst (λ (xs : List Seat). AddedLast (flat xs) old new) (some.1 ∙ lesser-is) last)))
+  ]
+
+  pub from-seat : (s : Seat) (v : List Entry) (old new : List ℕ) → Orderly (flat ss) a → Stands ss i s a → IsSound s → v ≡ a → AddedFrom (flat nearer) (seat_places s) v old new →
+      AddedFrom (flat nearest) (flat ss) a old new
+  from-seat s v old new orderly st sound place added = elim (subst (λ (x : List Entry). AddedFrom (flat nearer) (seat_places s) x old new) place added) [
+    | inl some ↦ inl (inner-all (flat ss) a old new orderly (seat-inner ss i s a h st true old new sound some))
+    | inr none ↦ from-lesser old new orderly (seat-inner ss i s a h st false old old sound none.0) none.1
+  ]
+
+-- at the top there are no nearest
+pub none-group : IsGroup []
+none-group = record { branch = record { rising = tt; sound = tt }; related = λ b c t u at cu. absurd (none-some t at) }
+
+-- what `put` promises of those that it finds
+pub all-before : (es : Places) (a : List Entry) (old new : List ℕ) → AddedFrom [] es a old new → LastBefore es a old new
+all-before es a old new added = elim added [
+  | inl some ↦ record {
+    kept = some.kept;
+    sound = some.sound;
+    complete = λ b t at low. some.complete b t at low tt;
+  }
+  | inr none ↦ record {
+    kept = none.1.kept;
+    sound = λ t i. elim (none.1.sound t i) [ inl earlier ↦ inl earlier | inr at ↦ absurd (none-some t at.1) ];
+    complete = λ b t at low. absurd (none.0.none refl b t at low tt);
+  }
+]

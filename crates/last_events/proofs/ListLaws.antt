@@ -1,5 +1,5 @@
 -- Elements and parts of lists.
-use Rattle.std.proofs.Common.{◌≡◌, subst, true≢false, ◌⊎◌, inl, inr, ℕ, zero, suc, ◌<◌, ◌≤◌, List, [], ◌∷◌, ◌++◌, length, take, drop, map, set, Result, Ok, Err, IfOk, OnOk, OnErr, Some, None, slice_get, get_or, refl, sym, ap, arith}
+use Rattle.std.proofs.Common.{◌≡◌, subst, ◌⊎◌, inl, inr, ℕ, zero, suc, ◌<◌, ◌≤◌, List, [], ◌∷◌, ◌++◌, length, take, drop, map, set, Result, Ok, Err, IfOk, OnOk, OnErr, Some, slice_get, get_or, refl, sym, ap, ◌∙◌, arith}
 use Rattle.syntax.specs.Lists.{In, Every}
 use Rattle.last_events.proofs.SearchLaws.{some-is, none-some}
 
@@ -43,10 +43,6 @@ pub map-in-drop : {X Y : Type 0} (f : X → Y) (y : Y) (n : ℕ) (xs : List X) �
 map-in-drop f y zero xs i = map-in f y xs i
 map-in-drop f y (suc n) [] i = absurd i
 map-in-drop f y (suc n) (x ∷ xs) i = map-in-drop f y n xs i
-
-pub map-append : {X Y : Type 0} (f : X → Y) (xs ys : List X) → map f (xs ++ ys) ≡ map f xs ++ map f ys
-map-append f [] ys = refl
-map-append f (x ∷ xs) ys = ap (λ zs. f x ∷ zs) (map-append f xs ys)
 
 pub every-left : {X : Type 0} (P : X → Type 0) (xs ys : List X) → Every P (xs ++ ys) → Every P xs
 every-left P [] ys h = tt
@@ -104,15 +100,6 @@ at-within [] (suc i) x at = absurd (none-some x at)
 at-within (y ∷ xs) zero x at = omega arith
 at-within (y ∷ xs) (suc i) x at = let rest : i < length xs = at-within xs i x at in omega arith
 
-none-cons : {X : Type 0} (x : X) (ys : List X) → [] ≡ x ∷ ys → ⊥
-none-cons x ys is = none-some x (ap (λ zs. slice_get zs 0) is)
-
-pub drop-first : {X : Type 0} (xs : List X) (i : ℕ) (x : X) (ys : List X) → drop i xs ≡ x ∷ ys → slice_get xs i ≡ Some x
-drop-first [] zero x ys is = absurd (none-cons x ys is)
-drop-first [] (suc i) x ys is = absurd (none-cons x ys is)
-drop-first (y ∷ xs) zero x ys is = ap (λ zs. slice_get zs 0) is
-drop-first (y ∷ xs) (suc i) x ys is = drop-first xs i x ys is
-
 -- what holds anyway holds of an error
 pub on-err : {T E P : Type 0} (r : Result T E) → P → OnErr r P
 on-err (Ok x) p = tt
@@ -130,3 +117,80 @@ on-ok (Err e) f h = tt
 pub err-on : {A E P Q : Type 0} (r : Result A E) → (P → Q) → OnErr r P → OnErr r Q
 err-on (Ok x) f h = tt
 err-on (Err e) f h = f h
+
+-- ---- taking twice
+pub map-take : {X Y : Type 0} (f : X → Y) (i : ℕ) (xs : List X) → map f (take i xs) ≡ take i (map f xs)
+map-take f zero [] = refl
+map-take f zero (x ∷ xs) = refl
+map-take f (suc i) [] = refl
+map-take f (suc i) (x ∷ xs) = ap (λ ys. f x ∷ ys) (map-take f i xs)
+
+pub take-none : {X : Type 0} (xs : List X) → take 0 xs ≡ []
+take-none [] = refl
+take-none (x ∷ xs) = refl
+
+pub take-some : {X : Type 0} (xs : List X) (n : ℕ) → 0 < n → n ≤ length xs → 0 < length (take n xs)
+take-some [] n some h = absurd (omega arith)
+take-some (x ∷ xs) zero some h = absurd (omega arith)
+take-some (x ∷ xs) (suc n) some h = omega arith
+
+pub take-again : {X : Type 0} (xs : List X) (n i : ℕ) → n ≤ length (take i xs) → take n (take i xs) ≡ take n xs
+take-again [] zero zero h = refl
+take-again [] zero (suc i) h = refl
+take-again [] (suc n) zero h = refl
+take-again [] (suc n) (suc i) h = refl
+take-again (x ∷ xs) zero zero h = refl
+take-again (x ∷ xs) zero (suc i) h = refl
+take-again (x ∷ xs) (suc n) zero h = absurd (omega arith)
+take-again (x ∷ xs) (suc n) (suc i) h = let less : n ≤ length (take i xs) = omega arith in ap (λ ys. x ∷ ys) (take-again xs n i less)
+
+pub take-within : {X : Type 0} (xs : List X) (i : ℕ) → length (take i xs) ≤ length xs
+take-within [] zero = omega arith
+take-within [] (suc i) = omega arith
+take-within (x ∷ xs) zero = omega arith
+take-within (x ∷ xs) (suc i) = omega (arith, take-within xs i)
+
+drop-none : {X : Type 0} (xs : List X) → drop 0 xs ≡ xs
+drop-none [] = refl
+drop-none (x ∷ xs) = refl
+
+pub drop-either : {X : Type 0} (xs : List X) (n i : ℕ) (b : X) → n ≤ length (take i xs) → In b (drop n xs) → In b (drop n (take i xs)) ⊎ In b (drop i xs)
+drop-either [] zero i b h at = absurd at
+drop-either [] (suc n) i b h at = absurd at
+drop-either (x ∷ xs) zero zero b h at = inr at
+drop-either (x ∷ xs) (suc n) zero b h at = absurd (omega arith)
+drop-either (x ∷ xs) zero (suc i) b h at = elim at [
+  | inl is ↦ inl (inl is)
+  | inr later ↦
+      let none : 0 ≤ length (take i xs) = omega arith in
+      elim (drop-either xs zero i b none (subst (λ ys. In b ys) (sym (drop-none xs)) later)) [
+        | inl low ↦ inl (inr (subst (λ ys. In b ys) (drop-none (take i xs)) low))
+        | inr high ↦ inr high
+      ]
+]
+drop-either (x ∷ xs) (suc n) (suc i) b h at = let less : n ≤ length (take i xs) = omega arith in drop-either xs n i b less at
+
+-- ---- one changed behind a cut
+set-dropped : {X : Type 0} (xs : List X) (i : ℕ) (x : X) → i < length xs → take i xs ++ set (drop i xs) 0 x ≡ set xs i x
+set-dropped [] i x h = absurd (omega arith)
+set-dropped (y ∷ xs) zero x h = refl
+set-dropped (y ∷ xs) (suc i) x h = let less : i < length xs = omega arith in ap (λ ys. y ∷ ys) (set-dropped xs i x less)
+
+set-long : {X : Type 0} (xs : List X) (i : ℕ) (x : X) → length (set xs i x) ≡ length xs
+set-long [] zero x = refl
+set-long [] (suc i) x = refl
+set-long (y ∷ xs) zero x = refl
+set-long (y ∷ xs) (suc i) x = ap suc (set-long xs i x)
+
+take-front : {X : Type 0} (xs ys : List X) (n : ℕ) → n ≡ length xs → take n (xs ++ ys) ≡ xs
+take-front [] ys n is = subst (λ k. take k ys ≡ []) (sym is) (take-none ys)
+take-front (x ∷ xs) ys zero is = absurd (omega arith)
+take-front (x ∷ xs) ys (suc n) is = let less : n ≡ length xs = omega arith in ap (λ zs. x ∷ zs) (take-front xs ys n less)
+
+pub set-behind : {X : Type 0} (xs before behind : List X) (i n : ℕ) (x : X) → before ≡ take i xs → behind ≡ drop i xs → i < length xs → n ≡ length xs →
+    take n ((before ++ set behind 0 x) ++ drop (length (before ++ set behind 0 x)) xs) ≡ set xs i x
+set-behind xs before behind i n x one two less size =
+    let is : before ++ set behind 0 x ≡ set xs i x =
+    ap (λ ys. ys ++ set behind 0 x) one ∙ (ap (λ ys. take i xs ++ set ys 0 x) two ∙ set-dropped xs i x less) in
+    let long : n ≡ length (before ++ set behind 0 x) = size ∙ (sym (set-long xs i x) ∙ sym (ap length is)) in
+    take-front (before ++ set behind 0 x) (drop (length (before ++ set behind 0 x)) xs) n long ∙ is

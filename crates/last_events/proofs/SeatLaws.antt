@@ -1,10 +1,10 @@
 -- What stands in a branch: what it answers, and what one more and one less leave.
-use Rattle.std.proofs.Common.{◌≡◌, ◌≢◌, ◌⊎◌, inl, inr, ℕ, zero, suc, ◌+◌, ◌*◌, ◌<◌, eqb, length-append, get_or, Bool, true, false, cond, List, [], ◌∷◌, ◌++◌, length, take, drop, map, set, append_assoc, Option, Result, Ok, Err, OnOk, OnErr, Some, None, slice_get, refl, sym, ap, subst, ◌∙◌, true≢false, arith, Ordering, Less, Equal, Greater}
+use Rattle.std.proofs.Common.{◌≡◌, ◌≢◌, inl, inr, ℕ, zero, suc, ◌+◌, ◌*◌, ◌<◌, eqb, length-append, get_or, Bool, true, false, cond, List, [], ◌∷◌, ◌++◌, length, take, drop, map, set, append_assoc, Option, Some, None, refl, sym, ap, subst, ◌∙◌, true≢false, arith, Ordering, Less, Equal, Greater}
 use Rattle.std.specs.Ordering.{is_eq, ordering_then}
 use Rattle.std.specs.Global.{Box}
 use Rattle.std.specs.Map.{lookup}
 use Rattle.address.specs.declared.Entry.{Entry}
-use Rattle.address.specs.Order.{entry_order, order_of}
+use Rattle.address.specs.Order.{order_of}
 use Rattle.address.specs.walking.OrderLaws.{less-not-equal}
 use Rattle.address.proofs.Total.{order-itself, order-ties, order-total, order-transitive}
 use Rattle.syntax.specs.Lists.{In, Every}
@@ -14,8 +14,8 @@ use Rattle.last_events.specs.declared.branch.Seat.TheVariants.{Event, Inner}
 use Rattle.last_events.specs.walking.Search.{Rising, Splits}
 use Rattle.last_events.specs.walking.Seats.{Places, way_of, rest_of, AllOrdered, EndsAtBranch, IsWay, behind_way, seat_way, seat_places, flat, HasSeat, IsSound, IsBranch, IsMadeOf, FitsBehind, TakenAt}
 use Rattle.last_events.proofs.ForkLaws.{entry-itself}
-use Rattle.last_events.proofs.ListLaws.{in-left, in-right, in-either, in-map, map-in, in-map-take, in-map-drop, map-append, every-left, every-right, every-both, whole, split-at, set-split, get-at, at-map, at-within, map-at}
-use Rattle.last_events.proofs.SearchLaws.{none-some, some-is}
+use Rattle.last_events.proofs.ListLaws.{in-left, in-right, in-either, in-map, map-in, in-map-take, in-map-drop, every-left, every-right, every-both, whole, split-at, set-split, get-at, at-map, at-within, map-at}
+use Rattle.last_events.proofs.SearchLaws.{some-is}
 use Rattle.last_events.proofs.WayLaws.{ordered-way, ends-way, way-behind, event-rest, rest-shorter, way-and-rest, begins}
 
 -- ---- the table asked for a place
@@ -108,14 +108,6 @@ removed-behind w old new r gone = record {
   here = look-behind w new r ∙ gone.here;
   others = λ b differs. same-behind w old new r b gone.others differs;
 }
-
-none-is : (t : ℕ) → None ≡ Some t → ⊥
-none-is t e = none-some t e
-
--- where an event stood there is one
-pub put-some : (old new : Places) (a : List Entry) (t : ℕ) → PutAt old a t new → 0 < length new
-put-some old [] a t put = absurd (none-is t put.here)
-put-some old (e ∷ new) a t put = omega arith
 
 behind-some : (w : List Entry) (es : Places) → 0 < length es → 0 < length (behind_way w es)
 behind-some w [] h = absurd (omega arith)
@@ -427,15 +419,12 @@ dropped-set (x ∷ ss) zero t = refl
 dropped-set (x ∷ ss) (suc i) t = dropped-set ss i t
 
 -- the way and what is behind it are the place
-whole-place : (s : Seat) (a r : List Entry) → seat_way s ≡ way_of a → r ≡ rest_of a → seat_way s ++ r ≡ a
+pub whole-place : (s : Seat) (a r : List Entry) → seat_way s ≡ way_of a → r ≡ rest_of a → seat_way s ++ r ≡ a
 whole-place s a r way rest = ap (λ (w : List Entry). w ++ r) way ∙ (ap (λ (x : List Entry). way_of a ++ x) rest ∙ way-and-rest a)
 
 module _ (ss : List Seat) (i : ℕ) (s t : Seat) (a r : List Entry) (h : IsBranch ss) (st : Stands ss i s a) (rest : r ≡ rest_of a) where
   parted : IsBranch (take i ss ++ s ∷ drop (suc i) ss)
   parted = subst IsBranch st.parts h
-
-  put-in-parts : (xs : List Seat) → xs ≡ set ss i t → xs ≡ take i ss ++ t ∷ drop (suc i) ss
-  put-in-parts xs is = is ∙ set-split ss i t st.within
 
   pub gone-branch : (after : List Seat) → after ≡ take i (set ss i t) ++ drop (suc i) (set ss i t) → IsBranch after
   gone-branch after is =
@@ -520,12 +509,6 @@ pub inner-put : (s : Seat) (w : List Entry) (inner box : Box Places) (r : List E
 inner-put s w inner box r n new is value put =
     subst (λ (x : Seat). PutAt (seat_places x) (seat_way x ++ r) n (behind_way w box.value)) (sym is)
     (put-behind w inner.value box.value r n (subst (λ (es : Places). PutAt inner.value r n es) (sym value) put))
-
--- something stands there after a put, and after one that was refused
-pub put-or-not : {A E : Type 0} (result : Result A E) (old new : Places) (a : List Entry) (n : ℕ) → 0 < length old → OnOk result (PutAt old a n new) → OnErr result (new ≡ old) →
-    0 < length new
-put-or-not (Ok x) old new a n some put same = put-some old new a n put
-put-or-not (Err e) old new a n some put same = subst (λ (es : Places). 0 < length es) (sym same) some
 
 pub seat-is-way : (s : Seat) → IsSound s → IsWay (seat_way s)
 seat-is-way (Event w t) h = ordered-way w h

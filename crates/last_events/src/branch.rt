@@ -3,8 +3,8 @@
 ghost use Rattle.std.specs.Prelude.{◌≡◌, ◌<◌, ◌++◌, ◌∷◌, [], true, false, length, map, IfOk, OnOk, OnErr};
 ghost use Rattle.last_events.specs.LastEvents.{ticket_at, first_child, Orderly, PutAt, RemovedAt};
 ghost use Rattle.last_events.specs.walking.Search.{Splits};
-ghost use Rattle.last_events.specs.walking.Seats.{AllOrdered, seat_way, seat_places, flat, HasSeat, IsSound, IsBranch, IsMadeOf, FitsBehind, TakenAt};
-ghost use Rattle.last_events.specs.walking.Walks.{Related, AddedLast, AddedBefore, AddedInner, AddedLesser};
+ghost use Rattle.last_events.specs.walking.Seats.{AllOrdered, seat_way, seat_places, ordered_of, IsWay, flat, HasSeat, IsSound, IsBranch, IsMadeOf, FitsBehind, TakenAt};
+ghost use Rattle.last_events.specs.walking.Walks.{Related, AddedLast, AddedFrom, IsGroup, IsNearer};
 
 use crate::children::is_first_child;
 use crate::search::count_less;
@@ -79,18 +79,24 @@ impl BranchEvents {
         self.seats.is_empty()
     }
 
-    /// Puts the event of this ticket at the place. Without memory for it all is as before.
+    /// Puts the event of this ticket at the place, and adds the last events before it: where there is none, the last ones of
+    /// those that are nearest before all of these. Without memory for it the events are as before.
     #[cycle(put)]
     pub(crate) fn put(
         &mut self,
         alloc: Global,
+        nearest: &[Seat],
         place: &[Entry],
         ticket: u64,
+        found: &mut Vec<u64>,
     ) -> Result<(), AllocError>
+        requires nearest { IsGroup nearest.now }
+        requires orderly { Orderly self.old place.now }
         ensures put { OnOk result (PutAt self.old place.now ticket self.new) }
+        ensures found { OnOk result (AddedFrom (flat nearest.now) self.old place.now found.old.items found.new.items) }
         ensures refused { OnErr result (self.new ≡ self.old) }
     {
-        put_among(&mut self.seats, alloc, place, ticket)
+        put_among(&mut self.seats, alloc, nearest, place, ticket, found)
     }
 
     /// Takes out what stands at the place.
@@ -127,22 +133,33 @@ impl Seat {
         }
     }
 
-    /// Puts the event behind the way.
+    /// Puts the event behind the way, and adds the last events before it that stand here, or else those of the nearest.
     #[cycle(put)]
-    fn put(&mut self, alloc: Global, rest: &[Entry], ticket: u64) -> Result<(), AllocError>
+    fn put(
+        &mut self,
+        alloc: Global,
+        nearest: &[Seat],
+        rest: &[Entry],
+        ticket: u64,
+        found: &mut Vec<u64>,
+    ) -> Result<(), AllocError>
         requires sound { IsSound self.old }
         requires fits { FitsBehind self.old rest.now }
+        requires nearest { IsGroup nearest.now }
+        requires orderly { Orderly (seat_places self.old) (seat_way self.old ++ rest.now) }
         ensures sound { IsSound self.new }
         ensures way { seat_way self.new ≡ seat_way self.old }
         ensures put { OnOk result (PutAt (seat_places self.old) (seat_way self.old ++ rest.now) ticket (seat_places self.new)) }
+        ensures found { OnOk result (AddedFrom (flat nearest.now) (seat_places self.old) (seat_way self.old ++ rest.now) found.old.items found.new.items) }
         ensures refused { OnErr result (seat_places self.new ≡ seat_places self.old) }
     {
         match self {
             Seat::Event(_, held) => {
+                add_last_among(nearest, found)?;
                 *held = ticket;
                 Ok(())
             }
-            Seat::Inner(_, inner) => inner.put(alloc, rest, ticket),
+            Seat::Inner(_, inner) => inner.put(alloc, nearest, rest, ticket, found),
         }
     }
 
@@ -163,27 +180,51 @@ impl Seat {
     }
 }
 
-/// Puts the event among what stands in a branch.
+/// Puts the event among what stands in a branch, and adds the last events before it that stand there, or else those of the
+/// nearest. All that is added is added before anything is put in.
 #[cycle(put)]
 fn put_among(
     seats: &mut Vec<Seat>,
     alloc: Global,
+    nearest: &[Seat],
     place: &[Entry],
     ticket: u64,
+    found: &mut Vec<u64>,
 ) -> Result<(), AllocError>
-    requires { IsBranch seats.old.items }
+    requires branch { IsBranch seats.old.items }
+    requires nearest { IsGroup nearest.now }
+    requires orderly { Orderly (flat seats.old.items) place.now }
     ensures branch { IsBranch seats.new.items }
     ensures put { OnOk result (PutAt (flat seats.old.items) place.now ticket (flat seats.new.items)) }
+    ensures found { OnOk result (AddedFrom (flat nearest.now) (flat seats.old.items) place.now found.old.items found.new.items) }
     ensures refused { OnErr result (flat seats.new.items ≡ flat seats.old.items) }
 {
     let (way, rest) = place.split_at(way_length(place));
     let index = count_less(seats.as_slice(), way);
     if has_way(seats.as_slice(), index, way) {
-        return seats[index].put(alloc, rest, ticket);
+        let (before, behind) = seats.as_mut_slice().split_at_mut(index);
+        let nearer = nearer(before, way, nearest);
+        return behind[0].put(alloc, nearer, rest, ticket, found);
     }
+    let (before, _) = seats.as_slice().split_at(index);
+    add_last_among(nearer(before, way, nearest), found)?;
     let seat = Seat::new(alloc, place, ticket)?;
     seats.insert(index, seat)?;
     Ok(())
+}
+
+/// Those of what stands before a way that stand before all branches beside it; where there are none, the nearest.
+fn nearer<'a>(before: &'a [Seat], way: &[Entry], nearest: &'a [Seat]) -> &'a [Seat]
+    requires branch { IsBranch before.now }
+    requires way { IsWay way.now }
+    ensures { IsNearer before.now (ordered_of way.now) nearest.now result.now }
+{
+    let count = count_less(before, ordered(way));
+    if count == 0 {
+        return nearest;
+    }
+    let (lesser, _) = before.split_at(count);
+    lesser
 }
 
 /// Takes out what stands at the place.
@@ -214,19 +255,6 @@ fn has_way(seats: &[Seat], index: usize, way: &[Entry]) -> bool
 }
 
 impl BranchEvents {
-    /// Adds the last events before the place, and tells whether there are any.
-    #[cycle(before)]
-    pub(crate) fn add_before(
-        &self,
-        place: &[Entry],
-        found: &mut Vec<u64>,
-    ) -> Result<bool, AllocError>
-        requires { Orderly self.now place.now }
-        ensures { IfOk result (λ some. AddedBefore self.now place.now some found.old.items found.new.items) }
-    {
-        add_before_among(self.seats.as_slice(), place, found)
-    }
-
     /// Adds the last of all events: of each branch of the parallel at the end, if one stands there.
     #[cycle(last)]
     fn add_last(&self, found: &mut Vec<u64>) -> Result<(), AllocError>
@@ -261,57 +289,6 @@ impl Seat {
             Seat::Inner(_, inner) => inner.add_last(found),
         }
     }
-}
-
-/// Adds the last events before the place: of the innermost of its branches in which one is before it.
-#[cycle(before)]
-fn add_before_among(
-    seats: &[Seat],
-    place: &[Entry],
-    found: &mut Vec<u64>,
-) -> Result<bool, AllocError>
-    requires branch { IsBranch seats.now }
-    requires orderly { Orderly (flat seats.now) place.now }
-    ensures { IfOk result (λ some. AddedBefore (flat seats.now) place.now some found.old.items found.new.items) }
-{
-    let inner = add_inner(seats, place, found)?;
-    if inner {
-        return Ok(true);
-    }
-    add_lesser(seats, place, found)
-}
-
-/// Adds the last events before the place in the branch that it goes into.
-#[cycle(before)]
-fn add_inner(seats: &[Seat], place: &[Entry], found: &mut Vec<u64>) -> Result<bool, AllocError>
-    requires branch { IsBranch seats.now }
-    requires orderly { Orderly (flat seats.now) place.now }
-    ensures { IfOk result (λ some. AddedInner (flat seats.now) place.now some found.old.items found.new.items) }
-{
-    let (way, rest) = place.split_at(way_length(place));
-    let index = count_less(seats, way);
-    if !has_way(seats, index, way) {
-        return Ok(false);
-    }
-    match &seats[index] {
-        Seat::Event(_, _) => Ok(false),
-        Seat::Inner(_, inner) => inner.add_before(rest, found),
-    }
-}
-
-/// Adds the last of the events that stand before all branches that are beside that of the place.
-fn add_lesser(seats: &[Seat], place: &[Entry], found: &mut Vec<u64>) -> Result<bool, AllocError>
-    requires branch { IsBranch seats.now }
-    requires orderly { Orderly (flat seats.now) place.now }
-    ensures { IfOk result (λ some. AddedLesser (flat seats.now) place.now some found.old.items found.new.items) }
-{
-    let (way, _) = place.split_at(way_length(place));
-    let (lesser, _) = seats.split_at(count_less(seats, ordered(way)));
-    if lesser.is_empty() {
-        return Ok(false);
-    }
-    add_last_among(lesser, found)?;
-    Ok(true)
 }
 
 /// Adds the last of these events: those of the last one's parallel, or the last one.

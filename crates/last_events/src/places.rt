@@ -1,5 +1,5 @@
 // The places of events, branch by branch.
-ghost use Rattle.std.specs.Prelude.{◌≡◌, List, None, IfOk, OnOk, OnErr};
+ghost use Rattle.std.specs.Prelude.{◌≡◌, List, None, OnOk, OnErr};
 ghost use Rattle.address.specs.declared.Entry.{Entry};
 ghost use Rattle.last_events.specs.LastEvents.{ticket_at, first_child, Orderly, PutAt, RemovedAt, Same, LastBefore};
 
@@ -42,12 +42,22 @@ impl PlaceTable {
         self.events.at_first_child(place)
     }
 
-    /// Puts the event of this ticket at the place, where none stood. Without memory for it the table is as before.
-    pub fn put(&mut self, place: &Address, ticket: u64) -> Result<(), AllocError>
+    /// Puts the event of this ticket at the place, where none stood, and adds the tickets of events that stand before this place,
+    /// so that each other place before it comes before the place of one of them. Without memory for it the table is as before.
+    /// It takes as many steps as there are such tickets and entries in the place, each by halves.
+    pub fn put(
+        &mut self,
+        place: &Address,
+        ticket: u64,
+        found: &mut Vec<u64>,
+    ) -> Result<(), AllocError>
+        requires { Orderly self.old place.now }
         ensures put { OnOk result (PutAt self.old place.now ticket self.new) }
+        ensures found { OnOk result (LastBefore self.old place.now found.old.items found.new.items) }
         ensures refused { OnErr result (Same self.old self.new) }
     {
-        self.events.put(self.alloc, place.entries(), ticket)
+        self.events
+            .put(self.alloc, &[], place.entries(), ticket, found)
     }
 
     /// Takes out what stands at the place.
@@ -55,15 +65,5 @@ impl PlaceTable {
         ensures { RemovedAt self.old place.now self.new }
     {
         self.events.remove(place.entries());
-    }
-
-    /// Adds the tickets of events that stand before this place, so that each other place before it comes before the place of
-    /// one of them. It takes as many steps as there are such tickets and entries in the place, each by halves.
-    pub fn last_before(&self, place: &Address, found: &mut Vec<u64>) -> Result<(), AllocError>
-        requires { Orderly self.now place.now }
-        ensures { IfOk result (λ _. LastBefore self.now place.now found.old.items found.new.items) }
-    {
-        self.events.add_before(place.entries(), found)?;
-        Ok(())
     }
 }

@@ -5,6 +5,7 @@ ghost use Rattle.runs.specs.Object.{Reaches};
 ghost use Rattle.runs.specs.Ready.{ReadyList};
 ghost use Rattle.runs.specs.Does.{Answers};
 ghost use Rattle.runs.specs.declared.command.Command.{Command};
+ghost use Rattle.offered_sides.specs.Sides.{OffersExactly};
 ghost use Rattle.event_places.specs.EventPlaces.{line_after, is_open_after};
 ghost use Rattle.machine.specs.Branching.{AnswersBranch};
 ghost use Rattle.machine.specs.AtMachine.{object};
@@ -20,6 +21,7 @@ use address::Address;
 use channel_uses::ChannelUses;
 use dependence::Live;
 use event_places::{line_after, select_after};
+use offered_sides::OfferedSide;
 use process_tree::system_code;
 use runs::{Choice, Event, Refusal};
 use sharing_check::Checked;
@@ -251,6 +253,17 @@ impl Machine {
         ensures events { IfOk result (λ events. (T : State) × Reaches (object self.now) T × ReadyList T events) }
     {
         or_no_memory(self.history.ready(self.alloc, &self.uses))
+    }
+
+    /// The sides that the state offers, in order of place: those of the events that may be taken, and those that wait.
+    ///
+    /// # Errors
+    ///
+    /// `Memory` without memory.
+    pub fn sides(&self) -> Result<Items<OfferedSide>, Refusal>
+        ensures { IfOk result (λ sides. (T : State) × Reaches (object self.now) T × OffersExactly T sides) }
+    {
+        or_no_memory(self.history.sides(self.alloc))
     }
 
     /// The line, from 1, of the command that has this place after the live events. None where no command has it.

@@ -7,6 +7,7 @@ ghost use Rattle.runs.specs.Object.{Reaches, most_live, last_ticket, with_event}
 ghost use Rattle.runs.specs.Ready.{ReadyList};
 ghost use Rattle.runs.specs.Does.{Does};
 ghost use Rattle.machine.specs.Results.{step_reply};
+ghost use Rattle.offered_sides.specs.Sides.{OffersExactly};
 ghost use Rattle.dependence.specs.Behind.{ComesBehind};
 ghost use Rattle.event_inverse.specs.Grown.{TreeAndStore, state_of_tree, applied};
 ghost use Rattle.event_inverse.specs.View.{inverse_view};
@@ -18,6 +19,7 @@ ghost use Rattle.machine.specs.walking.Entering.{Entered, NotEntered};
 use crate::history::History;
 use channel_uses::ChannelUses;
 use event_inverse::{Inverse, Record, apply, invert};
+use offered_sides::{OfferedSide, sides_of};
 use rendezvous::{event_with, ready_events};
 use rows::Rows;
 use runs::{Choice, Command, Event, LAST_TICKET, MOST_LIVE_EVENTS, Refusal};
@@ -160,6 +162,14 @@ impl History {
             Reaches (execution system self.now) (state_of_tree (tree_of self.now)) × ReadyList (state_of_tree (tree_of self.now)) events) }
     {
         ready_events(alloc, uses, &self.tree, &self.store)
+    }
+
+    /// The sides that are offered now, in order of place.
+    pub(crate) fn sides(&self, alloc: Global) -> Result<Items<OfferedSide>, AllocError>
+        ensures { (system : Checked) → Holds system self.now → IfOk result (λ sides.
+            Reaches (execution system self.now) (state_of_tree (tree_of self.now)) × OffersExactly (state_of_tree (tree_of self.now)) sides) }
+    {
+        sides_of(alloc, &self.tree, &self.store)
     }
 }
 

@@ -1,5 +1,6 @@
 pub mod Branches
 pub mod Ends
 pub mod Names
+pub mod OutlineText
 pub mod Outlined
 pub mod walking

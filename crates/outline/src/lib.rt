@@ -2,12 +2,17 @@
 //! that it uses, its variables and its channels.
 #![tactic(auto)]
 
+mod branch_text;
 mod branches;
+mod channel_text;
 mod ends;
 mod laws;
 mod names;
 mod outline;
+mod piece;
+mod source_text;
 mod text;
+mod variable_text;
 
 pub use branches::{BranchEntry, Part};
 pub use ends::{End, Way};

@@ -1,14 +1,16 @@
-//! The picture of a run, as a page, as waves, or as the data alone.
+//! The picture of a run, as a page, as a drawing, as waves, or as the data alone.
 #![tactic(auto)]
 
-ghost use Rattle.std.specs.Prelude.{◌≡◌, MatchResult};
+ghost use Rattle.std.specs.Prelude.{◌≡◌, IfOk, MatchResult};
 ghost use Rattle.devices.specs.Counting.{failures};
 ghost use Rattle.trace_file.specs.Loading.{IsRefused, after_writing};
-ghost use Rattle.questions.specs.Asking.{IsTraced};
+ghost use Rattle.picture_data.specs.Shown.{Shows};
+ghost use Rattle.picture.specs.Pictures.{AreData, IsPage, IsPictureBehind, IsPictureOf, IsPictured, IsShown};
 
 use devices::{Counted, write_out};
 use machine::Machine;
 use picture_data::{Picture, picture_of};
+use picture_drawing::drawing_text;
 pub use picture_text::Names;
 use picture_text::{data_text, page_text};
 use picture_waves::waves_text;
@@ -23,14 +25,26 @@ use typed_source::typed_source;
 pub enum Drawing {
     /// a page with its own style, script and data, which needs no other file
     Page,
+    /// a drawing for a document (SVG), with the causes and the consequences of the step of this number, if one is given; where it is
+    /// `quiet` without turns and tests
+    Sheet { event: Option<u64>, quiet: bool },
     /// a value change dump over logical time, for viewers of waves
     Waves,
     /// the data of the page alone, as one JSON text
     Data,
 }
 
+/// What comes of it.
+#[derive(Drop)]
+pub enum Pictured {
+    /// the picture
+    Text(Vec<u8>),
+    /// the trace has no step of the number that is asked for, of which these lines tell
+    NoSuchStep(Vec<u8>),
+}
+
 /// The picture of the run that the trace stands for, where the source is the one that was accepted as this system. `names` are the names of
-/// the three files, as they are shown.
+/// the three files, as they are shown. Steps are numbered from 1 as they stand in the trace.
 ///
 /// It is an error if the text is no trace of the system, or if there is no memory; the fault says which, as that of `replay`.
 pub fn picture_text(
@@ -40,15 +54,30 @@ pub fn picture_text(
     trace: &[u8],
     names: Names<'_>,
     drawing: Drawing,
-) -> Result<Vec<u8>, Fault>
-    ensures { MatchResult result (λ _. IsTraced checked trace.now) (λ fault. IsRefused checked trace.now fault) }
+) -> Result<Pictured, Fault>
+    ensures { MatchResult result (IsPictured checked trace.now drawing) (λ fault. IsRefused checked trace.now fault) }
+{
+    run_picture(alloc, checked, source, trace, names, drawing)
+}
+
+/// The same, of which the contract says more: which text a page and its data are.
+pub fn run_picture(
+    alloc: Global,
+    checked: Checked,
+    source: &[u8],
+    trace: &[u8],
+    names: Names<'_>,
+    drawing: Drawing,
+) -> Result<Pictured, Fault>
+    ensures { MatchResult result (IsPictureBehind checked trace.now source.now names.entry drawing)
+        (λ fault. IsRefused checked trace.now fault) }
 {
     let machine = load_text(alloc, checked, trace)?;
     Ok(drawn(alloc, &machine, source, names, drawing)?)
 }
 
-/// Writes the same. At `WriteFailed`, which comes exactly where the writer counts a failure, a beginning is out; at every other
-/// fault the writer was not asked for anything.
+/// Writes the same; the lines where there is no such step, of which nothing is written. At `WriteFailed`, which comes exactly where the
+/// writer counts a failure, a beginning is out; at every other fault the writer was not asked for anything.
 pub fn write_picture<W: Write>(
     alloc: Global,
     checked: Checked,
@@ -57,21 +86,22 @@ pub fn write_picture<W: Write>(
     names: Names<'_>,
     drawing: Drawing,
     writer: &mut Counted<W>,
-) -> Result<(), Fault>
+) -> Result<Option<Vec<u8>>, Fault>
     ensures failures { failures writer.new ≡ after_writing result (failures writer.old) }
 {
     match picture_text(alloc, checked, source, trace, names, drawing) {
-        Ok(text) => written(text.as_slice(), writer),
+        Ok(Pictured::Text(text)) => written(text.as_slice(), writer),
+        Ok(Pictured::NoSuchStep(words)) => Ok(Some(words)),
         Err(fault) => Err(fault),
     }
 }
 
 /// Writes the text.
-fn written<W: Write>(text: &[u8], writer: &mut Counted<W>) -> Result<(), Fault>
+fn written<W: Write>(text: &[u8], writer: &mut Counted<W>) -> Result<Option<Vec<u8>>, Fault>
     ensures failures { failures writer.new ≡ after_writing result (failures writer.old) }
 {
     match write_out(writer, text) {
-        Ok(()) => Ok(()),
+        Ok(()) => Ok(None),
         Err(_) => Err(Fault::WriteFailed),
     }
 }
@@ -83,13 +113,50 @@ fn drawn(
     source: &[u8],
     names: Names<'_>,
     drawing: Drawing,
-) -> Result<Vec<u8>, AllocError> {
+) -> Result<Pictured, AllocError>
+    ensures { IfOk result (IsPictureOf machine.now source.now names.entry drawing) }
+{
     let picture = taken(alloc, machine, source)?;
     match drawing {
-        Drawing::Page => page_of(alloc, machine, &picture, source, names),
-        Drawing::Waves => waves_text(alloc, machine, &picture),
-        Drawing::Data => data_text(alloc, machine, &picture, source, names),
+        Drawing::Page => Ok(Pictured::Text(page_of(alloc, machine, &picture, source, names)?)),
+        Drawing::Sheet { event, quiet } => {
+            sheet_of(alloc, machine, &picture, names.trace, event, quiet)
+        }
+        Drawing::Waves => Ok(Pictured::Text(waves_text(alloc, machine, &picture)?)),
+        Drawing::Data => Ok(Pictured::Text(data_of(alloc, machine, &picture, source, names)?)),
     }
+}
+
+/// The drawing.
+fn sheet_of(
+    alloc: Global,
+    machine: &Machine,
+    picture: &Picture,
+    trace: &str,
+    event: Option<u64>,
+    quiet: bool,
+) -> Result<Pictured, AllocError>
+    ensures { IfOk result (IsShown machine.now.live event) }
+{
+    match drawing_text(alloc, machine, picture, trace, event, quiet)? {
+        Some(text) => Ok(Pictured::Text(text)),
+        None => {
+            let count = machine.live_events().len();
+            Ok(Pictured::NoSuchStep(missing_text(alloc, event, count)?))
+        }
+    }
+}
+
+/// What is said of a step that a trace of so many steps does not have.
+fn missing_text(alloc: Global, event: Option<u64>, count: usize) -> Result<Vec<u8>, AllocError> {
+    let mut text = Vec::new(alloc);
+    let number = event.unwrap_or(0);
+    write!(
+        text,
+        "the trace has no step {number}: it has {count} steps\n"
+    )
+    .map_err(|_| AllocError)?;
+    Ok(text)
 }
 
 /// The page.
@@ -99,13 +166,32 @@ fn page_of(
     picture: &Picture,
     source: &[u8],
     names: Names<'_>,
-) -> Result<Vec<u8>, AllocError> {
-    let data = data_text(alloc, machine, picture, source, names)?;
-    page_text(alloc, data.as_slice())
+) -> Result<Vec<u8>, AllocError>
+    requires { Shows machine.now picture.now }
+    ensures { IfOk result (λ text. IsPage machine.now source.now names.entry text.items) }
+{
+    let json = data_of(alloc, machine, picture, source, names)?;
+    page_text(alloc, json.as_slice())
+}
+
+/// The data.
+fn data_of(
+    alloc: Global,
+    machine: &Machine,
+    picture: &Picture,
+    source: &[u8],
+    names: Names<'_>,
+) -> Result<Vec<u8>, AllocError>
+    requires { Shows machine.now picture.now }
+    ensures { IfOk result (λ text. AreData machine.now source.now names.entry text.items) }
+{
+    data_text(alloc, machine, picture, source, names)
 }
 
 /// The picture of the run as data. Where the source is not one that is accepted, which it was, it has no blocks.
-fn taken(alloc: Global, machine: &Machine, source: &[u8]) -> Result<Picture, AllocError> {
+fn taken(alloc: Global, machine: &Machine, source: &[u8]) -> Result<Picture, AllocError>
+    ensures { IfOk result (Shows machine.now) }
+{
     match typed_source(alloc, source) {
         Ok(typed) => picture_of(alloc, machine, typed.procedures()),
         Err(typed_source::Fault::Memory) => Err(AllocError),

@@ -41,7 +41,7 @@ pub(crate) fn end_of(
     uses: &[ChannelUse],
     standing: &Standing,
 ) -> Result<End, AllocError>
-    ensures { IfOk result (ShowsEnd (object machine.now)) }
+    ensures { IfOk result (ShowsEnd machine.now table.now.lanes.items) }
 {
     let ready = ready_events(machine)?;
     let waiting = who_waits(alloc, machine)?;

@@ -1,6 +1,5 @@
 // The whole picture.
 ghost use Rattle.std.specs.Prelude.{IfOk};
-ghost use Rattle.machine.specs.AtMachine.{object};
 ghost use Rattle.picture_data.specs.Shown.{Shows};
 
 use crate::end::{End, end_of};
@@ -32,7 +31,7 @@ pub fn picture_of(
     machine: &Machine,
     procedures: &[Procedure],
 ) -> Result<Picture, AllocError>
-    ensures { IfOk result (Shows (object machine.now)) }
+    ensures { IfOk result (Shows machine.now) }
 {
     let Ground {
         instances,

@@ -1,4 +1,8 @@
 // The lanes and lines of the two sides of an event.
+ghost use Rattle.std.specs.Prelude.{◌≡◌, IfOk};
+ghost use Rattle.runs.specs.Live.{events};
+ghost use Rattle.picture_data.specs.Shown.{EachStandsIn, StandsIn, line_of};
+
 use crate::table::LaneTable;
 use address::Address;
 use machine::Machine;
@@ -24,7 +28,9 @@ pub(crate) fn sides_of(
     machine: &Machine,
     table: &LaneTable,
     event: &Event,
-) -> Result<Sides, AllocError> {
+) -> Result<Sides, AllocError>
+    ensures { IfOk result (StandsIn machine.now table.now.lanes.items event.now) }
+{
     let first_lane = table.lane(alloc, &event.first)?;
     let first_line = line_of(machine, &event.first);
     match &event.second {
@@ -48,7 +54,9 @@ pub(crate) fn sides_of(
 }
 
 /// The line of the command at the place, 0 for a place of the environment.
-pub(crate) fn line_of(machine: &Machine, place: &Address) -> u64 {
+pub(crate) fn line_of(machine: &Machine, place: &Address) -> u64
+    ensures { result ≡ line_of machine.now place.now }
+{
     match machine.line(place) {
         Some(line) => line,
         None => 0,
@@ -61,7 +69,9 @@ pub(crate) fn all_sides(
     machine: &Machine,
     table: &LaneTable,
     events: &[Event],
-) -> Result<Vec<Sides>, AllocError> {
+) -> Result<Vec<Sides>, AllocError>
+    ensures { IfOk result (λ sides. EachStandsIn machine.now table.now.lanes.items events.now sides.items) }
+{
     let mut sides = Vec::with_capacity(alloc, events.len())?;
     for event in events {
         sides.push(sides_of(alloc, machine, table, event)?)?;
@@ -74,7 +84,9 @@ pub(crate) fn live_sides(
     alloc: Global,
     machine: &Machine,
     table: &LaneTable,
-) -> Result<Vec<Sides>, AllocError> {
+) -> Result<Vec<Sides>, AllocError>
+    ensures { IfOk result (λ sides. EachStandsIn machine.now table.now.lanes.items (events machine.now.live) sides.items) }
+{
     let live = machine.live_events().as_slice();
     let mut sides = Vec::with_capacity(alloc, live.len())?;
     for entry in live {

@@ -35,7 +35,7 @@ pub(crate) fn steps_of(
     table: &LaneTable,
     standing: &mut Standing,
 ) -> Result<Steps, AllocError>
-    ensures { IfOk result (λ steps. ShowsSteps machine.now.live steps) }
+    ensures { IfOk result (λ steps. ShowsSteps machine.now table.now.lanes.items steps) }
 {
     let live = machine.live_events();
     let depths = depths_of(alloc, live)?;

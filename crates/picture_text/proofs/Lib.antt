@@ -1,0 +1,3 @@
+pub mod EventLine
+pub mod PageParts
+pub mod Rows

@@ -1,12 +1,14 @@
 // The whole of the data.
-ghost use Rattle.std.specs.Prelude.{IfOk};
+ghost use Rattle.std.specs.Prelude.{◌≡◌, IfOk, OnOk};
 ghost use Rattle.std.specs.List.{All};
 ghost use Rattle.json_text.specs.Strings.{IsPlain};
+ghost use Rattle.json_text.specs.Values.{with_values};
+ghost use Rattle.picture_text.specs.DataText as model;
 
 use crate::end::{add_places, add_ready, add_ring};
 use crate::ground::{add_channels, add_feeds, add_instances, add_lanes, add_variables};
 use crate::steps::{add_events, add_races, add_tickets};
-use json_text::Json;
+use json_text::{Item, Json};
 use machine::Machine;
 use picture_data::Picture;
 use std::alloc::{AllocError, Global};
@@ -28,7 +30,9 @@ pub fn data_text(
     source: &[u8],
     names: Names<'_>,
 ) -> Result<Vec<u8>, AllocError>
-    ensures { IfOk result (λ text. All IsPlain text.items) }
+    ensures text { IfOk result (λ text. text.items ≡ model.data_text machine.now.checked machine.now.live picture.now source.now
+        names.entry.file.now names.entry.stimulus.now names.entry.trace.now) }
+    ensures plain { IfOk result (λ text. All IsPlain text.items) }
 {
     let mut json = Json::new(alloc);
     json.open_object()?;
@@ -40,15 +44,19 @@ pub fn data_text(
 }
 
 /// Adds the version of the data, the names of the files and the source.
-fn add_head(json: &mut Json, source: &[u8], names: Names<'_>) -> Result<(), AllocError> {
+#[tactic(auto, using(json_text::proofs::Growing::member_added))]
+fn add_head(json: &mut Json, source: &[u8], names: Names<'_>) -> Result<(), AllocError>
+    ensures { OnOk result (json.new ≡ with_values json.old (model.head_members names.entry.file.now names.entry.stimulus.now
+        names.entry.trace.now source.now)) }
+{
     json.name("picture")?;
     json.number(1)?;
     json.name("files")?;
-    json.open_list()?;
-    json.text(names.file.as_bytes())?;
-    json.text(names.stimulus.as_bytes())?;
-    json.text(names.trace.as_bytes())?;
-    json.close_list()?;
+    json.list(&[
+        Item::Text(names.file.as_bytes()),
+        Item::Text(names.stimulus.as_bytes()),
+        Item::Text(names.trace.as_bytes()),
+    ])?;
     json.name("source")?;
     json.text(source)
 }
@@ -59,7 +67,9 @@ fn add_system(
     json: &mut Json,
     machine: &Machine,
     picture: &Picture,
-) -> Result<(), AllocError> {
+) -> Result<(), AllocError>
+    ensures { OnOk result (json.new ≡ with_values json.old (model.system_members machine.now.checked picture.now)) }
+{
     let system = machine.checked().system();
     let mut scratch = Vec::new(alloc);
     add_variables(json, system, &mut scratch)?;
@@ -75,17 +85,15 @@ fn add_run(
     json: &mut Json,
     machine: &Machine,
     picture: &Picture,
-) -> Result<(), AllocError> {
+) -> Result<(), AllocError>
+    ensures { OnOk result (json.new ≡ with_values json.old
+        (model.run_members machine.now.checked machine.now.live picture.now)) }
+{
     let system = machine.checked().system();
+    let live = machine.live_events();
     let mut scratch = Vec::new(alloc);
-    add_tickets(json, machine.live_events())?;
-    add_events(
-        json,
-        system,
-        machine.live_events(),
-        &picture.steps,
-        &mut scratch,
-    )?;
+    add_tickets(json, live)?;
+    add_events(json, system, live, &picture.steps, &mut scratch)?;
     add_races(json, picture.steps.races.as_slice())?;
     add_ready(json, system, &picture.end, &mut scratch)?;
     add_places(json, &picture.end, &mut scratch)?;

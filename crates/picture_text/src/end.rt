@@ -1,11 +1,19 @@
 // What stands at the end.
-use crate::steps::{add_event, add_sides};
-use json_text::Json;
-use picture_data::{End, Place, Role, Wanted};
+ghost use Rattle.std.specs.Prelude.{◌≡◌, OnOk, codes, map, slice_get};
+ghost use Rattle.std.specs.Option.{option_copied};
+ghost use Rattle.address.specs.Text.{text_of};
+ghost use Rattle.json_text.specs.Values.{list_text, member_text, string_text, with_value};
+ghost use Rattle.picture_text.specs.DataText as model;
+
+use crate::ground::{flag, optional};
+use crate::steps::{add_event, add_indexes, add_sides};
+use address::Address;
+use json_text::{Item, Json};
+use picture_data::{End, Place, Role, Sides, Wanted};
 use runs::Event;
 use std::alloc::AllocError;
-use std::io::Write;
 use system::System;
+use text_parts::{Piece, add_pieces};
 
 /// Adds the events that can be taken, each with the line of a script that takes it.
 pub(crate) fn add_ready(
@@ -13,28 +21,65 @@ pub(crate) fn add_ready(
     system: &System,
     end: &End,
     scratch: &mut Vec<u8>,
-) -> Result<(), AllocError> {
+) -> Result<(), AllocError>
+    ensures { OnOk result (json.new ≡ with_value json.old (member_text (codes "ready")
+        (list_text (model.ready_rows system.now end.now.ready_sides.items 0 end.now.ready)))) }
+{
     json.name("ready")?;
     json.open_list()?;
     for (index, event) in end.ready.as_slice().iter().enumerate() {
-        json.open_list()?;
-        add_event(json, system, event, scratch)?;
-        if let Some(sides) = end.ready_sides.get(index) {
-            add_sides(json, sides)?;
-        }
-        add_line(json, event, scratch)?;
-        json.close_list()?;
+        add_ready_row(json, system, end, index, event, scratch)?;
     }
     json.close_list()
 }
 
+/// Adds the event of this index that can be taken.
+fn add_ready_row(
+    json: &mut Json,
+    system: &System,
+    end: &End,
+    index: usize,
+    event: &Event,
+    scratch: &mut Vec<u8>,
+) -> Result<(), AllocError>
+    ensures { OnOk result (json.new ≡ with_value json.old (model.ready_row system.now end.now.ready_sides.items index event.now)) }
+{
+    json.open_list()?;
+    add_event(json, system, event, scratch)?;
+    add_sides(json, sides_at(end, index))?;
+    add_line(json, event, scratch)?;
+    json.close_list()
+}
+
+/// Where the event of this index that can be taken stands.
+fn sides_at(end: &End, index: usize) -> Option<&Sides>
+    ensures { option_copied result ≡ slice_get end.now.ready_sides.items index }
+{
+    end.ready_sides.get(index)
+}
+
 /// Adds the line of a script that takes the event.
-fn add_line(json: &mut Json, event: &Event, scratch: &mut Vec<u8>) -> Result<(), AllocError> {
-    let place = event.acting_place();
-    let arm = event.arm_to_open();
-    scratch.clear();
-    write!(scratch, "step {place} {arm}").map_err(|_| AllocError)?;
+fn add_line(json: &mut Json, event: &Event, scratch: &mut Vec<u8>) -> Result<(), AllocError>
+    ensures { OnOk result (json.new ≡ with_value json.old (string_text (model.step_text event.now))) }
+{
+    write_step(event, scratch)?;
     json.text(scratch.as_slice())
+}
+
+/// Writes that line into the scratch, which is written anew.
+fn write_step(event: &Event, scratch: &mut Vec<u8>) -> Result<(), AllocError>
+    ensures { OnOk result (scratch.new.items ≡ model.step_text event.now) }
+{
+    scratch.clear();
+    add_pieces(
+        scratch,
+        &[
+            Piece::Words(b"step "),
+            Piece::Place(event.acting_place()),
+            Piece::Words(b" "),
+            Piece::Number(u64::from(event.arm_to_open())),
+        ],
+    )
 }
 
 /// Adds the places.
@@ -42,7 +87,10 @@ pub(crate) fn add_places(
     json: &mut Json,
     end: &End,
     scratch: &mut Vec<u8>,
-) -> Result<(), AllocError> {
+) -> Result<(), AllocError>
+    ensures { OnOk result (json.new ≡ with_value json.old (member_text (codes "places")
+        (list_text (map model.place_row end.now.places.items)))) }
+{
     json.name("places")?;
     json.open_list()?;
     for place in end.places.as_slice() {
@@ -52,22 +100,34 @@ pub(crate) fn add_places(
 }
 
 /// Adds a place.
-fn add_place(json: &mut Json, place: &Place, scratch: &mut Vec<u8>) -> Result<(), AllocError> {
-    let text = &place.place;
-    scratch.clear();
-    write!(scratch, "{text}").map_err(|_| AllocError)?;
+fn add_place(json: &mut Json, place: &Place, scratch: &mut Vec<u8>) -> Result<(), AllocError>
+    ensures { OnOk result (json.new ≡ with_value json.old (model.place_row place.now)) }
+{
+    write_place(&place.place, scratch)?;
     json.open_list()?;
-    json.index(place.lane)?;
-    json.text(scratch.as_slice())?;
-    json.number(place.line)?;
-    json.text(role_text(place.role).as_bytes())?;
+    json.items(&[
+        Item::Optional(optional(place.lane)),
+        Item::Text(scratch.as_slice()),
+        Item::Number(place.line),
+        Item::Text(role_text(place.role).as_bytes()),
+    ])?;
     add_wanted(json, place.wanted.as_slice())?;
-    json.number(u64::from(place.is_ready))?;
+    json.number(flag(place.is_ready))?;
     json.close_list()
 }
 
+/// Writes the place into the scratch, which is written anew.
+fn write_place(place: &Address, scratch: &mut Vec<u8>) -> Result<(), AllocError>
+    ensures { OnOk result (scratch.new.items ≡ text_of place.now) }
+{
+    scratch.clear();
+    add_pieces(scratch, &[Piece::Place(place)])
+}
+
 /// What is done at a place, in a word.
-fn role_text(role: Role) -> &'static str {
+fn role_text(role: Role) -> &'static str
+    ensures { result.now ≡ model.role_text role }
+{
     match role {
         Role::Sends => "send",
         Role::Receives => "receive",
@@ -80,33 +140,44 @@ fn role_text(role: Role) -> &'static str {
 }
 
 /// Adds the channels that a place waits on: each with the lanes that it waits for, and whether a partner can still come.
-fn add_wanted(json: &mut Json, wanted: &[Wanted]) -> Result<(), AllocError> {
+fn add_wanted(json: &mut Json, wanted: &[Wanted]) -> Result<(), AllocError>
+    ensures { OnOk result (json.new ≡ with_value json.old (list_text (map model.wanted_text wanted.now))) }
+{
     json.open_list()?;
     for one in wanted {
-        json.open_list()?;
-        json.number(u64::from(one.channel))?;
-        add_indexes(json, one.lanes.as_slice())?;
-        json.number(u64::from(one.can_come))?;
-        json.close_list()?;
+        add_one_wanted(json, one)?;
     }
     json.close_list()
 }
 
-/// Adds a list of indexes.
-fn add_indexes(json: &mut Json, indexes: &[usize]) -> Result<(), AllocError> {
+/// Adds such a channel.
+fn add_one_wanted(json: &mut Json, wanted: &Wanted) -> Result<(), AllocError>
+    ensures { OnOk result (json.new ≡ with_value json.old (model.wanted_text wanted.now)) }
+{
     json.open_list()?;
-    for index in indexes {
-        json.number(*index as u64)?;
-    }
+    json.number(u64::from(wanted.channel))?;
+    add_indexes(json, wanted.lanes.as_slice())?;
+    json.number(flag(wanted.can_come))?;
     json.close_list()
 }
 
 /// Adds the ring of places that wait for one another, if there is one.
-pub(crate) fn add_ring(json: &mut Json, ring: &[usize]) -> Result<(), AllocError> {
+#[tactic(auto, using(json_text::proofs::Growing::member_added))]
+pub(crate) fn add_ring(json: &mut Json, ring: &[usize]) -> Result<(), AllocError>
+    ensures { OnOk result (json.new ≡ with_value json.old (member_text (codes "rings") (model.rings_text ring.now))) }
+{
     json.name("rings")?;
-    json.open_list()?;
-    if !ring.is_empty() {
-        add_indexes(json, ring)?;
+    add_rings(json, ring)
+}
+
+/// Adds the list of the one ring, or of none.
+fn add_rings(json: &mut Json, ring: &[usize]) -> Result<(), AllocError>
+    ensures { OnOk result (json.new ≡ with_value json.old (model.rings_text ring.now)) }
+{
+    if ring.is_empty() {
+        return json.list(&[]);
     }
+    json.open_list()?;
+    add_indexes(json, ring)?;
     json.close_list()
 }

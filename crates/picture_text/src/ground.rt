@@ -1,16 +1,23 @@
 // Variables, channels, blocks, lanes and ports.
-use itoa::Buffer;
-use json_text::Json;
+ghost use Rattle.std.specs.Prelude.{◌≡◌, OnOk, codes, map};
+ghost use Rattle.json_text.specs.Values.{list_text, member_text, with_value};
+ghost use Rattle.picture_text.specs.DataText as model;
+
+use json_text::{Item, Json};
 use picture_data::{Feed, Instance, Lane, LaneKind};
 use std::alloc::AllocError;
-use system::{Channel, ChannelKind, System, Variable};
+use system::{Channel, ChannelKind, QualifiedName, System, Variable};
+use text_parts::{Piece, add_pieces};
 
 /// Adds the variables: of each the name, the width in bits, and whether it is shared.
 pub(crate) fn add_variables(
     json: &mut Json,
     system: &System,
     scratch: &mut Vec<u8>,
-) -> Result<(), AllocError> {
+) -> Result<(), AllocError>
+    ensures { OnOk result (json.new ≡ with_value json.old
+        (member_text (codes "variables") (list_text (map model.variable_text system.now.variables)))) }
+{
     json.name("variables")?;
     json.open_list()?;
     for variable in system.variables.as_slice() {
@@ -24,14 +31,40 @@ fn add_variable(
     json: &mut Json,
     variable: &Variable,
     scratch: &mut Vec<u8>,
-) -> Result<(), AllocError> {
+) -> Result<(), AllocError>
+    ensures { OnOk result (json.new ≡ with_value json.old (model.variable_text variable.now)) }
+{
+    write_name(&variable.name, scratch)?;
+    json.list(&[
+        Item::Text(scratch.as_slice()),
+        Item::Number(u64::from(variable.width.bits())),
+        Item::Number(flag(variable.shared)),
+    ])
+}
+
+/// Writes a name into the scratch, which is written anew.
+fn write_name(name: &QualifiedName, scratch: &mut Vec<u8>) -> Result<(), AllocError>
+    ensures { OnOk result (scratch.new.items ≡ name.now) }
+{
     scratch.clear();
-    variable.name.write_to(scratch)?;
-    json.open_list()?;
-    json.text(scratch.as_slice())?;
-    json.number(u64::from(variable.width.bits()))?;
-    json.number(u64::from(variable.shared))?;
-    json.close_list()
+    name.write_to(scratch)
+}
+
+/// 1 for true, and 0 for false.
+pub(crate) fn flag(is: bool) -> u64
+    ensures { result ≡ model.flag is }
+{
+    if is { 1 } else { 0 }
+}
+
+/// The index as a number, if it is one.
+pub(crate) fn optional(index: Option<usize>) -> Option<u64>
+    ensures { result ≡ index }
+{
+    match index {
+        Some(index) => Some(index as u64),
+        None => None,
+    }
 }
 
 /// Adds the channels: of each the name, and the width in bits, 0 where no data passes.
@@ -39,7 +72,10 @@ pub(crate) fn add_channels(
     json: &mut Json,
     system: &System,
     scratch: &mut Vec<u8>,
-) -> Result<(), AllocError> {
+) -> Result<(), AllocError>
+    ensures { OnOk result (json.new ≡ with_value json.old
+        (member_text (codes "channels") (list_text (map model.channel_text system.now.channels)))) }
+{
     json.name("channels")?;
     json.open_list()?;
     for channel in system.channels.as_slice() {
@@ -49,21 +85,20 @@ pub(crate) fn add_channels(
 }
 
 /// Adds a channel.
-fn add_channel(
-    json: &mut Json,
-    channel: &Channel,
-    scratch: &mut Vec<u8>,
-) -> Result<(), AllocError> {
-    scratch.clear();
-    channel.name.write_to(scratch)?;
-    json.open_list()?;
-    json.text(scratch.as_slice())?;
-    json.number(channel_width(channel.kind))?;
-    json.close_list()
+fn add_channel(json: &mut Json, channel: &Channel, scratch: &mut Vec<u8>) -> Result<(), AllocError>
+    ensures { OnOk result (json.new ≡ with_value json.old (model.channel_text channel.now)) }
+{
+    write_name(&channel.name, scratch)?;
+    json.list(&[
+        Item::Text(scratch.as_slice()),
+        Item::Number(channel_width(channel.kind)),
+    ])
 }
 
 /// The width of what passes, 0 where nothing does.
-fn channel_width(kind: ChannelKind) -> u64 {
+fn channel_width(kind: ChannelKind) -> u64
+    ensures { result ≡ model.channel_width kind }
+{
     match kind {
         ChannelKind::Data(width) => u64::from(width.bits()),
         ChannelKind::Sync => 0,
@@ -71,7 +106,10 @@ fn channel_width(kind: ChannelKind) -> u64 {
 }
 
 /// Adds the blocks.
-pub(crate) fn add_instances(json: &mut Json, instances: &[Instance]) -> Result<(), AllocError> {
+pub(crate) fn add_instances(json: &mut Json, instances: &[Instance]) -> Result<(), AllocError>
+    ensures { OnOk result (json.new ≡ with_value json.old
+        (member_text (codes "instances") (list_text (map model.instance_text instances.now)))) }
+{
     json.name("instances")?;
     json.open_list()?;
     for instance in instances {
@@ -81,15 +119,17 @@ pub(crate) fn add_instances(json: &mut Json, instances: &[Instance]) -> Result<(
 }
 
 /// Adds a block.
-fn add_instance(json: &mut Json, instance: &Instance) -> Result<(), AllocError> {
-    json.open_list()?;
-    json.text(instance.procedure.as_slice())?;
-    json.text(instance.prefix.as_slice())?;
-    json.index(instance.parent)?;
-    json.number(instance.call_line)?;
-    json.number(instance.line)?;
-    json.text(instance.arguments.as_slice())?;
-    json.close_list()
+fn add_instance(json: &mut Json, instance: &Instance) -> Result<(), AllocError>
+    ensures { OnOk result (json.new ≡ with_value json.old (model.instance_text instance.now)) }
+{
+    json.list(&[
+        Item::Text(instance.procedure.as_slice()),
+        Item::Text(instance.prefix.as_slice()),
+        Item::Optional(optional(instance.parent)),
+        Item::Number(instance.call_line),
+        Item::Number(instance.line),
+        Item::Text(instance.arguments.as_slice()),
+    ])
 }
 
 /// Adds the lanes.
@@ -97,7 +137,10 @@ pub(crate) fn add_lanes(
     json: &mut Json,
     lanes: &[Lane],
     scratch: &mut Vec<u8>,
-) -> Result<(), AllocError> {
+) -> Result<(), AllocError>
+    ensures { OnOk result (json.new ≡ with_value json.old
+        (member_text (codes "lanes") (list_text (map model.lane_text lanes.now)))) }
+{
     json.name("lanes")?;
     json.open_list()?;
     for lane in lanes {
@@ -107,49 +150,83 @@ pub(crate) fn add_lanes(
 }
 
 /// Adds a lane: its path, its block, its line, its side, and the channel of its port.
-fn add_lane(json: &mut Json, lane: &Lane, scratch: &mut Vec<u8>) -> Result<(), AllocError> {
-    scratch.clear();
-    write_path(scratch, lane.path.as_slice())?;
-    let (block, side, channel) = parts_of(lane.kind);
-    json.open_list()?;
-    json.text(scratch.as_slice())?;
-    json.index(block)?;
-    json.number(lane.line)?;
-    json.text(side.as_bytes())?;
-    json.number_or_none(channel)?;
-    json.close_list()
+fn add_lane(json: &mut Json, lane: &Lane, scratch: &mut Vec<u8>) -> Result<(), AllocError>
+    ensures { OnOk result (json.new ≡ with_value json.old (model.lane_text lane.now)) }
+{
+    write_path(lane.path.as_slice(), scratch)?;
+    json.list(&[
+        Item::Text(scratch.as_slice()),
+        Item::Optional(block_of(lane.kind)),
+        Item::Number(lane.line),
+        Item::Text(side_of(lane.kind).as_bytes()),
+        Item::Optional(port_of(lane.kind)),
+    ])
 }
 
-/// The block of a lane, its side, and the channel of its port.
-fn parts_of(kind: LaneKind) -> (Option<usize>, &'static str, Option<u64>) {
+/// The block of a lane of the body.
+fn block_of(kind: LaneKind) -> Option<u64>
+    ensures { result ≡ model.block_of kind }
+{
     match kind {
-        LaneKind::Input(channel) => (None, "in", Some(u64::from(channel))),
-        LaneKind::Output(channel) => (None, "out", Some(u64::from(channel))),
-        LaneKind::Handshakes(channel) => (None, "sync", Some(u64::from(channel))),
-        LaneKind::Body(block) => (Some(block), "body", None),
+        LaneKind::Body(block) => Some(block as u64),
+        LaneKind::Input(_) | LaneKind::Output(_) | LaneKind::Handshakes(_) => None,
     }
 }
 
-/// Adds a path: `/` before each number.
-fn write_path(out: &mut Vec<u8>, path: &[u32]) -> Result<(), AllocError> {
+/// On which side a lane stands.
+fn side_of(kind: LaneKind) -> &'static str
+    ensures { result.now ≡ model.side_of kind }
+{
+    match kind {
+        LaneKind::Input(_) => "in",
+        LaneKind::Output(_) => "out",
+        LaneKind::Handshakes(_) => "sync",
+        LaneKind::Body(_) => "body",
+    }
+}
+
+/// The channel of the port of a lane of the environment.
+fn port_of(kind: LaneKind) -> Option<u64>
+    ensures { result ≡ model.port_of kind }
+{
+    match kind {
+        LaneKind::Input(channel) | LaneKind::Output(channel) | LaneKind::Handshakes(channel) => {
+            Some(u64::from(channel))
+        }
+        LaneKind::Body(_) => None,
+    }
+}
+
+/// Writes a path into the scratch, which is written anew: `/` before each number.
+fn write_path(path: &[u32], scratch: &mut Vec<u8>) -> Result<(), AllocError>
+    ensures { OnOk result (scratch.new.items ≡ model.path_text path.now) }
+{
+    scratch.clear();
     for number in path {
-        out.push(b'/')?;
-        let mut buffer = Buffer::new();
-        let digits = buffer.format(*number);
-        out.extend_from_slice(digits.as_bytes())?;
+        add_pieces(
+            scratch,
+            &[Piece::Words(b"/"), Piece::Number(u64::from(*number))],
+        )?;
     }
     Ok(())
 }
 
 /// Adds what the ports have to give.
-pub(crate) fn add_feeds(json: &mut Json, feeds: &[Feed]) -> Result<(), AllocError> {
+pub(crate) fn add_feeds(json: &mut Json, feeds: &[Feed]) -> Result<(), AllocError>
+    ensures { OnOk result (json.new ≡ with_value json.old
+        (member_text (codes "feeds") (list_text (map model.feed_text feeds.now)))) }
+{
     json.name("feeds")?;
     json.open_list()?;
     for feed in feeds {
-        json.open_list()?;
-        json.index(Some(feed.lane))?;
-        json.number(feed.count)?;
-        json.close_list()?;
+        add_feed(json, feed)?;
     }
     json.close_list()
+}
+
+/// Adds what a port has to give.
+fn add_feed(json: &mut Json, feed: &Feed) -> Result<(), AllocError>
+    ensures { OnOk result (json.new ≡ with_value json.old (model.feed_text feed.now)) }
+{
+    json.list(&[Item::Number(feed.lane as u64), Item::Number(feed.count)])
 }

@@ -5,9 +5,10 @@ mod data;
 mod end;
 mod ground;
 mod page;
-mod page_parts;
+mod page_before;
+mod page_drawing;
+mod page_panel;
 mod steps;
 
 pub use data::{Names, data_text};
 pub use page::page_text;
-pub use steps::event_text;

@@ -1,36 +1,39 @@
 // The events.
-ghost use Rattle.std.specs.Prelude.{◌≡◌, IfOk};
+ghost use Rattle.std.specs.Prelude.{◌≡◌, ◌≤◌, ◌-◌, [], OnOk, codes, length, map, slice_get, slice_range};
+ghost use Rattle.std.specs.Option.{option_copied};
+ghost use Rattle.json_text.specs.Values.{list_text, member_text, string_text, with_value, with_values};
+ghost use Rattle.line_text.specs.AnswerText.{entry_text};
 ghost use Rattle.line_text.specs.EventText.{event_text};
+ghost use Rattle.picture_text.specs.DataText as model;
 
+use crate::ground::optional;
+use address::Address;
 use dependence::Live;
-use json_text::Json;
+use json_text::{Item, Json};
 use line_text::add_entry;
 use picture_data::{Race, Sides, Steps};
 use runs::Event;
 use std::alloc::AllocError;
+use syntax::Items;
 use system::System;
 
-/// The text of the event, as answers show it. The scratch is written anew.
-pub fn event_text<'a>(
-    system: &System,
-    event: &Event,
-    scratch: &'a mut Vec<u8>,
-) -> Result<&'a [u8], AllocError> {
-    scratch.clear();
-    add_entry(scratch, b"", system, 0, event)?;
-    // A space, the number and a space stand before it, and the end of the line behind it.
-    match scratch.as_slice() {
-        [_, _, _, text @ .., _] => Ok(text),
-        _ => Ok(b""),
+/// Adds the tickets: 1 where they are those from 1 on, and else a list.
+#[tactic(auto, using(json_text::proofs::Growing::member_added))]
+pub(crate) fn add_tickets(json: &mut Json, live: &Live) -> Result<(), AllocError>
+    ensures { OnOk result (json.new ≡ with_value json.old (member_text (codes "tickets") (model.tickets_text live.now.live))) }
+{
+    json.name("tickets")?;
+    if are_counted(live) {
+        json.number(1)
+    } else {
+        add_all_tickets(json, live)
     }
 }
 
-/// Adds the tickets: 1 where they are those from 1 on, and else a list.
-pub(crate) fn add_tickets(json: &mut Json, live: &Live) -> Result<(), AllocError> {
-    json.name("tickets")?;
-    if are_counted(live) {
-        return json.number(1);
-    }
+/// Adds a list of the tickets.
+fn add_all_tickets(json: &mut Json, live: &Live) -> Result<(), AllocError>
+    ensures { OnOk result (json.new ≡ with_value json.old (list_text (model.ticket_texts live.now.live))) }
+{
     json.open_list()?;
     for entry in live.as_slice() {
         json.number(entry.0)?;
@@ -39,9 +42,11 @@ pub(crate) fn add_tickets(json: &mut Json, live: &Live) -> Result<(), AllocError
 }
 
 /// Whether the tickets are those from 1 on.
-fn are_counted(live: &Live) -> bool {
+fn are_counted(live: &Live) -> bool
+    ensures { result ≡ model.are_counted 1 live.now.live }
+{
     for (index, entry) in live.as_slice().iter().enumerate() {
-        if entry.0 != (index as u64).saturating_add(1) {
+        if entry.0 != index as u64 + 1 {
             return false;
         }
     }
@@ -55,54 +60,118 @@ pub(crate) fn add_events(
     live: &Live,
     steps: &Steps,
     scratch: &mut Vec<u8>,
-) -> Result<(), AllocError> {
+) -> Result<(), AllocError>
+    ensures { OnOk result (json.new ≡ with_value json.old
+        (member_text (codes "events") (list_text (model.event_rows system.now steps.now 0 live.now.live)))) }
+{
     json.name("events")?;
     json.open_list()?;
     for (index, entry) in live.as_slice().iter().enumerate() {
-        json.open_list()?;
-        add_event(json, system, entry.1.get(), scratch)?;
-        add_row(json, steps, index, entry.1.get())?;
-        json.close_list()?;
+        add_row(json, system, steps, index, entry.1.get(), scratch)?;
     }
     json.close_list()
 }
 
-/// Adds the text of an event.
+/// Adds the event at an index.
+fn add_row(
+    json: &mut Json,
+    system: &System,
+    steps: &Steps,
+    index: usize,
+    event: &Event,
+    scratch: &mut Vec<u8>,
+) -> Result<(), AllocError>
+    ensures { OnOk result (json.new ≡ with_value json.old (model.event_row system.now steps.now index event.now)) }
+{
+    json.open_list()?;
+    add_event(json, system, event, scratch)?;
+    add_sides(json, sides_at(steps, index))?;
+    json.items(&[
+        Item::Optional(depth_at(steps, index)),
+        Item::Optional(number(event.written)),
+    ])?;
+    add_reads(json, event)?;
+    add_ahead(json, ahead_at(steps, index))?;
+    add_since(json, &event.second, since_at(steps, index))?;
+    json.close_list()
+}
+
+/// Adds the text of an event, as answers show it.
 pub(crate) fn add_event(
     json: &mut Json,
     system: &System,
     event: &Event,
     scratch: &mut Vec<u8>,
-) -> Result<(), AllocError> {
-    let text = event_text(system, event, scratch)?;
-    json.text(text)
+) -> Result<(), AllocError>
+    ensures { OnOk result (json.new ≡ with_value json.old (string_text (event_text system.now event.now))) }
+{
+    write_event(system, event, scratch)?;
+    // A space, the number and a space stand before it, and the end of the line behind it.
+    json.text(inner(scratch.as_slice()))
 }
 
-/// Adds what stands behind the text of the event at an index.
-fn add_row(json: &mut Json, steps: &Steps, index: usize, event: &Event) -> Result<(), AllocError> {
-    if let Some(sides) = steps.sides.get(index) {
-        add_sides(json, sides)?;
+/// Writes the line of an event of number 0 into the scratch, which is written anew.
+fn write_event(system: &System, event: &Event, scratch: &mut Vec<u8>) -> Result<(), AllocError>
+    ensures { OnOk result (scratch.new.items ≡ entry_text system.now [] 0 event.now) }
+{
+    scratch.clear();
+    add_entry(scratch, b"", system, 0, event)
+}
+
+/// What stands behind the first three bytes and before the last.
+fn inner(line: &[u8]) -> &[u8]
+    requires { 4 ≤ length line.now }
+    ensures { result.now ≡ slice_range line.now 3 (length line.now - 1) }
+{
+    &line[3..line.len() - 1]
+}
+
+/// The number, if it is one.
+fn number(number: Option<u32>) -> Option<u64>
+    ensures { result ≡ number }
+{
+    match number {
+        Some(number) => Some(u64::from(number)),
+        None => None,
     }
-    json.index(steps.depths.get(index).copied())?;
-    json.number_or_none(event.written.map(u64::from))?;
-    add_reads(json, event)?;
-    add_ahead(json, steps, index)?;
-    if event.second.is_some() {
-        add_since(json, steps, index)?;
+}
+
+/// The depth of the event at an index.
+fn depth_at(steps: &Steps, index: usize) -> Option<u64>
+    ensures { result ≡ slice_get steps.now.depths.items index }
+{
+    match steps.depths.get(index) {
+        Some(depth) => Some(*depth as u64),
+        None => None,
     }
-    Ok(())
+}
+
+/// Where the event at an index stands.
+fn sides_at(steps: &Steps, index: usize) -> Option<&Sides>
+    ensures { option_copied result ≡ slice_get steps.now.sides.items index }
+{
+    steps.sides.get(index)
 }
 
 /// Adds the lanes and the lines of an event.
-pub(crate) fn add_sides(json: &mut Json, sides: &Sides) -> Result<(), AllocError> {
-    json.index(sides.first_lane)?;
-    json.index(sides.second_lane)?;
-    json.number(sides.first_line)?;
-    json.number(sides.second_line)
+pub(crate) fn add_sides(json: &mut Json, sides: Option<&Sides>) -> Result<(), AllocError>
+    ensures { OnOk result (json.new ≡ with_values json.old (model.sides_texts (option_copied sides.entry))) }
+{
+    match sides {
+        Some(sides) => json.items(&[
+            Item::Optional(optional(sides.first_lane)),
+            Item::Optional(optional(sides.second_lane)),
+            Item::Number(sides.first_line),
+            Item::Number(sides.second_line),
+        ]),
+        None => Ok(()),
+    }
 }
 
 /// Adds the variables that the event read.
-fn add_reads(json: &mut Json, event: &Event) -> Result<(), AllocError> {
+fn add_reads(json: &mut Json, event: &Event) -> Result<(), AllocError>
+    ensures { OnOk result (json.new ≡ with_value json.old (model.numbers_text event.now.read)) }
+{
     json.open_list()?;
     for variable in event.read.as_slice() {
         json.number(u64::from(*variable))?;
@@ -110,40 +179,88 @@ fn add_reads(json: &mut Json, event: &Event) -> Result<(), AllocError> {
     json.close_list()
 }
 
-/// Adds how much further on the followers of the event at an index stand.
-fn add_ahead(json: &mut Json, steps: &Steps, index: usize) -> Result<(), AllocError> {
+/// How much further on the followers of the event at an index stand.
+fn ahead_at(steps: &Steps, index: usize) -> Option<&Items<usize>>
+    ensures { option_copied result ≡ slice_get steps.now.ahead index }
+{
+    steps.ahead.get(index)
+}
+
+/// Adds how much further on the followers of an event stand.
+fn add_ahead(json: &mut Json, row: Option<&Items<usize>>) -> Result<(), AllocError>
+    ensures { OnOk result (json.new ≡ with_value json.old (model.ahead_text (option_copied row.entry))) }
+{
+    match row {
+        Some(row) => add_indexes(json, row.as_slice()),
+        None => add_indexes(json, &[]),
+    }
+}
+
+/// Adds a list of indexes.
+pub(crate) fn add_indexes(json: &mut Json, indexes: &[usize]) -> Result<(), AllocError>
+    ensures { OnOk result (json.new ≡ with_value json.old (model.numbers_text indexes.now)) }
+{
     json.open_list()?;
-    if let Some(row) = steps.ahead.get(index) {
-        for ahead in row.as_slice() {
-            json.number(*ahead as u64)?;
-        }
+    for index in indexes {
+        json.number(*index as u64)?;
     }
     json.close_list()
 }
 
-/// Adds from which depth on the sides of the event at an index stood there.
-fn add_since(json: &mut Json, steps: &Steps, index: usize) -> Result<(), AllocError> {
-    match steps.since.get(index) {
-        Some((first, second)) => {
-            json.open_list()?;
-            json.number(*first as u64)?;
-            json.number(*second as u64)?;
-            json.close_list()
-        }
+/// From which depth on the sides of the event at an index stood there.
+fn since_at(steps: &Steps, index: usize) -> Option<&(usize, usize)>
+    ensures { option_copied result ≡ slice_get steps.now.since.items index }
+{
+    steps.since.get(index)
+}
+
+/// Adds from which depth on an event with a second place stood at each of its places.
+fn add_since(
+    json: &mut Json,
+    second: &Option<Address>,
+    since: Option<&(usize, usize)>,
+) -> Result<(), AllocError>
+    ensures { OnOk result (json.new ≡ with_values json.old (model.since_texts second.now (option_copied since.entry))) }
+{
+    match second {
+        Some(_) => add_depths(json, since),
+        None => Ok(()),
+    }
+}
+
+/// Adds from which depth on an event stood at each of its two places.
+fn add_depths(json: &mut Json, since: Option<&(usize, usize)>) -> Result<(), AllocError>
+    ensures { OnOk result (json.new ≡ with_values json.old (model.depths_texts (option_copied since.entry))) }
+{
+    match since {
+        Some((first, second)) => json.list(&[
+            Item::Number(*first as u64),
+            Item::Number(*second as u64),
+        ]),
         None => Ok(()),
     }
 }
 
 /// Adds the orders that only a shared variable makes.
-pub(crate) fn add_races(json: &mut Json, races: &[Race]) -> Result<(), AllocError> {
+pub(crate) fn add_races(json: &mut Json, races: &[Race]) -> Result<(), AllocError>
+    ensures { OnOk result (json.new ≡ with_value json.old
+        (member_text (codes "races") (list_text (map model.race_text races.now)))) }
+{
     json.name("races")?;
     json.open_list()?;
     for race in races {
-        json.open_list()?;
-        json.number(race.cause as u64)?;
-        json.number(race.event as u64)?;
-        json.number(u64::from(race.variable))?;
-        json.close_list()?;
+        add_race(json, race)?;
     }
     json.close_list()
+}
+
+/// Adds such an order.
+fn add_race(json: &mut Json, race: &Race) -> Result<(), AllocError>
+    ensures { OnOk result (json.new ≡ with_value json.old (model.race_text race.now)) }
+{
+    json.list(&[
+        Item::Number(race.cause as u64),
+        Item::Number(race.event as u64),
+        Item::Number(u64::from(race.variable)),
+    ])
 }

@@ -1,9 +1,7 @@
 // The declarations: a scope for each block, and its signals in it.
-ghost use Rattle.std.specs.Prelude.{◌≤◌, length};
-
 use crate::numbers::add_number;
 use crate::signals::{add_code, of_channel, of_variable, small, width_of};
-use picture_data::Instance;
+use picture_data::{Instance, prefix_length};
 use std::alloc::{AllocError, Global};
 use system::System;
 
@@ -65,19 +63,6 @@ fn add_scope(out: &mut Vec<u8>, instance: &Instance) -> Result<(), AllocError> {
 /// What stands behind the last `:`.
 fn last_part(name: &[u8]) -> &[u8] {
     &name[prefix_length(name)..]
-}
-
-/// How many bytes stand up to the last `:`, it among them.
-fn prefix_length(name: &[u8]) -> usize
-    ensures { result ≤ length name.now }
-{
-    let mut found = 0;
-    for (index, byte) in name.iter().enumerate() {
-        if *byte == b':' {
-            found = index + 1;
-        }
-    }
-    found
 }
 
 /// Adds the signals of a block, from this one of the declared on, and where the next block's begin.

@@ -6,9 +6,17 @@ use Rattle.system.specs.declared.system.System.{System}
 use Rattle.runs.specs.Live.{Live, IsLive, LastWriter, NoneAt, NoWriter}
 use Rattle.runs.specs.declared.command.Refusal.{Refusal}
 use Rattle.runs.specs.declared.event.Event.{Event}
-use Rattle.trace_file.specs.Loading.{ticketed}
+use Rattle.machine.specs.AtMachine.{AtMachine}
+use Rattle.trace_file.specs.Loading.{IsLoaded, ticketed}
 use Rattle.trace_file.specs.TraceText.{StandsFor}
 use Rattle.past.specs.Past.{ListsPast}
+use Rattle.described.specs.declared.Described.{Described}
+use Rattle.outline.specs.OutlineText.{outline_text}
+use Rattle.outline.specs.Outlined.{Outlines}
+use Rattle.outline.specs.declared.outline.Outline.{Outline}
+use Rattle.waiting.specs.Told.{TellsWaits}
+use Rattle.waiting.specs.WaitingText.{waiting_text}
+use Rattle.waiting.specs.declared.waiting.Waiting.{Waiting}
 use Rattle.questions.specs.declared.reason.Reason.{Reason}
 use Rattle.questions.specs.declared.why.Why.{Why}
 
@@ -62,6 +70,15 @@ Tells reason answer = ⊥
 -- the trace stands for events
 abbrev pub IsTraced : System → List ℕ → Type 0
 IsTraced system trace = (h : List Event) × StandsFor system trace h
+
+-- the text that tells who waits behind the trace
+abbrev pub IsWaitingText : System → List ℕ → List ℕ → Type 0
+IsWaitingText system trace text =
+    (m : AtMachine) × (w : Waiting) × IsLoaded system trace m × TellsWaits m w × (text ≡ waiting_text m w)
+
+-- the text of the outline of the system, with what the source tells beside it
+abbrev pub IsOutlineText : System → List ℕ → Type 0
+IsOutlineText system text = (o : Outline) × (d : Described) × Outlines system o × (text ≡ outline_text o d)
 
 -- it stands for events, and behind them this is answered
 abbrev pub IsAnswered : System → List ℕ → List ℕ → Why → Type 0

@@ -1,5 +1,5 @@
 -- In what is left of a process an end stands where a walk through the process finds it.
-use Rattle.std.proofs.Common.{◌≡◌, ℕ, ◌+◌, ◌*◌, List, [], ◌∷◌, Bool, true, false, ◌||◌, Option, Some, None, refl, sym, ap, ap₂, ◌∙◌}
+use Rattle.std.proofs.Common.{◌≡◌, ℕ, ◌+◌, ◌*◌, [], ◌∷◌, Bool, true, false, ◌||◌, Option, Some, None, is_none, refl, sym, ap, ap₂, ◌∙◌}
 use Rattle.address.specs.declared.Entry.TheVariants.{Ordered, Branch}
 use Rattle.value.specs.Word.{Word}
 use Rattle.system.specs.Expression.{Expression}
@@ -8,11 +8,11 @@ use Rattle.runs.specs.Moves.{Place}
 use Rattle.process_tree.specs.Code.{Once, assigning, receiving, Sender, sending, syncing, Code, continues, halts, moves_once, may_be_held, repeats, decides, awaits, in_turn, side_by_side, drains, Codes, no_code, code}
 use Rattle.process_tree.specs.Left.{Received, with_value, puts, residual_once, residual_sender, again, residual, residual_arms, residual_sequence, residual_parallel, left, left_sequence, left_parallel}
 use Rattle.process_tree.specs.Proc.{waiting, holding, past, Proc, idle, stopped, once, sender, fresh, turn, ended_at_once, ended, untested, skipped, took, unopened, entered, closed, sequence, parallel, drained, Procs, no_procs, proc, started, all_started}
-use Rattle.rings.specs.Partners.{is_close, is_receive, is_arm, Standing, over, is_found, below, there, ahead, at_arms, after, in_branch, together, stands, in_arms, partner_standing, partner_of, partner_in, sought_by}
+use Rattle.rings.specs.Partners.{is_close, is_arm, Standing, over, is_found, below, there, ahead, in_turns, at_arms, after, in_branch, together, stands, in_arms, partner_standing, partner_of, partner_in, sought_by}
 use Rattle.offered_sides.specs.declared.side.OfferedSide.{OfferedSide}
 use Rattle.rings.specs.declared.partner.Partner.{Partner}
 use Rattle.rings.specs.declared.sought.Sought.{Sought}
-use Rattle.rings.specs.walking.Seen.{is_once, is_sender, walk_in_turn, walk_abreast, any_found, code_seen, codes_seen, seen, procs_seen}
+use Rattle.rings.specs.walking.Seen.{is_once, is_sender, walk_in_turn, walk_abreast, any_found, code_seen, codes_seen, again_seen, seen, procs_seen}
 
 module _ (s : Sought) where
   mutual
@@ -29,8 +29,8 @@ module _ (s : Sought) where
     put-stands c v (receive d x) own = refl
     put-stands c v (sync d) own = refl
     put-stands c v (held d) own = refl
-    put-stands c v (loop k body) own = ap (λ (x : Standing). ahead (is_found x)) (put-stands c v body None)
-    put-stands c v (while k e body) own = ap (λ (x : Standing). ahead (is_found x)) (put-stands c v body None)
+    put-stands c v (loop k body) own = ap (λ (x : Standing). in_turns true (is_found x)) (put-stands c v body None)
+    put-stands c v (while k e body) own = ap (λ (x : Standing). in_turns false (is_found x)) (put-stands c v body None)
     put-stands c v (test d arms) own = ap ahead (put-arms c v arms)
     put-stands c v (choose cs arms) own = ap (at_arms own (is_arm s cs)) (put-arms c v arms)
     put-stands c v (closing d) own = refl
@@ -53,7 +53,7 @@ module _ (s : Sought) where
   along-stands k done q own = refl
   along-stands k r q own = refl
 
-  again-stands : (n : ℕ) (g : Option Expression) (r : Residual) (own : Option Place) → stands s (again n g r) own ≡ ahead (is_found (stands s r None))
+  again-stands : (n : ℕ) (g : Option Expression) (r : Residual) (own : Option Place) → stands s (again n g r) own ≡ in_turns (is_none g) (is_found (stands s r None))
   again-stands n None r own = refl
   again-stands n (Some e) r own = refl
 
@@ -73,7 +73,7 @@ module _ (s : Sought) where
     residual-seen halts own = refl
     residual-seen (moves_once o) own = once-stands o own
     residual-seen (may_be_held x) own = sender-stands x own
-    residual-seen (repeats g c) own = again-stands 0 g (residual c) own ∙ ap (λ (x : Standing). ahead (is_found x)) (residual-seen c None)
+    residual-seen (repeats g c) own = again-stands 0 g (residual c) own ∙ ap (λ (x : Standing). in_turns (is_none g) (is_found x)) (residual-seen c None)
     residual-seen (decides d cs) own = ap ahead (arms-seen cs)
     residual-seen (awaits ds cs) own = ap (at_arms own (is_arm s ds)) (arms-seen cs)
     residual-seen (in_turn cs) own = sequence-seen cs 0 own
@@ -121,9 +121,9 @@ module _ (s : Sought) where
         ap₂ (λ (x y : Standing). together (in_branch (Branch n) x) y) (started-seen c (below own (Branch n))) (started-abreast cs (n + 1) own)
 
   -- a loop in arms that received values
-  loop-seen : (env : Received) (n : ℕ) (g : Option Expression) (c : Code) (own : Option Place) → stands s (puts env (again n g (residual c))) own ≡ ahead (is_found (code_seen s c None))
+  loop-seen : (env : Received) (n : ℕ) (g : Option Expression) (c : Code) (own : Option Place) → stands s (puts env (again n g (residual c))) own ≡ again_seen s g c
   loop-seen env n g c own =
-      puts-stands env (again n g (residual c)) own ∙ again-stands n g (residual c) own ∙ ap (λ (x : Standing). ahead (is_found x)) (residual-seen c None)
+      puts-stands env (again n g (residual c)) own ∙ again-stands n g (residual c) own ∙ ap (λ (x : Standing). in_turns (is_none g) (is_found x)) (residual-seen c None)
 
   -- ---- processes
   mutual

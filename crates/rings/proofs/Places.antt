@@ -1,5 +1,5 @@
 -- Rings of places, and of the indexes of sides that stand there.
-use Rattle.std.proofs.Common.{◌≡◌, ◌⊎◌, inl, inr, ℕ, zero, suc, ◌+◌, ◌<◌, ◌≤◌, List, [], ◌∷◌, map, drop, length, slice_index_or, Bool, true, false, ◌&&◌, cond, Option, Some, None, option_map, slice_get, refl, sym, ◌∙◌, ap, ap₂, subst, true≢false, arith}
+use Rattle.std.proofs.Common.{◌≡◌, inl, inr, ℕ, zero, suc, ◌+◌, ◌<◌, ◌≤◌, List, [], ◌∷◌, map, drop, length, slice_index_or, Bool, true, false, ◌&&◌, cond, Option, Some, None, option_map, slice_get, refl, sym, ◌∙◌, ap, ap₂, subst, arith}
 use Rattle.std.proofs.lemmas.Bool.{and_parts}
 use Rattle.std.proofs.lemmas.List.{drop_all, drop_more}
 use Rattle.runs.proofs.Options.{none-some, some-injective}
@@ -8,14 +8,12 @@ use Rattle.runs.specs.Tests.{same_place}
 use Rattle.syntax.specs.Lists.{In}
 use Rattle.system.specs.Residual.{Residual}
 use Rattle.offered_sides.proofs.PlacedSides.{place-true, place-itself, under-true, under-told}
-use Rattle.offered_sides.specs.Sides.{Under}
-use Rattle.offered_sides.specs.walking.At.{is_under}
 use Rattle.offered_sides.specs.declared.side.OfferedSide.{OfferedSide}
 use Rattle.rings.specs.Partners.{partner_in}
-use Rattle.rings.specs.Rings.{IsBehind, Waiters, WaitsAt, WaitsFor, Linked, IsRing, places_at, TellsRing}
+use Rattle.rings.specs.Rings.{IsBehind, Waiters, WaitsAt, WaitsFor, Linked, IsRing, EachOnce, places_at, TellsRing}
 use Rattle.rings.specs.declared.partner.Partner.{Partner}
 use Rattle.rings.specs.declared.partner.Partner.TheVariants as partner
-use Rattle.rings.specs.walking.Search.{is_behind, passes, all_behind, waits_at, waits, Chain, Ring, Names}
+use Rattle.rings.specs.walking.Search.{is_behind, own_behind, passes, all_behind, place_at, waits_at, waits, same_places, same_at, Apart, Chain, Ring, Names}
 
 -- ---- behind a place
 behind-true : (p : Partner) (a : Place) → is_behind p a ≡ true → IsBehind p a
@@ -80,6 +78,57 @@ got-within [] i h = absurd (omega (arith, h))
 got-within (y ∷ xs) zero h = (y, refl)
 got-within (y ∷ xs) (suc i) h = got-within xs i (omega (arith, h))
 
+-- ---- indexes of sides at one place
+pub itself : (xs : List OfferedSide) (i : ℕ) → i < length xs → same_at xs i i ≡ true
+itself [] i h = absurd (omega (arith, h))
+itself (y ∷ xs) zero h = place-itself y.place
+itself (y ∷ xs) (suc i) h = itself xs i (omega (arith, h))
+
+-- to wait for one is to wait for the other
+alike-at : (xs : List OfferedSide) (ps : List Partner) (x y z : Option OfferedSide) → same_places y z ≡ true → waits_at xs ps x z ≡ true → waits_at xs ps x y ≡ true
+alike-at xs ps None y z u h = cc
+alike-at xs ps (Some x) None z u h = cc
+alike-at xs ps (Some x) (Some y) None u h = cc
+alike-at xs ps (Some x) (Some y) (Some z) u h =
+    subst (λ (a : Place). all_behind xs ps x.place a ≡ true) (sym (place-true y.place z.place u)) h
+
+pub alike : (xs : List OfferedSide) (ps : List Partner) (i j k : ℕ) → same_at xs j k ≡ true → waits xs ps i k ≡ true → waits xs ps i j ≡ true
+alike xs ps i j k u h = alike-at xs ps (slice_get xs i) (slice_get xs j) (slice_get xs k) u h
+
+one-place : (a : Place) (x y : Option OfferedSide) → option_map (λ (z : OfferedSide). z.place) x ≡ Some a → option_map (λ (z : OfferedSide). z.place) y ≡ Some a
+    → same_places x y ≡ true
+one-place a None y e f = cc
+one-place a (Some x) None e f = cc
+one-place a (Some x) (Some y) e f =
+    let both : x.place ≡ y.place = some-injective x.place a e ∙ sym (some-injective y.place a f) in
+    subst (λ (b : Place). same_place x.place b ≡ true) both (place-itself x.place)
+
+-- one of the indexes is that of a side at each of their places
+index-of : (xs : List OfferedSide) (is : List ℕ) (ring : List Place) (a : Place) → places_at xs is ≡ map (λ (b : Place). Some b) ring → In a ring
+    → (j : ℕ) × In j is × (place_at xs j ≡ Some a)
+index-of xs is [] a e i = absurd i
+index-of xs [] (b ∷ ring) a e i = cc
+index-of xs (j ∷ is) (b ∷ ring) a e (inl is-b) =
+    let head : place_at xs j ≡ Some b = cc in (j, inl refl, head ∙ ap (λ (c : Place). Some c) (sym is-b))
+index-of xs (j ∷ is) (b ∷ ring) a e (inr i) =
+    let rest : places_at xs is ≡ map (λ (c : Place). Some c) ring = cc in
+    let found = index-of xs is ring a rest i in (found.0, inr found.1, found.2)
+
+places-once : (xs : List OfferedSide) (is : List ℕ) (ring : List Place) → places_at xs is ≡ map (λ (b : Place). Some b) ring → Apart (same_at xs) is → EachOnce ring
+places-once xs is [] e apart = tt
+places-once xs [] (a ∷ ring) e apart = tt-of e
+  where
+    tt-of : [] ≡ map (λ (b : Place). Some b) (a ∷ ring) → EachOnce (a ∷ ring)
+    tt-of f = cc
+places-once xs (i ∷ is) (a ∷ ring) e apart =
+    let head : place_at xs i ≡ Some a = cc in
+    let rest : places_at xs is ≡ map (λ (c : Place). Some c) ring = cc in (
+      λ there.
+          let found = index-of xs is ring a rest there in
+          apart.0 found.0 found.1 (one-place a (slice_get xs i) (slice_get xs found.0) head found.2),
+      places-once xs is ring rest apart.1,
+    )
+
 module _ (r : Residual) (xs : List OfferedSide) (ps : List Partner) (given : ps ≡ map (partner_in r) xs) where
   wait-true : (i j : ℕ) (x y : OfferedSide) → slice_get xs i ≡ Some x → slice_get xs j ≡ Some y → waits xs ps i j ≡ true → WaitsFor (Among xs) r x.place y.place
   wait-true i j x y at goes h =
@@ -106,14 +155,13 @@ module _ (r : Residual) (xs : List OfferedSide) (ps : List Partner) (given : ps 
         ((x, got-in xs i x at, refl), wait-true i j x next.0 at next.1 h.1, on.2),
       )
 
-  ring-places : (i : ℕ) (rest : List ℕ) → Ring (length xs) (waits xs ps) (i ∷ rest) → TellsRing r xs (i ∷ rest)
-  ring-places i rest h =
+  ring-places : (i : ℕ) (rest : List ℕ) → Ring (length xs) (waits xs ps) (i ∷ rest) → Apart (same_at xs) (i ∷ rest) → TellsRing r xs (i ∷ rest)
+  ring-places i rest h apart =
       let first = got-within xs i (chain-head i i rest h) in
-      let on = chain-linked i i rest first.0 first.0 first.1 first.1 h in (
-        first.0.place ∷ on.0,
-        ap₂ (λ (a : Option Place) (bs : List (Option Place)). a ∷ bs) (ap (option_map (λ (z : OfferedSide). z.place)) first.1) on.1,
-        on.2,
-      )
+      let on = chain-linked i i rest first.0 first.0 first.1 first.1 h in
+      let at : places_at xs (i ∷ rest) ≡ map (λ (a : Place). Some a) (first.0.place ∷ on.0) =
+      ap₂ (λ (a : Option Place) (bs : List (Option Place)). a ∷ bs) (ap (option_map (λ (z : OfferedSide). z.place)) first.1) on.1 in
+      (first.0.place ∷ on.0, at, on.2, places-once xs (i ∷ rest) (first.0.place ∷ on.0) at apart)
 
   -- ---- from places to indexes
   linked-head : (f a : Place) (ring : List Place) → Linked (Among xs) r f a ring → WaitsAt (Among xs) a
@@ -148,9 +196,33 @@ module _ (r : Residual) (xs : List OfferedSide) (ps : List Partner) (given : ps 
       let first = at a (linked-head a a ring h) in
       let on = linked-chain a a ring first first h in none (first.index ∷ on.0) on.1
 
-  pub tells : (ring : List ℕ) → Names (length xs) (waits xs ps) ring → TellsRing r xs ring
+  pub tells : (ring : List ℕ) → Names (length xs) (waits xs ps) (same_at xs) ring → TellsRing r xs ring
   tells [] h = no-places h
-  tells (i ∷ rest) h = ring-places i rest h
+  tells (i ∷ rest) h = ring-places i rest h.0 h.1
+
+-- ---- a side whose own partner does not come waits for nothing there
+not-both : (b c : Bool) → c ≡ false → (b && c) ≡ false
+not-both true c h = h
+not-both false c h = refl
+
+not-first : (b c : Bool) → b ≡ false → (b && c) ≡ false
+not-first true c h = cc
+not-first false c h = refl
+
+not-passed : (y : OfferedSide) (p : Partner) (a b : Place) → y.place ≡ a → is_behind p b ≡ false → passes y p a b ≡ false
+not-passed y p a b at off = ap (λ (c : Bool). cond c (is_behind p b) true) here ∙ off
+  where
+    here : same_place y.place a ≡ true
+    here = subst (λ (c : Place). same_place y.place c ≡ true) at (place-itself y.place)
+
+pub own-false : (xs : List OfferedSide) (ps : List Partner) (i : ℕ) (a b : Place) → length ps ≡ length xs → place_at xs i ≡ Some a
+    → own_behind (slice_get ps i) b ≡ false → all_behind xs ps a b ≡ false
+own-false [] ps i a b size at off = none-some a at
+own-false (y ∷ xs) [] i a b size at off = absurd (omega (arith, size))
+own-false (y ∷ xs) (p ∷ ps) zero a b size at off =
+    not-first (passes y p a b) (all_behind xs ps a b) (not-passed y p a b (some-injective y.place a at) off)
+own-false (y ∷ xs) (p ∷ ps) (suc i) a b size at off =
+    not-both (passes y p a b) (all_behind xs ps a b) (own-false xs ps i a b (omega (arith, size)) at off)
 
 -- ---- the next side, as the code goes through them
 pub behind-next : (xs : List OfferedSide) (ps : List Partner) (i : ℕ) (x : OfferedSide) (p : Partner) (a b : Place) → length ps ≡ length xs → i < length xs

@@ -1,5 +1,5 @@
 -- Rings of indexes, and ways that close one.
-use Rattle.std.proofs.Common.{◌≡◌, ◌⊎◌, inl, inr, ℕ, zero, suc, ◌+◌, ◌<◌, List, [], ◌∷◌, ◌++◌, drop, true, Some, slice_get, refl, sym, ◌∙◌, ap, subst, arith}
+use Rattle.std.proofs.Common.{◌≡◌, ◌⊎◌, inl, inr, ℕ, zero, suc, ◌<◌, List, [], ◌∷◌, ◌++◌, drop, true, Some, slice_get, refl, sym, subst}
 use Rattle.runs.proofs.Options.{none-some, some-injective}
 use Rattle.syntax.specs.Lists.{In}
 use Rattle.rings.specs.walking.Search.{Test, Chain, Ring, InNoRing, Path}

@@ -1,5 +1,5 @@
 -- Walks over the children of a row, child by child from the last.
-use Rattle.std.proofs.Common.{◌≡◌, ℕ, zero, suc, ◌+◌, ◌<◌, ◌≤◌, List, [], ◌∷◌, map, length, drop, Bool, true, false, ◌||◌, Option, Some, None, slice_index_or, refl, sym, ap, ap₂, ◌∙◌, subst, arith, rules}
+use Rattle.std.proofs.Common.{◌≡◌, ℕ, zero, suc, ◌+◌, ◌<◌, ◌≤◌, List, ◌∷◌, map, length, drop, Bool, Option, Some, None, slice_index_or, refl, sym, ap, ◌∙◌, subst, arith, rules}
 use Rattle.std.proofs.lemmas.List.{drop_more, drop_all}
 use Rattle.std.specs.Global.{Box}
 use Rattle.address.specs.declared.Entry.{Entry}
@@ -22,7 +22,7 @@ use Rattle.process_tree.specs.declared.proc.Proc as made
 use Rattle.offered_sides.proofs.Begun.{begun-row, row-at}
 use Rattle.offered_sides.proofs.Endings.{row-past-at}
 use Rattle.offered_sides.proofs.OneByOne.{fresh-at}
-use Rattle.rings.specs.Partners.{Standing, over, is_found, below, after, in_branch, together}
+use Rattle.rings.specs.Partners.{Standing, over, below, after, in_branch, together}
 use Rattle.rings.specs.declared.sought.Sought.{Sought}
 use Rattle.rings.specs.walking.Seen.{Walk, walk_in_turn, walk_abreast, any_found, code_seen, codes_seen, seen, procs_seen, SeenAt}
 use Rattle.rings.proofs.Left.{started-seen}

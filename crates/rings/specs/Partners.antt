@@ -68,6 +68,8 @@ pub data Standing : Type 0 where
   over : Standing
   -- it is not there, and cannot come from there any more
   nowhere : Standing
+  -- the same, and what is left to do there never ends: nothing behind it comes
+  never : Standing
   -- it comes behind all that stands at this place and below it
   behind : Place → Standing
   -- it is there already, or may come from more than one branch
@@ -77,6 +79,7 @@ pub data Standing : Type 0 where
 abbrev pub is_found : Standing → Bool
 is_found over = false
 is_found nowhere = false
+is_found never = false
 is_found (behind a) = true
 is_found at_hand = true
 
@@ -97,22 +100,32 @@ abbrev pub ahead : Bool → Standing
 ahead true = behind []
 ahead false = nowhere
 
+-- in the turns of a loop, if it comes in one of them; a loop without a test never ends
+abbrev pub in_turns : Bool → Bool → Standing
+in_turns true true = behind []
+in_turns true false = never
+in_turns false comes = ahead comes
+
 -- at arms before they open: one of them is it, or it comes behind them
 abbrev pub at_arms : Option Place → Bool → Bool → Standing
 at_arms None true later = at_hand
 at_arms None false later = ahead later
 at_arms (Some a) one later = nowhere
 
--- it comes behind the child at this entry, if it comes; what stands behind the side that waits is no partner of it
-abbrev pub later : Entry → Option Place → Bool → Standing
-later x None true = behind (x ∷ [])
-later x None false = nowhere
-later x (Some a) b = nowhere
+-- it comes behind the child at this entry, if it comes in the rest; what stands behind the side that waits is no partner of it
+abbrev pub later : Entry → Option Place → Standing → Standing
+later x None over = nowhere
+later x None nowhere = nowhere
+later x None never = never
+later x None (behind a) = behind (x ∷ [])
+later x None at_hand = behind (x ∷ [])
+later x (Some a) rest = nowhere
 
 -- in the child at this entry, or in what comes behind it
 abbrev pub after : Entry → Option Place → Standing → Standing → Standing
 after x own over rest = rest
-after x own nowhere rest = later x own (is_found rest)
+after x own nowhere rest = later x own rest
+after x own never rest = never
 after x own (behind a) rest = behind (x ∷ a)
 after x own at_hand rest = at_hand
 
@@ -120,6 +133,7 @@ after x own at_hand rest = at_hand
 abbrev pub in_branch : Entry → Standing → Standing
 in_branch x over = over
 in_branch x nowhere = nowhere
+in_branch x never = never
 in_branch x (behind a) = behind (x ∷ a)
 in_branch x at_hand = at_hand
 
@@ -128,8 +142,12 @@ abbrev pub together : Standing → Standing → Standing
 together over rest = rest
 together nowhere over = nowhere
 together nowhere rest = rest
+together never over = never
+together never nowhere = never
+together never rest = rest
 together (behind a) over = behind a
 together (behind a) nowhere = behind a
+together (behind a) never = behind a
 together (behind a) (behind b) = at_hand
 together (behind a) at_hand = at_hand
 together at_hand rest = at_hand
@@ -138,7 +156,7 @@ abbrev mutual
   -- where it stands in what is still to do, a line for each form
   pub stands : Sought → Residual → Option Place → Standing
   stands s done own = over
-  stands s halted own = nowhere
+  stands s halted own = never
   stands s (inside i child next) own = after (Ordered i) (below own (Ordered i)) (stands s child (below own (Ordered i))) (stands s next own)
   stands s (beside k child rest) own = together (in_branch (Branch k) (stands s child (below own (Branch k)))) (stands s rest own)
   stands s (assign x w e) own = nowhere
@@ -146,8 +164,8 @@ abbrev mutual
   stands s (receive c x) own = there own (is_receive s c)
   stands s (sync c) own = there own (is_sync s c)
   stands s (held c) own = nowhere
-  stands s (loop k body) own = ahead (is_found (stands s body None))
-  stands s (while k e body) own = ahead (is_found (stands s body None))
+  stands s (loop k body) own = in_turns true (is_found (stands s body None))
+  stands s (while k e body) own = in_turns false (is_found (stands s body None))
   stands s (test d arms) own = ahead (in_arms s arms)
   stands s (choose cs arms) own = at_arms own (is_arm s cs) (in_arms s arms)
   stands s (closing c) own = there own (is_close s c)
@@ -163,6 +181,7 @@ abbrev mutual
 abbrev pub partner_standing : Standing → Partner
 partner_standing over = partner.Gone
 partner_standing nowhere = partner.Gone
+partner_standing never = partner.Gone
 partner_standing (behind a) = partner.Behind a
 partner_standing at_hand = partner.Open
 

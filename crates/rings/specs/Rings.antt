@@ -37,12 +37,18 @@ abbrev pub IsRing : Waiters → Residual → List Place → Type 0
 IsRing W r [] = ⊥
 IsRing W r (a ∷ rest) = Linked W r a a rest
 
+-- each stands there once
+abbrev pub EachOnce : List Place → Type 0
+EachOnce [] = Unit {0}
+EachOnce (a ∷ rest) = (In a rest → ⊥) × EachOnce rest
+
 -- the place of the side at each of these indexes
 abbrev pub places_at : List OfferedSide → List ℕ → List (Option Place)
 places_at sides indexes = map (λ (i : ℕ). option_map (λ (x : OfferedSide). x.place) (slice_get sides i)) indexes
 
--- where exactly these sides wait: the indexes are those of sides whose places are a ring; or there is no ring, and none is told
+-- where exactly these sides wait: the indexes are those of sides whose places are a ring, each once; or there is no ring, and none is
+-- told
 abbrev pub TellsRing : Residual → List OfferedSide → List ℕ → Type 0
 TellsRing r sides [] = (ring : List Place) → IsRing (λ x. In x sides) r ring → ⊥
 TellsRing r sides (i ∷ rest) =
-    (ring : List Place) × (places_at sides (i ∷ rest) ≡ map (λ (a : Place). Some a) ring) × IsRing (λ x. In x sides) r ring
+    (ring : List Place) × (places_at sides (i ∷ rest) ≡ map (λ (a : Place). Some a) ring) × IsRing (λ x. In x sides) r ring × EachOnce ring

@@ -14,6 +14,8 @@ pub(crate) enum Found {
     Over,
     /// nowhere: it cannot come from here any more
     Nowhere,
+    /// the same, and what is left to do there never ends: nothing behind it comes
+    Never,
     /// behind all that stands at this place and below it; the last entry first
     Behind(Vec<Entry>),
     /// it is there already, or may come from more than one branch
@@ -26,7 +28,7 @@ impl Found {
         ensures { result ≡ model.is_found (standing self.now) }
     {
         match self {
-            Found::Over | Found::Nowhere => false,
+            Found::Over | Found::Nowhere | Found::Never => false,
             Found::Behind(_) | Found::Open => true,
         }
     }
@@ -50,6 +52,17 @@ pub(crate) fn ahead(alloc: Global, comes: bool) -> Found
         Found::Behind(Vec::new(alloc))
     } else {
         Found::Nowhere
+    }
+}
+
+/// In the turns of a loop, where it comes in one of them; behind a loop without a test nothing comes.
+pub(crate) fn in_turns(alloc: Global, endless: bool, comes: bool) -> Found
+    ensures { standing result ≡ model.in_turns endless comes }
+{
+    if endless && !comes {
+        Found::Never
+    } else {
+        ahead(alloc, comes)
     }
 }
 
@@ -81,30 +94,36 @@ pub(crate) fn after(
 {
     match found {
         Found::Over => Ok(rest),
-        Found::Nowhere => later(alloc, entry, inside, rest.is_found()),
+        Found::Nowhere => later(alloc, entry, inside, rest),
+        Found::Never => Ok(Found::Never),
         Found::Behind(way) => behind(entry, way),
         Found::Open => Ok(Found::Open),
     }
 }
 
-/// Behind the child at this entry, where it comes.
+/// Behind the child at this entry, where it comes in the rest.
 fn later(
     alloc: Global,
     entry: Entry,
     inside: Option<&[Entry]>,
-    comes: bool,
+    rest: Found,
 ) -> Result<Found, AllocError>
-    ensures { IfOk result (λ made. standing made ≡ model.later entry (option_copied inside.entry) comes) }
+    ensures { IfOk result (λ made. standing made ≡ model.later entry (option_copied inside.entry) (standing rest)) }
 {
     match inside {
-        None => {
-            if comes {
-                behind(entry, Vec::new(alloc))
-            } else {
-                Ok(Found::Nowhere)
-            }
-        }
+        None => in_rest(alloc, entry, rest),
         Some(_) => Ok(Found::Nowhere),
+    }
+}
+
+/// The same where the side that waits does not stand in the child.
+fn in_rest(alloc: Global, entry: Entry, rest: Found) -> Result<Found, AllocError>
+    ensures { IfOk result (λ made. standing made ≡ model.later entry None (standing rest)) }
+{
+    match rest {
+        Found::Over | Found::Nowhere => Ok(Found::Nowhere),
+        Found::Never => Ok(Found::Never),
+        Found::Behind(_) | Found::Open => behind(entry, Vec::new(alloc)),
     }
 }
 
@@ -123,6 +142,7 @@ pub(crate) fn in_branch(entry: Entry, found: Found) -> Result<Found, AllocError>
     match found {
         Found::Over => Ok(Found::Over),
         Found::Nowhere => Ok(Found::Nowhere),
+        Found::Never => Ok(Found::Never),
         Found::Behind(way) => behind(entry, way),
         Found::Open => Ok(Found::Open),
     }
@@ -135,6 +155,7 @@ pub(crate) fn together(found: Found, rest: Found) -> Found
     match found {
         Found::Over => rest,
         Found::Nowhere => at_work(rest),
+        Found::Never => endless(rest),
         Found::Behind(way) => alone(way, rest),
         Found::Open => Found::Open,
     }
@@ -146,6 +167,18 @@ fn at_work(rest: Found) -> Found
 {
     match rest {
         Found::Over | Found::Nowhere => Found::Nowhere,
+        Found::Never => Found::Never,
+        Found::Behind(way) => Found::Behind(way),
+        Found::Open => Found::Open,
+    }
+}
+
+/// Beside a branch that never ends, where it is not.
+fn endless(rest: Found) -> Found
+    ensures { standing result ≡ model.together model.never (standing rest) }
+{
+    match rest {
+        Found::Over | Found::Nowhere | Found::Never => Found::Never,
         Found::Behind(way) => Found::Behind(way),
         Found::Open => Found::Open,
     }
@@ -156,7 +189,7 @@ fn alone(way: Vec<Entry>, rest: Found) -> Found
     ensures { standing result ≡ model.together (standing (Found.Behind way)) (standing rest) }
 {
     match rest {
-        Found::Over | Found::Nowhere => Found::Behind(way),
+        Found::Over | Found::Nowhere | Found::Never => Found::Behind(way),
         Found::Behind(_) | Found::Open => Found::Open,
     }
 }

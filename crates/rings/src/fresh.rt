@@ -7,7 +7,7 @@ ghost use Rattle.rings.specs.Partners as model;
 ghost use Rattle.rings.specs.walking.Seen as walked;
 ghost use Rattle.rings.specs.walking.Seen.{standing};
 
-use crate::found::{Found, after, ahead, at_arms, in_branch, there, together};
+use crate::found::{Found, after, ahead, at_arms, in_branch, in_turns, there, together};
 use crate::sought::Sought;
 use crate::way::{below, branch, ordered};
 use address::Entry;
@@ -26,10 +26,10 @@ pub(crate) fn look_fresh(
 {
     match code {
         Code::Continue => Ok(Found::Over),
-        Code::Halt => Ok(Found::Nowhere),
+        Code::Halt => Ok(Found::Never),
         Code::Once(once) => Ok(there(own, sought.is_once(once.get()))),
         Code::Sender(sender) => Ok(there(own, sought.is_sender(sender.get()))),
-        Code::Repeat(repeat) => Ok(ahead(alloc, comes_again(alloc, repeat.get(), sought)?)),
+        Code::Repeat(repeat) => look_again(alloc, repeat.get(), sought),
         Code::Decide(decide) => {
             let later = comes_in(alloc, decide.get().arms.as_slice(), sought)?;
             Ok(ahead(alloc, later))
@@ -41,17 +41,17 @@ pub(crate) fn look_fresh(
     }
 }
 
-/// Whether it comes in a turn of the loop.
+/// Where it stands in the turns of a loop that are still to come.
 #[cycle(look_fresh)]
-pub(crate) fn comes_again(
+pub(crate) fn look_again(
     alloc: Global,
     repeat: &Repeat,
     sought: Sought,
-) -> Result<bool, AllocError>
-    ensures { IfOk result (λ comes. comes ≡ model.is_found (walked.code_seen sought (repeat_view repeat.now).1 None)) }
+) -> Result<Found, AllocError>
+    ensures { IfOk result (λ found. standing found ≡ walked.again_seen sought (repeat_view repeat.now).0 (repeat_view repeat.now).1) }
 {
     let found = look_fresh(alloc, &repeat.body, sought, None)?;
-    Ok(found.is_found())
+    Ok(in_turns(alloc, repeat.guard.is_none(), found.is_found()))
 }
 
 /// Where it stands at arms that wait.

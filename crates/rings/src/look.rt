@@ -12,7 +12,7 @@ ghost use Rattle.rings.specs.walking.Seen as walked;
 ghost use Rattle.rings.specs.walking.Seen.{SeenAt, standing};
 
 use crate::found::{Found, after, ahead, in_branch, there, together};
-use crate::fresh::{comes_again, comes_in, look_arms, look_fresh};
+use crate::fresh::{comes_in, look_again, look_arms, look_fresh};
 use crate::sought::Sought;
 use crate::way::{below, branch, ordered};
 use address::Entry;
@@ -32,7 +32,7 @@ pub(crate) fn look(
 {
     match proc {
         Proc::Idle => Ok(Found::Over),
-        Proc::Stopped => Ok(Found::Nowhere),
+        Proc::Stopped => Ok(Found::Never),
         Proc::Once(once, made) => Ok(look_once(once.get(), *made, sought, own)),
         Proc::Sender(sender, phase) => Ok(look_sender(sender.get(), *phase, sought, own)),
         Proc::Loop(repeat, turns) => look_loop(alloc, turns, repeat.get(), sought, own),
@@ -80,7 +80,7 @@ fn look_loop(
     ensures { IfOk result (λ found. standing found ≡ walked.seen sought (turns_view turns.now (repeat_view repeat.now).0 (repeat_view repeat.now).1) (option_copied own.entry)) }
 {
     match turns {
-        Turns::Fresh => Ok(ahead(alloc, comes_again(alloc, repeat, sought)?)),
+        Turns::Fresh => look_again(alloc, repeat, sought),
         Turns::EndedAtOnce => Ok(Found::Over),
         Turns::Turn(turn, over, body) => look_turn(alloc, body, *turn, *over, repeat, sought, own),
     }
@@ -102,7 +102,7 @@ fn look_turn(
     if over {
         return Ok(Found::Over);
     }
-    let again = ahead(alloc, comes_again(alloc, repeat, sought)?);
+    let again = look_again(alloc, repeat, sought)?;
     look_child(alloc, body, body_of_turn(turn)?, sought, own, again)
 }
 

@@ -18,7 +18,7 @@ use std::alloc::{AllocError, Global};
 pub enum Partner {
     /// all that stands at this place and below it
     Behind(Address),
-    /// nothing helps: none can come any more
+    /// nothing helps: none can come any more, or only behind what never ends
     Gone,
     /// it is there already, or may come from more than one branch
     Open,
@@ -58,7 +58,7 @@ fn as_partner(found: Found) -> Partner
     ensures { result ≡ partner_standing (standing found) }
 {
     match found {
-        Found::Over | Found::Nowhere => Partner::Gone,
+        Found::Over | Found::Nowhere | Found::Never => Partner::Gone,
         Found::Behind(way) => Partner::Behind(turned(way)),
         Found::Open => Partner::Open,
     }

@@ -1,5 +1,5 @@
 // A ring of sides of which each waits for the next.
-ghost use Rattle.std.specs.Prelude.{◌≡◌, ◌<◌, ℕ, [], length, slice_get, slice_set, drop, Some, map, IfOk, MatchOption};
+ghost use Rattle.std.specs.Prelude.{◌≡◌, ◌<◌, ℕ, [], true, length, slice_get, slice_set, drop, Some, map, IfOk, MatchOption};
 ghost use Rattle.syntax.specs.Lists.{In};
 ghost use Rattle.system.specs.Residual.{Residual};
 ghost use Rattle.rings.specs.Partners.{partner_in};
@@ -7,7 +7,7 @@ ghost use Rattle.rings.specs.Rings.{TellsRing};
 ghost use Rattle.rings.specs.walking.Search as model;
 
 use crate::partner::Partner;
-use crate::waits::waits;
+use crate::waits::{is_at_one, waits};
 use offered_sides::OfferedSide;
 use std::alloc::{AllocError, Global};
 
@@ -19,8 +19,8 @@ pub(crate) enum Seen {
     Done,
 }
 
-/// The indexes of sides whose places are a ring, where these are the partners of the sides, in their order: the place of each
-/// waits for that of the next, and the last for the first. None where there is no ring. It is an error if there is no memory.
+/// The indexes of sides whose places are a ring, each once, where these are the partners of the sides, in their order: the place of
+/// each waits for that of the next, and the last for the first. None where there is no ring. It is an error if there is no memory.
 pub fn ring_among(
     alloc: Global,
     sides: &[OfferedSide],
@@ -39,7 +39,7 @@ fn ring_of_indexes(
     partners: &[Partner],
 ) -> Result<Vec<usize>, AllocError>
     requires { length partners.now ≡ length sides.now }
-    ensures { IfOk result (λ ring. model.Names (length sides.now) (model.waits sides.now partners.now) ring.items) }
+    ensures { IfOk result (λ ring. model.Names (length sides.now) (model.waits sides.now partners.now) (model.same_at sides.now) ring.items) }
 {
     let mut seen = all_new(alloc, sides.len())?;
     for start in 0..sides.len() {
@@ -73,8 +73,9 @@ fn ring_from(
 ) -> Result<Vec<usize>, AllocError>
     requires sizes { length partners.now ≡ length sides.now }
     requires start { start < length sides.now }
-    requires so_far { model.Searching (length sides.now) (model.waits sides.now partners.now) seen.old [] }
-    ensures { IfOk result (λ ring. model.Searched (length sides.now) (model.waits sides.now partners.now) seen.old seen.new start ring.items) }
+    requires so_far { model.Searching (length sides.now) (model.waits sides.now partners.now) (model.same_at sides.now) seen.old [] }
+    ensures { IfOk result (λ ring. model.Searched (length sides.now) (model.waits sides.now partners.now) (model.same_at sides.now)
+        seen.old seen.new start ring.items) }
 {
     let mut way = Vec::new(alloc);
     way.push(start)?;
@@ -85,7 +86,7 @@ fn ring_from(
             continue;
         };
         way.push(top)?;
-        if let Some(index) = index_on(way.as_slice(), next) {
+        if let Some(index) = index_on(sides, way.as_slice(), next) {
             return part_from(alloc, way.as_slice(), index);
         }
         way.push(next)?;
@@ -140,12 +141,13 @@ fn next_open(
     None
 }
 
-/// Where the side stands on the way.
-fn index_on(way: &[usize], side: usize) -> Option<usize>
-    ensures { MatchOption result (In side way.now → ⊥) (λ index. slice_get way.now index ≡ Some side) }
+/// Where a side on the way stands at the place of this one.
+fn index_on(sides: &[OfferedSide], way: &[usize], side: usize) -> Option<usize>
+    ensures { MatchOption result ((j : ℕ) → In j way.now → model.same_at sides.now j side ≡ true → ⊥)
+        (λ index. (j : ℕ) × (slice_get way.now index ≡ Some j) × (model.same_at sides.now j side ≡ true)) }
 {
     for (index, held) in way.iter().enumerate() {
-        if *held == side {
+        if is_at_one(sides, *held, side) {
             return Some(index);
         }
     }

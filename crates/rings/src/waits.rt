@@ -1,5 +1,5 @@
 // Who waits for whom.
-ghost use Rattle.std.specs.Prelude.{◌≡◌, length};
+ghost use Rattle.std.specs.Prelude.{◌≡◌, Some, length, slice_get};
 ghost use Rattle.std.specs.Option.{option_copied};
 ghost use Rattle.runs.specs.Tests.{same_place};
 ghost use Rattle.offered_sides.specs.walking.At as at;
@@ -16,24 +16,72 @@ pub(crate) fn waits(sides: &[OfferedSide], partners: &[Partner], one: usize, oth
     ensures { result ≡ model.waits sides.now partners.now one other }
 {
     match sides.get(one) {
-        Some(side) => waits_for(sides, partners, &side.place, sides.get(other)),
+        Some(side) => waits_for(sides, partners, one, &side.place, sides.get(other)),
         None => false,
     }
 }
 
-/// Whether the place waits for that of the other side, if there is one.
+/// Whether the place of the one side waits for that of the other side, if there is one.
 fn waits_for(
     sides: &[OfferedSide],
     partners: &[Partner],
+    one: usize,
     place: &Address,
     other: Option<&OfferedSide>,
 ) -> bool
-    requires { length partners.now ≡ length sides.now }
+    requires sizes { length partners.now ≡ length sides.now }
+    requires at { model.place_at sides.now one ≡ Some place.now }
     ensures { result ≡ model.waits_for sides.now partners.now place.now (option_copied other.entry) }
 {
     match other {
-        Some(goes) => all_behind(sides, partners, place, &goes.place),
+        Some(goes) => all_at_behind(sides, partners, one, place, &goes.place),
         None => false,
+    }
+}
+
+/// Whether all sides at the place of the one have their partner behind the other place. Its own partner mostly tells that they have
+/// not, and no others are looked at.
+fn all_at_behind(
+    sides: &[OfferedSide],
+    partners: &[Partner],
+    one: usize,
+    place: &Address,
+    other: &Address,
+) -> bool
+    requires sizes { length partners.now ≡ length sides.now }
+    requires at { model.place_at sides.now one ≡ Some place.now }
+    ensures { result ≡ model.all_behind sides.now partners.now place.now other.now }
+{
+    if !own_behind(partners, one, other) {
+        return false;
+    }
+    all_behind(sides, partners, place, other)
+}
+
+/// Whether the partner of this number, if there is one, comes once what stands at the place has gone on.
+fn own_behind(partners: &[Partner], one: usize, place: &Address) -> bool
+    ensures { result ≡ model.own_behind (slice_get partners.now one) place.now }
+{
+    match partners.get(one) {
+        Some(partner) => is_behind(partner, place),
+        None => false,
+    }
+}
+
+/// Whether the sides of these indexes stand at one place.
+pub(crate) fn is_at_one(sides: &[OfferedSide], one: usize, other: usize) -> bool
+    ensures { result ≡ model.same_at sides.now one other }
+{
+    are_at_one(sides.get(one), sides.get(other))
+}
+
+/// Whether both sides are there, and stand at one place.
+fn are_at_one(one: Option<&OfferedSide>, other: Option<&OfferedSide>) -> bool
+    ensures { result ≡ model.same_places (option_copied one.entry) (option_copied other.entry) }
+{
+    match (one, other) {
+        (Some(one), Some(other)) => is_same(&one.place, &other.place),
+        _ => false,
     }
 }
 

@@ -4,12 +4,13 @@ use Rattle.std.specs.Prelude.{slice_get}
 use Rattle.std.proofs.lemmas.Bool.{cases_lt}
 use Rattle.std.proofs.lemmas.Option.{slice_get-get_or, slice_get_within}
 use Rattle.syntax.specs.Lists.{In}
+use Rattle.runs.specs.InOrder.{InOrder}
 use Rattle.runs.specs.Live.{Live, Rising, LiveAt, IsLive}
 use Rattle.runs.specs.declared.event.Event.{Event}
 use Rattle.dependence.specs.Followers.{Follower, ListsFollowers, ListsLeads}
-use Rattle.dependence.proofs.ListPlaces.{at-one, take-next, take-all}
+use Rattle.dependence.proofs.ListPlaces.{at-one, in-order-more, in-read, take-next, take-all}
 use Rattle.dependence.proofs.Standing.{index-rises, lesser-stands}
-use Rattle.runs.proofs.Lists.{in-left, in-right, in-parts}
+use Rattle.runs.proofs.Lists.{every-in, in-left, in-right, in-parts}
 use Rattle.runs.proofs.Options.{none-some, some-injective}
 use Rattle.run_depths.specs.Depths.{AreAhead, AreBelow, AreDepths, IsBehind, IsDepth, ListsAhead, StandsAt}
 
@@ -186,13 +187,25 @@ stands-ahead low next l i j t u r a b less =
 pub record AheadTo (l : Live) (i : ℕ) (seen ahead : List ℕ) : Type 0 where
   pub each : (n : ℕ) → In n ahead → (u : ℕ) × In u seen × StandsAt l u (i + n)
   pub all : (u : ℕ) → In u seen → (n : ℕ) × In n ahead × StandsAt l u (i + n)
+  pub ascending : InOrder ◌<◌ ahead
 
 pub ahead-none : (l : Live) (i : ℕ) → AheadTo l i [] []
-ahead-none l i = record { each = λ n none. absurd none; all = λ u none. absurd none }
+ahead-none l i = record { each = λ n none. absurd none; all = λ u none. absurd none; ascending = tt }
 
-pub ahead-next : (l : Live) (i k n : ℕ) (xs ahead new : List ℕ) → k < length xs → StandsAt l (get_or xs k 0) (i + n) → AheadTo l i (take k xs) ahead
-    → new ≡ ahead ++ n ∷ [] → AheadTo l i (take (k + 1) xs) new
-ahead-next l i k n xs ahead new h at to is = subst (λ (ys : List ℕ). AheadTo l i (take (k + 1) xs) ys) (sym is) (record {
+-- of an ascending list the numbers before a place are less than the one at it
+before-next : (xs : List ℕ) (k v : ℕ) → InOrder ◌<◌ xs → k < length xs → In v (take k xs) → v < get_or xs k 0
+before-next [] k v order h within = absurd (omega arith)
+before-next (x ∷ xs) zero v order h within = absurd within
+before-next (x ∷ xs) (suc k) v order h within =
+    let less : k < length xs = omega arith in
+    elim within [
+      | inl here ↦ let later : x < get_or xs k 0 = every-in (◌<◌ x) xs (get_or xs k 0) order.0 (in-read xs k less) in omega arith
+      | inr rest ↦ before-next xs k v order.1 less rest
+    ]
+
+pub ahead-next : (low next : ℕ) (l : Live) (i k n : ℕ) (xs ahead new : List ℕ) → Rising low l next → InOrder ◌<◌ xs → k < length xs
+    → StandsAt l (get_or xs k 0) (i + n) → AheadTo l i (take k xs) ahead → new ≡ ahead ++ n ∷ [] → AheadTo l i (take (k + 1) xs) new
+ahead-next low next l i k n xs ahead new rising order h at to is = subst (λ (ys : List ℕ). AheadTo l i (take (k + 1) xs) ys) (sym is) (record {
   each = λ m within.
       elim (in-parts m ahead (n ∷ []) within) [
         | inl before ↦ let old = to.each m before in (old.0, in-still xs k old.0 h old.1, old.2)
@@ -204,6 +217,12 @@ ahead-next l i k n xs ahead new h at to is = subst (λ (ys : List ℕ). AheadTo 
         | inl before ↦ let old = to.all u before in (old.0, in-left old.0 ahead (n ∷ []) old.1, old.2)
         | inr here ↦ (n, in-right n ahead (n ∷ []) (inl refl), subst (λ (q : ℕ). StandsAt l q (i + n)) (sym here) at)
       ];
+  ascending = in-order-more ◌<◌ ahead n to.ascending (λ m within.
+      let old = to.each m within in
+      let less : old.0 < get_or xs k 0 = before-next xs k old.0 order h old.1 in
+      let further : i + m < i + n =
+      lesser-stands low next l (i + m) (i + n) old.0 (get_or xs k 0) old.2.0 at.0 rising old.2.1 at.1 less in
+      omega arith);
 })
 
 pub ahead-all : (l : Live) (i t k : ℕ) (xs ahead : List ℕ) → ListsFollowers l t xs → length xs ≤ k → AheadTo l i (take k xs) ahead → ListsAhead l i t ahead
@@ -211,6 +230,7 @@ ahead-all l i t k xs ahead listed whole to =
     let full : AheadTo l i xs ahead = subst (λ (ys : List ℕ). AheadTo l i ys ahead) (take-all xs k whole) to in record {
       each = λ n within. let one = full.each n within in (one.0, (listed.exactly one.0).0 one.1, one.2);
       all = λ u f. full.all u ((listed.exactly u).1 f);
+      ascending = full.ascending;
     }
 
 -- the rows of the events before index n

@@ -1,6 +1,7 @@
 -- The depths of live events, and how far on their followers stand. (Depth: the length of the longest chain of causes.)
 use Rattle.std.specs.Prelude.{◌≡◌, ◌⊎◌, ℕ, ◌+◌, ◌<◌, ◌≤◌, List, length, Some, slice_get, slice_index}
 use Rattle.syntax.specs.Lists.{In}
+use Rattle.runs.specs.InOrder.{InOrder}
 use Rattle.runs.specs.Live.{Live}
 use Rattle.runs.specs.declared.event.Event.{Event}
 use Rattle.dependence.specs.Followers.{Follower}
@@ -27,10 +28,11 @@ pub record AreDepths (l : Live) (depths : List ℕ) : Type 0 where
 abbrev pub AreBelow : List ℕ → Type 0
 AreBelow depths = (k : ℕ) → k < length depths → slice_index depths k ≤ k
 
--- exactly how many events further on than the index i the followers of the event of ticket t stand
+-- exactly how many events further on than the index i the followers of the event of ticket t stand, ascending, so each once
 pub record ListsAhead (l : Live) (i t : ℕ) (ahead : List ℕ) : Type 0 where
   pub each : (n : ℕ) → In n ahead → (u : ℕ) × Follower l t u × StandsAt l u (i + n)
   pub all : (u : ℕ) → Follower l t u → (n : ℕ) × In n ahead × StandsAt l u (i + n)
+  pub ascending : InOrder ◌<◌ ahead
 
 -- the same of each event, at its index
 pub record AreAhead (l : Live) (rows : List (List ℕ)) : Type 0 where

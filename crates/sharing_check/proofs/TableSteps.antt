@@ -1,32 +1,30 @@
 -- One step along the entries of a table.
-use Rattle.std.proofs.Common.{◌≡◌, ℕ, ◌+◌, ◌<◌, length, drop, ◌∷◌, cond, nat_eq, eq-eqb, Bool, true, false, Option, None, Some, unwrap_or, slice_get, refl, sym, ap, ◌∙◌, subst, [], List}
+use Rattle.std.proofs.Common.{◌≡◌, ℕ, ◌+◌, ◌<◌, length, drop, ◌∷◌, cond, nat_eq, Bool, true, false, Option, None, Some, unwrap_or, slice_get, refl, sym, ap, ◌∙◌, subst, [], List}
 use Rattle.std.proofs.lemmas.List.{at_drop_more}
 use Rattle.std.proofs.lemmas.Option.{slice_get_within, get_or_from_slice_get, slice_get-get_or}
-use Rattle.std.specs.Map.{lookup}
+use Rattle.std.specs.Map.{lookup, set_value}
 use Rattle.indexmap.specs.IndexMap.{insert_entry}
 use Rattle.system.specs.declared.system.Variable.{Variable}
 use Rattle.sharing_check.specs.declared.touched.Touched.{Touched}
 use Rattle.sharing_check.specs.walking.Crossing.{Table, together, nowhere, touched_at, noted, noted_all, clash, with_clash, least_with}
 
--- an entry that was put there twice stands as it did the second time
-inserted_twice : (k : ℕ) (v w : Touched) (t : Table) → insert_entry nat_eq (insert_entry nat_eq t k v) k w ≡ insert_entry nat_eq t k w
-inserted_twice k v w [] = ap (λ b. cond b ((k, w) ∷ []) ((k, v) ∷ (k, w) ∷ [])) (eq-eqb k k refl)
-inserted_twice k v w (e ∷ t) = go (inserted_twice k v w t) (nat_eq k e.0) refl
+-- what is put in the place of an entry's value is inserted
+set_inserts : (x : ℕ) (v w : Touched) (t : Table) → lookup (nat_eq x) t ≡ Some v → set_value (nat_eq x) t w ≡ insert_entry nat_eq t x w
+set_inserts x v w [] found = absurd (cc)
+set_inserts x v w (e ∷ t) found = go (λ here. set_inserts x v w t here) (nat_eq x e.0) refl
   where
-    go : insert_entry nat_eq (insert_entry nat_eq t k v) k w ≡ insert_entry nat_eq t k w → (b : Bool) → nat_eq k e.0 ≡ b
-        → insert_entry nat_eq (insert_entry nat_eq (e ∷ t) k v) k w ≡ insert_entry nat_eq (e ∷ t) k w
-    go rest true same = rw same (rw same refl)
-    go rest false apart = rw apart (rw apart (ap (λ es. e ∷ es) rest))
+    go : (lookup (nat_eq x) t ≡ Some v → set_value (nat_eq x) t w ≡ insert_entry nat_eq t x w) → (b : Bool) → nat_eq x e.0 ≡ b
+        → set_value (nat_eq x) (e ∷ t) w ≡ insert_entry nat_eq (e ∷ t) x w
+    go rest true same = rw same refl
+    go rest false apart = rw apart (ap (λ es. e ∷ es) (rest (rw apart at found)))
 
--- where a variable was touched before, more is noted by a second insertion
-pub added_twice : (old first second : Table) (x : ℕ) (s before both : Touched) (found : Option Touched)
-    → first ≡ insert_entry nat_eq old x s → second ≡ insert_entry nat_eq first x both → both ≡ together before s
-    → found ≡ lookup (nat_eq x) old → found ≡ Some before → second ≡ noted old x s
-added_twice old first second x s before both found e f is at some =
-    f
-    ∙ (ap (λ t. insert_entry nat_eq t x both) e
-    ∙ (inserted_twice x s both old
-    ∙ ap (λ v. insert_entry nat_eq old x v) (is ∙ ap (λ o. together (unwrap_or o nowhere) s) (sym some ∙ at))))
+-- where a variable was touched before, more is noted in its place
+pub added_in_place : (old new : Table) (x : ℕ) (s before both : Touched) (found : Option Touched)
+    → new ≡ set_value (nat_eq x) old both → both ≡ together before s → found ≡ lookup (nat_eq x) old → found ≡ Some before → new ≡ noted old x s
+added_in_place old new x s before both found e is at some =
+    e
+    ∙ (set_inserts x before both old (sym at ∙ some)
+    ∙ ap (λ v. insert_entry nat_eq old x v) (is ∙ ap (λ o. together (unwrap_or o nowhere) s) (sym some ∙ at)))
 
 -- what is left of a table begins with the entry at the place
 drop_entry : (es : Table) (i : ℕ) (e : ℕ × Touched) → slice_get es i ≡ Some e → drop i es ≡ e ∷ drop (i + 1) es

@@ -1,4 +1,5 @@
 ghost use Rattle.std.specs.Prelude.{◌≡◌, [], None, IfOk};
+ghost use Rattle.std.specs.Option.{IfSome};
 ghost use Rattle.sharing_check.specs.walking.Gathering as model;
 
 use crate::touched::Touched;
@@ -14,14 +15,20 @@ pub struct Found {
     touches: Touches,
     /// the least offset of a use that clashes
     least: Option<u64>,
+    /// nothing, in memory that serves the next branch
+    spare: Option<Touches>,
 }
 
 impl Model for Found {
+    ghost use Rattle.std.specs.Prelude.{◌≡◌, []};
+    ghost use Rattle.std.specs.Option.{IfSome};
     ghost use Rattle.sharing_check.specs.walking.Gathering.{Gathered, gathered};
 
     ghost Value = { Gathered };
 
     ghost view = { λ found. gathered found.touches found.least };
+
+    ghost invariant = { λ found. IfSome found.spare (λ table. table ≡ []) };
 }
 
 impl Found {
@@ -32,6 +39,7 @@ impl Found {
         Found {
             touches: Touches::new(alloc),
             least: None,
+            spare: None,
         }
     }
 
@@ -56,7 +64,8 @@ impl Found {
         ensures taken { result ≡ self.old.touched }
         ensures left { self.new ≡ model.gathered [] self.old.least }
     {
-        mem::replace(&mut self.touches, Touches::new(alloc))
+        let nothing = touch_nothing(&mut self.spare, alloc);
+        mem::replace(&mut self.touches, nothing)
     }
 
     /// Puts back what was touched before.
@@ -65,7 +74,9 @@ impl Found {
     {
         let mut earlier = earlier;
         put_larger_first(&mut self.touches, &mut earlier);
-        self.touches.add_all(&earlier)
+        self.touches.add_all(&earlier)?;
+        keep_memory(&mut self.spare, earlier);
+        Ok(())
     }
 
     /// Puts back what the branches before this one touched, with the clashes between them and this one.
@@ -75,6 +86,32 @@ impl Found {
         let mut earlier = earlier;
         put_larger_first(&mut self.touches, &mut earlier);
         self.least = self.touches.add_branch(&earlier, variables, self.least)?;
+        keep_memory(&mut self.spare, earlier);
         Ok(())
     }
+}
+
+/// A table of nothing, in spare memory where there is some.
+fn touch_nothing(spare: &mut Option<Touches>, alloc: Global) -> Touches
+    requires { IfSome spare.old (λ table. table ≡ []) }
+    ensures nothing { result ≡ [] }
+    ensures taken { spare.new ≡ None }
+{
+    match spare.take() {
+        Some(table) => table,
+        None => Touches::new(alloc),
+    }
+}
+
+/// Keeps the memory of a table that is done with, where it has few variables: to empty a large one takes long.
+fn keep_memory(spare: &mut Option<Touches>, done: Touches)
+    requires { IfSome spare.old (λ table. table ≡ []) }
+    ensures { IfSome spare.new (λ table. table ≡ []) }
+{
+    if !done.has_few() {
+        return;
+    }
+    let mut done = done;
+    done.clear();
+    *spare = Some(done);
 }

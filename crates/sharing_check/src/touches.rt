@@ -9,6 +9,9 @@ use std::marker::Model;
 use std::mem;
 use system::Variable;
 
+/// The most variables of a table that is emptied rather than dropped.
+const FEW: usize = 64;
+
 /// Where a part of a command touches variables, by their numbers.
 #[derive(Drop)]
 pub struct Touches {
@@ -33,6 +36,19 @@ impl Touches {
         }
     }
 
+    /// Whether there are a few variables.
+    pub fn has_few(&self) -> bool {
+        let count = self.by_variable.len();
+        0 < count && count <= FEW
+    }
+
+    /// Takes everything out, and keeps the memory.
+    pub fn clear(&mut self)
+        ensures { self.new ≡ [] }
+    {
+        self.by_variable.clear();
+    }
+
     /// How many variables there are.
     fn len(&self) -> usize
         ensures { result ≡ length self.now }
@@ -55,13 +71,13 @@ impl Touches {
         ensures before { IfOk result (λ before. before ≡ model.touched_at self.old variable) }
         ensures added { OnOk result (self.new ≡ model.noted self.old variable touched) }
     {
-        match self.by_variable.insert(variable, touched)? {
-            Some(before) => {
-                self.by_variable.insert(variable, before.with(touched))?;
-                Ok(before)
-            }
-            None => Ok(Touched::NOWHERE),
+        if let Some(held) = self.by_variable.get_mut(&variable) {
+            let before = *held;
+            *held = before.with(touched);
+            return Ok(before);
         }
+        self.by_variable.insert(variable, touched)?;
+        Ok(Touched::NOWHERE)
     }
 
     /// Adds all that another part touches.

@@ -80,6 +80,9 @@ impl Width {
     }
 }
 
+/// The most channels of a table that is emptied rather than dropped.
+const FEW: usize = 64;
+
 /// How many branches use each channel at one time.
 #[derive(Drop)]
 struct Widths {
@@ -127,14 +130,28 @@ impl Widths {
         Ok(())
     }
 
-    /// Puts both together.
-    #[tactic(auto, using(crate::proofs::CountTables::join_swaps))]
-    fn merge(&mut self, how: Together, other: Widths) -> Result<(), AllocError>
-        ensures { OnOk result (model.noted self.new ≡ model.join how (model.noted self.old) (model.noted other)) }
+    /// Forgets all uses. A table of few keeps its memory: to empty a large one takes long.
+    fn clear(&mut self)
+        ensures { model.noted self.new ≡ model.nothing }
     {
-        let mut smaller = other;
-        put_larger_first(self, &mut smaller);
-        self.add_each(how, &smaller)
+        if self.by_channel.len() > FEW {
+            *self = Widths::new(*self.by_channel.allocator());
+            return;
+        }
+        self.by_channel.clear();
+    }
+
+    /// Puts both together, and leaves the other one without uses, so that its memory serves again.
+    #[tactic(auto, using(crate::proofs::CountTables::join_swaps))]
+    fn merge(&mut self, how: Together, other: &mut Widths) -> Result<(), AllocError>
+        ensures merged { OnOk result (model.noted self.new
+            ≡ model.join how (model.noted self.old) (model.noted other.old)) }
+        ensures emptied { OnOk result (model.noted other.new ≡ model.nothing) }
+    {
+        put_larger_first(self, other);
+        self.add_each(how, other)?;
+        other.clear();
+        Ok(())
     }
 }
 
@@ -176,8 +193,8 @@ fn add_command(alloc: Global, command: &Command, widths: &mut Widths) -> Result<
         Action::Select(arms) | Action::Arbitrate(arms) => add_arms(alloc, arms.as_slice(), widths),
         Action::Sequence(children) => add_commands(alloc, children.as_slice(), widths),
         Action::Parallel(children) => {
-            let branches = of_branches(alloc, children.as_slice())?;
-            widths.merge(one, branches)
+            let mut branches = of_branches(alloc, children.as_slice())?;
+            widths.merge(one, &mut branches)
         }
     }
 }
@@ -249,21 +266,30 @@ fn of_branches(alloc: Global, children: &[Command]) -> Result<Widths, AllocError
         model.noted widths ≡ model.side_by_side model.nothing (map residual_of children.now)) }
 {
     let mut widths = Widths::new(alloc);
+    let mut branch = Widths::new(alloc);
     for child in children {
-        let branch = of_command(alloc, child)?;
-        widths.merge(Together::InBranches, branch)?;
+        put_command(alloc, child, &mut branch)?;
+        widths.merge(Together::InBranches, &mut branch)?;
     }
     Ok(widths)
 }
 
-/// The uses of a command.
+/// Puts the uses of a command into a table that has none.
 #[cycle(widths)]
 #[tactic(auto, using(crate::proofs::CountTables::join_nothing))]
+fn put_command(alloc: Global, command: &Command, widths: &mut Widths) -> Result<(), AllocError>
+    requires { model.noted widths.old ≡ model.nothing }
+    ensures { OnOk result (model.noted widths.new ≡ model.used_by (residual_of command.now)) }
+{
+    add_command(alloc, command, widths)
+}
+
+/// The uses of a command.
 fn of_command(alloc: Global, command: &Command) -> Result<Widths, AllocError>
     ensures { IfOk result (λ widths. model.noted widths ≡ model.used_by (residual_of command.now)) }
 {
     let mut widths = Widths::new(alloc);
-    add_command(alloc, command, &mut widths)?;
+    put_command(alloc, command, &mut widths)?;
     Ok(widths)
 }
 

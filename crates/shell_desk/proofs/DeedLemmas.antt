@@ -4,16 +4,15 @@ use Rattle.std.specs.Bool.{MatchBool}
 use Rattle.std.specs.Prelude.{option_map, slice_get, length}
 use Rattle.runs.specs.Live.{Live}
 use Rattle.runs.specs.declared.event.Event.{Event}
-use Rattle.system.specs.Expression.{is_in}
 use Rattle.system_places.specs.SystemBranches.{branch_count}
-use Rattle.locked_execution.specs.AtDesk.{AtDesk, breaks_of}
+use Rattle.locked_execution.specs.AtDesk.{AtDesk}
+use Rattle.locked_execution.specs.Answered.{Answered}
 use Rattle.locked_execution.specs.Performs.{Answers}
 use Rattle.locked_execution.specs.declared.command.Command.{Command}
 use Rattle.locked_execution.specs.declared.command.Reply.{Reply}
 use Rattle.shell_desk.specs.AtBench.{AtBench}
-use Rattle.shell_desk.specs.Does.{Asked, AsksIfAny, GoesBack, InTurn, IsNewest, OneTurn, Runs, end_of, ends_run, ends_way, first_of, is_busy, next_of, numbered_as}
-use Rattle.shell_desk.specs.walking.Again.{BreaksLead, LeadsOn}
-use Rattle.shell_desk.specs.Laws.{EachDeedIsCommands, Leaves}
+use Rattle.shell_desk.specs.Does.{Asked, AsksIfAny, GoesBack, InTurn, IsNewest, OneTurn, Runs, RunsFrom, RunsPast, end_of, ended_at, ends_run, ends_way, first_of, held_of, is_busy, next_of, numbered_as}
+use Rattle.shell_desk.specs.Laws.{EachDeedIsCommands, Leaves, of_session}
 use Rattle.shell_desk.specs.declared.deed.Deed.{Deed}
 use Rattle.shell_desk.specs.declared.deed.Done.{Done}
 use Rattle.shell_desk.specs.declared.deed.End.{End}
@@ -22,8 +21,12 @@ use Rattle.shell_desk.specs.declared.deed.End.{End}
 one-less : (n i : ℕ) → i < n → n - i ≡ suc (n - (i + 1))
 one-less n i less = omega arith
 
+-- no step is asked for
+no-step : 0 < 0 → ⊥
+no-step less = omega arith
+
 -- a test has one result
-true-false : true ≡ false → ⊥
+pub true-false : true ≡ false → ⊥
 true-false h = cc
 
 -- a fact by a test
@@ -39,6 +42,11 @@ by-true Q false e p = absurd (true-false (sym e))
 pub told-false : (P : Type 0) {Q : Type 0} → (t : Bool) → MatchBool t P Q → t ≡ false → Q
 told-false P true h e = absurd (true-false e)
 told-false P false h e = h
+
+-- the fact of a test that passes
+pub told-true : {P : Type 0} (Q : Type 0) → (t : Bool) → MatchBool t P Q → t ≡ true → P
+told-true Q true h e = h
+told-true Q false h e = absurd (true-false (sym e))
 
 -- what follows from both
 by-cases : (P Q : Type 0) {R : Type 0} → (t : Bool) → MatchBool t P Q → (P → R) → (Q → R) → R
@@ -98,6 +106,28 @@ pub run-enough : (limit i : ℕ) (b : AtBench) → limit ≤ i → Runs b (limit
 run-enough limit i b past =
     let none : limit - i ≡ 0 = omega arith in
     subst (λ (left : ℕ). Runs b left End.Enough b) (sym none) (refl, refl)
+
+-- one step past a breakpoint, and then the others
+pub past-goes-on : (line limit : ℕ) (b c d m b' : AtBench) (r r1 r2 : Reply) (end : End) → 0 < limit
+    → Asked b (Command.Clear line) r1 c → OneTurn c r d → Asked d (Command.Break line) r2 m → ends_run r ≡ false
+    → Runs m (limit - 1) end b' → RunsPast line b limit end b'
+past-goes-on line zero b c d m b' r r1 r2 end less cleared turn set step rest = absurd (no-step less)
+past-goes-on line (suc left) b c d m b' r r1 r2 end less cleared turn set step rest =
+    let same : suc left - 1 ≡ left = omega arith in
+    (r, c, d, m, (r1, cleared), turn, (r2, set), by-false _ (ends_run r) step (subst (λ (n : ℕ). Runs m n end b') same rest))
+
+-- no step past a breakpoint
+pub past-ends : (line limit : ℕ) (b c d m : AtBench) (r r1 r2 : Reply) (end : End) → 0 < limit
+    → Asked b (Command.Clear line) r1 c → OneTurn c r d → Asked d (Command.Break line) r2 m → ends_run r ≡ true
+    → end ≡ end_of r → RunsPast line b limit end m
+past-ends line zero b c d m r r1 r2 end less cleared turn set none e = absurd (no-step less)
+past-ends line (suc left) b c d m r r1 r2 end less cleared turn set none e =
+    (r, c, d, m, (r1, cleared), turn, (r2, set), by-true _ (ends_run r) none (e, refl))
+
+-- a run from the breakpoint that is held
+pub from-held : (b b' : AtBench) (limit : ℕ) (end : End) (held : Option ℕ) → held ≡ held_of b → RunsFrom held b limit end b'
+    → RunsFrom (held_of b) b limit end b'
+from-held b b' limit end held e h = subst (λ (o : Option ℕ). RunsFrom o b limit end b') e h
 
 -- the greatest ticket stands last
 pub newest-at : (l k : Live) (n t : ℕ) (e : Event) → n ≡ length k → k ≡ l → slice_get l (n - 1) ≡ Some (t, e) → IsNewest l t
@@ -193,6 +223,36 @@ runs-leave session (suc left) b b' end same h =
     (λ done. still session h.1 b' done.1)
     (λ more. runs-leave session left h.1 b' end same' more))
 
+-- the steps of a run past a breakpoint
+runs-past-leave : (session line limit : ℕ) (b b' : AtBench) (end : End) → b.session ≡ session → RunsPast line b limit end b'
+    → Leaves session b b'
+runs-past-leave session line zero b b' end same h = still session b b' h.1
+runs-past-leave session line (suc left) b b' end same (r, c, d, m, (r1, cleared), turn, (r2, set), rest) =
+    asked-then session b c b' (Command.Clear line) r1 same cleared
+    (turn-leaves session (branch_count c.desk.machine.checked) (branch_count c.desk.machine.checked)
+    (first_of (branch_count c.desk.machine.checked) c.branch) c d b' r (cleared.1 ∙ same) turn
+    (λ same'. asked-then session d m b' (Command.Break line) r2 same' set
+    (by-cases ((end ≡ end_of r) × (b' ≡ m)) (Runs m left end b') (ends_run r) rest
+    (λ done. still session m b' done.1)
+    (λ more. runs-leave session left m b' end (set.1 ∙ same') more))))
+
+runs-from-leave : (session limit : ℕ) (held : Option ℕ) (b b' : AtBench) (end : End) → b.session ≡ session
+    → RunsFrom held b limit end b' → Leaves session b b'
+runs-from-leave session limit None b b' end same h = runs-leave session limit b b' end same h
+runs-from-leave session limit (Some line) b b' end same h = runs-past-leave session line limit b b' end same h
+
+-- how a run ended changes no desk
+ended-desk : (end : End) (m b' : AtBench) → b' ≡ ended_at end m → b'.desk ≡ m.desk
+ended-desk End.Enough m b' e = ap (λ (x : AtBench). x.desk) e
+ended-desk End.Idle m b' e = ap (λ (x : AtBench). x.desk) e
+ended-desk (End.AtBreak line) m b' e = ap (λ (x : AtBench). x.desk) e
+ended-desk (End.Refused why) m b' e = ap (λ (x : AtBench). x.desk) e
+
+-- what is left by the desk alone
+same-desk : (session : ℕ) (b m b' : AtBench) → b'.desk ≡ m.desk → Leaves session b m → Leaves session b b'
+same-desk session b m b' e h =
+    (h.0, h.1, subst (λ (d : AtDesk). Answered b.desk (of_session session h.0) h.1 d) (sym e) h.2)
+
 -- the steps that are taken back
 back-leaves : (session left : ℕ) (b b' : AtBench) (told : Option Reply) → b.session ≡ session → GoesBack b left told b'
     → Leaves session b b'
@@ -212,7 +272,7 @@ asks-leave session b b' (Some c) done same h = asked-then session b b' b' c h.0 
 
 -- another session: the desk is as it was
 turned-leaves : (session k : ℕ) (b b' : AtBench)
-    → b' ≡ record { desk = b.desk; session = k; numbered = b.numbered; branch = b.branch } → Leaves session b b'
+    → b' ≡ record { desk = b.desk; session = k; numbered = b.numbered; branch = b.branch; stopped = None } → Leaves session b b'
 turned-leaves session k b b' e = ([], [], (refl, ap (λ (x : AtBench). x.desk) e))
 
 -- whatever is done
@@ -223,28 +283,6 @@ each-deed b b' (Deed.Ask c) done h = asks-leave b.session b b' (Some c) done ref
 each-deed b b' (Deed.Take n) done h = asks-leave b.session b b' (numbered_as b.numbered n) done refl h
 each-deed b b' (Deed.Next k) done h = asks-leave b.session b b' (Some (Command.Branch k)) done refl h
 each-deed b b' Deed.NextAgain done h = asks-leave b.session b b' (option_map Command.Branch b.branch) done refl h
-each-deed b b' (Deed.Run limit) done h = runs-leave b.session limit b b' h.0 refl h.1
+each-deed b b' (Deed.Run limit) done h =
+    same-desk b.session b h.1.0 b' (ended-desk h.0 h.1.0 b' h.1.2) (runs-from-leave b.session limit (held_of b) b h.1.0 h.0 refl h.1.1)
 each-deed b b' (Deed.Back count) done h = back-leaves b.session count b b' h.0 refl h.1
-
--- breakpoints that are set again, and one more
-pub break-leads : (before d m m' : AtDesk) (session line : ℕ) (reply : Reply) → LeadsOn before d m
-    → is_in line (breaks_of before session) ≡ true → Answers m session (Command.Break line) reply m' → LeadsOn before d m'
-break-leads before d m m' session line reply leads there answers d' rest =
-    leads d' (
-      (session, Command.Break line) ∷ rest.0,
-      reply ∷ rest.1,
-      ((line, refl, there), rest.2),
-      (reply, rest.1, m', refl, answers, rest.3),
-    )
-
--- a desk leads to what it is
-pub leads-from : (before d m : AtDesk) → m ≡ d → LeadsOn before d m
-leads-from before d m e d' rest = subst (λ (x : AtDesk). BreaksLead before x d') e rest
-
--- what leads on leads further
-pub leads-further : (before d m m' : AtDesk) → LeadsOn before d m → LeadsOn before m m' → LeadsOn before d m'
-leads-further before d m m' first second d' rest = first d' (second d' rest)
-
--- to where it is
-pub leads-here : (before d m : AtDesk) → LeadsOn before d m → BreaksLead before d m
-leads-here before d m leads = leads m ([], [], tt, (refl, refl))

@@ -1,2 +1,3 @@
+pub mod AgainLemmas
 pub mod DeedLemmas
 pub mod WordLemmas

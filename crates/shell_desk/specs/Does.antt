@@ -1,6 +1,6 @@
 -- What each deed asks of the desk, and what it leaves.
 use Rattle.std.specs.Prelude.{◌≡◌, ◌⊎◌, ℕ, zero, suc, ◌+◌, ◌-◌, ◌<◌, List, [], length, map, Option, Some, None}
-use Rattle.std.specs.Prelude.{nat_lt, if◌then◌else◌, slice_get, option_map, Bool, true, false, MatchBool}
+use Rattle.std.specs.Prelude.{◌≤◌, nat_lt, if◌then◌else◌, slice_get, option_map, Bool, true, false, Contains, MatchBool}
 use Rattle.syntax.specs.Lists.{Every}
 use Rattle.system.specs.Expression.{is_in}
 use Rattle.system.specs.declared.system.System.{System}
@@ -29,6 +29,13 @@ abbrev pub branch_behind : System → Reply → Option ℕ → Option ℕ
 branch_behind system (Reply.Stepped t e) before = branch_or (branch_at system (acting e)) before
 branch_behind system _ before = before
 
+-- the breakpoint at which a run ended is passed behind a reply that tells of steps
+abbrev pub stopped_behind : Reply → Option ℕ → Option ℕ
+stopped_behind (Reply.Stepped t e) before = None
+stopped_behind (Reply.Undone t e) before = None
+stopped_behind (Reply.Rolled n) before = None
+stopped_behind _ before = before
+
 -- the command that takes the event
 abbrev pub step_of : Event → Command
 step_of e = Command.Step (choice_of e)
@@ -44,6 +51,7 @@ Asked b c reply b' =
     Answers b.desk b.session c reply b'.desk × (b'.session ≡ b.session)
     × Numbers reply b.numbered b'.numbered
     × (b'.branch ≡ branch_behind b.desk.machine.checked reply b.branch)
+    × (b'.stopped ≡ stopped_behind reply b.stopped)
 
 -- the element with this number, from 1
 abbrev pub numbered_as : {X : Type 0} → List X → ℕ → Option X
@@ -99,6 +107,35 @@ Runs b zero end b' = (end ≡ End.Enough) × (b' ≡ b)
 Runs b (suc left) end b' =
     (r : Reply) × (m : AtBench) × OneTurn b r m × MatchBool (ends_run r) ((end ≡ end_of r) × (b' ≡ m)) (Runs m left end b')
 
+-- the same where the last run ended at the breakpoint on this line: the first step is taken without it, and it is set
+-- again
+abbrev pub RunsPast : ℕ → AtBench → ℕ → End → AtBench → Type 0
+RunsPast line b zero end b' = (end ≡ End.Enough) × (b' ≡ b)
+RunsPast line b (suc left) end b' =
+    (r : Reply) × (c : AtBench) × (d : AtBench) × (m : AtBench)
+    × ((reply : Reply) × Asked b (Command.Clear line) reply c)
+    × OneTurn c r d × ((reply : Reply) × Asked d (Command.Break line) reply m)
+    × MatchBool (ends_run r) ((end ≡ end_of r) × (b' ≡ m)) (Runs m left end b')
+
+-- the breakpoint at which the last run ended, where the session still has it
+abbrev pub held_at : Option ℕ → List ℕ → Option ℕ
+held_at None lines = None
+held_at (Some line) lines = if is_in line lines then Some line else None
+
+abbrev pub held_of : AtBench → Option ℕ
+held_of b = held_at b.stopped (breaks_of b.desk b.session)
+
+-- a run, from the breakpoint at which the last one ended if there is one
+abbrev pub RunsFrom : Option ℕ → AtBench → ℕ → End → AtBench → Type 0
+RunsFrom None b limit end b' = Runs b limit end b'
+RunsFrom (Some line) b limit end b' = RunsPast line b limit end b'
+
+-- b, where a run ended so
+abbrev pub ended_at : End → AtBench → AtBench
+ended_at (End.AtBreak line) b =
+    record { desk = b.desk; session = b.session; numbered = b.numbered; branch = b.branch; stopped = Some line }
+ended_at _ b = b
+
 -- t is the greatest ticket of a live event
 abbrev pub IsNewest : Live → ℕ → Type 0
 IsNewest live t = (e : Event) × (slice_get live (length live - 1) ≡ Some (t, e))
@@ -122,12 +159,13 @@ abbrev pub Does : AtBench → Deed → Done → AtBench → Type 0
 Does b Deed.Rest done b' = (done ≡ Done.Rested) × (b' ≡ b)
 Does b (Deed.Turn session) done b' =
     (done ≡ Done.Rested)
-    × (b' ≡ record { desk = b.desk; session = session; numbered = b.numbered; branch = b.branch })
+    × (b' ≡ record { desk = b.desk; session = session; numbered = b.numbered; branch = b.branch; stopped = None })
 Does b (Deed.Ask c) done b' = AsksIfAny b (Some c) done b'
 Does b (Deed.Take number) done b' = AsksIfAny b (numbered_as b.numbered number) done b'
 Does b (Deed.Next k) done b' = AsksIfAny b (Some (Command.Branch k)) done b'
 Does b Deed.NextAgain done b' = AsksIfAny b (option_map Command.Branch b.branch) done b'
-Does b (Deed.Run limit) done b' = (end : End) × Runs b limit end b' × (done ≡ Done.Ran end)
+Does b (Deed.Run limit) done b' =
+    (end : End) × ((m : AtBench) × RunsFrom (held_of b) b limit end m × (b' ≡ ended_at end m)) × (done ≡ Done.Ran end)
 Does b (Deed.Back count) done b' = (told : Option Reply) × GoesBack b count told b' × (done ≡ Done.Back told)
 
 -- a session that a deed names is one of the sixteen
@@ -140,9 +178,21 @@ abbrev pub AreBreaksAt : AtDesk → List (ℕ × Command) → Type 0
 AreBreaksAt d commands =
     Every (λ x. (line : ℕ) × (x.1 ≡ Command.Break line) × (is_in line (breaks_of d x.0) ≡ true)) commands
 
--- in place of b stands another execution: its desk is what breakpoints of b, set again, leave of a new one
-abbrev pub TurnsTo : AtBench → AtMachine → AtBench → Type 0
-TurnsTo b machine b' =
-    (breaks : List (ℕ × Command)) × (replies : List Reply) × AreBreaksAt b.desk breaks
-    × Answered (new_desk machine) breaks replies b'.desk
-    × (b'.session ≡ b.session) × (b'.numbered ≡ []) × (b'.branch ≡ None)
+-- among the commands is each breakpoint that a session has at the desk on one of the lines from 1 to the last
+abbrev pub HaveBreaksOf : AtDesk → ℕ → List (ℕ × Command) → Type 0
+HaveBreaksOf d last commands =
+    (session line : ℕ) → (session < sessions) × (0 < line) × (line ≤ last) → is_in line (breaks_of d session) ≡ true
+    → Contains commands (session, Command.Break line)
+
+-- the breakpoints that sessions have at `before` on these lines, and no others, are set again at d, and leave d'
+abbrev pub SetsBreaksOf : AtDesk → ℕ → AtDesk → AtDesk → Type 0
+SetsBreaksOf before last d d' =
+    (breaks : List (ℕ × Command)) × (replies : List Reply) × AreBreaksAt before breaks × Answered d breaks replies d'
+    × HaveBreaksOf before last breaks
+
+-- in place of b stands another execution: its desk is what the breakpoints of b on the lines from 1 to the last, set
+-- again, leave of a new one
+abbrev pub TurnsTo : AtBench → ℕ → AtMachine → AtBench → Type 0
+TurnsTo b last machine b' =
+    SetsBreaksOf b.desk last (new_desk machine) b'.desk
+    × (b'.session ≡ b.session) × (b'.numbered ≡ []) × (b'.branch ≡ None) × (b'.stopped ≡ None)

@@ -29,9 +29,9 @@ spelling ScriptOver = codes "script!"
 spelling Help = codes "help"
 spelling Quit = codes "quit"
 
--- so many steps a run takes at most where it is not said
+-- so many steps a run takes at most where it is not said: one more than can be live, so that it ends for another reason
 abbrev pub most_steps : ℕ
-most_steps = 65536
+most_steps = 65537
 
 -- the word, with `rest` behind it, asks this of the desk
 abbrev pub AsksDeed : Word → List ℕ → Deed → Type 0

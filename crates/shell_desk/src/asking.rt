@@ -1,6 +1,6 @@
 // One command, and what it changes beside the desk.
 ghost use Rattle.std.specs.Prelude.{◌≡◌, MatchOption, OnOk, Some, None, map, slice_get};
-ghost use Rattle.shell_desk.specs.Does.{Asked, AsksIfAny, Numbers, branch_behind, numbered_as, step_of};
+ghost use Rattle.shell_desk.specs.Does.{Asked, AsksIfAny, Numbers, branch_behind, numbered_as, step_of, stopped_behind};
 
 use crate::{Bench, Done, Watch};
 use locked_execution::{Command, Event, Reply};
@@ -19,6 +19,7 @@ impl Bench {
         watch.see(&self.desk, self.session, command, &reply);
         number(&mut self.numbered, &reply);
         self.branch = branch_behind(self.desk.machine().checked().system(), &reply, self.branch);
+        self.stopped = stopped_behind(&reply, self.stopped);
         reply
     }
 
@@ -36,6 +37,7 @@ impl Bench {
         watch.see(&self.desk, self.session, command, &reply);
         number(&mut self.numbered, &reply);
         self.branch = branch_behind(self.desk.machine().checked().system(), &reply, self.branch);
+        self.stopped = stopped_behind(&reply, self.stopped);
         Done::Told(reply)
     }
 }
@@ -79,6 +81,16 @@ fn branch_behind(system: &System, reply: &Reply, before: Option<u32>) -> Option<
             Some(branch) => Some(branch),
             None => before,
         },
+        _ => before,
+    }
+}
+
+/// The line of the breakpoint at which a run ended, behind a reply: none where it tells of steps.
+fn stopped_behind(reply: &Reply, before: Option<u64>) -> Option<u64>
+    ensures { result ≡ stopped_behind reply.now before }
+{
+    match reply {
+        Reply::Stepped(_, _) | Reply::Undone(_, _) | Reply::Rolled(_) => None,
         _ => before,
     }
 }

@@ -9,13 +9,15 @@ use locked_execution::{Command, Desk, Machine};
 use std::alloc::Global;
 use std::marker::Model;
 
-/// A desk, the session whose lines come, the steps that were numbered last, and the branch that was stepped last.
+/// A desk, the session whose lines come, the steps that were numbered last, the branch that was stepped last, and the line
+/// of the breakpoint at which a run ended, as long as no step is taken or taken back.
 #[derive(Drop)]
 pub struct Bench {
     pub(crate) desk: Desk,
     pub(crate) session: u32,
     pub(crate) numbered: Vec<Command>,
     pub(crate) branch: Option<u32>,
+    pub(crate) stopped: Option<u64>,
 }
 
 impl Model for Bench {
@@ -28,7 +30,13 @@ impl Model for Bench {
 
     ghost coded = { Prim.hlevel (codes, whole.the_row.coded) };
 
-    ghost view = { λ bench. record { desk = bench.desk; session = bench.session; numbered = bench.numbered.items; branch = bench.branch } };
+    ghost view = { λ bench. record {
+      desk = bench.desk;
+      session = bench.session;
+      numbered = bench.numbered.items;
+      branch = bench.branch;
+      stopped = bench.stopped;
+    } };
 
     ghost invariant = { λ bench. bench.session < 16 };
 }
@@ -43,6 +51,7 @@ impl Bench {
             session: 0,
             numbered: Vec::new(alloc),
             branch: None,
+            stopped: None,
         }
     }
 
@@ -77,13 +86,14 @@ impl Bench {
             Deed::Rest => Done::Rested,
             Deed::Turn(session) => {
                 self.session = *session;
+                self.stopped = None;
                 Done::Rested
             }
             Deed::Ask(command) => Done::Told(self.ask(command, watch)),
             Deed::Take(step) => self.take(*step, watch),
             Deed::Next(branch) => Done::Told(self.ask(&Command::Branch(*branch), watch)),
             Deed::NextAgain => self.step_again(watch),
-            Deed::Run(limit) => Done::Ran(self.run(*limit, watch)),
+            Deed::Run(limit) => Done::Ran(self.run_on(*limit, watch)),
             Deed::Back(count) => Done::Back(self.go_back(*count, watch)),
         }
     }

@@ -1,9 +1,9 @@
 // Another execution in place of the one at hand.
-ghost use Rattle.std.specs.Prelude.{◌≡◌, ◌<◌, MatchBool, ⊤, true};
+ghost use Rattle.std.specs.Prelude.{◌≡◌, ◌<◌, MatchBool, true, false};
 ghost use Rattle.system.specs.Expression.{is_in};
 ghost use Rattle.locked_execution.specs.AtDesk.{breaks_of, new_desk};
-ghost use Rattle.shell_desk.specs.Does.{TurnsTo};
-ghost use Rattle.shell_desk.specs.walking.Again.{BreaksLead, LeadsOn};
+ghost use Rattle.shell_desk.specs.Does.{SetsBreaksOf, TurnsTo};
+ghost use Rattle.shell_desk.specs.walking.Again.{SetsAgain, IsAt, IsUpTo};
 
 use crate::{Bench, Watch};
 use locked_execution::{Command, Desk, Machine};
@@ -12,17 +12,18 @@ impl Bench {
     /// Puts this machine in place of the one at hand. The session stays the same, and each session has the breakpoints that it
     /// had on the lines from 1 to this one. No step was numbered or taken yet.
     pub fn turn_to<W: Watch>(&mut self, machine: Machine, last_line: u64, watch: &mut W)
-        ensures { TurnsTo self.old machine self.new }
+        ensures { TurnsTo self.old last_line machine self.new }
     {
         self.desk = desk_like(&self.desk, machine, last_line, watch);
         self.numbered.clear();
         self.branch = None;
+        self.stopped = None;
     }
 }
 
 /// A desk with this machine, and with the breakpoints that sessions have at another on the lines from 1 to this one.
 fn desk_like<W: Watch>(before: &Desk, machine: Machine, last_line: u64, watch: &mut W) -> Desk
-    ensures { BreaksLead before.now (new_desk machine) result }
+    ensures { SetsBreaksOf before.now last_line (new_desk machine) result }
 {
     let mut desk = Desk::new(machine);
     for session in 0..16 {
@@ -40,7 +41,7 @@ fn break_again<W: Watch>(
     watch: &mut W,
 )
     requires { session < 16 }
-    ensures { LeadsOn before.now desk.old desk.new }
+    ensures { SetsAgain before.now (IsUpTo session last_line) desk.old desk.new }
 {
     for line in 0..last_line {
         break_on(before, desk, session, line + 1, watch);
@@ -50,7 +51,7 @@ fn break_again<W: Watch>(
 /// Sets the breakpoint of a session on this line at a desk, where it has one there at another.
 fn break_on<W: Watch>(before: &Desk, desk: &mut Desk, session: u32, line: u64, watch: &mut W)
     requires { session < 16 }
-    ensures { LeadsOn before.now desk.old desk.new }
+    ensures { SetsAgain before.now (IsAt session line) desk.old desk.new }
 {
     if lacks(before, session, line) {
         return;
@@ -63,7 +64,9 @@ fn break_on<W: Watch>(before: &Desk, desk: &mut Desk, session: u32, line: u64, w
 /// Whether the session has no breakpoint on the line.
 fn lacks(desk: &Desk, session: u32, line: u64) -> bool
     requires { session < 16 }
-    ensures { MatchBool result ⊤ (is_in line (breaks_of desk.now session) ≡ true) }
+    ensures { MatchBool result
+        (is_in line (breaks_of desk.now session) ≡ false)
+        (is_in line (breaks_of desk.now session) ≡ true) }
 {
     !desk.breaks(session).has(line)
 }

@@ -1,15 +1,71 @@
 // Runs in which the branches step in turn.
 ghost use Rattle.std.specs.Prelude.{◌≡◌};
 ghost use Rattle.system_places.specs.SystemBranches.{branch_count as count_of};
-ghost use Rattle.shell_desk.specs.Does.{OneTurn, Runs, end_of, ends_run, first_of, is_busy, next_of};
+ghost use Rattle.shell_desk.specs.AtBench.{AtBench};
+ghost use Rattle.shell_desk.specs.Does.{OneTurn, Runs, RunsFrom, RunsPast, end_of, ended_at, ends_run, first_of};
+ghost use Rattle.shell_desk.specs.Does.{held_at, held_of, is_busy, next_of};
 
 use crate::{Bench, End, Watch};
 use locked_execution::{Command, Reply};
+use machine::Breaks;
 use system_places::branch_count;
 
 impl Bench {
+    /// Takes so many steps at most, each the first that the branches have in turn. Where the last run ended at a
+    /// breakpoint that the session still has, and no step was taken or taken back since, it goes on past that.
+    pub(crate) fn run_on<W: Watch>(&mut self, limit: u64, watch: &mut W) -> End
+        ensures { (m : AtBench) × RunsFrom (held_of self.old) self.old limit result m × (self.new ≡ ended_at result m) }
+    {
+        let end = self.run_from(limit, watch);
+        self.stop_at(end);
+        end
+    }
+
+    /// The same, but for keeping in mind where it ended.
+    fn run_from<W: Watch>(&mut self, limit: u64, watch: &mut W) -> End
+        ensures { RunsFrom (held_of self.old) self.old limit result self.new }
+    {
+        match self.held() {
+            Some(line) => self.run_past(line, limit, watch),
+            None => self.run(limit, watch),
+        }
+    }
+
+    /// Keeps in mind at which breakpoint a run ended, if at one.
+    fn stop_at(&mut self, end: End)
+        ensures { self.new ≡ ended_at end self.old }
+    {
+        if let End::AtBreak(line) = end {
+            self.stopped = Some(line);
+        }
+    }
+
+    /// The line of the breakpoint at which the last run ended, where the session still has it.
+    fn held(&self) -> Option<u64>
+        ensures { result ≡ held_of self.now }
+    {
+        held_at(self.stopped, self.desk.breaks(self.session))
+    }
+
+    /// Takes so many steps at most, the first of them without the breakpoint on this line, which is set again behind
+    /// it.
+    fn run_past<W: Watch>(&mut self, line: u64, limit: u64, watch: &mut W) -> End
+        ensures { RunsPast line self.old limit result self.new }
+    {
+        if limit == 0 {
+            return End::Enough;
+        }
+        let _cleared = self.ask(&Command::Clear(line), watch);
+        let reply = self.turn(watch);
+        let _set = self.ask(&Command::Break(line), watch);
+        if ends_run(&reply) {
+            return end_of(&reply);
+        }
+        self.run(limit - 1, watch)
+    }
+
     /// Takes so many steps at most, each the first that the branches have in turn.
-    pub(crate) fn run<W: Watch>(&mut self, limit: u64, watch: &mut W) -> End
+    fn run<W: Watch>(&mut self, limit: u64, watch: &mut W) -> End
         ensures { Runs self.old limit result self.new }
     {
         for taken in 0..limit {
@@ -49,6 +105,16 @@ impl Bench {
         ensures { result ≡ first_of count self.now.branch }
     {
         first_of(count, self.branch)
+    }
+}
+
+/// The line, where it has a breakpoint.
+fn held_at(stopped: Option<u64>, breaks: &Breaks) -> Option<u64>
+    ensures { result ≡ held_at stopped breaks.now }
+{
+    match stopped {
+        Some(line) => { if breaks.has(line) { Some(line) } else { None } }
+        None => None,
     }
 }
 

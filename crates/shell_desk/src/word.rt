@@ -57,8 +57,8 @@ const ALL: [Word; 19] = [
     Word::Quit,
 ];
 
-/// So many steps a run takes at most where it is not said: as many as may be live.
-const MOST_STEPS: u64 = 65_536;
+/// So many steps a run takes at most where it is not said: one more than can be live, so that it ends for another reason.
+const MOST_STEPS: u64 = 65_537;
 
 impl Word {
     /// The word with this spelling, if there is one.

@@ -17,6 +17,10 @@ pub record BeginsLine (text : List ℕ) (offset start : ℕ) : Type 0 where
   pub begins : (start ≡ 0) ⊎ (slice_index text (start - 1) ≡ line_end)
   pub inside : (k : ℕ) → start ≤ k → k < offset → slice_index text k ≢ line_end
 
+-- the text has no line with this number: it is 0, or more than the text has
+abbrev pub HasNoLine : List ℕ → ℕ → Type 0
+HasNoLine text line = 0 < line → ends_before text (length text) + 1 < line
+
 -- an offset in the text, or its end for one behind it
 abbrev pub within : List ℕ → ℕ → ℕ
 within text offset = min offset (length text)

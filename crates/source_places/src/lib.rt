@@ -5,7 +5,7 @@
 #![tactic(auto)]
 
 ghost use Rattle.std.specs.Prelude.{◌≡◌, ◌≢◌, ℕ, ◌+◌, ◌<◌, ◌≤◌, length, count_by, ◌==◌, slice_index, IfSome, MatchOption, take};
-ghost use Rattle.source_places.specs.Places.{BeginsLine, characters, ends_before, line_end, within};
+ghost use Rattle.source_places.specs.Places.{BeginsLine, HasNoLine, characters, ends_before, line_end, within};
 
 use bstr::ByteSlice;
 
@@ -86,6 +86,7 @@ pub fn start_of_line(text: &[u8], line: usize) -> Option<usize>
     ensures within { IfSome result (λ start. start ≤ length text.now) }
     ensures line { IfSome result (λ start. ends_before text.now start + 1 ≡ line) }
     ensures start { IfSome result (λ start. BeginsLine text.now start start) }
+    ensures none { result ≡ None → HasNoLine text.now line }
 {
     let mut ended = 1;
     let mut start = 0;
@@ -104,6 +105,7 @@ pub fn start_of_line(text: &[u8], line: usize) -> Option<usize>
 /// The offset at which the line of the byte at `offset` ends: that of its byte 10, or the text's length.
 pub fn end_of_line(text: &[u8], offset: usize) -> usize
     ensures within { result ≤ length text.now }
+    ensures behind { within text.now offset ≤ result }
     ensures end { result < length text.now → slice_index text.now result ≡ line_end }
     ensures none { (k : ℕ) → within text.now offset ≤ k → k < result → slice_index text.now k ≢ line_end }
 {

@@ -100,7 +100,7 @@ pub(crate) fn settled_labels(
 ) -> Settled<Items<LabelUse>>
     ensures { IfOk result (λ made. made ≡ spec.judged_labels least (entries scope.now.names) opened.now labels.now) }
 {
-    let mut settled = Ok(Items::new(alloc));
+    let mut settled = Ok(Items::with_capacity(alloc, labels.len())?);
     for label in labels {
         settled = with_next(settled, settled_label(&scope.names, opened, label))?;
     }

@@ -51,7 +51,7 @@ fn settled_arguments(
 ) -> Settled<Items<ChannelUse>>
     ensures { IfOk result (λ made. made ≡ calls.judged_arguments least (entries names.now) opened.now arguments.now) }
 {
-    let mut channels = Ok(Items::new(alloc));
+    let mut channels = Ok(Items::with_capacity(alloc, arguments.len())?);
     for argument in arguments {
         let found = names.find(opened, &argument.name);
         channels = with_next(channels, uses::argument_use(found, argument.span.start))?;

@@ -248,7 +248,8 @@ fn settled_arbitrate(
         (findings.all least (first ∷ judged_arm least second.now (scope_of scope.now) opened.now ∷ [])))) }
 {
     let second = settled_arm(alloc, scope, opened, second)?;
-    let arms = with_next(with_next(Ok(Items::new(alloc)), first)?, second)?;
+    let arms = Ok(Items::with_capacity(alloc, 2)?);
+    let arms = with_next(with_next(arms, first)?, second)?;
     Ok(distinct(alloc, arms)?.map(Action::Arbitrate))
 }
 
@@ -289,7 +290,7 @@ fn settled_commands(
     ensures { IfOk result (λ made.
         made ≡ spec.each least (map (judged_command least) commands.now) (scope_of scope.now) opened.now) }
 {
-    let mut settled = Ok(Items::new(alloc));
+    let mut settled = Ok(Items::with_capacity(alloc, commands.len())?);
     for command in commands {
         let next = settled_command(alloc, scope, opened, command)?;
         settled = with_next(settled, next)?;
@@ -327,7 +328,7 @@ fn settled_guarded(
     ensures own { IfOk result (λ made.
         made.own ≡ findings.demands least (map (owed.guard_owed (scope_of scope.now) opened.now) arms.now)) }
 {
-    let mut settled = Ok(Items::new(alloc));
+    let mut settled = Ok(Items::with_capacity(alloc, arms.len())?);
     let mut own = Ok(());
     for arm in arms {
         let (next, owed) = settled_guarded_arm(alloc, scope, opened, arm)?;
@@ -369,7 +370,7 @@ fn settled_labelled(
         made.own ≡ owed.labels_owed width [] (Ok tt) (map (owed.labels_of (scope_of scope.now) opened.now) arms.now)) }
 {
     let mut seen = IndexSet::new(alloc);
-    let mut settled = Ok(Items::new(alloc));
+    let mut settled = Ok(Items::with_capacity(alloc, arms.len())?);
     let mut own = Ok(());
     for arm in arms {
         let (next, owed) = settled_labelled_arm(alloc, scope, opened, width, arm, &mut seen)?;
@@ -412,7 +413,7 @@ fn settled_arms(
     ensures { IfOk result (λ made.
         made ≡ spec.each least (map (judged_arm least) arms.now) (scope_of scope.now) opened.now) }
 {
-    let mut settled = Ok(Items::new(alloc));
+    let mut settled = Ok(Items::with_capacity(alloc, arms.len())?);
     for arm in arms {
         let next = settled_arm(alloc, scope, opened, arm)?;
         settled = with_next(settled, next)?;

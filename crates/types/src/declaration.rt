@@ -248,7 +248,7 @@ fn declare_ports(
         record { names = entries names.new; made = made.0; right = made.1 }
         ≡ spec.all_ports least (spec.behind least (entries names.old)) declarations.now) }
 {
-    let mut ports = Items::new(alloc);
+    let mut ports = Items::with_capacity(alloc, declarations.len())?;
     let mut right = Ok(());
     for declaration in declarations {
         let kind = port_kind(names, &declaration.kind);
@@ -341,7 +341,7 @@ fn declare_locals(
         record { names = entries names.new; made = made.0; right = made.1 }
         ≡ spec.all_locals least (spec.behind least (entries names.old)) declarations.now) }
 {
-    let mut locals = Items::new(alloc);
+    let mut locals = Items::with_capacity(alloc, declarations.len())?;
     let mut right = Ok(());
     for declaration in declarations {
         let kind = local_kind(names, &declaration.kind);

@@ -1,18 +1,18 @@
 -- What a refusal at an offset says of another.
-use Rattle.std.proofs.Common.{◌≡◌, ◌≢◌, ◌⊎◌, ◌++◌, ℕ, Bool, true, false, List, Option, Some, inl, inr, ◌∙◌, ap, subst}
+use Rattle.std.proofs.Common.{◌≡◌, ◌⊎◌, ◌<◌, ◌≤◌, ◌++◌, ℕ, Bool, true, false, List, Option, Some, inl, inr, ◌∙◌, ap, subst}
 use Rattle.std.specs.Prelude.{MatchOption}
 use Rattle.std.specs.Bool.{MatchBool}
 use Rattle.lexer.specs.declared.token.Token.{Token}
 use Rattle.parser.specs.Accepted.{Begins, IsRefused}
 use Rattle.refusals.specs.declared.parser.Fault.{Fault}
 use Rattle.refusals.specs.declared.parser.Fault.TheVariants.{Memory, Unexpected, TooDeep}
-use Rattle.viable_tokens.specs.Viable.{RefusedAt, TakenAt}
+use Rattle.viable_tokens.specs.Viable.{RefusedAt, StoppedBy, TakenAt}
 
--- refused at one offset, the tokens are refused there or taken
-pub by_place : (b : Bool) (tokens : List Token) (offset at : ℕ) → MatchBool b (at ≢ offset) (at ≡ offset)
-    → RefusedAt tokens at → MatchBool b (TakenAt tokens offset) (RefusedAt tokens offset)
-by_place true tokens offset at apart refused = inr (at, apart, refused)
-by_place false tokens offset at same refused = subst (λ place. RefusedAt tokens place) same refused
+-- refused at one offset, the tokens are taken at another before it, and stopped by each other one
+pub by_place : (b : Bool) (tokens : List Token) (offset at : ℕ) → MatchBool b (offset < at) (at ≤ offset)
+    → RefusedAt tokens at → MatchBool b (TakenAt tokens offset) (StoppedBy tokens offset)
+by_place true tokens offset at behind refused = inr (at, behind, refused)
+by_place false tokens offset at before refused = (at, before, refused)
 
 -- what the parser answers of tokens
 abbrev Answered : Option Fault → List Token → Type 0

@@ -1,7 +1,7 @@
-ghost use Rattle.std.specs.Prelude.{◌≡◌, ◌≢◌, ◌⊎◌, IfOk};
+ghost use Rattle.std.specs.Prelude.{◌≡◌, ◌⊎◌, ◌<◌, ◌≤◌, IfOk};
 ghost use Rattle.std.specs.Bool.{MatchBool};
 ghost use Rattle.refusals.specs.declared.parser.Fault.TheVariants.{Unexpected, TooDeep};
-ghost use Rattle.viable_tokens.specs.Viable.{RefusedAt, TakenAt};
+ghost use Rattle.viable_tokens.specs.Viable.{StoppedBy, TakenAt};
 
 use crate::KINDS;
 use lexer::{Excerpt, Kind, Token};
@@ -33,13 +33,13 @@ fn first_that_counts(tokens: &[Token<'_>], place: usize) -> usize {
 
 /// Whether the parser takes the last token but one of `tokens`, which begins at `offset`.
 fn is_taken(alloc: Global, tokens: &[Token<'_>], offset: u64) -> Result<bool, AllocError>
-    ensures { IfOk result (λ taken. MatchBool taken (TakenAt tokens.now offset) (RefusedAt tokens.now offset)) }
+    ensures { IfOk result (λ taken. MatchBool taken (TakenAt tokens.now offset) (StoppedBy tokens.now offset)) }
 {
     let Some(fault) = refusal_within(alloc, tokens) else {
         return Ok(true);
     };
     let at = offset_of(fault)?;
-    Ok(is_elsewhere(at, offset))
+    Ok(is_behind(at, offset))
 }
 
 /// Where a fault is. Want of memory has no place.
@@ -53,11 +53,11 @@ fn offset_of(fault: Fault) -> Result<u64, AllocError>
     }
 }
 
-/// Whether two offsets differ.
-fn is_elsewhere(at: u64, offset: u64) -> bool
-    ensures { MatchBool result (at ≢ offset) (at ≡ offset) }
+/// Whether the one offset stands behind the other.
+fn is_behind(at: u64, offset: u64) -> bool
+    ensures { MatchBool result (offset < at) (at ≤ offset) }
 {
-    at != offset
+    at > offset
 }
 
 /// Whether a description can go on with a token of this kind behind `tokens`, of which those from `first` on count.

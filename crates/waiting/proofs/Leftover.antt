@@ -7,16 +7,17 @@ use Rattle.runs.specs.InOrder.{InOrder}
 use Rattle.runs.specs.Events.{places, places_of}
 use Rattle.runs.specs.Moves.{Place}
 use Rattle.runs.specs.Ready.{ReadyList}
-use Rattle.runs.specs.Steps.{State, Allowed}
+use Rattle.runs.specs.Steps.{State}
 use Rattle.runs.specs.Tests.{same_place}
 use Rattle.runs.specs.declared.event.Event.{Event}
 use Rattle.runs.proofs.Lists.{every-of, every-in}
-use Rattle.offered_sides.specs.Sides.{Offered, OffersExactly, NotBehind}
+use Rattle.offered_sides.specs.Sides.{OffersExactly, NotBehind}
 use Rattle.offered_sides.specs.declared.side.OfferedSide.{OfferedSide}
 use Rattle.offered_sides.proofs.PlacedSides.{place-true, place-itself}
 use Rattle.waiting.specs.Waits.{Waits, ListsWaiting}
 use Rattle.waiting.specs.Progress.{is_outlet, NoneAllowed, StandsLike}
-use Rattle.waiting.specs.declared.progress.Progress.TheVariants.{GoesOn, Done, Stuck}
+use Rattle.waiting.specs.walking.Repeats.{each_once}
+use Rattle.waiting.proofs.Repeated.{waits-once}
 use Rattle.waiting.specs.walking.Among.{is_second, has_place, has_any, left_over, all_outlets, at_rest, progress_of}
 
 or-parts : (a b : Bool) → (a || b) ≡ true → (a ≡ true) ⊎ (b ≡ true)
@@ -118,24 +119,26 @@ none-any : (a : Place) (es : List Event) (b : Bool) → has_any a es ≡ b → (
 none-any a es true h none = let found = any-in a es h in absurd (none found.0 found.1 found.2)
 none-any a es false h none = refl
 
--- of all that is offered, with all that is allowed
-pub lists-waiting : (S : State) (xs : List OfferedSide) (es : List Event) → OffersExactly S xs → InOrder NotBehind xs → ReadyList S es → ListsWaiting S (left_over es xs)
-lists-waiting S xs es offers order ready = record {
-  exactly = λ x. (
-    (λ i.
-        let found = left-in es xs x i in
-        record {
-          offered = (offers.exactly x).0 found.0;
-          alone = λ e a j.
-              let told : has_any x.place es ≡ true = in-any x.place es e ((ready.exactly e).1 a) j in
-              let both : true ≡ false = sym told ∙ found.1 in
-              cc;
-        }),
-    (λ w. in-left es xs x ((offers.exactly x).1 w.offered)
-        (none-any x.place es (has_any x.place es) refl (λ e i j. w.alone e ((ready.exactly e).0 i) j))),
-  );
-  in_order = left-order es xs order;
-}
+-- of all that is offered, with all that is allowed, these wait
+waits-exactly : (S : State) (xs : List OfferedSide) (es : List Event) → OffersExactly S xs → ReadyList S es → (x : OfferedSide) → In x (left_over es xs) ↔ Waits S x
+waits-exactly S xs es offers ready x = (
+  λ i.
+      let found = left-in es xs x i in
+      record {
+        offered = (offers.exactly x).0 found.0;
+        alone = λ e a j.
+            let told : has_any x.place es ≡ true = in-any x.place es e ((ready.exactly e).1 a) j in
+            let both : true ≡ false = sym told ∙ found.1 in
+            cc;
+      },
+  λ w. in-left es xs x ((offers.exactly x).1 w.offered)
+      (none-any x.place es (has_any x.place es) refl (λ e i j. w.alone e ((ready.exactly e).0 i) j)),
+)
+
+pub lists-waiting : (S : State) (xs : List OfferedSide) (es : List Event) → OffersExactly S xs → InOrder NotBehind xs → ReadyList S es
+    → ListsWaiting S (each_once (left_over es xs))
+lists-waiting S xs es offers order ready =
+    waits-once S (left_over es xs) offers.formed (waits-exactly S xs es offers ready) (left-order es xs order)
 
 -- ---- how a state stands
 each-outlet : (xs : List OfferedSide) (x : OfferedSide) → all_outlets xs ≡ true → In x xs → is_outlet x.side ≡ true

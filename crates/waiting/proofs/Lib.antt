@@ -1,3 +1,4 @@
 pub mod Leftover
 pub mod Remade
+pub mod Repeated
 pub mod RingOfState

@@ -1,5 +1,5 @@
 -- Rings of exactly the sides that wait are rings of the state.
-use Rattle.std.proofs.Common.{◌≡◌, ◌↔◌, ℕ, List, [], ◌∷◌}
+use Rattle.std.proofs.Common.{◌↔◌, ℕ, List, [], ◌∷◌}
 use Rattle.syntax.specs.Lists.{In}
 use Rattle.runs.specs.Moves.{Place}
 use Rattle.runs.specs.Steps.{State}
@@ -31,4 +31,4 @@ module _ (W V : Waiters) (same : Same W V) (r : Residual) where
 pub names-ring : (S : State) (sides : List OfferedSide) (ring : List ℕ) → ListsWaiting S sides → TellsRing S.residual sides ring → NamesRing S sides ring
 names-ring S sides [] l h =
     λ ring r. h ring (rings (Waits S) (λ x. In x sides) (λ x. ((l.exactly x).1, (l.exactly x).0)) S.residual ring r)
-names-ring S sides (i ∷ rest) l h = (h.0, h.1, rings (λ x. In x sides) (Waits S) l.exactly S.residual h.0 h.2)
+names-ring S sides (i ∷ rest) l h = (h.0, h.1, rings (λ x. In x sides) (Waits S) l.exactly S.residual h.0 h.2, h.3)

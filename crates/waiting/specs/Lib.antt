@@ -1,4 +1,7 @@
+pub mod Input
 pub mod Progress
 pub mod Rings
+pub mod Told
+pub mod WaitingText
 pub mod Waits
 pub mod walking

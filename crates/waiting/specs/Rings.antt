@@ -4,7 +4,7 @@ use Rattle.runs.specs.Moves.{Place}
 use Rattle.runs.specs.Steps.{State}
 use Rattle.offered_sides.specs.declared.side.OfferedSide.{OfferedSide}
 use Rattle.rings.specs.Partners.{partner_in}
-use Rattle.rings.specs.Rings.{IsRing, places_at}
+use Rattle.rings.specs.Rings.{EachOnce, IsRing, places_at}
 use Rattle.rings.specs.declared.partner.Partner.{Partner}
 use Rattle.waiting.specs.Waits.{Waits}
 
@@ -16,7 +16,8 @@ TellsPartners S sides partners = partners ≡ map (partner_in S.residual) sides
 abbrev pub IsRingIn : State → List Place → Type 0
 IsRingIn S ring = IsRing (Waits S) S.residual ring
 
--- the indexes are those of sides whose places are a ring; or there is no ring, and none is told
+-- the indexes are those of sides whose places are a ring, each once; or there is no ring, and none is told
 abbrev pub NamesRing : State → List OfferedSide → List ℕ → Type 0
 NamesRing S sides [] = (ring : List Place) → IsRingIn S ring → ⊥
-NamesRing S sides (i ∷ rest) = (ring : List Place) × (places_at sides (i ∷ rest) ≡ map (λ (a : Place). Some a) ring) × IsRingIn S ring
+NamesRing S sides (i ∷ rest) =
+    (ring : List Place) × (places_at sides (i ∷ rest) ≡ map (λ (a : Place). Some a) ring) × IsRingIn S ring × EachOnce ring

@@ -2,6 +2,8 @@
 //! stuck, and a ring of places of which each waits for the next, where there is one.
 #![tactic(auto)]
 
+mod input;
+mod once;
 mod progress;
 mod replaying;
 mod sides;

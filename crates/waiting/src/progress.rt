@@ -43,7 +43,7 @@ fn all_outlets(sides: &[OfferedSide]) -> bool
 }
 
 /// Whether the side is the environment's at an output port, which receives into no variable.
-fn is_outlet(side: &Side) -> bool
+pub(crate) fn is_outlet(side: &Side) -> bool
     ensures { result ≡ is_outlet side.now }
 {
     match side {

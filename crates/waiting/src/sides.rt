@@ -47,7 +47,7 @@ fn is_second(event: &Event, place: &Address) -> bool
 }
 
 /// Whether both places are one.
-fn is_same(place: &Address, other: &Address) -> bool
+pub(crate) fn is_same(place: &Address, other: &Address) -> bool
     ensures { result ≡ same_place place.now other.now }
 {
     place.equals(other)

@@ -1,50 +1,141 @@
 // Who waits as text, in lines.
+ghost use Rattle.std.specs.Prelude.{◌≡◌, ◌++◌, OnOk, codes, length, slice_get};
+ghost use Rattle.std.specs.List.{flat_map};
+ghost use Rattle.std.specs.Option.{option_copied};
+ghost use Rattle.line_text.specs.AnswerText.{ending};
+ghost use Rattle.waiting.specs.Input.{line_at};
+ghost use Rattle.waiting.specs.WaitingText as model;
+
+use crate::input::fed_channel;
 use crate::progress::Progress;
 use crate::waiting::Waiting;
+use address::Address;
+use line_text::{add_entry, add_numbered};
 use machine::Machine;
 use offered_sides::{OfferedSide, Side};
 use rings::Partner;
+use runs::Event;
+use sharing_check::Checked;
 use std::alloc::AllocError;
-use std::io::Write;
-use system::{Branch, System};
+use system::System;
+use text_parts::{Piece, add_pieces, add_words};
 
 impl Waiting {
-    /// Adds the text: how the run stands, each side that waits, and a ring of them if there is one. The machine is the one that was
-    /// asked. Without memory a part of it may be there.
-    pub fn write_to(&self, machine: &Machine, out: &mut Vec<u8>) -> Result<(), AllocError> {
-        self.write_progress(out)?;
-        let count = self.sides.len();
-        write!(out, "waiting {count}\n").map_err(|_| AllocError)?;
-        for (index, side) in self.sides.as_slice().iter().enumerate() {
-            write_side(machine, side, out)?;
-            write_partner(machine, side, self.partners.as_slice().get(index), out)?;
-        }
-        self.write_ring(out)
+    /// Adds the text: how the run stands, and where it is stuck whether it lacks input, each step that can be taken, each side that waits, and a ring of them if there is one,
+    /// each with its branch. The machine is the one that was asked. Without memory a part of it may be there.
+    pub fn write_to(&self, machine: &Machine, out: &mut Vec<u8>) -> Result<(), AllocError>
+        ensures { OnOk result (out.new.items ≡ out.old.items ++ model.waiting_text machine.now self.now) }
+    {
+        let sides = self.sides.as_slice();
+        write_progress(self.progress, self.lacks_input(machine), out)?;
+        write_ready(machine.checked(), self.ready.as_slice(), out)?;
+        add_numbered(out, b"waiting", sides.len() as u64)?;
+        write_sides(machine, sides, self.partners.as_slice(), out)?;
+        write_ring(machine.checked(), sides, self.ring.as_slice(), out)
     }
+}
 
-    /// Adds how the run stands.
-    fn write_progress(&self, out: &mut Vec<u8>) -> Result<(), AllocError> {
-        match self.progress {
-            Progress::GoesOn => out.extend_from_slice(b"goes on\n"),
-            Progress::Done => out.extend_from_slice(b"done\n"),
-            Progress::Stuck => out.extend_from_slice(b"stuck\n"),
-        }
+/// Adds how the run stands; of one that is stuck, whether it lacks input.
+fn write_progress(
+    progress: Progress,
+    lacks_input: bool,
+    out: &mut Vec<u8>,
+) -> Result<(), AllocError>
+    ensures { OnOk result (out.new.items ≡ out.old.items ++ model.progress_line progress lacks_input) }
+{
+    match progress {
+        Progress::GoesOn => add_words(out, b"goes on\n"),
+        Progress::Done => add_words(out, b"done\n"),
+        Progress::Stuck => write_stuck(lacks_input, out),
     }
+}
 
-    /// Adds the ring, if there is one.
-    fn write_ring(&self, out: &mut Vec<u8>) -> Result<(), AllocError> {
-        let count = self.ring.len();
-        if count == 0 {
-            return Ok(());
-        }
-        write!(out, "ring {count}\n").map_err(|_| AllocError)?;
-        for index in self.ring.as_slice() {
-            if let Some(side) = self.sides.get(*index) {
-                let place = &side.place;
-                write!(out, "  {place}\n").map_err(|_| AllocError)?;
-            }
-        }
-        Ok(())
+/// Adds that nothing can go on, and whether input would help.
+fn write_stuck(lacks_input: bool, out: &mut Vec<u8>) -> Result<(), AllocError>
+    ensures { OnOk result (out.new.items ≡ out.old.items ++ model.stuck_line lacks_input) }
+{
+    if lacks_input {
+        add_words(out, b"out of input\n")
+    } else {
+        add_words(out, b"stuck\n")
+    }
+}
+
+/// Adds the steps that can be taken, if there are any.
+fn write_ready(checked: &Checked, ready: &[Event], out: &mut Vec<u8>) -> Result<(), AllocError>
+    ensures { OnOk result (out.new.items ≡ out.old.items ++ model.ready_lines checked.now ready.now) }
+{
+    if ready.is_empty() {
+        return Ok(());
+    }
+    add_numbered(out, b"ready", ready.len() as u64)?;
+    write_events(checked, ready, out)
+}
+
+/// Adds a line for each of the steps.
+fn write_events(checked: &Checked, events: &[Event], out: &mut Vec<u8>) -> Result<(), AllocError>
+    ensures { OnOk result (out.new.items ≡ out.old.items ++ flat_map (model.ready_line checked.now) events.now) }
+{
+    for event in events {
+        write_event(checked, event, out)?;
+    }
+    Ok(())
+}
+
+/// Adds a step, behind the number of its branch.
+fn write_event(checked: &Checked, event: &Event, out: &mut Vec<u8>) -> Result<(), AllocError>
+    ensures { OnOk result (out.new.items ≡ out.old.items ++ model.ready_line checked.now event.now) }
+{
+    let branch = branch_or_first(checked.branch(event.acting_place()));
+    add_entry(out, b"  branch", checked.system(), u64::from(branch), event)
+}
+
+/// The number of the branch. Each event of a run lies in one.
+fn branch_or_first(branch: Option<u32>) -> u32
+    ensures { result ≡ model.branch_or_first branch }
+{
+    match branch {
+        Some(number) => number,
+        None => 0,
+    }
+}
+
+/// Adds a line for each side that waits.
+fn write_sides(
+    machine: &Machine,
+    sides: &[OfferedSide],
+    partners: &[Partner],
+    out: &mut Vec<u8>,
+) -> Result<(), AllocError>
+    ensures { OnOk result (out.new.items ≡ out.old.items ++ model.side_lines machine.now partners.now 0 sides.now) }
+{
+    for (index, side) in sides.iter().enumerate() {
+        write_side_at(machine, side, partners, index, out)?;
+    }
+    Ok(())
+}
+
+/// Adds a side that waits, whose partner has this index.
+fn write_side_at(
+    machine: &Machine,
+    offered: &OfferedSide,
+    partners: &[Partner],
+    index: usize,
+    out: &mut Vec<u8>,
+) -> Result<(), AllocError>
+    ensures { OnOk result (out.new.items ≡ out.old.items ++ model.side_line machine.now.checked
+        (line_at machine.now offered.now.place) offered.now (slice_get partners.now index)) }
+{
+    write_side(machine, offered, partner_at(partners, index), out)
+}
+
+/// The partner of this index, if there is one.
+pub(crate) fn partner_at<'a>(partners: &'a [Partner], index: usize) -> Option<&'a Partner>
+    ensures { option_copied result ≡ slice_get partners.now index }
+{
+    match partners.get(index) {
+        Some(partner) => Some(partner),
+        None => None,
     }
 }
 
@@ -52,111 +143,253 @@ impl Waiting {
 fn write_side(
     machine: &Machine,
     offered: &OfferedSide,
-    out: &mut Vec<u8>,
-) -> Result<(), AllocError> {
-    let place = &offered.place;
-    write!(out, "  {place}").map_err(|_| AllocError)?;
-    match machine.line(place) {
-        Some(line) => write!(out, " line {line}:").map_err(|_| AllocError)?,
-        None => out.extend_from_slice(b" environment:")?,
-    }
-    write_what(machine.checked().system(), &offered.side, out)
-}
-
-/// Adds why the partner of the side does not come, if that is known, and the end of the line.
-fn write_partner(
-    machine: &Machine,
-    offered: &OfferedSide,
     partner: Option<&Partner>,
     out: &mut Vec<u8>,
-) -> Result<(), AllocError> {
-    match partner {
-        Some(Partner::Behind(first)) => write!(out, ", behind {first}").map_err(|_| AllocError)?,
-        Some(Partner::Gone) => write_gone(machine, offered, out)?,
-        Some(Partner::Open) | None => {}
-    }
-    out.extend_from_slice(b"\n")
+) -> Result<(), AllocError>
+    ensures { OnOk result (out.new.items ≡ out.old.items ++ model.side_line machine.now.checked
+        (line_at machine.now offered.now.place) offered.now (option_copied partner.entry)) }
+{
+    let checked = machine.checked();
+    let line = machine.line(&offered.place);
+    add_words(out, b"  ")?;
+    write_placed(checked, &offered.place, out)?;
+    write_line(line, out)?;
+    write_deed(checked.system(), &offered.side, out)?;
+    end_side(checked, line, &offered.side, partner, out)
 }
 
-/// Adds why no partner of the side can come any more: what the environment had for it is used up, or nobody else uses the channel.
-fn write_gone(
-    machine: &Machine,
-    offered: &OfferedSide,
+/// Adds what is known of the partner of a side that stands on this line, and the end of the line of text.
+fn end_side(
+    checked: &Checked,
+    line: Option<u64>,
+    side: &Side,
+    partner: Option<&Partner>,
     out: &mut Vec<u8>,
-) -> Result<(), AllocError> {
-    let system = machine.checked().system();
-    match fed_channel(system, &offered.side) {
-        Some(channel) if machine.line(&offered.place).is_some() => {
-            out.extend_from_slice(b", the stimulus of")?;
-            write_channel(system, channel, out)?;
-            out.extend_from_slice(b" is used up")
+) -> Result<(), AllocError>
+    ensures { OnOk result (out.new.items ≡ out.old.items
+        ++ (model.partner_text checked.now line side.now (option_copied partner.entry) ++ ending)) }
+{
+    write_partner(checked, line, side, partner, out)?;
+    add_words(out, b"\n")
+}
+
+/// Adds a place, behind the number of its branch.
+fn write_placed(checked: &Checked, place: &Address, out: &mut Vec<u8>) -> Result<(), AllocError>
+    ensures { OnOk result (out.new.items ≡ out.old.items ++ model.placed checked.now place.now) }
+{
+    write_in_branch(checked.branch(place), place, out)
+}
+
+/// Adds a place that lies in this branch.
+fn write_in_branch(
+    branch: Option<u32>,
+    place: &Address,
+    out: &mut Vec<u8>,
+) -> Result<(), AllocError>
+    ensures { OnOk result (out.new.items ≡ out.old.items ++ model.in_branch branch place.now) }
+{
+    match branch {
+        Some(number) => {
+            let number = Piece::Number(u64::from(number));
+            add_pieces(
+                out,
+                &[
+                    Piece::Words(b"branch "),
+                    number,
+                    Piece::Words(b" "),
+                    Piece::Place(place),
+                ],
+            )
         }
-        _ => out.extend_from_slice(b", nobody else uses it any more"),
+        None => add_pieces(out, &[Piece::Place(place)]),
     }
 }
 
-/// The channel on which the side takes what the environment has a number of, if it is one.
-fn fed_channel(system: &System, side: &Side) -> Option<u32> {
-    match side {
-        Side::Receives(channel, _) | Side::Opens(channel, _) | Side::Syncs(channel) => {
-            fed(system, *channel)
-        }
-        _ => None,
+/// Adds where it stands in the source.
+fn write_line(line: Option<u64>, out: &mut Vec<u8>) -> Result<(), AllocError>
+    ensures { OnOk result (out.new.items ≡ out.old.items ++ model.line_text line) }
+{
+    match line {
+        Some(line) => add_pieces(
+            out,
+            &[
+                Piece::Words(b" line "),
+                Piece::Number(line),
+                Piece::Words(b":"),
+            ],
+        ),
+        None => add_words(out, b" environment:"),
     }
-}
-
-/// The channel, if it is the one of a port for which the environment has so many values or handshakes.
-fn fed(system: &System, channel: u32) -> Option<u32> {
-    for branch in system.environment.as_slice() {
-        match branch {
-            Branch::Feed(port, _, _) | Branch::Syncs(port, _) if *port == channel => {
-                return Some(channel);
-            }
-            _ => {}
-        }
-    }
-    None
 }
 
 /// Adds what the side waits to do.
-fn write_what(system: &System, side: &Side, out: &mut Vec<u8>) -> Result<(), AllocError> {
+fn write_deed(system: &System, side: &Side, out: &mut Vec<u8>) -> Result<(), AllocError>
+    ensures { OnOk result (out.new.items ≡ out.old.items ++ model.deed_text system.now side.now) }
+{
     match side {
         Side::Sends(channel, value, _) => {
-            let bits = value.bits();
-            write!(out, " sends {bits} on").map_err(|_| AllocError)?;
-            write_channel(system, *channel, out)
+            add_pieces(
+                out,
+                &[Piece::Words(b" sends "), Piece::Number(value.bits())],
+            )?;
+            write_on(system, b" on ", *channel, out)
         }
-        Side::Receives(channel, Some(_)) => write_on(b" receives from", system, *channel, out),
-        Side::Receives(channel, None) => write_on(b" takes from", system, *channel, out),
-        Side::Syncs(channel) => write_on(b" syncs on", system, *channel, out),
+        Side::Receives(channel, Some(_)) => write_on(system, b" receives from ", *channel, out),
+        Side::Receives(channel, None) => write_on(system, b" takes from ", *channel, out),
+        Side::Syncs(channel) => write_on(system, b" syncs on ", *channel, out),
         Side::Opens(channel, arm) => {
-            write!(out, " opens arm {arm} on").map_err(|_| AllocError)?;
-            write_channel(system, *channel, out)
+            let arm = Piece::Number(u64::from(*arm));
+            add_pieces(out, &[Piece::Words(b" opens arm "), arm])?;
+            write_on(system, b" on ", *channel, out)
         }
-        Side::Releases(channel) => write_on(b" is held on", system, *channel, out),
-        Side::Closes(channel) => write_on(b" closes", system, *channel, out),
-        Side::Assigns(_, _, _) => out.extend_from_slice(b" assigns"),
-        Side::Tests(_, _) => out.extend_from_slice(b" tests"),
-        Side::Turns => out.extend_from_slice(b" turns"),
+        Side::Releases(channel) => write_on(system, b" is held on ", *channel, out),
+        Side::Closes(channel) => write_on(system, b" closes ", *channel, out),
+        Side::Assigns(_, _, _) => add_words(out, b" assigns"),
+        Side::Tests(_, _) => add_words(out, b" tests"),
+        Side::Turns => add_words(out, b" turns"),
     }
 }
 
 /// Adds words and the name of the channel.
 fn write_on(
-    words: &[u8],
     system: &System,
+    words: &[u8],
     channel: u32,
     out: &mut Vec<u8>,
-) -> Result<(), AllocError> {
-    out.extend_from_slice(words)?;
-    write_channel(system, channel, out)
+) -> Result<(), AllocError>
+    ensures { OnOk result (out.new.items ≡ out.old.items ++ model.on_channel system.now words.now channel) }
+{
+    match system.channel_name(channel) {
+        Some(name) => add_pieces(out, &[Piece::Words(words), Piece::Name(name)]),
+        None => add_pieces(out, &[Piece::Words(words), Piece::Words(b"?")]),
+    }
 }
 
-/// Adds a space and the name of the channel.
-fn write_channel(system: &System, channel: u32, out: &mut Vec<u8>) -> Result<(), AllocError> {
-    out.extend_from_slice(b" ")?;
-    match system.channel_name(channel) {
-        Some(name) => name.write_to(out),
-        None => out.extend_from_slice(b"?"),
+/// Adds what is known of the partner of a side that stands on this line.
+fn write_partner(
+    checked: &Checked,
+    line: Option<u64>,
+    side: &Side,
+    partner: Option<&Partner>,
+    out: &mut Vec<u8>,
+) -> Result<(), AllocError>
+    ensures { OnOk result (out.new.items ≡ out.old.items
+        ++ model.partner_text checked.now line side.now (option_copied partner.entry)) }
+{
+    match partner {
+        Some(Partner::Behind(first)) => {
+            add_words(out, b", behind ")?;
+            write_placed(checked, first, out)
+        }
+        Some(Partner::Gone) => write_gone(checked.system(), line, side, out),
+        Some(Partner::Open) | None => Ok(()),
+    }
+}
+
+/// Adds why no partner of the side can come any more: the arm that holds it never ends, what the environment had for it is used up, or
+/// nobody else uses the channel.
+fn write_gone(
+    system: &System,
+    line: Option<u64>,
+    side: &Side,
+    out: &mut Vec<u8>,
+) -> Result<(), AllocError>
+    ensures { OnOk result (out.new.items ≡ out.old.items ++ model.gone_text system.now line side.now) }
+{
+    match side {
+        Side::Releases(_) => add_words(out, b", by an arm that never ends"),
+        _ => write_used_up(system, line, fed_channel(system, side), out),
+    }
+}
+
+/// Adds that the stimulus of the channel is used up, or that nobody else uses what a side on this line waits on.
+fn write_used_up(
+    system: &System,
+    line: Option<u64>,
+    fed: Option<u32>,
+    out: &mut Vec<u8>,
+) -> Result<(), AllocError>
+    ensures { OnOk result (out.new.items ≡ out.old.items ++ model.used_up_text system.now line fed) }
+{
+    match (line, fed) {
+        (Some(_), Some(channel)) => {
+            write_on(system, b", the stimulus of ", channel, out)?;
+            add_words(out, b" is used up")
+        }
+        _ => add_words(out, b", nobody else uses it any more"),
+    }
+}
+
+/// Adds the ring, if there is one.
+fn write_ring(
+    checked: &Checked,
+    sides: &[OfferedSide],
+    ring: &[usize],
+    out: &mut Vec<u8>,
+) -> Result<(), AllocError>
+    ensures { OnOk result (out.new.items ≡ out.old.items ++ model.ring_lines checked.now sides.now ring.now) }
+{
+    if ring.is_empty() {
+        return Ok(());
+    }
+    add_numbered(out, b"ring", ring.len() as u64)?;
+    write_round(checked, sides, ring, out)
+}
+
+/// Adds a line for each of the sides with these indexes.
+fn write_round(
+    checked: &Checked,
+    sides: &[OfferedSide],
+    ring: &[usize],
+    out: &mut Vec<u8>,
+) -> Result<(), AllocError>
+    ensures { OnOk result (out.new.items ≡ out.old.items
+        ++ flat_map (λ j. model.ring_line checked.now (slice_get sides.now j)) ring.now) }
+{
+    for held in ring {
+        write_ring_at(checked, sides, *held, out)?;
+    }
+    Ok(())
+}
+
+/// Adds the place of the side of this index.
+fn write_ring_at(
+    checked: &Checked,
+    sides: &[OfferedSide],
+    index: usize,
+    out: &mut Vec<u8>,
+) -> Result<(), AllocError>
+    ensures { OnOk result (out.new.items ≡ out.old.items
+        ++ model.ring_line checked.now (slice_get sides.now index)) }
+{
+    write_ring_line(checked, side_at(sides, index), out)
+}
+
+/// The side of this index, if there is one.
+fn side_at<'a>(sides: &'a [OfferedSide], index: usize) -> Option<&'a OfferedSide>
+    ensures { option_copied result ≡ slice_get sides.now index }
+{
+    match sides.get(index) {
+        Some(side) => Some(side),
+        None => None,
+    }
+}
+
+/// Adds the place of a side, if there is one.
+fn write_ring_line(
+    checked: &Checked,
+    side: Option<&OfferedSide>,
+    out: &mut Vec<u8>,
+) -> Result<(), AllocError>
+    ensures { OnOk result (out.new.items ≡ out.old.items
+        ++ model.ring_line checked.now (option_copied side.entry)) }
+{
+    match side {
+        Some(side) => {
+            add_words(out, b"  ")?;
+            write_placed(checked, &side.place, out)?;
+            add_words(out, b"\n")
+        }
+        None => Ok(()),
     }
 }

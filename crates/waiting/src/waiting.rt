@@ -4,10 +4,9 @@ ghost use Rattle.runs.specs.Object.{Reaches};
 ghost use Rattle.runs.specs.Ready.{ReadyList};
 ghost use Rattle.runs.specs.Steps.{State};
 ghost use Rattle.machine.specs.AtMachine.{object};
-ghost use Rattle.waiting.specs.Progress.{StandsLike};
-ghost use Rattle.waiting.specs.Rings.{NamesRing, TellsPartners};
-ghost use Rattle.waiting.specs.Waits.{ListsWaiting};
+ghost use Rattle.waiting.specs.Told.{TellsWaits};
 
+use crate::once::each_once;
 use crate::progress::{Progress, progress_of};
 use crate::replaying::made_again;
 use crate::sides::left_over;
@@ -22,7 +21,9 @@ use syntax::Items;
 #[derive(Drop)]
 pub struct Waiting {
     pub progress: Progress,
-    /// the sides that wait, in order of place
+    /// the events that may be taken, in order
+    pub ready: Items<Event>,
+    /// the sides that wait, in order of place, each once
     pub sides: Items<OfferedSide>,
     /// for each of them what has to go on before its partner can come
     pub partners: Vec<Partner>,
@@ -31,22 +32,23 @@ pub struct Waiting {
     pub ring: Vec<usize>,
 }
 
-/// Exactly the sides that the state of the machine offers and whose place no allowed event has, in order of place, how the run
-/// stands, what each of the sides waits for, and a ring exactly where there is one. It makes the live events again, and then takes
-/// a walk of the tree for each of the sides. It is an error if there is no memory.
+/// Exactly the sides that the state of the machine offers and whose place no allowed event has, each once, in order of place,
+/// the allowed events, how the run stands, what each of the sides waits for, and a ring exactly where there is one. It makes the live events
+/// again, and then takes a walk of the tree for each of the sides. It is an error if there is no memory.
 pub fn who_waits(alloc: Global, machine: &Machine) -> Result<Waiting, AllocError>
-    ensures { IfOk result (λ told. (S : State) × Reaches (object machine.now) S × ListsWaiting S told.sides × StandsLike S told.progress × TellsPartners S told.sides told.partners.items × NamesRing S told.sides told.ring.items) }
+    ensures { IfOk result (λ told. TellsWaits machine.now told) }
 {
     machine.is_sound();
     let state = made_again(alloc, machine)?;
     let sides = sides_of(alloc, &state.tree, &state.store)?;
-    let events = ready_events(machine)?;
-    let progress = progress_of(sides.as_slice(), events.as_slice());
-    let sides = left_over(sides, events.as_slice());
+    let ready = ready_events(machine)?;
+    let progress = progress_of(sides.as_slice(), ready.as_slice());
+    let sides = each_once(alloc, left_over(sides, ready.as_slice()))?;
     let partners = partners_of(alloc, &state.tree, sides.as_slice())?;
     let ring = ring_among(alloc, sides.as_slice(), partners.as_slice())?;
     Ok(Waiting {
         progress,
+        ready,
         sides,
         partners,
         ring,

@@ -13,7 +13,7 @@ pub struct Case<'a> {
     pub name: &'a [u8],
     pub question: &'a [u8],
     pub subject: &'a [u8],
-    source: &'a [u8],
+    pub source: &'a [u8],
     stimulus: &'a [u8],
     trace: &'a [u8],
 }

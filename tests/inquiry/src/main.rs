@@ -6,8 +6,8 @@ mod cases;
 
 use cases::{Case, first_case, number};
 use machine::Machine;
-use outline::outline_of;
 use past::{Past, past_of_event, past_of_variable, write_past};
+use questions::outline_text;
 use std::alloc::Global;
 use std::io;
 use std::io::{BufReader, Read};
@@ -29,7 +29,8 @@ fn past(alloc: Global, machine: &Machine, subject: &[u8], all: bool) -> io::Resu
 /// The answer as text.
 fn answer(alloc: Global, case: &Case<'_>, out: &mut Vec<u8>) -> io::Result<()> {
     if case.question == b"outline".as_slice() {
-        outline_of(alloc, &case.checked(alloc)?)?.write_to(out)?;
+        let text = outline_text(alloc, &case.checked(alloc)?, case.source)?;
+        out.extend_from_slice(text.as_slice())?;
         return Ok(());
     }
     let machine = case.machine(alloc)?;

@@ -63,6 +63,8 @@ mod shared_sessions;
 #[cfg(test)]
 mod sharing;
 #[cfg(test)]
+mod shells;
+#[cfg(test)]
 mod specified;
 #[cfg(test)]
 mod specified_parts;

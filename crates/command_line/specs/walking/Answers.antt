@@ -2,7 +2,9 @@
 use Rattle.std.specs.Prelude.{◌≡◌, ℕ, List, Result, MatchResult}
 use Rattle.debug_session.specs.declared.fault.Fault.{Fault}
 use Rattle.debug_session.specs.declared.fault.Fault.TheVariants.{Refused}
+use Rattle.runs.specs.declared.command.Refusal.TheVariants.{NoSuchEvent}
 use Rattle.questions.specs.declared.why.Why.{Why}
+use Rattle.picture.specs.declared.Pictured.{Pictured}
 use Rattle.command_line.specs.Answering.{accepted_line}
 use Rattle.command_line.specs.Working.{work_text}
 use Rattle.command_line.specs.declared.answering.Answer.{Answer}
@@ -17,3 +19,8 @@ answer_text (Answer.Worked done) = work_text done.stepped done.live
 abbrev pub AnswersWhyOf : Why → Result Answer Fault → Type 0
 AnswersWhyOf (Why.Told lines) made = MatchResult made (λ _. Unit {0}) (λ _. ⊥)
 AnswersWhyOf (Why.Refused reason words) made = MatchResult made (λ _. ⊥) (λ fault. fault ≡ Refused reason)
+
+-- a picture, and the refusal of one, are made of this
+abbrev pub AnswersPictureOf : Pictured → Result Answer Fault → Type 0
+AnswersPictureOf (Pictured.Text text) made = MatchResult made (λ _. Unit {0}) (λ _. ⊥)
+AnswersPictureOf (Pictured.NoSuchStep words) made = MatchResult made (λ _. ⊥) (λ fault. fault ≡ Refused NoSuchEvent)

@@ -1,6 +1,6 @@
 -- What a parse reads of an argument and of a command while they are made, and the request that matches make.
-use Rattle.std.specs.Prelude.{◌≡◌, ◌≢◌, [], List, Option, Some, None, codes, false}
-use Rattle.clap.specs.Words.{App, Row, Rule, Text, app_of, fault_of, found_of, kind_of, one_of, rows_of, rule_of}
+use Rattle.std.specs.Prelude.{◌≡◌, ◌≢◌, ℕ, [], List, Option, Some, None, codes, false}
+use Rattle.clap.specs.Words.{App, Row, Rule, Text, app_of, fault_of, first_of, found_of, kind_of, one_of, rows_of, rule_of}
 use Rattle.clap.specs.Words.{subcommand_rows_of}
 use Rattle.clap.specs.declared.error.Error.{Error}
 use Rattle.clap.specs.declared.error.kind.ErrorKind.TheVariants.{OutOfMemory}
@@ -8,10 +8,11 @@ use Rattle.clap.specs.declared.builder.arg.Arg.{Arg}
 use Rattle.clap.specs.declared.builder.command.Command.{Command}
 use Rattle.clap.specs.declared.builder.command.Command.TheViews.{out-Command}
 use Rattle.clap.specs.declared.parser.matches.ArgMatches.{ArgMatches}
-use Rattle.command_words.specs.Words.{AreFiles, AreTraced, AskFor, AskForNone, AskForSome, IsFaultOf, IsHelp, IsNumber, IsRequest, Named, TellsPage}
+use Rattle.command_words.specs.Words.{AreFiles, AreTraced, AskDrawing, AskFor, AskForNone, AskForSome, IsFaultOf, IsHelp, IsNumber, IsRequest, Named, TellsPage, TellsStep}
 use Rattle.command_words.specs.Words as spec
 use Rattle.refusal_pages.specs.declared.writing.Page.{Page}
 use Rattle.command_words.specs.declared.crew_size.CrewSize.{CrewSize}
+use Rattle.command_words.specs.declared.drawing.Drawing.{Drawing}
 use Rattle.command_words.specs.declared.request.Request.{Request}
 use Rattle.command_words.specs.declared.unasked.Unasked.{Unasked}
 use Rattle.clap.specs.declared.error.kind.ErrorKind.{ErrorKind}
@@ -45,6 +46,14 @@ NamesNoTrace rows = (file stimulus trace : Text) → AreTraced rows file stimulu
 -- they have the number of no refusal
 abbrev pub TellsNoPage : List Row → Type 0
 TellsNoPage rows = (page : Page) → TellsPage rows page → ⊥
+
+-- they tell of a step by what is no number
+abbrev pub TellsNoStep : List Row → Type 0
+TellsNoStep rows = (event : Option ℕ) → TellsStep (first_of (codes "event") rows) event → ⊥
+
+-- they ask for no picture that there is
+abbrev pub AsksNoDrawing : List Row → Type 0
+AsksNoDrawing rows = (drawing : Drawing) → AskDrawing rows drawing → ⊥
 
 -- the values tell of this crew
 abbrev pub TellsCrew : List Row → CrewSize → Type 0

@@ -1,16 +1,18 @@
 -- What is found of the live events that a new one may follow, by its places and by its variables.
 -- No reader has to believe it: the proof of `candidates` ties it to `Candidates`.
-use Rattle.std.specs.Prelude.{◌≡◌, ◌⊎◌, ℕ, suc, ◌<◌, ◌≤◌, ◌^◌, List, Some}
+use Rattle.std.specs.Prelude.{◌≡◌, ◌⊎◌, ℕ, suc, ◌<◌, ◌≤◌, ◌^◌, List, [], Some}
 use Rattle.address.specs.Places.{Before}
 use Rattle.syntax.specs.Lists.{In}
 use Rattle.last_events.specs.LastEvents.{IsAt}
 use Rattle.last_events.specs.declared.places.PlaceTable.{PlaceTable}
 use Rattle.runs.specs.Dependence.{SomeBefore, Directly}
+use Rattle.runs.specs.Events.{places}
 use Rattle.runs.specs.Live.{Live, Rising, LiveAt, DependsOn, LastWriter}
 use Rattle.runs.specs.Moves.{Place}
 use Rattle.runs.specs.declared.event.Event.{Event}
 use Rattle.dependence.specs.declared.accesses.Newcomer.{Newcomer}
-use Rattle.dependence.specs.walking.Tabled.{TablesOf}
+use Rattle.dependence.specs.declared.tables.Tables.{Tables}
+use Rattle.dependence.specs.walking.Tabled.{IsTabled, UsesOf}
 
 -- to the tickets `old` some were added, of events before one of these places; and each other event before one of them is
 -- before the place of one of these tickets
@@ -19,6 +21,10 @@ pub record FoundByPlace (table : PlaceTable) (bs : List Place) (old new : List �
   pub sound : (t : ℕ) → In t new → In t old ⊎ ((a b : Place) × IsAt table a t × In b bs × Before a b)
   pub complete : (a b : Place) (t : ℕ) → IsAt table a t → In b bs → Before a b →
       (c : Place) × (u : ℕ) × IsAt table c u × In u new × ((a ≡ c) ⊎ Before a c)
+
+-- these are found by the places of a new event f, in tables that hold the live events
+abbrev pub PlacesFound : Live → Event → List ℕ → Type 0
+PlacesFound l f found = (held : Tables) × IsTabled l held × FoundByPlace held.places (places f) [] found
 
 -- the event of ticket t is live, and has an address before one of f
 abbrev pub IsBefore : Live → Event → ℕ → Type 0
@@ -65,10 +71,10 @@ WritesOneRead l read t = (x : ℕ) × In x read × LastWriter l x t
 abbrev pub UsesWritten : Live → Event → ℕ → Type 0
 UsesWritten l f t = (x : ℕ) × (f.written ≡ Some x) × (LastWriter l x t ⊎ ReaderSince l x t)
 
--- the new event's ticket is greater than the live ones, and the tables hold the live events
+-- the new event's ticket is greater than the live ones, and the tables hold their uses
 pub record IsNewcomer (new : Newcomer) : Type 0 where
   pub rising : Rising 0 new.live.now new.ticket
-  pub tables : TablesOf new.live.now new.tables.now
+  pub tables : UsesOf new.live.now new.tables.now
 
 -- the event of ticket t is live, and f depends directly on it
 abbrev pub IsDirect : Live → Event → ℕ → Type 0

@@ -18,6 +18,11 @@ pub record TablesOf (l : Live) (tables : Tables) : Type 0 where
   pub writers : (x t : ℕ) → Uses tables.writers x t ↔ ((e : Event) × LiveAt l t e × (e.written ≡ Some x))
   pub readers : (x t : ℕ) → Uses tables.readers x t ↔ ((e : Event) × LiveAt l t e × In x e.read)
 
+-- of each variable the events that write it and those that read it
+pub record UsesOf (l : Live) (tables : Tables) : Type 0 where
+  pub writers : (x t : ℕ) → Uses tables.writers x t ↔ ((e : Event) × LiveAt l t e × (e.written ≡ Some x))
+  pub readers : (x t : ℕ) → Uses tables.readers x t ↔ ((e : Event) × LiveAt l t e × In x e.read)
+
 -- each address of an event is before each address of a later one or apart from it, and the two of one event are apart
 pub record Placed (l : Live) : Type 0 where
   pub between : (t u : ℕ) (e f : Event) (a b : Place) → LiveAt l t e → LiveAt l u f → t < u → In a (places e) → In b (places f) → Before a b ⊎ Apart a b

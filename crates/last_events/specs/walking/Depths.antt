@@ -1,14 +1,14 @@
 -- In a branch there is more than in any branch in it.
 -- No reader has to believe it: it shows that a walk down the branches ends.
-use Rattle.std.specs.Prelude.{ℕ, ◌+◌, ◌≤◌, ◌<◌, max, List, [], ◌∷◌, ◌++◌, length}
-use Rattle.std.proofs.Common.{◌≡◌, arith, length-append, sym, ap, ◌∙◌}
+use Rattle.std.specs.Prelude.{◌+◌, ◌≤◌, ◌<◌, max, List, [], ◌∷◌, ◌++◌, length}
+use Rattle.std.proofs.Common.{◌≡◌, arith, length-append}
 use denote.Param.Weighed.{most}
 use Rattle.address.specs.declared.Entry.{Entry}
 use Rattle.syntax.specs.Lists.{Every}
 use Rattle.last_events.specs.declared.branch.Seat.{Seat}
 use Rattle.last_events.specs.declared.branch.Seat.TheVariants.{Event, Inner}
 use Rattle.last_events.specs.declared.branch.BranchEvents.TheDeep.{deep-Seat}
-use Rattle.last_events.specs.walking.Seats.{Places, behind_way, seat_places, flat, EndsAtBranch, IsSound, IsBranch}
+use Rattle.last_events.specs.walking.Seats.{Places, behind_way, flat, EndsAtBranch, IsSound, IsBranch}
 use Rattle.last_events.specs.walking.Sizes.{entries_of}
 
 pub entries-append : (xs ys : Places) → entries_of (xs ++ ys) ≡ entries_of xs + entries_of ys

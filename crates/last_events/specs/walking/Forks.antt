@@ -1,5 +1,5 @@
 -- How many entries two places share.
--- No reader has to believe it: the proof of `last_before` ties it to `Before`.
+-- No reader has to believe it: the proofs of `search` tie it to the order of places.
 use Rattle.std.specs.Prelude.{◌≡◌, ℕ, zero, suc, Bool, true, false, Option, Some, None, List, [], ◌∷◌}
 use Rattle.address.specs.declared.Entry.{Entry}
 use Rattle.address.specs.declared.Entry.TheVariants.{Ordered, Branch}

@@ -1,13 +1,15 @@
 -- What the steps of a walk down the branches find.
--- No reader has to believe it: the proof of `last_before` ties it to `LastBefore`.
-use Rattle.std.specs.Prelude.{◌≡◌, ◌⊎◌, ℕ, Bool, true, false, List}
+-- No reader has to believe it: the proof of `put` ties it to `LastBefore`.
+use Rattle.std.specs.Prelude.{◌≡◌, ◌⊎◌, ℕ, ◌<◌, Bool, true, false, List, map, take}
 use Rattle.std.specs.declared.cmp.Ordering.TheVariants.{Less}
 use Rattle.address.specs.Places.{Before}
 use Rattle.address.specs.Order.{order_of}
 use Rattle.address.specs.declared.Entry.{Entry}
 use Rattle.syntax.specs.Lists.{In}
-use Rattle.last_events.specs.LastEvents.{IsAt, OneTree, LastBefore}
-use Rattle.last_events.specs.walking.Seats.{Places, way_of, ordered_of}
+use Rattle.last_events.specs.LastEvents.{IsAt, OneTree}
+use Rattle.last_events.specs.declared.branch.Seat.{Seat}
+use Rattle.last_events.specs.walking.Search.{Splits}
+use Rattle.last_events.specs.walking.Seats.{Places, way_of, ordered_of, seat_way, flat, IsBranch}
 
 -- each two places stand in one tree
 abbrev pub Related : Places → Type 0
@@ -43,3 +45,18 @@ AddedInner es a = AddedOf (λ b. way_of b ≡ way_of a) es a
 -- of those whose way is less than the ordered entries with which a begins
 abbrev pub AddedLesser : Places → List Entry → Bool → List ℕ → List ℕ → Type 0
 AddedLesser es a = AddedOf (λ b. order_of (way_of b) (ordered_of a) ≡ Less) es a
+
+-- those before a were added; where there is none, those that are nearest before all of them
+abbrev pub AddedFrom : Places → Places → List Entry → List ℕ → List ℕ → Type 0
+AddedFrom near es a old new = AddedBefore es a true old new ⊎ (AddedBefore es a false old old × AddedLast near old new)
+
+-- what stands in a branch, in one tree
+pub record IsGroup (seats : List Seat) : Type 0 where
+  pub branch : IsBranch seats
+  pub related : Related (flat seats)
+
+-- the first so many of these stand before the bound; where none does, there are the nearest
+pub record IsNearer (before : List Seat) (bound : List Entry) (nearest nearer : List Seat) : Type 0 where
+  pub count : ℕ
+  pub splits : Splits (map seat_way before) bound count
+  pub are : ((count ≡ 0) × (nearer ≡ nearest)) ⊎ ((0 < count) × (nearer ≡ take count before))

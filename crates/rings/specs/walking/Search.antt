@@ -1,6 +1,6 @@
 -- The search for a ring by indexes of sides.
 -- No reader has to believe it: the contract of `ring_among` ties it to `TellsRing`.
-use Rattle.std.specs.Prelude.{◌≡◌, ℕ, ◌+◌, ◌<◌, List, [], ◌∷◌, length, Bool, true, false, ◌&&◌, cond, Option, Some, None, slice_get}
+use Rattle.std.specs.Prelude.{◌≡◌, ℕ, ◌+◌, ◌<◌, List, [], ◌∷◌, length, Bool, true, false, ◌&&◌, cond, Option, Some, None, option_map, slice_get}
 use Rattle.syntax.specs.Lists.{In}
 use Rattle.runs.specs.Moves.{Place}
 use Rattle.runs.specs.Tests.{same_place}
@@ -17,6 +17,11 @@ abbrev pub is_behind : Partner → Place → Bool
 is_behind (partner.Behind p) a = is_under p a
 is_behind partner.Gone a = false
 is_behind partner.Open a = false
+
+-- the same of a partner that may be there
+abbrev pub own_behind : Option Partner → Place → Bool
+own_behind None a = false
+own_behind (Some p) a = is_behind p a
 
 -- whether the side stands elsewhere than at place a, or has its partner behind place b
 abbrev pub passes : OfferedSide → Partner → Place → Place → Bool
@@ -40,6 +45,19 @@ waits_at sides partners None y = false
 abbrev pub waits : List OfferedSide → List Partner → ℕ → ℕ → Bool
 waits sides partners i j = waits_at sides partners (slice_get sides i) (slice_get sides j)
 
+-- the place of side i
+abbrev pub place_at : List OfferedSide → ℕ → Option Place
+place_at sides i = option_map (λ (x : OfferedSide). x.place) (slice_get sides i)
+
+-- whether sides i and j stand at one place
+abbrev pub same_places : Option OfferedSide → Option OfferedSide → Bool
+same_places (Some x) (Some y) = same_place x.place y.place
+same_places (Some x) None = false
+same_places None y = false
+
+abbrev pub same_at : List OfferedSide → ℕ → ℕ → Bool
+same_at sides i j = same_places (slice_get sides i) (slice_get sides j)
+
 -- ---- rings of indexes below n, by such a test
 
 abbrev pub Test : Type 0
@@ -57,10 +75,15 @@ Ring n w (i ∷ rest) = Chain n w i i rest
 abbrev pub InNoRing : ℕ → Test → ℕ → Type 0
 InNoRing n w i = (ring : List ℕ) → Ring n w ring → In i ring → ⊥
 
+-- none is the same as one behind it, by a test of that
+abbrev pub Apart : Test → List ℕ → Type 0
+Apart u [] = Unit {0}
+Apart u (i ∷ rest) = ((j : ℕ) → In j rest → u i j ≡ true → ⊥) × Apart u rest
+
 -- what is told of a search
-abbrev pub Names : ℕ → Test → List ℕ → Type 0
-Names n w [] = (ring : List ℕ) → Ring n w ring → ⊥
-Names n w (i ∷ rest) = Ring n w (i ∷ rest)
+abbrev pub Names : ℕ → Test → Test → List ℕ → Type 0
+Names n w u [] = (ring : List ℕ) → Ring n w ring → ⊥
+Names n w u (i ∷ rest) = Ring n w (i ∷ rest) × Apart u (i ∷ rest)
 
 -- ---- the search
 
@@ -71,20 +94,21 @@ Path n w (i ∷ []) = i < n
 Path n w (i ∷ j ∷ rest) = (i < n) × (w i j ≡ true) × Path n w (j ∷ rest)
 
 -- how far a search has come
-pub record Searching (n : ℕ) (w : Test) (seen : List Seen) (way : List ℕ) : Type 0 where
+pub record Searching (n : ℕ) (w u : Test) (seen : List Seen) (way : List ℕ) : Type 0 where
   pub size : length seen ≡ n
   pub done : (i : ℕ) → slice_get seen i ≡ Some Done → InNoRing n w i
   pub on_way : (i : ℕ) → slice_get seen i ≡ Some OnWay → In i way
   pub path : Path n w way
+  pub apart : Apart u way
 
 -- what was not new is not new again
 abbrev pub Keeps : List Seen → List Seen → Type 0
 Keeps before seen = (i : ℕ) → slice_get seen i ≡ Some New → slice_get before i ≡ Some New
 
 -- a search from this index on has ended with no ring, or with one
-abbrev pub Searched : ℕ → Test → List Seen → List Seen → ℕ → List ℕ → Type 0
-Searched n w before seen start [] = Searching n w seen [] × Keeps before seen × (slice_get seen start ≡ Some New → ⊥)
-Searched n w before seen start (i ∷ rest) = Ring n w (i ∷ rest)
+abbrev pub Searched : ℕ → Test → Test → List Seen → List Seen → ℕ → List ℕ → Type 0
+Searched n w u before seen start [] = Searching n w u seen [] × Keeps before seen × (slice_get seen start ≡ Some New → ⊥)
+Searched n w u before seen start (i ∷ rest) = Ring n w (i ∷ rest) × Apart u (i ∷ rest)
 
 -- whether it is new, and whether it is done
 abbrev pub is_new : Option Seen → Bool

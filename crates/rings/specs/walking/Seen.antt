@@ -1,12 +1,13 @@
 -- Where the other end stands in commands and in processes, as the code walks through them.
 -- No reader has to believe it: `proofs/Left.antt` ties it to `stands` of what is left of them.
-use Rattle.std.specs.Prelude.{◌≡◌, ℕ, ◌+◌, ◌*◌, List, [], ◌∷◌, reverse, Bool, true, false, ◌||◌, Option, Some, None}
+use Rattle.std.specs.Prelude.{◌≡◌, ℕ, ◌+◌, ◌*◌, List, [], ◌∷◌, reverse, Bool, true, false, ◌||◌, Option, Some, None, is_none}
 use Rattle.address.specs.declared.Entry.TheVariants.{Ordered, Branch}
 use Rattle.runs.specs.Moves.{Place}
+use Rattle.system.specs.Expression.{Expression}
 use Rattle.process_tree.specs.Children.{proc_at}
 use Rattle.process_tree.specs.Code.{Once, assigning, receiving, Sender, sending, syncing, Code, continues, halts, moves_once, may_be_held, repeats, decides, awaits, in_turn, side_by_side, drains, Codes, no_code, code}
 use Rattle.process_tree.specs.Proc.{waiting, holding, past, Proc, idle, stopped, once, sender, fresh, turn, ended_at_once, ended, untested, skipped, took, unopened, entered, closed, sequence, parallel, drained, Procs, no_procs, proc}
-use Rattle.rings.specs.Partners.{is_receive, is_send, is_sync, is_close, is_arm, Standing, over, nowhere, behind, at_hand, is_found, below, there, ahead, at_arms, after, in_branch, together}
+use Rattle.rings.specs.Partners.{is_receive, is_send, is_sync, is_close, is_arm, Standing, over, nowhere, never, behind, at_hand, is_found, below, there, ahead, in_turns, at_arms, after, in_branch, together}
 use Rattle.rings.specs.declared.found.Found.{Found}
 use Rattle.rings.specs.declared.found.Found.TheVariants as found
 use Rattle.rings.specs.declared.sought.Sought.{Sought}
@@ -15,6 +16,7 @@ use Rattle.rings.specs.declared.sought.Sought.{Sought}
 abbrev pub standing : Found → Standing
 standing found.Over = over
 standing found.Nowhere = nowhere
+standing found.Never = never
 standing (found.Behind way) = behind (reverse way.items)
 standing found.Open = at_hand
 
@@ -51,10 +53,10 @@ abbrev mutual
   -- in a command
   pub code_seen : Sought → Code → Walk
   code_seen s continues own = over
-  code_seen s halts own = nowhere
+  code_seen s halts own = never
   code_seen s (moves_once o) own = there own (is_once s o)
   code_seen s (may_be_held x) own = there own (is_sender s x)
-  code_seen s (repeats g c) own = ahead (is_found (code_seen s c None))
+  code_seen s (repeats g c) own = in_turns (is_none g) (is_found (code_seen s c None))
   code_seen s (decides d cs) own = ahead (any_found (codes_seen s cs))
   code_seen s (awaits ds cs) own = at_arms own (is_arm s ds) (any_found (codes_seen s cs))
   code_seen s (in_turn cs) own = walk_in_turn 0 (codes_seen s cs) own
@@ -66,19 +68,23 @@ abbrev mutual
   codes_seen s no_code = []
   codes_seen s (code c cs) = code_seen s c ∷ codes_seen s cs
 
+-- in the turns of a loop
+abbrev pub again_seen : Sought → Option Expression → Code → Standing
+again_seen s g c = in_turns (is_none g) (is_found (code_seen s c None))
+
 abbrev mutual
   -- in a process
   pub seen : Sought → Proc → Walk
   seen s idle own = over
-  seen s stopped own = nowhere
+  seen s stopped own = never
   seen s (once o true) own = over
   seen s (once o false) own = there own (is_once s o)
   seen s (sender x waiting) own = there own (is_sender s x)
   seen s (sender x holding) own = nowhere
   seen s (sender x past) own = over
-  seen s (fresh g c) own = ahead (is_found (code_seen s c None))
+  seen s (fresh g c) own = again_seen s g c
   seen s (turn g c n q) own =
-      after (Ordered (2 * n + 1)) (below own (Ordered (2 * n + 1))) (seen s q (below own (Ordered (2 * n + 1)))) (ahead (is_found (code_seen s c None)))
+      after (Ordered (2 * n + 1)) (below own (Ordered (2 * n + 1))) (seen s q (below own (Ordered (2 * n + 1)))) (again_seen s g c)
   seen s (ended_at_once g c) own = over
   seen s (ended g c n q) own = over
   seen s (untested d cs) own = ahead (any_found (codes_seen s cs))

@@ -1,6 +1,5 @@
 -- The tree and the values that are made anew.
 -- No reader has to believe it: the contract of `who_waits` speaks of the state alone.
-use Rattle.std.specs.Prelude.{List}
 use Rattle.system.specs.Expression.{Store}
 use Rattle.runs.specs.Object.{Object, Reaches}
 use Rattle.process_tree.specs.Tidy.{Tidy}

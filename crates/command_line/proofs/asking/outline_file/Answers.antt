@@ -31,4 +31,5 @@ returns g c = (
   c.in_ok-checked.checked,
   c.in_ok-read_source.ensures,
   subst (λ (t : List ℕ). AcceptedAs t [] c.in_ok-checked.checked) c.as_slice.ensures.value c.in_ok-checked.ensures.system,
+  c.in_ok-outline_text.ensures,
 )

@@ -1,6 +1,6 @@
 use Rattle.std.proofs.Common.{ℕ, List, inl, inr, subst}
 use Rattle.debug_session.specs.Wrapping.{of_trace}
-use Rattle.questions.specs.Asking.{IsTraced}
+use Rattle.questions.specs.Asking.{IsWaitingText}
 use Rattle.trace_file.specs.Loading as trace
 use Rattle.command_line.proofs.AnsweringLemmas.{trace-refused}
 use Rattle.command_line.proofs.Handing.{refused}
@@ -39,5 +39,6 @@ returns g c = (
   c.read_trace.new.texts.trace.items,
   c.in_ok-checked.ensures,
   c.in_ok-read_trace.ensures,
-  subst (λ (t : List ℕ). IsTraced c.in_ok-checked.checked t) c.as_slice.ensures.value c.in_ok-waiting_text.ensures,
+  subst (λ (t : List ℕ). IsWaitingText c.in_ok-checked.checked t c.in_ok-waiting_text.field-0.items) c.as_slice.ensures.value
+      c.in_ok-waiting_text.ensures,
 )

@@ -2,7 +2,7 @@ use Rattle.std.proofs.Common.{refl}
 use Rattle.command_line.specs.Used.{used}
 use Rattle.command_line.specs.Answering.{CheckGives, CheckRefuses, ReplayGives, ReplayRefuses, WorkGives, WorkRefuses}
 use Rattle.command_line.specs.Answering.{OutlineGives, PageRefuses, WaitingGives, WhyGives, WhyRefuses}
-use Rattle.command_line.specs.Drawing.{PictureGives}
+use Rattle.command_line.specs.Drawing.{PictureGives, PictureRefuses}
 use Rattle.command_line.proofs.AnsweringLemmas.{answered}
 use Rattle.command_line.proofs.running.perform.Goals as goal
 
@@ -16,6 +16,9 @@ returns-in-Check g c = rw c.in-Check.is (
 
 pub returns-in-Debug : goal.returns-in-Debug
 returns-in-Debug g c = rw c.in-Debug.is c.debug_files.ensures
+
+pub returns-in-Shell : goal.returns-in-Shell
+returns-in-Shell g c = rw c.in-Shell.is c.shell_files.ensures
 
 pub returns-in-Replay : goal.returns-in-Replay
 returns-in-Replay g c = rw c.in-Replay.is (
@@ -41,10 +44,13 @@ returns-in-Explain g c = rw c.in-Explain.is (
       c.tell-in-Explain.ensures,
 )
 
+pub returns-in-Dap : goal.returns-in-Dap
+returns-in-Dap g c = rw c.in-Dap.is (refl, c.serve_editor.ensures)
+
 pub returns-in-Outline : goal.returns-in-Outline
 returns-in-Outline g c = rw c.in-Outline.is (
   refl,
-  answered (λ text. OutlineGives (g.F.Files.holds c.args.files.now) c.in-Outline.file.now) (CheckRefuses (g.F.Files.holds c.args.files.now) c.in-Outline.file.now)
+  answered (OutlineGives (g.F.Files.holds c.args.files.now) c.in-Outline.file.now) (CheckRefuses (g.F.Files.holds c.args.files.now) c.in-Outline.file.now)
       c.outline_file.result (used g.O.Write.contents c.args.out.now c.tell-in-Outline.new.out) c.tell-in-Outline.result c.outline_file.ensures
       c.tell-in-Outline.ensures,
 )
@@ -52,7 +58,7 @@ returns-in-Outline g c = rw c.in-Outline.is (
 pub returns-in-Waiting : goal.returns-in-Waiting
 returns-in-Waiting g c = rw c.in-Waiting.is (
   refl,
-  answered (λ text. WaitingGives (g.F.Files.holds c.args.files.now) c.in-Waiting.file.now c.in-Waiting.stimulus.now c.in-Waiting.trace.now) (ReplayRefuses (g.F.Files.holds c.args.files.now) c.in-Waiting.file.now c.in-Waiting.stimulus.now c.in-Waiting.trace.now)
+  answered (WaitingGives (g.F.Files.holds c.args.files.now) c.in-Waiting.file.now c.in-Waiting.stimulus.now c.in-Waiting.trace.now) (ReplayRefuses (g.F.Files.holds c.args.files.now) c.in-Waiting.file.now c.in-Waiting.stimulus.now c.in-Waiting.trace.now)
       c.waiting_files.result (used g.O.Write.contents c.args.out.now c.tell-in-Waiting.new.out) c.tell-in-Waiting.result c.waiting_files.ensures
       c.tell-in-Waiting.ensures,
 )
@@ -68,7 +74,7 @@ returns-in-Why g c = rw c.in-Why.is (
 pub returns-in-Picture : goal.returns-in-Picture
 returns-in-Picture g c = rw c.in-Picture.is (
   refl,
-  answered (λ text. PictureGives (g.F.Files.holds c.args.files.now) c.in-Picture.file.now c.in-Picture.stimulus.now c.in-Picture.trace.now) (ReplayRefuses (g.F.Files.holds c.args.files.now) c.in-Picture.file.now c.in-Picture.stimulus.now c.in-Picture.trace.now)
+  answered (λ text. PictureGives (g.F.Files.holds c.args.files.now) c.in-Picture.file.now c.in-Picture.stimulus.now c.in-Picture.trace.now c.in-Picture.drawing) (PictureRefuses (g.F.Files.holds c.args.files.now) c.in-Picture.file.now c.in-Picture.stimulus.now c.in-Picture.trace.now c.in-Picture.drawing)
       c.picture_files.result (used g.O.Write.contents c.args.out.now c.tell-in-Picture.new.out) c.tell-in-Picture.result c.picture_files.ensures
       c.tell-in-Picture.ensures,
 )

@@ -14,6 +14,6 @@ loop-note-preserved c =
     let after : c.push.new.self.items ≡ c.loop-note.messages.items ++ message ∷ [] = c.in_ok-push.ensures.items in (
       more ++ message ∷ [],
       after ∙ ap (λ (ms : List Message). ms ++ message ∷ []) before.1 ∙ append_assoc c.args.messages.now.items more (message ∷ []),
-      events-more (c.args.first + 1) more message before.2 (omega arith) refl,
+      events-more (c.args.first + 1) more message before.2 (omega arith) (refl, c.event.ensures),
       omega arith,
     )

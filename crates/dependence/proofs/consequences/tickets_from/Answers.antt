@@ -1,5 +1,4 @@
 use Rattle.std.proofs.Common.{◌≡◌, ◌∙◌, ◌-◌, ◌+◌, ℕ, List, Bool, length, take, drop, sym, ap, subst, arith, length-drop}
-use Rattle.std.specs.Prelude.{IfOk}
 use Rattle.std.proofs.lemmas.List.{take_rest}
 use Rattle.runs.specs.Live.{Live, ConsequencesList}
 use Rattle.dependence.specs.Shown.{tickets_marked}

@@ -3,16 +3,22 @@ use Rattle.std.specs.List.Sorted.{IsNonDecreasing}
 use Rattle.std.proofs.lemmas.Result.{IfOk-weaker}
 use Rattle.syntax.specs.Lists.{In}
 use Rattle.dependence.specs.walking.Tables.{Topmost}
+use Rattle.dependence.proofs.Candidacy.{candidates-found}
 use Rattle.dependence.proofs.Edges.{candidates-live, candidates-alike}
 use Rattle.dependence.proofs.Sweeps.{few-falling, few-topmost}
 use Rattle.dependence.proofs.entries.leads_of.Goals as goal
 
 pub returns-then-len-le1 : goal.returns-then-len-le1
 returns-then-len-le1 c =
-    let few : length c.in_ok-found.found.items ≤ 1 = omega (arith, c.in_ok-found.found.ok) in
+    let few : length c.add_by_variables.new.found.items ≤ 1 = omega (arith, c.add_by_variables.new.found.ok) in
     record {
-      falling = few-falling c.in_ok-found.found.items few;
-      topmost = (c.in_ok-found.found.items, c.in_ok-found.ensures, few-topmost c.args.new.now.live.now c.in_ok-found.found.items few);
+      falling = few-falling c.add_by_variables.new.found.items few;
+      topmost = (
+        c.add_by_variables.new.found.items,
+        (candidates-found c.args.new.now.live.now c.args.new.now.ticket c.args.new.now.event.now c.requires.found.0 c.requires.new.rising c.requires.found.1 c.requires.behind
+            c.args.found.items c.add_by_variables.new.found.items c.requires.found.2 c.in_ok-add_by_variables.ensures),
+        few-topmost c.args.new.now.live.now c.add_by_variables.new.found.items few,
+      );
     }
 
 pub are_unreached-requires : goal.are_unreached-requires
@@ -20,13 +26,14 @@ are_unreached-requires c =
     let new = c.args.new.now in
     let sorted : List ℕ = c.ascending-sorted.result.items in
     let same : length c.as_slice-tickets.result.now ≡ length sorted = ap length c.as_slice-tickets.ensures.value in
-    let size : length sorted ≡ length c.in_ok-found.found.items = c.ascending-sorted.ensures.length in
+    let size : length sorted ≡ length c.add_by_variables.new.found.items = c.ascending-sorted.ensures.length in
     record {
       rising = (new.ticket, c.requires.new.rising);
       linked = c.requires.linked;
       live = candidates-live new.live.now new.event.now c.as_slice-tickets.result.now sorted c.as_slice-tickets.ensures.value
-          (candidates-alike new.live.now new.event.now c.in_ok-found.found.items sorted c.ascending-sorted.ensures.same c.in_ok-found.ensures);
-      some = omega (arith, c.in_ok-found.found.ok);
+          (candidates-alike new.live.now new.event.now c.add_by_variables.new.found.items sorted c.ascending-sorted.ensures.same (candidates-found c.args.new.now.live.now c.args.new.now.ticket c.args.new.now.event.now c.requires.found.0 c.requires.new.rising c.requires.found.1 c.requires.behind
+          c.args.found.items c.add_by_variables.new.found.items c.requires.found.2 c.in_ok-add_by_variables.ensures));
+      some = omega (arith, c.add_by_variables.new.found.ok);
       ascending = subst (λ (k : List ℕ). IsNonDecreasing k) (sym c.as_slice-tickets.ensures.value) c.ascending-sorted.ensures.ascending;
     }
 
@@ -42,7 +49,8 @@ returns-then-are_unreached c =
       falling = c.falling.ensures.falling;
       topmost = IfOk-weaker c.falling.result _ _ (λ kept same. (
         sorted,
-        candidates-alike new.live.now new.event.now c.in_ok-found.found.items sorted c.ascending-sorted.ensures.same c.in_ok-found.ensures,
+        candidates-alike new.live.now new.event.now c.add_by_variables.new.found.items sorted c.ascending-sorted.ensures.same (candidates-found c.args.new.now.live.now c.args.new.now.ticket c.args.new.now.event.now c.requires.found.0 c.requires.new.rising c.requires.found.1 c.requires.behind
+            c.args.found.items c.add_by_variables.new.found.items c.requires.found.2 c.in_ok-add_by_variables.ensures),
         λ t. subst (λ (k : List ℕ). In t kept.items ↔ Topmost new.live.now k t) c.as_slice-tickets.ensures.value (
           (λ i. tops t ((same t).0 i)),
           (λ top. (same t).1 top.0),
@@ -55,12 +63,13 @@ span-low-requires c =
     let new = c.args.new.now in
     let sorted : List ℕ = c.ascending-sorted.result.items in
     let same : length c.as_slice-tickets.result.now ≡ length sorted = ap length c.as_slice-tickets.ensures.value in
-    let size : length sorted ≡ length c.in_ok-found.found.items = c.ascending-sorted.ensures.length in
+    let size : length sorted ≡ length c.add_by_variables.new.found.items = c.ascending-sorted.ensures.length in
     record {
       rising = (new.ticket, c.requires.new.rising);
       live = candidates-live new.live.now new.event.now c.as_slice-tickets.result.now sorted c.as_slice-tickets.ensures.value
-          (candidates-alike new.live.now new.event.now c.in_ok-found.found.items sorted c.ascending-sorted.ensures.same c.in_ok-found.ensures);
-      some = omega (arith, c.in_ok-found.found.ok);
+          (candidates-alike new.live.now new.event.now c.add_by_variables.new.found.items sorted c.ascending-sorted.ensures.same (candidates-found c.args.new.now.live.now c.args.new.now.ticket c.args.new.now.event.now c.requires.found.0 c.requires.new.rising c.requires.found.1 c.requires.behind
+          c.args.found.items c.add_by_variables.new.found.items c.requires.found.2 c.in_ok-add_by_variables.ensures));
+      some = omega (arith, c.add_by_variables.new.found.ok);
       ascending = subst (λ (k : List ℕ). IsNonDecreasing k) (sym c.as_slice-tickets.ensures.value) c.ascending-sorted.ensures.ascending;
     }
 
@@ -84,7 +93,8 @@ returns c =
       falling = c.topmost.ensures.falling;
       topmost = IfOk-weaker c.topmost.result _ _ (λ kept tops. (
         sorted,
-        candidates-alike new.live.now new.event.now c.in_ok-found.found.items sorted c.ascending-sorted.ensures.same c.in_ok-found.ensures,
+        candidates-alike new.live.now new.event.now c.add_by_variables.new.found.items sorted c.ascending-sorted.ensures.same (candidates-found c.args.new.now.live.now c.args.new.now.ticket c.args.new.now.event.now c.requires.found.0 c.requires.new.rising c.requires.found.1 c.requires.behind
+            c.args.found.items c.add_by_variables.new.found.items c.requires.found.2 c.in_ok-add_by_variables.ensures),
         λ t. subst (λ (k : List ℕ). In t kept.items ↔ Topmost new.live.now k t) c.as_slice-tickets.ensures.value (tops t),
       )) c.topmost.ensures.topmost;
     }

@@ -1,13 +1,13 @@
-use Rattle.std.proofs.Common.{ℕ, List, take, subst}
+use Rattle.std.proofs.Common.{ℕ, List, [], take, subst}
 use Rattle.syntax.specs.Lists.{In}
 use Rattle.last_events.specs.LastEvents.{Uses}
 use Rattle.dependence.specs.walking.Tabled.{MoreUses}
 use Rattle.dependence.proofs.ListPlaces.{in-take, take-all}
-use Rattle.dependence.proofs.Tabling.{uses-none, uses-in, uses-same, uses-next, has-next, read-next}
+use Rattle.dependence.proofs.Tabling.{uses-kept, uses-in, uses-same, uses-next, has-next, read-next}
 use Rattle.dependence.proofs.puts.put_reads.Goals as goal
 
 pub loop-variable-init : goal.loop-variable-init
-loop-variable-init c = record { more = uses-none c.args.table.now c.args.ticket; all = λ x i. absurd i }
+loop-variable-init c = record { more = uses-kept c.args.table.now c.args.ticket []; all = λ x i. absurd i }
 
 pub loop-variable-preserved : goal.loop-variable-preserved
 loop-variable-preserved c =

@@ -1,14 +1,14 @@
-use Rattle.std.proofs.Common.{◌≡◌, ◌<◌, ◌+◌, ◌*◌, List, [], ◌∷◌, ◌++◌, length, map, refl, sym, ap, subst, ◌∙◌, arith}
+use Rattle.std.proofs.Common.{◌≡◌, List, map, refl, sym, ap, subst, ◌∙◌}
 use Rattle.address.specs.declared.Entry.{Entry}
 use Rattle.last_events.specs.LastEvents.{ticket_at, first_child}
 use Rattle.last_events.specs.declared.branch.Seat.{Seat}
 use Rattle.last_events.specs.walking.Search.{Splits}
-use Rattle.last_events.specs.walking.Seats.{Places, way_of, rest_of, AllOrdered, EndsAtBranch, seat_way, HasSeat, IsSound, IsBranch}
+use Rattle.last_events.specs.walking.Seats.{Places, way_of, AllOrdered, EndsAtBranch, seat_way, HasSeat, IsSound}
 use Rattle.last_events.proofs.ChildLaws.{child-absent}
 use Rattle.last_events.proofs.CodeLaws.{is-way}
 use Rattle.last_events.proofs.LastLaws.{child-inner}
 use Rattle.last_events.proofs.SeatLaws.{Stands, stands-at, stands-sound, has-within}
-use Rattle.last_events.proofs.WayLaws.{ordered-place, rest-shorter, not-both}
+use Rattle.last_events.proofs.WayLaws.{ordered-place, not-both}
 use Rattle.last_events.proofs.branch.+child.Goals as goal
 
 pub first_child_among-ends_at_branch-requires : goal.first_child_among-ends_at_branch-requires

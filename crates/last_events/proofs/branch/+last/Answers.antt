@@ -1,6 +1,5 @@
-use Rattle.std.proofs.Common.{◌≡◌, ◌<◌, ◌≤◌, ◌+◌, ◌*◌, ◌-◌, ℕ, List, length, map, drop, suc, sym, ap, subst, ◌∙◌, arith}
+use Rattle.std.proofs.Common.{◌≡◌, ◌<◌, ◌+◌, ◌-◌, List, length, map, drop, sym, ap, subst, ◌∙◌, arith}
 use Rattle.address.specs.declared.Entry.{Entry}
-use Rattle.syntax.specs.Lists.{In}
 use Rattle.last_events.specs.declared.branch.Seat.{Seat}
 use Rattle.last_events.specs.walking.Search.{Splits}
 use Rattle.last_events.specs.walking.Seats.{Places, ordered_of, seat_way, seat_places, flat, IsWay, IsSound, IsBranch}

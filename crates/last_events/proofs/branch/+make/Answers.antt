@@ -1,4 +1,3 @@
-use Rattle.std.proofs.Common.{◌≡◌, sym, ◌∙◌}
 use Rattle.last_events.proofs.CodeLaws.{is-way, event-made}
 use Rattle.last_events.proofs.branch.+make.Goals as goal
 

@@ -1,16 +1,35 @@
-use Rattle.std.proofs.Common.{◌≡◌, ◌<◌, ◌+◌, ◌*◌, ℕ, true, false, List, length, refl, sym, ap, subst, ◌∙◌, arith}
+use Rattle.std.proofs.Common.{◌≡◌, ◌+◌, ◌*◌, List, get_or, length, take, drop, ◌++◌, refl, sym, ap, subst, ◌∙◌, arith}
 use Rattle.std.specs.Box.{with_value}
 use Rattle.address.specs.declared.Entry.{Entry}
-use Rattle.last_events.specs.LastEvents.{PutAt}
+use Rattle.last_events.specs.LastEvents.{PutAt, Orderly}
 use Rattle.last_events.specs.declared.branch.Seat.{Seat}
-use Rattle.last_events.specs.walking.Seats.{Places, seat_way, seat_places, FitsBehind}
-use Rattle.last_events.proofs.CodeLaws.{inserted-branch, inserted-put}
-use Rattle.last_events.proofs.ListLaws.{on-ok, err-on}
-use Rattle.last_events.proofs.SeatLaws.{Stands, stands-at, stands-sound, fits-behind, left-less, event-put, inner-put, kept-branch, kept-put, kept-same}
+use Rattle.last_events.specs.walking.Seats.{Places, seat_way, seat_places, flat, IsSound, IsBranch, FitsBehind}
+use Rattle.last_events.specs.walking.Walks.{AddedFrom}
+use Rattle.last_events.proofs.CodeLaws.{is-way, inserted-branch, inserted-put, stands-behind, group-near, found-seat, found-none}
+use Rattle.last_events.proofs.LastLaws.{branch-taken, orderly-behind, orderly-seat, from-behind, from-event}
+use Rattle.last_events.proofs.ListLaws.{on-ok, err-on, set-behind}
+use Rattle.last_events.proofs.SeatLaws.{Stands, stands-sound, fits-behind, seat_left, left-less, whole-place, has-within, event-put, inner-put, kept-branch, kept-put, kept-same}
 use Rattle.last_events.proofs.branch.+put.Goals as goal
 
-pub Seat::put-returns-in-Event-clause-put : goal.Seat::put-returns-in-Event-clause-put
-Seat::put-returns-in-Event-clause-put t c = event-put c.args.self.now c.in-Event.field-0 _ c.args.ticket c.args.rest.now c.in-Event.is c.requires.fits
+pub Seat::put-put-requires : goal.Seat::put-put-requires
+Seat::put-put-requires t c =
+    let bound : seat_left c.args.self.now c.args.rest.now ≡ 3 * length c.args.rest.now + 3 = ap (λ (x : Seat). seat_left x c.args.rest.now) c.in-Inner.is in (
+      omega (arith, bound, c.decreases),
+      (
+        c.requires.nearest,
+        subst (λ (es : Places). Orderly es c.args.rest.now) (sym c.deref_mut.ensures.value)
+            (orderly-behind c.in-Inner.field-0 c.in-Inner.inner.value c.args.rest.now
+            (subst (λ (x : Seat). Orderly (seat_places x) (seat_way x ++ c.args.rest.now)) c.in-Inner.is c.requires.orderly)),
+      ),
+    )
+
+pub Seat::put-returns-in_ok-add_last_among-in-Event-clause-put : goal.Seat::put-returns-in_ok-add_last_among-in-Event-clause-put
+Seat::put-returns-in_ok-add_last_among-in-Event-clause-put t c = event-put c.args.self.now c.in-Event.field-0 _ c.args.ticket c.args.rest.now c.in-Event.is c.requires.fits
+
+pub Seat::put-returns-in_ok-add_last_among-in-Event-clause-found : goal.Seat::put-returns-in_ok-add_last_among-in-Event-clause-found
+Seat::put-returns-in_ok-add_last_among-in-Event-clause-found t c =
+    from-event (flat c.args.nearest.now) c.args.self.now c.in-Event.field-0 _ c.args.rest.now c.args.found.now.items c.add_last_among.new.found.items c.in-Event.is
+    c.requires.fits c.in_ok-add_last_among-in-Event.ensures
 
 pub Seat::put-returns-in-Inner-clause-put : goal.Seat::put-returns-in-Inner-clause-put
 Seat::put-returns-in-Inner-clause-put t c =
@@ -19,54 +38,159 @@ Seat::put-returns-in-Inner-clause-put t c =
     (subst (λ (es : Places). PutAt es c.args.rest.now c.args.ticket c.put.new.self) c.deref_mut.ensures.value put))
     c.put.ensures.put
 
+pub Seat::put-returns-in-Inner-clause-found : goal.Seat::put-returns-in-Inner-clause-found
+Seat::put-returns-in-Inner-clause-found t c =
+    on-ok c.put.result
+    (λ added.
+    subst (λ (x : Seat). AddedFrom (flat c.args.nearest.now) (seat_places x) (seat_way x ++ c.args.rest.now) c.args.found.now.items c.put.new.found.items) (sym c.in-Inner.is)
+    (from-behind (flat c.args.nearest.now) c.in-Inner.field-0 c.in-Inner.inner.value c.args.rest.now c.args.found.now.items c.put.new.found.items
+    (subst (λ (x : Seat). IsSound x) c.in-Inner.is c.requires.sound).0
+    (subst (λ (es : Places). AddedFrom (flat c.args.nearest.now) es c.args.rest.now c.args.found.now.items c.put.new.found.items) c.deref_mut.ensures.value added)))
+    c.put.ensures.found
+
+pub put_among-nearer-nearer-requires-clause-branch : goal.put_among-nearer-nearer-requires-clause-branch
+put_among-nearer-nearer-requires-clause-branch t c =
+    subst IsBranch (sym (c.split_at_mut-before.ensures.front ∙ ap (λ (ss : List Seat). take c.count_less-index.result ss) c.as_mut_slice.ensures.value))
+    (branch-taken c.args.seats.now.items c.count_less-index.result c.requires.branch)
+
+pub put_among-nearer-nearer-requires-clause-way : goal.put_among-nearer-nearer-requires-clause-way
+put_among-nearer-nearer-requires-clause-way t c = is-way c.split_at.result.0.now _ c.args.place.now c.split_at.ensures.front c.way_length.ensures.way
+
+pub put_among-bounds-behind-0 : goal.put_among-bounds-behind-0
+put_among-bounds-behind-0 t c =
+    let within = has-within c.as_slice-2.result.now c.count_less-index.result c.split_at.result.0.now (c.has_way.ensures.yes c.if-has_way.true) in
+    let one : length c.as_slice-2.result.now ≡ length c.args.seats.now.items = ap length c.as_slice-2.ensures.value in
+    let two : length c.as_mut_slice.result.now ≡ length c.args.seats.now.items = ap length c.as_mut_slice.ensures.value in
+    omega (arith, within, one, two, c.split_at_mut-before.ensures.back_len)
+
 pub put_among-put-requires : goal.put_among-put-requires
 put_among-put-requires t c =
-    let st : Stands c.args.seats.now.items c.count_less-index.result c.index_mut.result.now c.args.place.now =
-    stands-at c.args.seats.now.items c.as_slice-2.result.now c.count_less-index.result c.split_at.result.0.now _ c.args.place.now c.index_mut.result.now
-    c.as_slice-2.ensures.value c.split_at.ensures.front c.way_length.ensures.way (c.has_way.ensures.yes c.if-has_way.true) c.index_mut.ensures.value in
-    let sound = stands-sound c.args.seats.now.items c.count_less-index.result c.index_mut.result.now c.args.place.now c.requires st in
+    let st : Stands c.args.seats.now.items c.count_less-index.result (get_or c.split_at_mut-before.result.1.now 0 c.index-behind-0.result) c.args.place.now =
+    stands-behind c.args.seats.now.items c.as_slice-2.result.now c.split_at_mut-before.result.1.now c.count_less-index.result c.split_at.result.0.now _ c.args.place.now
+    c.index-behind-0.result c.as_slice-2.ensures.value c.split_at.ensures.front c.way_length.ensures.way (c.has_way.ensures.yes c.if-has_way.true)
+    (c.split_at_mut-before.ensures.back ∙ ap (λ (ss : List Seat). drop c.count_less-index.result ss) c.as_mut_slice.ensures.value) in
+    let sound = stands-sound c.args.seats.now.items c.count_less-index.result (get_or c.split_at_mut-before.result.1.now 0 c.index-behind-0.result) c.args.place.now c.requires.branch st in
     let rest = c.split_at.ensures.back ∙ c.way_length.ensures.rest in
-    let less = left-less c.index_mut.result.now c.args.place.now c.split_at.result.1.now sound st.way rest in (
+    let less = left-less (get_or c.split_at_mut-before.result.1.now 0 c.index-behind-0.result) c.args.place.now c.split_at.result.1.now sound st.way rest in (
       omega (arith, less, c.decreases),
-      (sound, subst (λ (r : List Entry). FitsBehind c.index_mut.result.now r) (sym rest) (fits-behind c.index_mut.result.now c.args.place.now sound st.way)),
+      (
+        sound,
+        (
+          subst (λ (r : List Entry). FitsBehind (get_or c.split_at_mut-before.result.1.now 0 c.index-behind-0.result) r) (sym rest) (fits-behind (get_or c.split_at_mut-before.result.1.now 0 c.index-behind-0.result) c.args.place.now sound st.way),
+          (
+            group-near c.args.seats.now.items c.as_slice.result.now c.split_at.result.0.now _ c.args.place.now c.count_less-index.result c.split_at_mut-before.result.0.now
+                c.args.nearest.now c.nearer-nearer.result.now c.requires.branch c.as_slice.ensures.value c.split_at.ensures.front c.way_length.ensures.way c.count_less-index.ensures
+                (c.split_at_mut-before.ensures.front ∙ ap (λ (ss : List Seat). take c.count_less-index.result ss) c.as_mut_slice.ensures.value) c.nearer-nearer.ensures
+                c.requires.nearest c.requires.orderly.inside,
+            orderly-seat c.args.seats.now.items c.count_less-index.result (get_or c.split_at_mut-before.result.1.now 0 c.index-behind-0.result) c.args.place.now c.requires.branch st _
+                (whole-place (get_or c.split_at_mut-before.result.1.now 0 c.index-behind-0.result) c.args.place.now c.split_at.result.1.now st.way rest) c.requires.orderly,
+          ),
+        ),
+      ),
     )
 
 pub put_among-returns-then-has_way-clause-branch : goal.put_among-returns-then-has_way-clause-branch
 put_among-returns-then-has_way-clause-branch t c =
-    let st : Stands c.args.seats.now.items c.count_less-index.result c.index_mut.result.now c.args.place.now =
-    stands-at c.args.seats.now.items c.as_slice-2.result.now c.count_less-index.result c.split_at.result.0.now _ c.args.place.now c.index_mut.result.now
-    c.as_slice-2.ensures.value c.split_at.ensures.front c.way_length.ensures.way (c.has_way.ensures.yes c.if-has_way.true) c.index_mut.ensures.value in
-    kept-branch c.args.seats.now.items c.count_less-index.result c.index_mut.result.now c.put.new.self c.args.place.now c.split_at.result.1.now c.requires st
-    (c.split_at.ensures.back ∙ c.way_length.ensures.rest) c.put.ensures.sound c.put.ensures.way
+    let st : Stands c.args.seats.now.items c.count_less-index.result (get_or c.split_at_mut-before.result.1.now 0 c.index-behind-0.result) c.args.place.now =
+    stands-behind c.args.seats.now.items c.as_slice-2.result.now c.split_at_mut-before.result.1.now c.count_less-index.result c.split_at.result.0.now _ c.args.place.now
+    c.index-behind-0.result c.as_slice-2.ensures.value c.split_at.ensures.front c.way_length.ensures.way (c.has_way.ensures.yes c.if-has_way.true)
+    (c.split_at_mut-before.ensures.back ∙ ap (λ (ss : List Seat). drop c.count_less-index.result ss) c.as_mut_slice.ensures.value) in
+    let changed =
+    set-behind c.args.seats.now.items c.split_at_mut-before.result.0.now c.split_at_mut-before.result.1.now c.count_less-index.result c.args.seats.now.len c.put.new.self
+    (c.split_at_mut-before.ensures.front ∙ ap (λ (ss : List Seat). take c.count_less-index.result ss) c.as_mut_slice.ensures.value)
+    (c.split_at_mut-before.ensures.back ∙ ap (λ (ss : List Seat). drop c.count_less-index.result ss) c.as_mut_slice.ensures.value) st.within
+    (sym c.as_mut_slice.ensures.len ∙ ap length c.as_mut_slice.ensures.value) in
+    let rest = c.split_at.ensures.back ∙ c.way_length.ensures.rest in
+    subst IsBranch (sym changed)
+    (kept-branch c.args.seats.now.items c.count_less-index.result (get_or c.split_at_mut-before.result.1.now 0 c.index-behind-0.result) c.put.new.self c.args.place.now c.split_at.result.1.now c.requires.branch st rest c.put.ensures.sound c.put.ensures.way)
 
 pub put_among-returns-then-has_way-clause-put : goal.put_among-returns-then-has_way-clause-put
 put_among-returns-then-has_way-clause-put t c =
-    let st : Stands c.args.seats.now.items c.count_less-index.result c.index_mut.result.now c.args.place.now =
-    stands-at c.args.seats.now.items c.as_slice-2.result.now c.count_less-index.result c.split_at.result.0.now _ c.args.place.now c.index_mut.result.now
-    c.as_slice-2.ensures.value c.split_at.ensures.front c.way_length.ensures.way (c.has_way.ensures.yes c.if-has_way.true) c.index_mut.ensures.value in
+    let st : Stands c.args.seats.now.items c.count_less-index.result (get_or c.split_at_mut-before.result.1.now 0 c.index-behind-0.result) c.args.place.now =
+    stands-behind c.args.seats.now.items c.as_slice-2.result.now c.split_at_mut-before.result.1.now c.count_less-index.result c.split_at.result.0.now _ c.args.place.now
+    c.index-behind-0.result c.as_slice-2.ensures.value c.split_at.ensures.front c.way_length.ensures.way (c.has_way.ensures.yes c.if-has_way.true)
+    (c.split_at_mut-before.ensures.back ∙ ap (λ (ss : List Seat). drop c.count_less-index.result ss) c.as_mut_slice.ensures.value) in
+    let changed =
+    set-behind c.args.seats.now.items c.split_at_mut-before.result.0.now c.split_at_mut-before.result.1.now c.count_less-index.result c.args.seats.now.len c.put.new.self
+    (c.split_at_mut-before.ensures.front ∙ ap (λ (ss : List Seat). take c.count_less-index.result ss) c.as_mut_slice.ensures.value)
+    (c.split_at_mut-before.ensures.back ∙ ap (λ (ss : List Seat). drop c.count_less-index.result ss) c.as_mut_slice.ensures.value) st.within
+    (sym c.as_mut_slice.ensures.len ∙ ap length c.as_mut_slice.ensures.value) in
+    let rest = c.split_at.ensures.back ∙ c.way_length.ensures.rest in
     on-ok c.put.result
-    (kept-put c.args.seats.now.items c.count_less-index.result c.index_mut.result.now c.put.new.self c.args.place.now c.split_at.result.1.now c.requires st
-    (c.split_at.ensures.back ∙ c.way_length.ensures.rest) c.args.ticket)
+    (λ put. subst (λ (ss : List Seat). PutAt (flat c.args.seats.now.items) c.args.place.now c.args.ticket (flat ss)) (sym changed)
+    (kept-put c.args.seats.now.items c.count_less-index.result (get_or c.split_at_mut-before.result.1.now 0 c.index-behind-0.result) c.put.new.self c.args.place.now c.split_at.result.1.now c.requires.branch st rest c.args.ticket put))
     c.put.ensures.put
 
 pub put_among-returns-then-has_way-clause-refused : goal.put_among-returns-then-has_way-clause-refused
 put_among-returns-then-has_way-clause-refused t c =
-    let st : Stands c.args.seats.now.items c.count_less-index.result c.index_mut.result.now c.args.place.now =
-    stands-at c.args.seats.now.items c.as_slice-2.result.now c.count_less-index.result c.split_at.result.0.now _ c.args.place.now c.index_mut.result.now
-    c.as_slice-2.ensures.value c.split_at.ensures.front c.way_length.ensures.way (c.has_way.ensures.yes c.if-has_way.true) c.index_mut.ensures.value in
+    let st : Stands c.args.seats.now.items c.count_less-index.result (get_or c.split_at_mut-before.result.1.now 0 c.index-behind-0.result) c.args.place.now =
+    stands-behind c.args.seats.now.items c.as_slice-2.result.now c.split_at_mut-before.result.1.now c.count_less-index.result c.split_at.result.0.now _ c.args.place.now
+    c.index-behind-0.result c.as_slice-2.ensures.value c.split_at.ensures.front c.way_length.ensures.way (c.has_way.ensures.yes c.if-has_way.true)
+    (c.split_at_mut-before.ensures.back ∙ ap (λ (ss : List Seat). drop c.count_less-index.result ss) c.as_mut_slice.ensures.value) in
+    let changed =
+    set-behind c.args.seats.now.items c.split_at_mut-before.result.0.now c.split_at_mut-before.result.1.now c.count_less-index.result c.args.seats.now.len c.put.new.self
+    (c.split_at_mut-before.ensures.front ∙ ap (λ (ss : List Seat). take c.count_less-index.result ss) c.as_mut_slice.ensures.value)
+    (c.split_at_mut-before.ensures.back ∙ ap (λ (ss : List Seat). drop c.count_less-index.result ss) c.as_mut_slice.ensures.value) st.within
+    (sym c.as_mut_slice.ensures.len ∙ ap length c.as_mut_slice.ensures.value) in
+    let rest = c.split_at.ensures.back ∙ c.way_length.ensures.rest in
     err-on c.put.result
-    (kept-same c.args.seats.now.items c.count_less-index.result c.index_mut.result.now c.put.new.self c.args.place.now c.split_at.result.1.now c.requires st
-    (c.split_at.ensures.back ∙ c.way_length.ensures.rest))
+    (λ same. ap flat changed
+    ∙ kept-same c.args.seats.now.items c.count_less-index.result (get_or c.split_at_mut-before.result.1.now 0 c.index-behind-0.result) c.put.new.self c.args.place.now c.split_at.result.1.now c.requires.branch st rest same)
     c.put.ensures.refused
+
+pub put_among-returns-then-has_way-clause-found : goal.put_among-returns-then-has_way-clause-found
+put_among-returns-then-has_way-clause-found t c =
+    let st : Stands c.args.seats.now.items c.count_less-index.result (get_or c.split_at_mut-before.result.1.now 0 c.index-behind-0.result) c.args.place.now =
+    stands-behind c.args.seats.now.items c.as_slice-2.result.now c.split_at_mut-before.result.1.now c.count_less-index.result c.split_at.result.0.now _ c.args.place.now
+    c.index-behind-0.result c.as_slice-2.ensures.value c.split_at.ensures.front c.way_length.ensures.way (c.has_way.ensures.yes c.if-has_way.true)
+    (c.split_at_mut-before.ensures.back ∙ ap (λ (ss : List Seat). drop c.count_less-index.result ss) c.as_mut_slice.ensures.value) in
+    on-ok c.put.result
+    (found-seat c.args.seats.now.items c.as_slice.result.now c.split_at.result.0.now _ c.args.place.now c.count_less-index.result c.split_at_mut-before.result.0.now
+    c.args.nearest.now c.nearer-nearer.result.now c.requires.branch c.as_slice.ensures.value c.split_at.ensures.front c.way_length.ensures.way c.count_less-index.ensures
+    (c.split_at_mut-before.ensures.front ∙ ap (λ (ss : List Seat). take c.count_less-index.result ss) c.as_mut_slice.ensures.value) c.nearer-nearer.ensures
+    (get_or c.split_at_mut-before.result.1.now 0 c.index-behind-0.result) _ c.args.found.now.items c.put.new.found.items c.requires.orderly st
+    (stands-sound c.args.seats.now.items c.count_less-index.result (get_or c.split_at_mut-before.result.1.now 0 c.index-behind-0.result) c.args.place.now c.requires.branch st)
+    (whole-place (get_or c.split_at_mut-before.result.1.now 0 c.index-behind-0.result) c.args.place.now c.split_at.result.1.now st.way (c.split_at.ensures.back ∙ c.way_length.ensures.rest)))
+    c.put.ensures.found
+
+pub put_among-nearer-requires-clause-branch : goal.put_among-nearer-requires-clause-branch
+put_among-nearer-requires-clause-branch t c =
+    subst IsBranch (sym (c.split_at-2.ensures.front ∙ ap (λ (ss : List Seat). take c.count_less-index.result ss) c.as_slice-3.ensures.value))
+    (branch-taken c.args.seats.now.items c.count_less-index.result c.requires.branch)
+
+pub put_among-nearer-requires-clause-way : goal.put_among-nearer-requires-clause-way
+put_among-nearer-requires-clause-way t c = is-way c.split_at.result.0.now _ c.args.place.now c.split_at.ensures.front c.way_length.ensures.way
+
+pub put_among-add_last_among-requires-clause-branch : goal.put_among-add_last_among-requires-clause-branch
+put_among-add_last_among-requires-clause-branch t c =
+    (group-near c.args.seats.now.items c.as_slice.result.now c.split_at.result.0.now _ c.args.place.now c.count_less-index.result c.split_at-2.result.0.now
+    c.args.nearest.now c.nearer.result.now c.requires.branch c.as_slice.ensures.value c.split_at.ensures.front c.way_length.ensures.way c.count_less-index.ensures
+    (c.split_at-2.ensures.front ∙ ap (λ (ss : List Seat). take c.count_less-index.result ss) c.as_slice-3.ensures.value) c.nearer.ensures
+    c.requires.nearest c.requires.orderly.inside).branch
+
+pub put_among-add_last_among-requires-clause-related : goal.put_among-add_last_among-requires-clause-related
+put_among-add_last_among-requires-clause-related t c =
+    (group-near c.args.seats.now.items c.as_slice.result.now c.split_at.result.0.now _ c.args.place.now c.count_less-index.result c.split_at-2.result.0.now
+    c.args.nearest.now c.nearer.result.now c.requires.branch c.as_slice.ensures.value c.split_at.ensures.front c.way_length.ensures.way c.count_less-index.ensures
+    (c.split_at-2.ensures.front ∙ ap (λ (ss : List Seat). take c.count_less-index.result ss) c.as_slice-3.ensures.value) c.nearer.ensures
+    c.requires.nearest c.requires.orderly.inside).related
 
 pub put_among-returns-clause-branch : goal.put_among-returns-clause-branch
 put_among-returns-clause-branch t c =
     inserted-branch c.args.seats.now.items c.as_slice.result.now c.as_slice-2.result.now c.insert.new.self.items c.split_at.result.0.now _ c.args.place.now c.count_less-index.result _
-    c.args.ticket c.requires c.as_slice.ensures.value c.as_slice-2.ensures.value c.split_at.ensures.front c.way_length.ensures.way c.count_less-index.ensures
+    c.args.ticket c.requires.branch c.as_slice.ensures.value c.as_slice-2.ensures.value c.split_at.ensures.front c.way_length.ensures.way c.count_less-index.ensures
     (c.has_way.ensures.no c.if-has_way.false) c.in_ok-seat.ensures c.in_ok-insert.ensures.items
 
 pub put_among-returns-clause-put : goal.put_among-returns-clause-put
 put_among-returns-clause-put t c =
     inserted-put c.args.seats.now.items c.as_slice.result.now c.as_slice-2.result.now c.insert.new.self.items c.split_at.result.0.now _ c.args.place.now c.count_less-index.result _
-    c.args.ticket c.requires c.as_slice.ensures.value c.as_slice-2.ensures.value c.split_at.ensures.front c.way_length.ensures.way c.count_less-index.ensures
+    c.args.ticket c.requires.branch c.as_slice.ensures.value c.as_slice-2.ensures.value c.split_at.ensures.front c.way_length.ensures.way c.count_less-index.ensures
     (c.has_way.ensures.no c.if-has_way.false) c.in_ok-seat.ensures c.in_ok-insert.ensures.items
+
+pub put_among-returns-clause-found : goal.put_among-returns-clause-found
+put_among-returns-clause-found t c =
+    found-none c.args.seats.now.items c.as_slice.result.now c.split_at.result.0.now _ c.args.place.now c.count_less-index.result c.split_at-2.result.0.now
+    c.args.nearest.now c.nearer.result.now c.requires.branch c.as_slice.ensures.value c.split_at.ensures.front c.way_length.ensures.way c.count_less-index.ensures
+    (c.split_at-2.ensures.front ∙ ap (λ (ss : List Seat). take c.count_less-index.result ss) c.as_slice-3.ensures.value) c.nearer.ensures
+    c.as_slice-2.result.now c.args.found.now.items c.add_last_among.new.found.items c.as_slice-2.ensures.value (c.has_way.ensures.no c.if-has_way.false)
+    c.requires.orderly c.in_ok-add_last_among.ensures

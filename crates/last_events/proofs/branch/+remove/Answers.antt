@@ -1,11 +1,8 @@
-use Rattle.std.proofs.Common.{◌≡◌, ◌<◌, ◌+◌, ◌*◌, ℕ, true, false, List, [], length, refl, sym, ap, subst, ◌∙◌, arith}
+use Rattle.std.proofs.Common.{◌<◌, List, length, refl, sym, subst, ◌∙◌, arith}
 use Rattle.address.specs.declared.Entry.{Entry}
 use Rattle.last_events.specs.LastEvents.{RemovedAt}
-use Rattle.last_events.specs.declared.branch.Seat.{Seat}
-use Rattle.last_events.specs.declared.branch.Seat.TheVariants.{Event, Inner}
-use Rattle.last_events.specs.walking.Search.{Splits}
-use Rattle.last_events.specs.walking.Seats.{Places, way_of, seat_way, seat_places, IsBranch, HasSeat, FitsBehind, TakenAt}
-use Rattle.last_events.proofs.SeatLaws.{Stands, stands-at, stands-sound, fits-behind, seat_left, left-less, event-removed, inner-taken, gone-branch, gone-removed, kept-branch, kept-removed, taken-all, taken-some, absent-as}
+use Rattle.last_events.specs.walking.Seats.{Places, FitsBehind}
+use Rattle.last_events.proofs.SeatLaws.{Stands, stands-at, stands-sound, fits-behind, left-less, event-removed, inner-taken, gone-branch, gone-removed, kept-branch, kept-removed, taken-all, taken-some, absent-as}
 use Rattle.last_events.proofs.branch.+remove.Goals as goal
 
 pub Seat::remove-returns-in-Event : goal.Seat::remove-returns-in-Event

@@ -1,4 +1,4 @@
-use Rattle.std.proofs.Common.{◌≡◌, ◌<◌, ◌≤◌, length, sym, ap, ◌∙◌, true≢false, arith}
+use Rattle.std.proofs.Common.{◌<◌, ◌≤◌, length, sym, ap, ◌∙◌, true≢false, arith}
 use Rattle.last_events.specs.LastEvents.{first_child}
 use Rattle.last_events.specs.walking.Seats.{seat_way}
 use Rattle.last_events.proofs.ChildLaws.{child-none, child-some, inner-not-child}

@@ -1,4 +1,4 @@
-use Rattle.std.proofs.Common.{◌≡◌, ◌<◌, ◌≤◌, length, sym, ◌∙◌, true≢false, arith}
+use Rattle.std.proofs.Common.{◌<◌, ◌≤◌, length, sym, ◌∙◌, true≢false, arith}
 use Rattle.std.proofs.lemmas.Slice.Eq.{slice_eq-Decides}
 use Rattle.address.proofs.Entries.{entry_eq-Decides}
 use Rattle.last_events.proofs.SeatLaws.{has-at, has-is, has-within}

@@ -1,4 +1,4 @@
-use Rattle.std.proofs.Common.{◌≡◌, ◌+◌, suc, arith}
+use Rattle.std.proofs.Common.{◌+◌, arith}
 use Rattle.last_events.proofs.ChildLaws.{child-past, child-here}
 use Rattle.last_events.proofs.branch.index_of_child.Goals as goal
 

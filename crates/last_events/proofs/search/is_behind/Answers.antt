@@ -1,4 +1,4 @@
-use Rattle.std.proofs.Common.{◌≡◌, ◌<◌, ◌≤◌, ◌-◌, ℕ, suc, length, map, sym, arith}
+use Rattle.std.proofs.Common.{◌≡◌, ◌≤◌, ◌-◌, suc, length, map, arith}
 use Rattle.last_events.proofs.SearchLaws.{all-less, last-not-less, place-read}
 use Rattle.last_events.proofs.search.is_behind.Goals as goal
 

@@ -11,4 +11,6 @@ returns-in_err-waiting_on c =
     refused c.from_residual-in_err-waiting_on.result Memory _ _ tt c.from_residual-in_err-waiting_on.ensures.1
 
 pub returns : goal.returns
-returns c = (c.in_ok-machine.ensures.0, c.in_ok-machine.ensures.1)
+returns c =
+    let told = c.in_ok-waiting_on.ensures in
+    (c.in_ok-machine.machine, told.0, c.in_ok-machine.ensures, told.1, told.2)

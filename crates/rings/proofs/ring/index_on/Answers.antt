@@ -1,9 +1,17 @@
-use Rattle.std.proofs.Common.{◌≡◌, arith}
+use Rattle.std.proofs.Common.{◌≡◌, ◌∙◌, ℕ, true, false, slice_index_or, sym, subst, true≢false, arith}
+use Rattle.rings.specs.walking.Search.{same_at}
 use Rattle.rings.proofs.Places.{not-here, not-there}
 use Rattle.rings.proofs.ring.index_on.Goals as goal
 
 pub loop-index-preserved : goal.loop-index-preserved
-loop-index-preserved c = λ h. not-here c.args.way.now c.loop-index.index 0 c.args.side (omega arith) (λ e. omega (arith, e)) (c.loop-index.invariant h)
+loop-index-preserved c = λ j i m.
+    not-here c.args.way.now c.loop-index.index 0 j (omega arith)
+    (λ e.
+    let at : same_at c.args.sides.now (slice_index_or c.args.way.now c.loop-index.index 0) c.args.side ≡ true =
+    subst (λ (k : ℕ). same_at c.args.sides.now k c.args.side ≡ true) (sym e) m in
+    let both : true ≡ false = sym at ∙ sym c.is_at_one.ensures ∙ c.if-is_at_one.false in
+    true≢false both)
+    (c.loop-index.invariant j i m)
 
 pub returns : goal.returns
-returns c = λ h. not-there c.args.way.now c.loop-index.index c.args.side (omega arith) (c.loop-index.invariant h)
+returns c = λ j i m. not-there c.args.way.now c.loop-index.index j (omega arith) (c.loop-index.invariant j i m)

@@ -17,8 +17,9 @@ distance-requires-clause-later c =
 
 pub loop-follower-preserved : goal.loop-follower-preserved
 loop-follower-preserved c =
-    ahead-next c.args.live.now.live c.args.index c.loop-follower.follower-index c.distance.result c.followers-followers.result.now c.loop-follower.ahead
-    c.push.new.self c.loop-follower-test.true c.distance.ensures c.loop-follower.invariant c.in_ok-push.ensures.ok
+    let rising = c.is_sound.ensures.rising in
+    ahead-next 0 rising.0 c.args.live.now.live c.args.index c.loop-follower.follower-index c.distance.result c.followers-followers.result.now
+    c.loop-follower.ahead c.push.new.self rising.1 c.followers-followers.ensures.ascending c.loop-follower-test.true c.distance.ensures c.loop-follower.invariant c.in_ok-push.ensures.ok
 
 pub returns : goal.returns
 returns c =

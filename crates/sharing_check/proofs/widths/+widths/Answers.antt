@@ -142,4 +142,4 @@ add_command-returns-in_ok-branches-in-Parallel t c =
     (c.in_ok-branches-in-Parallel.ensures
     ∙ (ap (λ cs. side_by_side nothing (map residual_of cs)) c.as_slice-in-Parallel.ensures ∙ sym (used_by_parallel 0 children)))
     ∙ sym (ap (λ r. adding before r) is))
-    c.merge.ensures
+    c.merge.ensures.merged

@@ -24,5 +24,7 @@ invariant-add_arms-loop-arm l =
     arms_in_turn (noted l.widths) (map arm_of (drop l.arm-index l.arms)) ≡ arms_in_turn (noted l.initial.widths) (map arm_of l.arms)
 
 abbrev pub invariant-of_branches-loop-child : goal.invariant-of_branches-loop-child
-invariant-of_branches-loop-child l =
-    side_by_side (noted l.widths) (map residual_of (drop l.child-index l.children)) ≡ side_by_side nothing (map residual_of l.children)
+invariant-of_branches-loop-child l = record {
+  both : side_by_side (noted l.widths) (map residual_of (drop l.child-index l.children)) ≡ side_by_side nothing (map residual_of l.children);
+  empty : noted l.branch ≡ nothing;
+}

@@ -1,5 +1,5 @@
-use Rattle.shell_desk.specs.walking.Again.{LeadsOn}
+use Rattle.shell_desk.specs.walking.Again.{SetsAgain, IsUpTo}
 use Rattle.shell_desk.proofs.loaded.break_again.Given as goal
 
 abbrev pub invariant-loop-line : goal.invariant-loop-line
-invariant-loop-line g l = LeadsOn l.before l.initial.desk l.desk
+invariant-loop-line g l = SetsAgain l.before (IsUpTo l.session l.line) l.initial.desk l.desk

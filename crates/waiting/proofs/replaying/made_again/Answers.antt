@@ -1,8 +1,6 @@
-use Rattle.std.proofs.Common.{◌≡◌, ◌∙◌, ℕ, suc, ◌+◌, ◌∷◌, drop, refl, sym, ap, subst, arith}
+use Rattle.std.proofs.Common.{◌≡◌, ◌∙◌, ℕ, suc, ◌+◌, drop, refl, ap, subst, arith}
 use Rattle.system.specs.declared.system.System.{System}
 use Rattle.system.specs.Translation.{opening_store}
-use Rattle.runs.specs.Live.{Live}
-use Rattle.runs.specs.Object.{Object}
 use Rattle.process_tree.specs.Proc.{started}
 use Rattle.process_tree.specs.Translation.{system_code}
 use Rattle.event_inverse.specs.View.{both_view}

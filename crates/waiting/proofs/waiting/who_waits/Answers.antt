@@ -7,12 +7,11 @@ use Rattle.offered_sides.specs.View.{state_of}
 use Rattle.offered_sides.specs.declared.side.OfferedSide.{OfferedSide}
 use Rattle.rings.specs.Partners.{partner_in}
 use Rattle.rings.specs.Rings.{TellsRing}
-use Rattle.rings.specs.declared.partner.Partner.{Partner}
 use Rattle.waiting.specs.Waits.{ListsWaiting}
 use Rattle.waiting.specs.Progress.{StandsLike}
-use Rattle.waiting.specs.Rings.{NamesRing}
 use Rattle.waiting.specs.declared.progress.Progress.{Progress}
 use Rattle.waiting.specs.walking.Among.{left_over, progress_of}
+use Rattle.waiting.specs.walking.Repeats.{each_once}
 use Rattle.waiting.proofs.Leftover.{lists-waiting, stands-like}
 use Rattle.waiting.proofs.RingOfState.{names-ring}
 use Rattle.waiting.proofs.waiting.who_waits.Goals as goal
@@ -22,26 +21,31 @@ returns c =
     let S : State = state_of c.in_ok-state.state.tree c.in_ok-state.state.store in
     let stands = c.in_ok-state.ensures in
     let sides : List OfferedSide = c.in_ok-sides.sides in
-    let events : List Event = c.in_ok-events.events in
+    let events : List Event = c.in_ok-ready.ready in
     let exact : OffersExactly S sides = c.in_ok-sides.ensures.exactly stands.tidy in
-    let ready = c.in_ok-events.ensures in
+    let ready = c.in_ok-ready.ensures in
     let one = c.is_sound.ensures.one_state in
     let same : ready.0 ≡ S = one.2 ready.0 ready.1 ∙ sym (one.2 S stands.reaches) in
     let list : ReadyList S events = subst (λ (T : State). ReadyList T events) same ready.2 in
-    let left : c.left_over-sides.result ≡ left_over events sides = c.left_over-sides.ensures ∙ ap (λ (es : List Event). left_over es sides) c.as_slice-3.ensures in
+    let left : c.left_over.result ≡ left_over events sides = c.left_over.ensures ∙ ap (λ (es : List Event). left_over es sides) c.as_slice-3.ensures in
     let told : c.progress_of-progress.result ≡ progress_of sides events =
     c.progress_of-progress.ensures ∙ ap₂ (λ (xs : List OfferedSide) (es : List Event). progress_of xs es) c.as_slice.ensures c.as_slice-2.ensures in
-    let waits : ListsWaiting S c.left_over-sides.result =
-    subst (λ (xs : List OfferedSide). ListsWaiting S xs) (sym left) (lists-waiting S sides events exact (c.in_ok-sides.ensures.in_order stands.tidy) list) in
-    let partners : c.in_ok-partners.partners.items ≡ map (partner_in S.residual) c.left_over-sides.result =
+    let kept : List OfferedSide = c.in_ok-sides-2.sides in
+    let once : kept ≡ each_once (left_over events sides) = c.in_ok-sides-2.ensures ∙ ap each_once left in
+    let waits : ListsWaiting S kept =
+    subst (λ (xs : List OfferedSide). ListsWaiting S xs) (sym once) (lists-waiting S sides events exact (c.in_ok-sides.ensures.in_order stands.tidy) list) in
+    let partners : c.in_ok-partners.partners.items ≡ map (partner_in S.residual) kept =
     c.in_ok-partners.ensures ∙ ap (λ (xs : List OfferedSide). map (partner_in S.residual) xs) c.as_slice-4.ensures in
     let given : c.as_slice-6.result.now ≡ map (partner_in S.residual) c.as_slice-5.result.now =
     c.as_slice-6.ensures.value ∙ partners ∙ ap (λ (xs : List OfferedSide). map (partner_in S.residual) xs) (sym c.as_slice-5.ensures) in (
       S,
       stands.reaches,
-      waits,
-      subst (λ (p : Progress). StandsLike S p) (sym told) (stands-like S sides events exact list),
-      partners,
-      names-ring S c.left_over-sides.result c.in_ok-ring.ring.items waits
-          (subst (λ (xs : List OfferedSide). TellsRing S.residual xs c.in_ok-ring.ring.items) c.as_slice-5.ensures (c.in_ok-ring.ensures S.residual given)),
+      record {
+        progress = subst (λ (p : Progress). StandsLike S p) (sym told) (stands-like S sides events exact list);
+        ready = list;
+        sides = waits;
+        partners = partners;
+        ring = names-ring S kept c.in_ok-ring.ring.items waits
+            (subst (λ (xs : List OfferedSide). TellsRing S.residual xs c.in_ok-ring.ring.items) c.as_slice-5.ensures (c.in_ok-ring.ensures S.residual given));
+      },
     )

@@ -1,0 +1,10 @@
+use Rattle.std.proofs.Common.{refl}
+use Rattle.command_words.specs.walking.Building.{rows_in}
+use Rattle.command_words.proofs.WordLemmas.{no_shell}
+use Rattle.command_words.proofs.asked.shell_asked.Goals as goal
+
+pub returns : goal.returns
+returns c = (refl, c.in_ok-file.ensures, c.trace_asked-trace.ensures)
+
+pub returns-in_err-file : goal.returns-in_err-file
+returns-in_err-file c = rw c.from_residual.ensures (no_shell (rows_in c.args.words.now) c.in_err-file.ensures)

@@ -1,0 +1,4 @@
+pub mod Going
+pub mod Lawful
+pub mod Machines
+pub mod Stopping

@@ -1,0 +1,6 @@
+pub mod Goes
+pub mod Kinds
+pub mod Launching
+pub mod Laws
+pub mod Steps
+pub mod Stops

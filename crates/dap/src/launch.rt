@@ -1,0 +1,471 @@
+// The launch of a description.
+ghost use Rattle.std.specs.Prelude.{◌≡◌, None, IfOk, IfSome};
+ghost use Rattle.front_end.specs.Accepting.{AcceptedAs};
+ghost use Rattle.trace_file.specs.Loading.{IsLoaded};
+ghost use Rattle.locked_execution.specs.AtDesk.{new_desk};
+ghost use Rattle.dap.specs.Launching.{BeginsAt, BeginsOn, IsBegun, text_of};
+
+use crate::sources::Sources;
+use dap_messages::{Answer, Members, Told, field, number_in, text_in};
+use dap_moves::{Desk, Machine};
+use dap_requests::tell;
+use dap_views::{Counting, Index, Launch, Lines, Program, Words, base_of};
+use front_end::accept;
+use refusal_pages::page_of;
+use serde_json::Value;
+use sharing_check::Checked;
+use std::alloc::{AllocError, Global};
+use trace_file::load_text;
+
+/// How many steps a run has at most, where the client does not say.
+const MOST_STEPS: u64 = 10_000;
+
+/// What counts from 1, as lines of a trace do.
+const ONES: Counting = Counting {
+    lines: 0,
+    columns: 0,
+};
+
+/// A program that was launched, and its desk.
+#[derive(Drop)]
+pub struct Launched {
+    pub program: Program,
+    pub desk: Desk,
+}
+
+/// Why nothing is launched.
+#[derive(Drop)]
+enum Failed {
+    Memory,
+    /// it was told
+    Told,
+}
+
+impl From<AllocError> for Failed {
+    fn from(_error: AllocError) -> Failed {
+        Failed::Memory
+    }
+}
+
+/// Launches what the arguments name. Where it is refused, the answer says so, and none is given.
+pub(crate) fn start<F: Sources>(
+    alloc: Global,
+    files: &F,
+    counting: Counting,
+    arguments: &Value,
+    answer: &mut Answer,
+) -> Option<Launched>
+    ensures { IfSome result (λ launched. IsBegun launched.desk) }
+{
+    match launch_of(alloc, arguments, answer) {
+        Ok(asked) => start_as(alloc, files, counting, asked, answer),
+        Err(failed) => {
+            note(failed, answer);
+            None
+        }
+    }
+}
+
+/// Keeps in mind why nothing is launched, where it was not told.
+fn note(failed: Failed, answer: &mut Answer) {
+    match failed {
+        Failed::Memory => answer.lacks = true,
+        Failed::Told => {}
+    }
+}
+
+/// Launches what is asked for.
+fn start_as<F: Sources>(
+    alloc: Global,
+    files: &F,
+    counting: Counting,
+    asked: Launch,
+    answer: &mut Answer,
+) -> Option<Launched>
+    ensures { IfSome result (λ launched. IsBegun launched.desk) }
+{
+    match texts_of(alloc, files, &asked, answer) {
+        Ok(texts) => start_on(alloc, counting, asked, texts, answer),
+        Err(failed) => {
+            note(failed, answer);
+            None
+        }
+    }
+}
+
+/// Launches what is asked for on these texts.
+fn start_on(
+    alloc: Global,
+    counting: Counting,
+    asked: Launch,
+    texts: Texts,
+    answer: &mut Answer,
+) -> Option<Launched>
+    ensures { IfSome result (λ launched. IsBegun launched.desk) }
+{
+    match machine_of(alloc, &asked, &texts, counting, answer) {
+        Ok(machine) => launched_on(alloc, asked, texts, counting, machine, answer),
+        Err(failed) => {
+            note(failed, answer);
+            None
+        }
+    }
+}
+
+/// The program on this machine.
+fn launched_on(
+    alloc: Global,
+    asked: Launch,
+    texts: Texts,
+    counting: Counting,
+    machine: Machine,
+    answer: &mut Answer,
+) -> Option<Launched>
+    ensures { IfSome result (λ launched. launched.desk ≡ new_desk machine) }
+{
+    match program_of(alloc, asked, texts, counting) {
+        Ok(program) => Some(Launched {
+            program,
+            desk: Desk::new(machine),
+        }),
+        Err(AllocError) => {
+            note(Failed::Memory, answer);
+            None
+        }
+    }
+}
+
+/// The texts of the files that a launch names.
+#[derive(Drop)]
+struct Texts {
+    source: Vec<u8>,
+    stimulus: Vec<u8>,
+    trace: Option<Vec<u8>>,
+}
+
+/// Reads the files.
+fn texts_of<F: Sources>(
+    alloc: Global,
+    files: &F,
+    asked: &Launch,
+    answer: &mut Answer,
+) -> Result<Texts, Failed> {
+    let source = file(alloc, files, asked.program.as_str(), answer)?;
+    let stimulus = stimulus(alloc, files, asked, answer)?;
+    let trace = trace(alloc, files, asked, answer)?;
+    Ok(Texts {
+        source,
+        stimulus,
+        trace,
+    })
+}
+
+/// The trace that is named, if one is.
+fn trace<F: Sources>(
+    alloc: Global,
+    files: &F,
+    asked: &Launch,
+    answer: &mut Answer,
+) -> Result<Option<Vec<u8>>, Failed> {
+    match &asked.trace {
+        Some(name) => Ok(Some(file(alloc, files, name.as_str(), answer)?)),
+        None => Ok(None),
+    }
+}
+
+/// The machine before the first step, or behind the trace.
+fn machine_of(
+    alloc: Global,
+    asked: &Launch,
+    texts: &Texts,
+    counting: Counting,
+    answer: &mut Answer,
+) -> Result<Machine, Failed>
+    ensures { IfOk result (λ machine. BeginsAt texts.now.source.items texts.now.stimulus.items (text_of texts.now.trace) machine) }
+{
+    let source = texts.source.as_slice();
+    let stimulus = texts.stimulus.as_slice();
+    match checked(alloc, asked, source, stimulus, counting, answer) {
+        Ok(checked) => machine_on(alloc, checked, asked, &texts.trace, answer),
+        Err(failed) => Err(failed),
+    }
+}
+
+/// The program over these texts, on which nothing is set.
+fn program_of(
+    alloc: Global,
+    launch: Launch,
+    texts: Texts,
+    counting: Counting,
+) -> Result<Program, AllocError> {
+    let index = Index::new(alloc, texts.source.as_slice())?;
+    let lines = Lines::new(alloc, texts.source.as_slice())?;
+    let Texts {
+        source,
+        stimulus: _stimulus,
+        trace: _trace,
+    } = texts;
+    Ok(Program {
+        launch,
+        counting,
+        source,
+        lines,
+        index,
+        asked: Vec::new(alloc),
+        stops: Vec::new(alloc),
+        watched: Vec::new(alloc),
+        seen: Vec::new(alloc),
+        refused: None,
+        excepts: true,
+        last_id: 0,
+        sight: None,
+    })
+}
+
+/// What the arguments ask to launch.
+fn launch_of(alloc: Global, arguments: &Value, answer: &mut Answer) -> Result<Launch, Failed> {
+    let program = text_in(arguments, "program").unwrap_or("");
+    if program.is_empty() {
+        answer.refuse(108, "`program` is missing: the path of a Balsa source");
+        return Err(Failed::Told);
+    }
+    Ok(Launch {
+        program: String::from_str(alloc, program)?,
+        stimulus: copied(alloc, text_in(arguments, "stimulus"))?,
+        trace: copied(alloc, text_in(arguments, "trace"))?,
+        stops: flag_in(arguments, "stopOnEntry", true),
+        most: number_in(arguments, "maxSteps")
+            .unwrap_or(MOST_STEPS)
+            .max(1),
+        free: flag_in(arguments, "noDebug", false),
+    })
+}
+
+/// A copy of a text that is not empty.
+fn copied(alloc: Global, text: Option<&str>) -> Result<Option<String>, AllocError> {
+    match text {
+        Some(text) if !text.is_empty() => Ok(Some(String::from_str(alloc, text)?)),
+        _ => Ok(None),
+    }
+}
+
+/// The argument of this name, where it is `true` or `false`; else the one that stands for it.
+fn flag_in(arguments: &Value, name: &str, otherwise: bool) -> bool {
+    match field(arguments, name) {
+        Some(value) => value.as_bool().unwrap_or(otherwise),
+        None => otherwise,
+    }
+}
+
+/// The bytes of a file, which has to be there.
+fn file<F: Sources>(
+    alloc: Global,
+    files: &F,
+    name: &str,
+    answer: &mut Answer,
+) -> Result<Vec<u8>, Failed> {
+    match files.read(alloc, name)? {
+        Some(bytes) => Ok(bytes),
+        None => {
+            let mut words = Words::of(alloc, "refused 41: ");
+            words.add(name);
+            words.add(" cannot be read");
+            answer.refuse(41, words.as_str());
+            Err(Failed::Told)
+        }
+    }
+}
+
+/// The stimulus: the one that is named, else the one beside the source, else none.
+fn stimulus<F: Sources>(
+    alloc: Global,
+    files: &F,
+    asked: &Launch,
+    answer: &mut Answer,
+) -> Result<Vec<u8>, Failed> {
+    if let Some(name) = &asked.stimulus {
+        return file(alloc, files, name.as_str(), answer);
+    }
+    let beside = beside(alloc, asked.program.as_str());
+    match files.read(alloc, beside.as_str())? {
+        Some(bytes) => Ok(bytes),
+        None => {
+            let mut words = Words::of(alloc, "No `stimulus` is given, and ");
+            words.add(base_of(beside.as_str()));
+            words.add(" is not there: the inputs get no values.");
+            tell(alloc, words.as_str(), "console", answer);
+            Ok(Vec::new(alloc))
+        }
+    }
+}
+
+/// The name of the stimulus beside a source.
+fn beside(alloc: Global, program: &str) -> Words {
+    let mut words = Words::of(alloc, program.strip_suffix(".balsa").unwrap_or(program));
+    words.add(".stimulus");
+    words
+}
+
+/// The system of source and stimulus.
+fn checked(
+    alloc: Global,
+    asked: &Launch,
+    source: &[u8],
+    stimulus: &[u8],
+    counting: Counting,
+    answer: &mut Answer,
+) -> Result<Checked, Failed>
+    ensures { IfOk result (λ checked. AcceptedAs source.now stimulus.now checked) }
+{
+    match accept(alloc, source, stimulus) {
+        Ok(checked) => Ok(checked),
+        Err(front_end::Fault::Memory) => Err(Failed::Memory),
+        Err(fault) => {
+            refuse_texts(alloc, asked, source, fault, counting, answer);
+            Err(Failed::Told)
+        }
+    }
+}
+
+/// Refuses source or stimulus.
+fn refuse_texts(
+    alloc: Global,
+    asked: &Launch,
+    source: &[u8],
+    fault: front_end::Fault,
+    counting: Counting,
+    answer: &mut Answer,
+) {
+    let number = fault.number();
+    let field = fault.field().unwrap_or(0);
+    if number < 30 {
+        let (line, column) = place_in(source, field);
+        refuse_at(
+            alloc,
+            asked.program.as_str(),
+            line,
+            column,
+            number,
+            counting,
+            answer,
+        );
+        return;
+    }
+    let beside = beside(alloc, asked.program.as_str());
+    let name = match &asked.stimulus {
+        Some(name) => name.as_str(),
+        None => beside.as_str(),
+    };
+    refuse_at(alloc, name, field.max(1), 1, number, counting, answer);
+}
+
+/// The line and the column of the byte at this offset, from 1.
+fn place_in(source: &[u8], offset: u64) -> (u64, u64) {
+    let mut line = 1u64;
+    let mut column = 1u64;
+    for byte in source.get(..offset as usize).unwrap_or(&[]) {
+        if *byte == b'\n' {
+            line = line.saturating_add(1);
+            column = 1;
+        } else {
+            column = column.saturating_add(1);
+        }
+    }
+    (line, column)
+}
+
+/// The machine of the system, behind the trace if there is one.
+fn machine_on(
+    alloc: Global,
+    checked: Checked,
+    asked: &Launch,
+    trace: &Option<Vec<u8>>,
+    answer: &mut Answer,
+) -> Result<Machine, Failed>
+    ensures { IfOk result (λ machine. BeginsOn checked (text_of trace.now) machine) }
+{
+    match trace {
+        Some(text) => loaded(alloc, checked, asked, text.as_slice(), answer),
+        None => fresh(alloc, checked),
+    }
+}
+
+/// The machine of the system behind the trace.
+fn loaded(
+    alloc: Global,
+    checked: Checked,
+    asked: &Launch,
+    trace: &[u8],
+    answer: &mut Answer,
+) -> Result<Machine, Failed>
+    ensures { IfOk result (λ machine. IsLoaded checked trace.now machine) }
+{
+    match load_text(alloc, checked, trace) {
+        Ok(machine) => Ok(machine),
+        Err(fault) => Err(refuse_trace(alloc, asked, fault, answer)),
+    }
+}
+
+/// The machine before the first step.
+fn fresh(alloc: Global, checked: Checked) -> Result<Machine, Failed>
+    ensures { IfOk result (λ machine. BeginsOn checked None machine) }
+{
+    match Machine::new(alloc, checked) {
+        Ok(machine) => Ok(machine),
+        Err(_) => Err(Failed::Memory),
+    }
+}
+
+/// Refuses the trace.
+fn refuse_trace(
+    alloc: Global,
+    asked: &Launch,
+    fault: trace_file::Fault,
+    answer: &mut Answer,
+) -> Failed {
+    if fault == trace_file::Fault::Memory {
+        return Failed::Memory;
+    }
+    let name = match &asked.trace {
+        Some(name) => name.as_str(),
+        None => "",
+    };
+    let line = fault.field().unwrap_or(1);
+    refuse_at(alloc, name, line, 1, fault.number(), ONES, answer);
+    Failed::Told
+}
+
+/// Refuses with the place of the fault, and tells it with a link to that place.
+fn refuse_at(
+    alloc: Global,
+    name: &str,
+    line: u64,
+    column: u64,
+    number: u32,
+    counting: Counting,
+    answer: &mut Answer,
+) {
+    let mut words = Words::of(alloc, name);
+    words.add(":");
+    words.number(line);
+    words.add(":");
+    words.number(column);
+    words.add(": refused ");
+    words.number(u64::from(number));
+    if let Some(page) = page_of(number) {
+        words.add(", ");
+        words.add(page.name);
+    }
+    answer.refuse(u64::from(number), words.as_str());
+    words.add("\n");
+    let mut source = Members::new(alloc);
+    source.text("name", base_of(name));
+    source.text("path", name);
+    let mut body = Members::new(alloc);
+    body.text("category", "stderr");
+    body.text("output", words.as_str());
+    body.object("source", source);
+    body.number("line", line.saturating_sub(counting.lines));
+    body.number("column", column.saturating_sub(counting.columns));
+    answer.note(Told::Output, body);
+}

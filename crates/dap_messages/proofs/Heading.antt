@@ -1,0 +1,65 @@
+-- Members of one name stay where others are put.
+use Rattle.std.proofs.Common.{◌≡◌, ℕ, ◌≤◌, List, Bool, true, false, Some, bytes_eq, refl, sym, ◌∙◌, ap, codes}
+use Rattle.std.proofs.lemmas.Slice.Eq.{bytes_eq-Decides}
+use Rattle.serde_json.specs.Data.{Data, Members as Named, depth, null, number, object, put, unsigned}
+use Rattle.serde_json.specs.Find.{get, get_member}
+use Rattle.serde_json.specs.Read.{max_depth, read}
+use Rattle.serde_json.specs.View.{members_view, view}
+use Rattle.serde_json.specs.declared.value.Value.{Value}
+use Rattle.serde_json.proofs.Views.{get_member-put, get_member-put_other}
+use Rattle.dap_messages.specs.Json.{IsJsonOf}
+use Rattle.dap_messages.specs.Written.{Has, Puts, PutsSome}
+use Rattle.dap_messages.specs.walking.Heads.{KeepsHead}
+use Rattle.dap_messages.specs.declared.members.Members.{Members}
+use Rattle.dap_messages.specs.declared.message.Message.{Message}
+
+-- names that differ, as a test tells
+pub differ : (xs ys : List ℕ) → bytes_eq xs ys ≡ false → xs ≡ ys → ⊥
+differ xs ys other same =
+    let alike : bytes_eq xs ys ≡ true = (bytes_eq-Decides xs ys).1 same in
+    let both : true ≡ false = sym alike ∙ other in absurd (cc)
+
+-- what was put is there
+pub has_put : (a b : Members) (name : List ℕ) (d : Data) → Puts a name d b → Has b name d
+has_put a b name d h = λ full. ap (λ (ms : Named). get_member name ms) (h full).1 ∙ get_member-put name d (members_view a.made.entries)
+
+-- what was there stays where another is put
+pub has_stays : (a b : Members) (name other : List ℕ) (d e : Data) → bytes_eq name other ≡ false → Puts a other e b → Has a name d → Has b name d
+has_stays a b name other d e apart h k = λ full.
+    ap (λ (ms : Named). get_member name ms) (h full).1
+    ∙ get_member-put_other name other e (members_view a.made.entries) (differ name other apart)
+    ∙ k (h full).0
+
+-- so do the first members
+pub keeps_put : (a b : Members) (other : List ℕ) (e : Data) → bytes_eq (codes "type") other ≡ false → bytes_eq (codes "request_seq") other ≡ false →
+    Puts a other e b → KeepsHead a b
+keeps_put a b other e one two h = record {
+  type = λ d k. has_stays a b (codes "type") other d e one h k;
+  request = λ d k. has_stays a b (codes "request_seq") other d e two h k;
+}
+
+pub keeps_same : (a : Members) → KeepsHead a a
+keeps_same a = record { type = λ d k. k; request = λ d k. k }
+
+pub keeps_on : (a m b : Members) → KeepsHead a m → KeepsHead m b → KeepsHead a b
+keeps_on a m b h k = record { type = λ d x. k.type d (h.type d x); request = λ d x. k.request d (h.request d x) }
+
+-- there was no memory for what should have been put
+pub puts_lacking : (a b : Members) (name : List ℕ) → b.lacks ≡ true → PutsSome a name b
+puts_lacking a b name lacks = (null, λ full. let both : true ≡ false = sym lacks ∙ full in absurd (cc))
+
+-- the number is put, and then the whole is written
+pub json_of : (m : Message) (with : Members) (value : Value) (bytes : List ℕ) → Puts m.members (codes "seq") (number (unsigned m.seq)) with →
+    (with.lacks ≡ false) × (view value ≡ object (members_view with.made.entries)) →
+    (depth (view value) ≤ max_depth → read bytes ≡ Some (view value)) → IsJsonOf m bytes
+json_of m with value bytes h k reads =
+    let there = h k.0 in
+    let members : Named = members_view m.members.made.entries in
+    let whole : view value ≡ object (put (codes "seq") (number (unsigned m.seq)) members) = k.1 ∙ ap (λ (ms : Named). object ms) there.1 in
+    record {
+      object = view value;
+      reads = reads;
+      numbered = ap (λ (d : Data). get (codes "seq") d) whole ∙ get_member-put (codes "seq") (number (unsigned m.seq)) members;
+      others = λ name other. ap (λ (d : Data). get name d) whole ∙ get_member-put_other name (codes "seq") (number (unsigned m.seq)) members other;
+      full = there.0;
+    }

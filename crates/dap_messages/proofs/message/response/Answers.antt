@@ -1,0 +1,20 @@
+use Rattle.std.proofs.Common.{refl, codes}
+use Rattle.serde_json.specs.Data.{string, number, unsigned}
+use Rattle.dap_messages.proofs.Heading.{has_put, has_stays}
+use Rattle.dap_messages.proofs.message.response.Goals as goal
+
+pub returns-clause-type_is : goal.returns-clause-type_is
+returns-clause-type_is c =
+    c.add_outcome.ensures.type (string (codes "response"))
+    (has_stays c.number.new.self c.text-2.new.self (codes "type") (codes "command") (string (codes "response")) (string c.as_str.result.now) refl
+    c.text-2.ensures
+    (has_stays c.text.new.self c.number.new.self (codes "type") (codes "request_seq") (string (codes "response"))
+    (number (unsigned c.args.request.now.seq)) refl c.number.ensures
+    (has_put c.new-members.result c.text.new.self (codes "type") (string (codes "response")) c.text.ensures)))
+
+pub returns-clause-request : goal.returns-clause-request
+returns-clause-request c =
+    let seq = number (unsigned c.args.request.now.seq) in
+    c.add_outcome.ensures.request seq
+    (has_stays c.number.new.self c.text-2.new.self (codes "request_seq") (codes "command") seq (string c.as_str.result.now) refl c.text-2.ensures
+    (has_put c.text.new.self c.number.new.self (codes "request_seq") seq c.number.ensures))

@@ -1,0 +1,185 @@
+-- Runs that pass none of the lines, one behind another.
+use Rattle.std.proofs.Common.{◌≡◌, ◌⊎◌, ◌==◌, ℕ, zero, suc, ◌<◌, List, [], ◌∷◌, ◌++◌, length, get_or, Bool, true, false, Option, None, Some, inl, inr, refl, sym, ◌∙◌, ap, subst, arith}
+use Rattle.std.specs.Option.{MatchOption}
+use Rattle.std.proofs.lemmas.Bool.Decides.{nat_tests}
+use Rattle.std.proofs.lemmas.List.{nil_from_length}
+use Rattle.syntax.specs.Lists.{In}
+use Rattle.system.specs.Expression.{is_in}
+use Rattle.runs.specs.Choices.{choice_of}
+use Rattle.runs.specs.Events.{acting, acting_at}
+use Rattle.runs.specs.Live.{events}
+use Rattle.runs.specs.Moves.{Place}
+use Rattle.runs.specs.Object.{Reaches}
+use Rattle.runs.specs.Ready.{ReadyList}
+use Rattle.runs.specs.Steps.{State}
+use Rattle.runs.specs.declared.event.Choice.{Choice}
+use Rattle.runs.specs.declared.event.Event.{Event}
+use Rattle.runs.specs.declared.event.Kind.{Kind}
+use Rattle.event_places.specs.EventPlaces.{line_after}
+use Rattle.machine.specs.AtMachine.{AtMachine}
+use Rattle.locked_execution.specs.AtDesk.{AtDesk, execution}
+use Rattle.locked_execution.specs.Performs.{Answers}
+use Rattle.locked_execution.specs.declared.command.Command.{Command}
+use Rattle.locked_execution.specs.declared.command.Reply.{Reply}
+use Rattle.dap_moves.specs.Led.{Led}
+use Rattle.dap_moves.specs.Moves.{quiet}
+use Rattle.dap_moves.specs.Passing.{has_line, stands_on, IsAtLine, IsReady, MayAsk, PassesBy, PassesNone, StopsAt, Turned, Turns}
+
+-- what is asked where it stood nowhere may be asked wherever it stood
+may-widen : (d : AtDesk) (lines : List ℕ) (seen : List Choice) (command : Command) → MayAsk d lines [] command → MayAsk d lines seen command
+may-widen d lines seen (Command.Step c) h =
+    (h.0, h.1, h.2, elim h.3 as (λ _. PassesBy d.machine lines h.0 ⊎ In c seen) [ inl passes ↦ inl passes | inr none ↦ absurd none ])
+may-widen d lines seen (Command.Branch k) h = h
+may-widen d lines seen (Command.Undo t) h = absurd h
+may-widen d lines seen (Command.Roll t) h = absurd h
+may-widen d lines seen (Command.RollValue x) h = absurd h
+may-widen d lines seen (Command.Blame x) h = absurd h
+may-widen d lines seen Command.Ready h = absurd h
+may-widen d lines seen (Command.Consequences t) h = absurd h
+may-widen d lines seen Command.Live h = absurd h
+may-widen d lines seen (Command.Value x) h = absurd h
+may-widen d lines seen (Command.Break line) h = absurd h
+may-widen d lines seen (Command.Clear line) h = absurd h
+
+widen : (d : AtDesk) (lines : List ℕ) (seen : List Choice) (ts : List Turned) (d' : AtDesk) → Turns d lines [] ts d' → Turns d lines seen ts d'
+widen d lines seen [] d' h = h
+widen d lines seen (t ∷ ts) d' h = (may-widen d lines seen t.command h.0, h.1, h.2)
+
+joined : (lines : List ℕ) (seen : List Choice) (d m d' : AtDesk) (xs ys : List Turned) → Turns d lines seen xs m → Turns m lines [] ys d' →
+    Turns d lines seen (xs ++ ys) d'
+joined lines seen d m d' [] ys h k = widen d lines seen ys d' (subst (λ (x : AtDesk). Turns x lines [] ys d') h k)
+joined lines seen d m d' (x ∷ xs) ys h k = (h.0, h.1, joined lines [] x.left m d' xs ys h.2 k)
+
+-- nothing is asked
+pub passes_nowhere : (lines : List ℕ) (seen : List Choice) (d : AtDesk) → PassesNone lines seen d d
+passes_nowhere lines seen d = record { turns = []; turned = refl }
+
+pub passes_still : (lines : List ℕ) (seen : List Choice) (d d' : AtDesk) → d' ≡ d → PassesNone lines seen d d'
+passes_still lines seen d d' same = record { turns = []; turned = same }
+
+-- one command
+pub passes_asked : (lines : List ℕ) (seen : List Choice) (d d' : AtDesk) (command : Command) (reply : Reply) → MayAsk d lines seen command →
+    Answers d quiet command reply d' → PassesNone lines seen d d'
+passes_asked lines seen d d' command reply may h = record {
+  turns = record { command = command; reply = reply; left = d' } ∷ [];
+  turned = (may, h, refl);
+}
+
+-- the same wherever it stood
+pub passes_wherever : (lines : List ℕ) (seen : List Choice) (d d' : AtDesk) → PassesNone lines [] d d' → PassesNone lines seen d d'
+passes_wherever lines seen d d' h = record { turns = h.turns; turned = widen d lines seen h.turns d' h.turned }
+
+-- a run, and then another
+pub passes_on : (lines : List ℕ) (seen : List Choice) (d m d' : AtDesk) → PassesNone lines seen d m → PassesNone lines [] m d' →
+    PassesNone lines seen d d'
+passes_on lines seen d m d' h k = record {
+  turns = h.turns ++ k.turns;
+  turned = joined lines seen d m d' h.turns k.turns h.turned k.turned;
+}
+
+-- what stands at an index is in the list
+pub here_in : {X : Type 0} (xs : List X) (i : ℕ) (x : X) → i < length xs → x ≡ get_or xs i x → In x xs
+here_in [] i x h is = absurd (omega arith)
+here_in (y ∷ xs) zero x h is = inl is
+here_in (y ∷ xs) (suc i) x h is = inr (here_in xs i x (omega arith) is)
+
+-- a choice that is that of an event
+pub seen_here : (seen : List Choice) (i : ℕ) (x c : Choice) → i < length seen → x ≡ get_or seen i x → x ≡ c → In c seen
+seen_here seen i x c h is same = subst (λ (y : Choice). In y seen) same (here_in seen i x h is)
+
+-- the side that acts is the first or the second
+acts-at : (k : Kind) (a : Place) (b : Option Place) → (acting_at k a b ≡ a) ⊎ (b ≡ Some (acting_at k a b))
+acts-at Kind.Meet a (Some b) = inr refl
+acts-at Kind.Meet a None = inl refl
+acts-at Kind.Open a (Some b) = inr refl
+acts-at Kind.Open a None = inl refl
+acts-at Kind.Close a (Some b) = inr refl
+acts-at Kind.Close a None = inl refl
+acts-at Kind.Assign a b = inl refl
+acts-at Kind.Test a b = inl refl
+acts-at Kind.Turn a b = inl refl
+acts-at Kind.Sync a b = inl refl
+
+pub acting_side : (e : Event) → (acting e ≡ e.first) ⊎ (e.second ≡ Some (acting e))
+acting_side e = acts-at e.kind e.first e.second
+
+-- no line is among none
+none-among : (o : Option ℕ) → has_line [] o ≡ false
+none-among None = refl
+none-among (Some line) = refl
+
+none-stands : (m : AtMachine) (lines : List ℕ) (a : Place) → lines ≡ [] → stands_on m lines a ≡ false
+none-stands m lines a is = ap (λ (ls : List ℕ). stands_on m ls a) is ∙ none-among (line_after (events m.live) m.checked a)
+
+pub passes_no_line : (m : AtMachine) (lines : List ℕ) (e : Event) → lines ≡ [] → PassesBy m lines e
+passes_no_line m lines e is = record { first = none-stands m lines e.first is; second = λ a there. none-stands m lines a is }
+
+-- neither the first side is on a line, nor a second
+pub passes_one_side : (m : AtMachine) (lines : List ℕ) (e : Event) → stands_on m lines e.first ≡ false → e.second ≡ None → PassesBy m lines e
+passes_one_side m lines e first none = record { first = first; second = λ a there. let no : None ≡ Some a = sym none ∙ there in absurd (cc) }
+
+pub passes_both_sides : (m : AtMachine) (lines : List ℕ) (e : Event) (b : Place) → stands_on m lines e.first ≡ false → e.second ≡ Some b →
+    stands_on m lines b ≡ false → PassesBy m lines e
+passes_both_sides m lines e b first some second = record {
+  first = first;
+  second = λ a there. let same : b ≡ a = cc in subst (λ (x : Place). stands_on m lines x ≡ false) same second;
+}
+
+-- the event stops at the line of a side
+pub stops_first : (m : AtMachine) (lines : List ℕ) (e : Event) (line : ℕ) → IsAtLine m lines e.first line → StopsAt m lines e line
+stops_first m lines e line h = record { place = e.first; side = inl refl; there = h }
+
+pub stops_second : (m : AtMachine) (lines : List ℕ) (e : Event) (b : Place) (line : ℕ) → e.second ≡ Some b → IsAtLine m lines b line → StopsAt m lines e line
+stops_second m lines e b line some h = record { place = b; side = inr some; there = h }
+
+pub stops_acting : (m : AtMachine) (lines : List ℕ) (e : Event) (a : Place) (line : ℕ) → a ≡ acting e → IsAtLine m lines a line → StopsAt m lines e line
+stops_acting m lines e a line is h = record {
+  place = acting e;
+  side = acting_side e;
+  there = subst (λ (x : Place). IsAtLine m lines x line) is h;
+}
+
+-- a desk that stays, before a run or behind one
+pub passes_from : (lines : List ℕ) (seen : List Choice) (d m d' : AtDesk) → m ≡ d → PassesNone lines seen m d' → PassesNone lines seen d d'
+passes_from lines seen d m d' same h = subst (λ (x : AtDesk). PassesNone lines seen x d') same h
+
+pub passes_to : (lines : List ℕ) (seen : List Choice) (d m d' : AtDesk) → d' ≡ m → PassesNone lines seen d m → PassesNone lines seen d d'
+passes_to lines seen d m d' same h = subst (λ (x : AtDesk). PassesNone lines seen d x) (sym same) h
+
+pub led_from : (d m d' : AtDesk) → m ≡ d → Led m d' → Led d d'
+led_from d m d' same h = subst (λ (x : AtDesk). Led x d') same h
+
+pub led_to : (d m d' : AtDesk) → d' ≡ m → Led d m → Led d d'
+led_to d m d' same h = subst (λ (x : AtDesk). Led d x) (sym same) h
+
+-- one of the events that are listed may be taken
+pub ready_among : (d d' : AtDesk) (es : List Event) (e : Event) → ((T : State) × Reaches (execution d) T × ReadyList T es) → d' ≡ d → In e es → IsReady d' e
+ready_among d d' es e h same there = subst (λ (x : AtDesk). IsReady x e) (sym same) (h.0, h.1, (h.2.exactly e).0 there)
+
+-- a list that a test finds empty
+pub none_left : (xs : List ℕ) → (length xs == 0) ≡ true → xs ≡ []
+none_left xs h = let e : length xs ≡ 0 = grind (arith, nat_tests) in nil_from_length xs e
+
+-- a choice with the arm and the place of an event is that of the event
+pub same_choice : (c : Choice) (e : Event) → c.arm ≡ (choice_of e).arm → c.place ≡ acting e → c ≡ choice_of e
+same_choice c e arm place = λ i. record { place = place i; arm = arm i }
+
+-- where a place has no line, one that is none of these, or one of these
+pub off_line : (m : AtMachine) (lines : List ℕ) (a : Place) (o : Option ℕ) → o ≡ line_after (events m.live) m.checked a → o ≡ None → stands_on m lines a ≡ false
+off_line m lines a o is none = ap (λ (x : Option ℕ). has_line lines x) (sym is ∙ none)
+
+pub beside_lines : (m : AtMachine) (lines : List ℕ) (a : Place) (line : ℕ) (o : Option ℕ) → o ≡ line_after (events m.live) m.checked a → o ≡ Some line →
+    is_in line lines ≡ false → stands_on m lines a ≡ false
+beside_lines m lines a line o is some off = ap (λ (x : Option ℕ). has_line lines x) (sym is ∙ some) ∙ off
+
+pub on_line : (m : AtMachine) (lines : List ℕ) (a : Place) (line : ℕ) (o : Option ℕ) → o ≡ line_after (events m.live) m.checked a → o ≡ Some line →
+    is_in line lines ≡ true → IsAtLine m lines a line
+on_line m lines a line o is some on = (sym is ∙ some, on)
+
+pub ruleset on_lines = (off_line, beside_lines, on_line)
+
+-- behind a first side on none of the lines, what a second tells
+pub second_side : (m : AtMachine) (lines : List ℕ) (e : Event) (b : Place) (r : Option (ℕ × ℕ)) → stands_on m lines e.first ≡ false → e.second ≡ Some b →
+    MatchOption r (stands_on m lines b ≡ false) (λ hit. IsAtLine m lines b hit.1) → MatchOption r (PassesBy m lines e) (λ hit. StopsAt m lines e hit.1)
+second_side m lines e b None first some h = passes_both_sides m lines e b first some h
+second_side m lines e b (Some hit) first some h = stops_second m lines e b hit.1 some h

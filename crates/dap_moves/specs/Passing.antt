@@ -1,0 +1,77 @@
+-- What a run may pass, and before what it stops.
+use Rattle.std.specs.Prelude.{◌≡◌, ◌⊎◌, ℕ, List, [], ◌∷◌, Bool, true, false, Option, None, Some}
+use Rattle.syntax.specs.Lists.{In}
+use Rattle.system.specs.Expression.{is_in}
+use Rattle.runs.specs.Choices.{choice_of}
+use Rattle.runs.specs.Live.{events}
+use Rattle.runs.specs.Moves.{Place}
+use Rattle.runs.specs.Object.{Reaches}
+use Rattle.runs.specs.Steps.{State, Allowed}
+use Rattle.runs.specs.declared.event.Choice.{Choice}
+use Rattle.runs.specs.declared.event.Event.{Event}
+use Rattle.event_places.specs.EventPlaces.{line_after}
+use Rattle.machine.specs.AtMachine.{AtMachine}
+use Rattle.locked_execution.specs.AtDesk.{AtDesk, execution}
+use Rattle.locked_execution.specs.Performs.{Answers}
+use Rattle.locked_execution.specs.declared.command.Command.{Command}
+use Rattle.locked_execution.specs.declared.command.Reply.{Reply}
+use Rattle.dap_moves.specs.Moves.{quiet}
+use Rattle.dap_moves.specs.declared.run.Ended.{Ended}
+
+-- whether a line is among these
+abbrev pub has_line : List ℕ → Option ℕ → Bool
+has_line lines None = false
+has_line lines (Some line) = is_in line lines
+
+-- whether the command at a place is on one of the lines, after the live events
+abbrev pub stands_on : AtMachine → List ℕ → Place → Bool
+stands_on m lines a = has_line lines (line_after (events m.live) m.checked a)
+
+-- no side of the event is on one of the lines
+pub record PassesBy (m : AtMachine) (lines : List ℕ) (e : Event) : Type 0 where
+  pub first : stands_on m lines e.first ≡ false
+  pub second : (a : Place) → e.second ≡ Some a → stands_on m lines a ≡ false
+
+-- the command at a place is on this line, which is one of these
+abbrev pub IsAtLine : AtMachine → List ℕ → Place → ℕ → Type 0
+IsAtLine m lines a line = (line_after (events m.live) m.checked a ≡ Some line) × (is_in line lines ≡ true)
+
+-- a side of the event is on this line, which is one of these
+pub record StopsAt (m : AtMachine) (lines : List ℕ) (e : Event) (line : ℕ) : Type 0 where
+  pub place : Place
+  pub side : (place ≡ e.first) ⊎ (e.second ≡ Some place)
+  pub there : IsAtLine m lines place line
+
+-- the event may be taken now
+abbrev pub IsReady : AtDesk → Event → Type 0
+IsReady d e = (T : State) × Reaches (execution d) T × Allowed T e
+
+-- what a run that stops at these lines may ask: the step of a ready event that passes by them, or before which it has stood already; and
+-- any step of a branch where there is no line
+abbrev pub MayAsk : AtDesk → List ℕ → List Choice → Command → Type 0
+MayAsk d lines seen (Command.Step c) =
+    (e : Event) × IsReady d e × (c ≡ choice_of e) × (PassesBy d.machine lines e ⊎ In c seen)
+MayAsk d lines seen (Command.Branch k) = lines ≡ []
+MayAsk d lines seen _ = ⊥
+
+-- a command with its reply, and what it left
+pub record Turned : Type 0 where
+  pub command : Command
+  pub reply : Reply
+  pub left : AtDesk
+
+-- the commands of a run, one after another; where it stood when it began counts for the first alone
+abbrev pub Turns : AtDesk → List ℕ → List Choice → List Turned → AtDesk → Type 0
+Turns d lines seen [] d' = d' ≡ d
+Turns d lines seen (t ∷ ts) d' =
+    MayAsk d lines seen t.command × Answers d quiet t.command t.reply t.left × Turns t.left lines [] ts d'
+
+-- a run from d to d' passes none of the lines
+pub record PassesNone (lines : List ℕ) (seen : List Choice) (d d' : AtDesk) : Type 0 where
+  pub turns : List Turned
+  pub turned : Turns d lines seen turns d'
+
+-- where a run ends at a line, a ready event has a side there, and the line is one of these
+abbrev pub EndsTruly : List ℕ → AtDesk → Ended → Type 0
+EndsTruly lines d (Ended.AtLine branch line) = (e : Event) × IsReady d e × StopsAt d.machine lines e line
+EndsTruly lines d _ = Unit {0}

@@ -1,0 +1,43 @@
+-- One step forth.
+use Rattle.std.proofs.Common.{◌≡◌, ◌∙◌, ℕ, List, Option, None, Some, inl, inr, ap, subst}
+use Rattle.std.specs.Prelude.{slice_get}
+use Rattle.system.specs.declared.system.System.{System}
+use Rattle.runs.specs.Object.{Reaches}
+use Rattle.runs.specs.Ready.{ReadyList}
+use Rattle.runs.specs.Steps.{State}
+use Rattle.runs.specs.declared.event.Event.{Event}
+use Rattle.machine.specs.AtMachine.{AtMachine, object}
+use Rattle.locked_execution.specs.AtDesk.{AtDesk}
+use Rattle.locked_execution.specs.declared.command.Reply.{Reply}
+use Rattle.dap_moves.specs.Moves.{StepsAt, targets}
+use Rattle.dap_requests.specs.Forth.{StepsForth, Takes}
+
+-- what was looked for in the desk's own system and list
+here : (d : AtDesk) (system : System) (es fs : List Event) (k n : ℕ) (o : Option Event) → system ≡ d.machine.checked → fs ≡ es →
+    o ≡ slice_get (targets system k fs) n → o ≡ slice_get (targets d.machine.checked k es) n
+here d system es fs k n o same list found =
+    found
+    ∙ ap (λ (x : System). slice_get (targets x k fs) n) same
+    ∙ ap (λ (ys : List Event). slice_get (targets d.machine.checked k ys) n) list
+
+-- the step that was found is asked for
+pub takes_found : (d d' : AtDesk) (system : System) (es fs : List Event) (k n : ℕ) (e : Event) → system ≡ d.machine.checked → fs ≡ es →
+    Some e ≡ slice_get (targets system k fs) n → (reply : Reply) × StepsAt d e reply d' → Takes d (slice_get (targets d.machine.checked k es) n) d'
+takes_found d d' system es fs k n e same list found h =
+    subst (λ (o : Option Event). Takes d o d') (here d system es fs k n (Some e) same list found) h
+
+-- there is none
+pub takes_none : (d d' : AtDesk) (system : System) (es fs : List Event) (k n : ℕ) → system ≡ d.machine.checked → fs ≡ es →
+    None ≡ slice_get (targets system k fs) n → d' ≡ d → Takes d (slice_get (targets d.machine.checked k es) n) d'
+takes_none d d' system es fs k n same list found h = subst (λ (o : Option Event). Takes d o d') (here d system es fs k n None same list found) h
+
+-- of the events that are ready
+pub forth_listed : (d d' : AtDesk) (m : AtMachine) (es : List Event) (k n : ℕ) → m ≡ d.machine →
+    ((T : State) × Reaches (object m) T × ReadyList T es) → Takes d (slice_get (targets d.machine.checked k es) n) d' → StepsForth d k n d'
+forth_listed d d' m es k n same ready h =
+    let there = subst (λ (x : AtMachine). (T : State) × Reaches (object x) T × ReadyList T es) same ready in
+    inl (there.0, es, there.1, there.2, h)
+
+-- there was no memory to look
+pub forth_nowhere : (d d' : AtDesk) (k n : ℕ) → d' ≡ d → StepsForth d k n d'
+forth_nowhere d d' k n same = inr same

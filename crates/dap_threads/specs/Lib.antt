@@ -1,0 +1,3 @@
+pub mod Frames
+pub mod Threads
+pub mod Unfolded

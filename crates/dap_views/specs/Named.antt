@@ -1,0 +1,41 @@
+-- What a name means in a call.
+use Rattle.std.specs.Prelude.{ℕ, ◌==◌, ◌&&◌, not, nat_eq, if◌then◌else◌, List, [], ◌∷◌, Bool, false, Option, None, Some, string_bytes}
+use Rattle.std.specs.Cmp.Lexicographic.{pointwise}
+use Rattle.std.specs.Option.{option_or}
+use Rattle.dap_views.specs.declared.index.Named.{Named}
+use Rattle.dap_views.specs.declared.index.Thing.{Thing}
+
+-- whether it has the name
+abbrev pub has_name : List ℕ → Named → Bool
+has_name name n = pointwise nat_eq (string_bytes n.own) name
+
+-- whether it is declared in this call, and has the name
+abbrev pub is_named : ℕ → List ℕ → Named → Bool
+is_named call name n = (n.instance == call) && has_name name n
+
+-- what the call declares by the name
+abbrev pub declared : List Named → ℕ → List ℕ → Option Thing
+declared [] call name = None
+declared (n ∷ ns) call name = if is_named call name n then Some n.thing else declared ns call name
+
+-- whether both are one thing
+abbrev pub same_thing : Thing → Thing → Bool
+same_thing (Thing.Variable m) (Thing.Variable n) = m == n
+same_thing (Thing.Channel m) (Thing.Channel n) = m == n
+same_thing _ _ = false
+
+-- whether the thing is another one than was found
+abbrev pub differs : Option Thing → Thing → Bool
+differs None thing = false
+differs (Some found) thing = not (same_thing found thing)
+
+-- the one thing that all mean that have the name, where this was found before; none where they mean more than one
+abbrev pub agreed : Option Thing → List Named → List ℕ → Option Thing
+agreed found [] name = found
+agreed found (n ∷ ns) name =
+    if has_name name n then (if differs found n.thing then None else agreed (Some n.thing) ns name)
+    else agreed found ns name
+
+-- what the name means in this call: what that declares by it; where it does not, what all mean that declare it
+abbrev pub meant : List Named → ℕ → List ℕ → Option Thing
+meant names call name = option_or (declared names call name) (agreed None names name)

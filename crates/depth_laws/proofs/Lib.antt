@@ -1,0 +1,5 @@
+pub mod Chains
+pub mod Alike
+pub mod EqualRuns
+pub mod InLanes
+pub mod OneState

@@ -1,0 +1,5 @@
+use Rattle.depth_laws.proofs.EqualRuns.{followers-agree}
+use Rattle.depth_laws.proofs.followers_agree.Goals as goal
+
+pub returns : goal.returns
+returns c = followers-agree

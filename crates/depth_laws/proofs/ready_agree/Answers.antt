@@ -1,0 +1,5 @@
+use Rattle.depth_laws.proofs.OneState.{ready-agree}
+use Rattle.depth_laws.proofs.ready_agree.Goals as goal
+
+pub returns : goal.returns
+returns c = ready-agree

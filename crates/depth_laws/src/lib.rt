@@ -1,0 +1,36 @@
+//! The laws of what is drawn of a run, by rows and columns: each depth is the length of the longest chain of causes, each lane is a chain,
+//! and runs that differ only in the order of independent steps have the same depths, followers, lines and ready events. The functions do
+//! nothing, their contracts say it.
+#![tactic(auto)]
+
+ghost use Rattle.depth_laws.specs.Laws.{DepthIsLongest, DepthsAgree, FollowersAgree, LanesAreChains, LinesAgree, ReadyAgree};
+
+/// The depth of an event is the length of the longest chain of causes that leads to it.
+pub fn depth_is_longest()
+    ensures { DepthIsLongest }
+{}
+
+/// In two runs that differ only in the order of independent steps the same events follow one another.
+pub fn followers_agree()
+    ensures { FollowersAgree }
+{}
+
+/// In two such runs an event has one depth.
+pub fn depths_agree()
+    ensures { DepthsAgree }
+{}
+
+/// Of two events of a run that stand in one lane the later depends on the earlier, so each lane is a chain.
+pub fn lanes_are_chains()
+    ensures { LanesAreChains }
+{}
+
+/// In two runs that differ only in the order of independent steps a place has one line.
+pub fn lines_agree()
+    ensures { LinesAgree }
+{}
+
+/// In two such runs the same events can be taken next, in the same order.
+pub fn ready_agree()
+    ensures { ReadyAgree }
+{}

@@ -1,0 +1,5 @@
+use Rattle.json_text.proofs.Growing.{closes}
+use Rattle.json_text.proofs.writer.Json.close_object.Goals as goal
+
+pub returns : goal.returns
+returns c = closes 125 c.args.self.now c.plain.new.self c.set_first.new.self c.in_ok-plain.ensures c.set_first.ensures

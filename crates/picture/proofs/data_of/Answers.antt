@@ -1,0 +1,7 @@
+use Rattle.picture.proofs.Refusing.{are-data}
+use Rattle.picture.proofs.data_of.Goals as goal
+
+pub returns : goal.returns
+returns c =
+    are-data c.args.machine.now c.args.source.now c.args.names c.args.picture.now c.data_text.result c.requires
+    c.data_text.ensures.text c.data_text.ensures.plain

@@ -1,0 +1,7 @@
+use Rattle.picture.proofs.Refusing.{is-page}
+use Rattle.picture.proofs.page_of.Goals as goal
+
+pub returns : goal.returns
+returns c =
+    is-page c.args.machine.now c.args.source.now c.args.names c.as_slice.result.now c.in_ok-json.json.items c.page_text.result
+    c.as_slice.ensures.value c.in_ok-json.ensures c.page_text.ensures

@@ -1,0 +1,284 @@
+// The columns: a lane each, so far apart that the labels fit.
+use crate::figure::{Ends, Scene, ends_of, is_quiet};
+use crate::labels::{Words, group_title};
+use crate::sheet::{LETTER, SMALL_LETTER};
+use picture_data::{Lane, LaneKind, Picture, Place, Sides};
+use runs::Event;
+use std::alloc::{AllocError, Global};
+
+/// Where the first column stands, in tenths of a pixel.
+const LEFT: u64 = 620;
+
+/// The columns.
+#[derive(Drop)]
+pub(crate) struct Columns {
+    /// the column of each lane, by the index of the lane
+    of_lane: Vec<Option<usize>>,
+    /// the lane of each column
+    pub(crate) lanes: Vec<usize>,
+    /// where each column stands, and behind the last where the drawing ends
+    at: Vec<u64>,
+}
+
+impl Columns {
+    /// The column of the lane, if it has one.
+    pub(crate) fn of(&self, lane: Option<usize>) -> Option<usize> {
+        match self.of_lane.get(lane?) {
+            Some(column) => *column,
+            None => None,
+        }
+    }
+
+    /// Where the column stands.
+    pub(crate) fn at(&self, column: usize) -> u64 {
+        self.at.get(column).copied().unwrap_or(LEFT)
+    }
+
+    /// Where the last column ends.
+    pub(crate) fn right(&self) -> u64 {
+        self.at.as_slice().last().copied().unwrap_or(LEFT)
+    }
+
+    /// How many there are.
+    pub(crate) fn len(&self) -> usize {
+        self.lanes.len()
+    }
+}
+
+/// The room that is wanted between two columns: from the one that stands further to the left to the other.
+#[derive(Clone, Copy, Debug, PartialEq, Eq, PartialOrd, Ord)]
+struct Span {
+    right: usize,
+    left: usize,
+    room: u64,
+}
+
+/// The block of a lane, if it has one.
+pub(crate) fn block_of(lane: &Lane) -> Option<usize> {
+    match lane.kind {
+        LaneKind::Body(block) => Some(block),
+        LaneKind::Input(_) | LaneKind::Output(_) | LaneKind::Handshakes(_) => None,
+    }
+}
+
+/// The columns of the run, without where they stand.
+pub(crate) fn columns_of(alloc: Global, picture: &Picture) -> Result<Columns, AllocError> {
+    let mut used = vec![in alloc; false; picture.lanes.len()]?;
+    mark_first(used.as_mut_slice(), picture.lanes.as_slice());
+    mark_sides(used.as_mut_slice(), picture.steps.sides.as_slice());
+    mark_sides(used.as_mut_slice(), picture.end.ready_sides.as_slice());
+    mark_places(used.as_mut_slice(), picture.end.places.as_slice());
+    let mut of_lane = Vec::with_capacity(alloc, used.len())?;
+    let mut lanes = Vec::new(alloc);
+    for (lane, is_used) in used.as_slice().iter().enumerate() {
+        if *is_used {
+            of_lane.push(Some(lanes.len()))?;
+            lanes.push(lane)?;
+        } else {
+            of_lane.push(None)?;
+        }
+    }
+    Ok(Columns {
+        of_lane,
+        lanes,
+        at: Vec::new(alloc),
+    })
+}
+
+/// Marks the lane, if there is one.
+fn mark(used: &mut [bool], lane: Option<usize>) {
+    if let Some(lane) = lane {
+        if lane < used.len() {
+            used[lane] = true;
+        }
+    }
+}
+
+/// Marks the first lane of each block, so that each is seen.
+fn mark_first(used: &mut [bool], lanes: &[Lane]) {
+    let mut before = None;
+    for (index, lane) in lanes.iter().enumerate() {
+        let block = block_of(lane);
+        if block.is_none() || block != before {
+            mark(used, Some(index));
+        }
+        before = block;
+    }
+}
+
+/// Marks the lanes of events.
+fn mark_sides(used: &mut [bool], sides: &[Sides]) {
+    for one in sides {
+        mark(used, one.first_lane);
+        mark(used, one.second_lane);
+    }
+}
+
+/// Marks the lanes of places.
+fn mark_places(used: &mut [bool], places: &[Place]) {
+    for place in places {
+        mark(used, place.lane);
+    }
+}
+
+/// Puts the columns so far apart that what stands between them fits.
+pub(crate) fn set_apart(
+    alloc: Global,
+    columns: &mut Columns,
+    scene: &Scene<'_>,
+) -> Result<(), AllocError> {
+    let mut needs = vec![in alloc; 420; columns.len()]?;
+    let mut spans = Vec::new(alloc);
+    let mut words = Words::new(alloc);
+    for (index, entry) in scene.live.as_slice().iter().enumerate() {
+        let event = entry.1.get();
+        if scene.shows(event) {
+            let sides = scene.sides(index);
+            words.tell(scene, event, sides)?;
+            if let Some(ends) = ends_of(columns, sides, event) {
+                let number = digits_width(entry.0);
+                want(
+                    needs.as_mut_slice(),
+                    &mut spans,
+                    event,
+                    ends,
+                    &words,
+                    number,
+                )?;
+            }
+        }
+    }
+    add_titles(alloc, columns, scene, &mut spans)?;
+    spans.sort_unstable();
+    columns.at = places_of(alloc, needs.as_slice(), spans.as_slice())?;
+    Ok(())
+}
+
+/// How wide the ticket is.
+pub(crate) fn digits_width(ticket: u64) -> u64 {
+    let mut left = ticket / 10;
+    let mut width = SMALL_LETTER;
+    for _ in 0..20 {
+        if left == 0 {
+            break;
+        }
+        left /= 10;
+        width = width.saturating_add(SMALL_LETTER);
+    }
+    width
+}
+
+/// How wide a text is.
+pub(crate) fn text_width(text: &[u8], is_small: bool) -> u64 {
+    (text.len() as u64).saturating_mul(if is_small { SMALL_LETTER } else { LETTER })
+}
+
+/// Notes the room that an event wants, whose ticket is so wide.
+fn want(
+    needs: &mut [u64],
+    spans: &mut Vec<Span>,
+    event: &Event,
+    ends: Ends,
+    words: &Words,
+    number: u64,
+) -> Result<(), AllocError> {
+    let label = text_width(words.label.as_slice(), is_quiet(event));
+    let Some(second) = ends.second else {
+        let room = label.saturating_add(number).saturating_add(240);
+        widen(needs, ends.first, room.min(1700));
+        return Ok(());
+    };
+    if !words.stored.is_empty() {
+        let room = text_width(words.stored.as_slice(), true).saturating_add(220);
+        let outside = if second > ends.first {
+            second
+        } else {
+            second.saturating_sub(1)
+        };
+        widen(needs, outside, room.min(1200));
+    }
+    let room = label.saturating_add(number).saturating_add(420);
+    spans.push(Span {
+        right: ends.first.max(second),
+        left: ends.first.min(second),
+        room: room.min(1500),
+    })?;
+    Ok(())
+}
+
+/// Makes a column at least so wide.
+fn widen(needs: &mut [u64], column: usize, room: u64) {
+    if column < needs.len() {
+        needs[column] = needs[column].max(room);
+    }
+}
+
+/// Notes the room that the titles of blocks want.
+fn add_titles(
+    alloc: Global,
+    columns: &Columns,
+    scene: &Scene<'_>,
+    spans: &mut Vec<Span>,
+) -> Result<(), AllocError> {
+    let mut title = Vec::new(alloc);
+    let mut first = 0;
+    for column in 0..columns.len() {
+        if ends_group(columns, &scene.picture.lanes, column) {
+            title.clear();
+            group_title(scene, columns.lanes.get(first).copied(), &mut title)?;
+            let room = text_width(title.as_slice(), false).saturating_add(200);
+            spans.push(Span {
+                right: column.saturating_add(1),
+                left: first,
+                room: room.min(1500),
+            })?;
+            first = column.saturating_add(1);
+        }
+    }
+    Ok(())
+}
+
+/// Whether the next column is one of another block.
+pub(crate) fn ends_group(columns: &Columns, lanes: &Vec<Lane>, column: usize) -> bool {
+    let own = block_at(columns, lanes, column);
+    own.is_none() || own != block_at(columns, lanes, column.saturating_add(1))
+}
+
+/// The block of the lane of a column, if there is one.
+fn block_at(columns: &Columns, lanes: &Vec<Lane>, column: usize) -> Option<usize> {
+    let lane = columns.lanes.get(column)?;
+    block_of(lanes.get(*lane)?)
+}
+
+/// Where the columns stand that are so wide, with so much room between them, and where the last ends.
+fn places_of(alloc: Global, needs: &[u64], spans: &[Span]) -> Result<Vec<u64>, AllocError> {
+    let mut at = Vec::with_capacity(alloc, needs.len().saturating_add(1))?;
+    at.push(LEFT)?;
+    let mut next = 0;
+    for (column, need) in needs.iter().enumerate() {
+        let right = column.saturating_add(1);
+        let end = end_of(at.as_slice(), column, *need);
+        let (place, behind) = pushed(at.as_slice(), spans, next, right, end);
+        at.push(place)?;
+        next = behind;
+    }
+    Ok(at)
+}
+
+/// Where the column ends that is so wide.
+fn end_of(at: &[u64], column: usize, need: u64) -> u64 {
+    at.get(column).copied().unwrap_or(LEFT).saturating_add(need)
+}
+
+/// Where the column stands, at least there, as the spans from `next` on want it; and the first span of another.
+fn pushed(at: &[u64], spans: &[Span], next: usize, column: usize, least: u64) -> (u64, usize) {
+    let mut place = least;
+    for index in next..spans.len() {
+        let span = spans[index];
+        if span.right != column {
+            return (place, index);
+        }
+        place = place.max(end_of(at, span.left, span.room));
+    }
+    (place, spans.len())
+}

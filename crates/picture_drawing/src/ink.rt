@@ -1,0 +1,84 @@
+// Colours.
+
+/// A colour of the drawing. The first four say how an event stands to the one that is asked for.
+#[derive(Clone, Copy, Debug, PartialEq, Eq)]
+pub(crate) enum Ink {
+    /// the event itself; where none is asked for, all are in this
+    Dark,
+    /// a cause
+    Cause,
+    /// a consequence
+    Consequence,
+    /// neither, and what is in the background
+    Faint,
+    /// numbers and small signs
+    Soft,
+    /// an order that only a shared variable makes
+    Race,
+    /// what waits in a ring
+    Ring,
+    /// what can be taken
+    Ready,
+    /// the edge of what a handshake encloses
+    Enclosed,
+    /// within it, on the side that opened the arm
+    Opened,
+    /// within it, on the side that is held
+    Held,
+    /// within it, where it has nothing to do with the event that is asked for
+    Pale,
+    White,
+    /// behind the event that is asked for
+    Chosen,
+}
+
+impl Ink {
+    /// Its code.
+    pub(crate) fn code(self) -> &'static str {
+        match self {
+            Ink::Dark => "#1b2228",
+            Ink::Cause => "#0067b1",
+            Ink::Consequence => "#c24a00",
+            Ink::Faint => "#c4cad0",
+            Ink::Soft => "#5d6872",
+            Ink::Race => "#9b3d91",
+            Ink::Ring => "#8a1c4d",
+            Ink::Ready => "#007a58",
+            Ink::Enclosed => "#2d9a7c",
+            Ink::Opened => "#bfe5d8",
+            Ink::Held => "#eef7f3",
+            Ink::Pale => "#f4f7f6",
+            Ink::White => "#ffffff",
+            Ink::Chosen => "#ffe97a",
+        }
+    }
+
+    /// This colour, or the other where it is that of an event of which nothing is to be said.
+    pub(crate) fn or(self, other: Ink) -> Ink {
+        match self {
+            Ink::Dark => other,
+            own => own,
+        }
+    }
+}
+
+/// How a line is broken.
+#[derive(Clone, Copy, Debug, PartialEq, Eq)]
+pub(crate) enum Dash {
+    Whole,
+    Dots,
+    Short,
+    Long,
+}
+
+impl Dash {
+    /// The lengths of strokes and gaps.
+    pub(crate) fn lengths(self) -> &'static str {
+        match self {
+            Dash::Whole => "",
+            Dash::Dots => "1 4",
+            Dash::Short => "3 3",
+            Dash::Long => "5 4",
+        }
+    }
+}

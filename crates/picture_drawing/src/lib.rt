@@ -1,0 +1,22 @@
+//! A run as a drawing (SVG 1.1) for a document: no script, no style sheet, no outside resource. A row is a depth, a column a lane, as on
+//! the page.
+#![tactic(auto)]
+
+mod bars;
+mod columns;
+mod cones;
+mod depth_rows;
+mod drawing;
+mod figure;
+mod heads;
+mod ink;
+mod labels;
+mod links;
+mod marks;
+mod now;
+mod sheet;
+mod tracks;
+mod trails;
+
+pub use cones::Cones;
+pub use drawing::drawing_text;

@@ -1,0 +1,229 @@
+// The line of each lane, from event to event.
+ghost use Rattle.std.specs.Prelude.{◌≤◌, length};
+
+use crate::figure::{Figure, ends_of};
+use crate::ink::{Dash, Ink};
+use crate::sheet::{Point, Sheet};
+use address::{Address, Entry};
+use runs::Event;
+use std::alloc::{AllocError, Global};
+
+/// How far down the lanes begin, in tenths of a pixel.
+pub(crate) const HEAD: u64 = 540;
+
+/// How far the line of a column has come.
+#[derive(Clone, Copy)]
+struct Trail {
+    /// the last event in it, and whether that is there with its second place
+    last: Option<(usize, bool)>,
+    /// the last one that is drawn
+    drawn: Option<usize>,
+    /// each event since that one belongs to the same turn of the branch as the one before it, or follows it
+    is_joined: bool,
+}
+
+/// Draws the lines of all lanes.
+pub(crate) fn draw_trails(
+    alloc: Global,
+    sheet: &mut Sheet,
+    figure: &Figure<'_>,
+) -> Result<(), AllocError> {
+    let start = Trail {
+        last: None,
+        drawn: None,
+        is_joined: true,
+    };
+    let mut trails = vec![in alloc; start; figure.columns.len()]?;
+    for (index, entry) in figure.scene.live.as_slice().iter().enumerate() {
+        let event = entry.1.get();
+        if let Some(ends) = ends_of(figure.columns, figure.scene.sides(index), event) {
+            follow(
+                sheet,
+                figure,
+                trails.as_mut_slice(),
+                ends.first,
+                index,
+                false,
+            )?;
+            if let Some(second) = ends.second {
+                follow(sheet, figure, trails.as_mut_slice(), second, index, true)?;
+            }
+        }
+    }
+    let waits = waiting_columns(alloc, figure, trails.as_slice())?;
+    for (column, trail) in trails.as_slice().iter().enumerate() {
+        if trail.last.is_none() || waits.get(column).copied().unwrap_or(false) {
+            draw_end(sheet, figure, column, *trail)?;
+        }
+    }
+    Ok(())
+}
+
+/// The first place of the event, or its second where it has one and that is asked for.
+fn place_of(event: &Event, is_second: bool) -> &Address {
+    match &event.second {
+        Some(second) if is_second => second,
+        _ => &event.first,
+    }
+}
+
+/// Goes on with the line of a column to the event at an index.
+fn follow(
+    sheet: &mut Sheet,
+    figure: &Figure<'_>,
+    trails: &mut [Trail],
+    column: usize,
+    index: usize,
+    is_second: bool,
+) -> Result<(), AllocError> {
+    let Some((_, event)) = figure.scene.live.pair_at(index as u64) else {
+        return Ok(());
+    };
+    if column >= trails.len() {
+        return Ok(());
+    }
+    let trail = trails[column];
+    let is_joined = trail.is_joined && goes_on(figure, trail, index, place_of(event, is_second));
+    let is_shown = figure.scene.shows(event);
+    trails[column] = Trail {
+        last: Some((index, is_second)),
+        drawn: if is_shown { Some(index) } else { trail.drawn },
+        is_joined: is_shown || is_joined,
+    };
+    if is_shown && is_joined {
+        return draw_part(sheet, figure, column, trail.drawn, index);
+    }
+    Ok(())
+}
+
+/// Whether the event at an index, which stands at the place, goes on from the last one of the trail.
+fn goes_on(figure: &Figure<'_>, trail: Trail, index: usize, place: &Address) -> bool {
+    let Some((earlier, side)) = trail.last else {
+        return is_from_start(branch_turn(place.entries()));
+    };
+    if figure
+        .scene
+        .ahead(earlier)
+        .contains(&index.saturating_sub(earlier))
+    {
+        return true;
+    }
+    match figure.scene.live.pair_at(earlier as u64) {
+        Some((_, event)) => {
+            branch_turn(place_of(event, side).entries()) == branch_turn(place.entries())
+        }
+        None => false,
+    }
+}
+
+/// The part of a place that says which turn of its branch it is in: up to the last number of a branch that is not 0.
+fn branch_turn(entries: &[Entry]) -> &[Entry] {
+    entries.split_at(turn_length(entries)).0
+}
+
+/// How many entries that part has.
+fn turn_length(entries: &[Entry]) -> usize
+    ensures { result ≤ length entries.now }
+{
+    let mut length = 0;
+    for (index, entry) in entries.iter().enumerate() {
+        match entry {
+            Entry::Branch(0) | Entry::Ordered(_) => {}
+            Entry::Branch(_) => length = index.saturating_add(1),
+        }
+    }
+    length.min(entries.len())
+}
+
+/// Whether a branch is there from the start of the run on.
+fn is_from_start(entries: &[Entry]) -> bool {
+    for entry in entries {
+        if let Entry::Ordered(_) = entry {
+            return false;
+        }
+    }
+    true
+}
+
+/// Draws the line of a column from an event, or from its head, to a later one.
+fn draw_part(
+    sheet: &mut Sheet,
+    figure: &Figure<'_>,
+    column: usize,
+    earlier: Option<usize>,
+    later: usize,
+) -> Result<(), AllocError> {
+    let to = figure.point(column, later);
+    let row = figure.rows.row(later);
+    let Some(earlier) = earlier else {
+        let ink = match figure.ink(later) {
+            Ink::Cause => Ink::Cause,
+            _ => Ink::Faint,
+        };
+        let dash = if row == 0 { Dash::Whole } else { Dash::Dots };
+        return sheet.line(head(figure, column), to, ink, 20, dash);
+    };
+    let ink = figure.ink_between(earlier, later).or(Ink::Faint);
+    let far = row.saturating_sub(figure.rows.row(earlier));
+    let dash = if far > 1 { Dash::Dots } else { Dash::Whole };
+    sheet.line(figure.point(column, earlier), to, ink, 20, dash)
+}
+
+/// Where the line of the column begins.
+fn head(figure: &Figure<'_>, column: usize) -> Point {
+    Point {
+        x: figure.columns.at(column),
+        y: HEAD,
+    }
+}
+
+/// Which columns have a place in the turn of their branch to which their line has come.
+fn waiting_columns(
+    alloc: Global,
+    figure: &Figure<'_>,
+    trails: &[Trail],
+) -> Result<Vec<bool>, AllocError> {
+    let mut waits = vec![in alloc; false; trails.len()]?;
+    for place in figure.scene.picture.end.places.as_slice() {
+        if let Some(column) = figure.columns.of(place.lane) {
+            if column < waits.len() && stands_in(figure, trails, column, &place.place) {
+                waits[column] = true;
+            }
+        }
+    }
+    Ok(waits)
+}
+
+/// Whether the place is in the turn of its branch to which the line of the column has come.
+fn stands_in(figure: &Figure<'_>, trails: &[Trail], column: usize, place: &Address) -> bool {
+    let Some(trail) = trails.get(column) else {
+        return false;
+    };
+    let Some((last, side)) = trail.last else {
+        return true;
+    };
+    match figure.scene.live.pair_at(last as u64) {
+        Some((_, event)) => {
+            branch_turn(place_of(event, side).entries()) == branch_turn(place.entries())
+        }
+        None => false,
+    }
+}
+
+/// Draws that a branch waits: from the last event of the column, or from its head, to the end.
+fn draw_end(
+    sheet: &mut Sheet,
+    figure: &Figure<'_>,
+    column: usize,
+    trail: Trail,
+) -> Result<(), AllocError> {
+    let from = match trail.drawn {
+        Some(drawn) => figure.point(column, drawn),
+        None => head(figure, column),
+    };
+    let to = Point {
+        x: from.x,
+        y: figure.bottom,
+    };
+    sheet.line(from, to, Ink::Faint, 20, Dash::Dots)
+}

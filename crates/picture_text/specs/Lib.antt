@@ -1,0 +1,2 @@
+pub mod DataText
+pub mod PageText

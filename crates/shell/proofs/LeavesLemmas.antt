@@ -1,0 +1,336 @@
+-- What lines leave, part by part.
+use Rattle.std.proofs.Common.{◌≡◌, ◌≢◌, ◌⊎◌, inl, inr, ℕ, List, [], ◌∷◌, Bool, true, false, Option, Some, refl, sym, ap, ◌∙◌, subst}
+use Rattle.std.proofs.lemmas.Bool.{false≢true}
+use Rattle.std.specs.Option.{IfSome}
+use Rattle.system.specs.declared.system.System.{System}
+use Rattle.line_text.specs.Fields.{CutAtSpace}
+use Rattle.machine.specs.AtMachine.{AtMachine}
+use Rattle.debug_session.specs.Lines.{Says, AsksNothing, MayBeStep}
+use Rattle.debug_session.specs.OneThing.{SaysOneThing}
+use Rattle.debug_session.specs.declared.line.Line.{Line}
+use Rattle.debug_session.specs.declared.fault.Fault.{Fault}
+use Rattle.runs.specs.Live.{events}
+use Rattle.trace_file.specs.TraceText.{IsTrace}
+use Rattle.shell_desk.specs.AtBench.{AtBench}
+use Rattle.shell_desk.specs.Does.{Does, NamesSession, TurnsTo}
+use Rattle.shell_desk.specs.Tidied.{tidied}
+use Rattle.shell_desk.specs.Words.{spelling, AsksDeed}
+use Rattle.shell_desk.specs.walking.Spelled.{AsksNoDeed, SpellsNothing}
+use Rattle.shell_desk.specs.declared.deed.Deed.{Deed}
+use Rattle.shell_desk.specs.declared.deed.Done.{Done}
+use Rattle.shell_desk.specs.declared.word.Word.{Word}
+use Rattle.shell_desk.specs.declared.word.Word.TheVariants.{R, N, Run, Next, Undo, Back, Why, Waiting, Outline, Vars, List as ListWord, Show, Save, SaveOver, Load, Script, ScriptOver, Help, Quit}
+use Rattle.shell.specs.Asking.{GoesOnWith, IsWordWith, LineAsks, ShellAsks, TextAsks, deed_of}
+use Rattle.shell.specs.Beginning.{BeginsAt}
+use Rattle.shell.specs.Lines.{AnsweredAsScript, AnsweredAsTyped, Holding, Leaves, LineLeaves, SaidAsScript, line_count}
+use Rattle.shell.specs.walking.Parts.{AsksNoDeedAtAll, Begun, LoadsTrace, Quits, RestsWith, SavesTrace, WordMeans, WordsAsk, is_want}
+use Rattle.shell.specs.declared.answer.Outcome.{Outcome}
+use Rattle.shell.proofs.OwnLemmas.{if-some, if-some-by}
+
+-- what asks or is worded in one way does so in another
+pub leaves-by : (A A' : Deed → Type 0) (B B' : Word → List ℕ → Type 0) (holds : Holding) (source stimulus : List ℕ) (b b' : AtBench)
+    (outcome : Outcome) → ((deed : Deed) → A deed → A' deed) → ((w : Word) (rest : List ℕ) → B w rest → B' w rest)
+    → Leaves A B holds source stimulus b outcome b' → Leaves A' B' holds source stimulus b outcome b'
+leaves-by A A' B B' holds source stimulus b b' Outcome.Done f g h = (h.0, h.1, f h.0 h.2, h.3)
+leaves-by A A' B B' holds source stimulus b b' Outcome.Unread f g h = h
+leaves-by A A' B B' holds source stimulus b b' Outcome.Saved f g (e, (rest, inl is, saved)) = (e, (rest, inl (g Save rest is), saved))
+leaves-by A A' B B' holds source stimulus b b' Outcome.Saved f g (e, (rest, inr is, saved)) =
+    (e, (rest, inr (g SaveOver rest is), saved))
+leaves-by A A' B B' holds source stimulus b b' Outcome.Loaded f g (name, text, is, held, of) =
+    (name, text, g Load (32 ∷ name) is, held, of)
+leaves-by A A' B B' holds source stimulus b b' Outcome.NotLoaded f g (e, (rest, is)) = (e, (rest, g Load rest is))
+leaves-by A A' B B' holds source stimulus b b' Outcome.Over f g (e, is) = (e, g Quit [] is)
+
+-- the deed that was asked is done
+pub done-leaves : (A : Deed → Type 0) (B : Word → List ℕ → Type 0) (holds : Holding) (source stimulus : List ℕ) (b b' : AtBench)
+    (outcome : Outcome) (deed : Deed) → outcome ≡ Outcome.Done → A deed → ((done : Done) × Does b deed done b')
+    → Leaves A B holds source stimulus b outcome b'
+done-leaves A B holds source stimulus b b' outcome deed e asks h =
+    subst (λ (o : Outcome). Leaves A B holds source stimulus b o b') (sym e) (deed, h.0, asks, h.1)
+
+-- nothing was asked
+pub rest-leaves : (A : Deed → Type 0) (B : Word → List ℕ → Type 0) (holds : Holding) (source stimulus : List ℕ) (b : AtBench)
+    (outcome : Outcome) → outcome ≡ Outcome.Done → A Deed.Rest → Leaves A B holds source stimulus b outcome b
+rest-leaves A B holds source stimulus b outcome e asks =
+    subst (λ (o : Outcome). Leaves A B holds source stimulus b o b) (sym e) (Deed.Rest, Done.Rested, asks, (refl, refl))
+
+-- there was no memory to read it
+pub unread-leaves : (A : Deed → Type 0) (B : Word → List ℕ → Type 0) (holds : Holding) (source stimulus : List ℕ) (b : AtBench)
+    (outcome : Outcome) → outcome ≡ Outcome.Unread → Leaves A B holds source stimulus b outcome b
+unread-leaves A B holds source stimulus b outcome e =
+    subst (λ (o : Outcome). Leaves A B holds source stimulus b o b) (sym e) refl
+
+-- the trace was saved, or was not
+pub saves-leave : (A : Deed → Type 0) (B : Word → List ℕ → Type 0) (holds : Holding) (source stimulus : List ℕ) (b : AtBench)
+    (rest : List ℕ) (outcome : Outcome) → A Deed.Rest → B Save rest ⊎ B SaveOver rest → SavesTrace holds b rest outcome
+    → Leaves A B holds source stimulus b outcome b
+saves-leave A B holds source stimulus b rest outcome asks is (inl e) = rest-leaves A B holds source stimulus b outcome e asks
+saves-leave A B holds source stimulus b rest outcome asks is (inr h) =
+    subst (λ (o : Outcome). Leaves A B holds source stimulus b o b) (sym h.0) (refl, (rest, is, h.1))
+
+-- the trace of the machine at the bench was written to the file of this name, or was not
+pub saves-trace : (holds : Holding) (b : AtBench) (m : AtMachine) (rest name text bytes : List ℕ) (outcome : Outcome)
+    → m ≡ b.desk.machine → rest ≡ 32 ∷ name → IsTrace (events m.live) text → bytes ≡ text
+    → (outcome ≡ Outcome.Done) ⊎ ((outcome ≡ Outcome.Saved) × holds name bytes) → SavesTrace holds b rest outcome
+saves-trace holds b m rest name text bytes outcome same named is alike (inl e) = inl e
+saves-trace holds b m rest name text bytes outcome same named is alike (inr h) =
+    inr (
+      h.0,
+      (
+        name,
+        bytes,
+        named,
+        subst (λ (t : List ℕ). IsTrace (events b.desk.machine.live) t) (sym alike)
+            (subst (λ (x : AtMachine). IsTrace (events x.live) text) same is),
+        h.1,
+      ),
+    )
+
+-- none was loaded
+pub not-loaded-leaves : (A : Deed → Type 0) (B : Word → List ℕ → Type 0) (holds : Holding) (source stimulus : List ℕ) (b : AtBench)
+    (rest : List ℕ) (outcome : Outcome) → outcome ≡ Outcome.NotLoaded → B Load rest → Leaves A B holds source stimulus b outcome b
+not-loaded-leaves A B holds source stimulus b rest outcome e is =
+    subst (λ (o : Outcome). Leaves A B holds source stimulus b o b) (sym e) (refl, (rest, is))
+
+-- what the file of this name had was loaded, or was not
+pub loads-leave : (A : Deed → Type 0) (B : Word → List ℕ → Type 0) (holds : Holding) (source stimulus : List ℕ) (b b' : AtBench)
+    (name text : List ℕ) (outcome : Outcome) → B Load (32 ∷ name) → holds name text
+    → LoadsTrace source stimulus text b outcome b' → Leaves A B holds source stimulus b outcome b'
+loads-leave A B holds source stimulus b b' name text Outcome.Done is held h = absurd h
+loads-leave A B holds source stimulus b b' name text Outcome.Unread is held h = absurd h
+loads-leave A B holds source stimulus b b' name text Outcome.Saved is held h = absurd h
+loads-leave A B holds source stimulus b b' name text Outcome.Loaded is held h = (name, text, is, held, h)
+loads-leave A B holds source stimulus b b' name text Outcome.NotLoaded is held h = (h, ((32 ∷ name), is))
+loads-leave A B holds source stimulus b b' name text Outcome.Over is held h = absurd h
+
+-- a machine stands in place
+pub loaded-trace : (source stimulus text : List ℕ) (b b' : AtBench) (m : AtMachine) (outcome : Outcome) → outcome ≡ Outcome.Loaded
+    → BeginsAt source stimulus (Some text) m → TurnsTo b (line_count source) m b' → LoadsTrace source stimulus text b outcome b'
+loaded-trace source stimulus text b b' m outcome e of turns =
+    subst (λ (o : Outcome). LoadsTrace source stimulus text b o b') (sym e) (m, of, turns)
+
+-- none does
+pub not-loaded-trace : (source stimulus text : List ℕ) (b : AtBench) (outcome : Outcome) → outcome ≡ Outcome.NotLoaded
+    → LoadsTrace source stimulus text b outcome b
+not-loaded-trace source stimulus text b outcome e =
+    subst (λ (o : Outcome). LoadsTrace source stimulus text b o b) (sym e) refl
+
+-- it was the last line, or a word that does not fit
+pub quit-leaves : (A : Deed → Type 0) (B : Word → List ℕ → Type 0) (holds : Holding) (source stimulus : List ℕ) (b : AtBench)
+    (rest : List ℕ) (outcome : Outcome) → Quits rest outcome → (rest ≢ [] → A Deed.Rest) → B Quit rest
+    → Leaves A B holds source stimulus b outcome b
+quit-leaves A B holds source stimulus b rest outcome (inl h) asks is =
+    subst (λ (o : Outcome). Leaves A B holds source stimulus b o b) (sym h.1) (refl, subst (λ (t : List ℕ). B Quit t) h.0 is)
+quit-leaves A B holds source stimulus b rest outcome (inr h) asks is =
+    rest-leaves A B holds source stimulus b outcome h.1 (asks h.0)
+
+-- the session goes on behind each other word
+pub goes-on-with : (word : Word) (rest : List ℕ) → word ≢ Load → word ≢ Quit → GoesOnWith word rest
+goes-on-with R rest load quit = tt
+goes-on-with N rest load quit = tt
+goes-on-with Run rest load quit = tt
+goes-on-with Next rest load quit = tt
+goes-on-with Undo rest load quit = tt
+goes-on-with Back rest load quit = tt
+goes-on-with Why rest load quit = tt
+goes-on-with Waiting rest load quit = tt
+goes-on-with Outline rest load quit = tt
+goes-on-with Vars rest load quit = tt
+goes-on-with ListWord rest load quit = tt
+goes-on-with Show rest load quit = tt
+goes-on-with Save rest load quit = tt
+goes-on-with SaveOver rest load quit = tt
+goes-on-with Load rest load quit = absurd (load refl)
+goes-on-with Script rest load quit = tt
+goes-on-with ScriptOver rest load quit = tt
+goes-on-with Help rest load quit = tt
+goes-on-with Quit rest load quit = absurd (quit refl)
+
+-- a word by which a trace is loaded, or is not
+pub other-load : (holds : Holding) (source stimulus : List ℕ) (b b' : AtBench) (word : Word) (rest : List ℕ) (outcome : Outcome)
+    → word ≡ Load → Leaves AsksNoDeedAtAll (Begun Load rest) holds source stimulus b outcome b'
+    → Leaves (RestsWith word rest) (Begun word rest) holds source stimulus b outcome b'
+other-load holds source stimulus b b' word rest outcome e h =
+    leaves-by AsksNoDeedAtAll (RestsWith word rest) (Begun Load rest) (Begun word rest) holds source stimulus b b' outcome
+    (λ deed none. absurd none) (λ w r begun. (begun.0 ∙ sym e, begun.1)) h
+
+-- the word by which a session ends, or is told how it is written
+pub other-quit : (holds : Holding) (source stimulus : List ℕ) (b : AtBench) (word : Word) (rest : List ℕ) (outcome : Outcome)
+    → word ≡ Quit → Quits rest outcome → Leaves (RestsWith word rest) (Begun word rest) holds source stimulus b outcome b
+other-quit holds source stimulus b word rest outcome e quits =
+    quit-leaves (RestsWith word rest) (Begun word rest) holds source stimulus b rest outcome quits
+    (λ filled. (subst (λ (w : Word). GoesOnWith w rest) (sym e) filled, refl)) (sym e, refl)
+
+-- the words by which the trace is saved
+pub other-save : (holds : Holding) (source stimulus : List ℕ) (b : AtBench) (word : Word) (rest : List ℕ) (outcome : Outcome)
+    → word ≡ Save → SavesTrace holds b rest outcome
+    → Leaves (RestsWith word rest) (Begun word rest) holds source stimulus b outcome b
+other-save holds source stimulus b word rest outcome e h =
+    saves-leave (RestsWith word rest) (Begun word rest) holds source stimulus b rest outcome
+    (subst (λ (w : Word). GoesOnWith w rest) (sym e) tt, refl) (inl (sym e, refl)) h
+
+pub other-save-over : (holds : Holding) (source stimulus : List ℕ) (b : AtBench) (word : Word) (rest : List ℕ) (outcome : Outcome)
+    → word ≡ SaveOver → SavesTrace holds b rest outcome
+    → Leaves (RestsWith word rest) (Begun word rest) holds source stimulus b outcome b
+other-save-over holds source stimulus b word rest outcome e h =
+    saves-leave (RestsWith word rest) (Begun word rest) holds source stimulus b rest outcome
+    (subst (λ (w : Word). GoesOnWith w rest) (sym e) tt, refl) (inr (sym e, refl)) h
+
+-- a word that is answered in words alone
+pub other-told : (holds : Holding) (source stimulus : List ℕ) (b : AtBench) (word : Word) (rest : List ℕ) (outcome : Outcome)
+    → GoesOnWith word rest → outcome ≡ Outcome.Done
+    → Leaves (RestsWith word rest) (Begun word rest) holds source stimulus b outcome b
+other-told holds source stimulus b word rest outcome goes e =
+    rest-leaves (RestsWith word rest) (Begun word rest) holds source stimulus b outcome e (goes, refl)
+
+-- a word that asks nothing of the desk
+pub word-other : (holds : Holding) (source stimulus : List ℕ) (b b' : AtBench) (word : Word) (rest : List ℕ) (outcome : Outcome)
+    → AsksNoDeed word rest → Leaves (RestsWith word rest) (Begun word rest) holds source stimulus b outcome b'
+    → Leaves (WordMeans word rest) (Begun word rest) holds source stimulus b outcome b'
+word-other holds source stimulus b b' word rest outcome none h =
+    leaves-by (RestsWith word rest) (WordMeans word rest) (Begun word rest) (Begun word rest) holds source stimulus b b' outcome
+    (λ deed rests. inr (none, rests)) (λ w r begun. begun) h
+
+-- what words ask names no session
+pub names-none : (word : Word) (rest : List ℕ) (deed : Deed) → AsksDeed word rest deed → NamesSession deed
+names-none R rest deed h = subst NamesSession (sym h.1) tt
+names-none N rest deed (inl h) = subst NamesSession (sym h.1) tt
+names-none N rest deed (inr h) = subst NamesSession (sym h.2) tt
+names-none Next rest deed (inl h) = subst NamesSession (sym h.1) tt
+names-none Next rest deed (inr h) = subst NamesSession (sym h.2) tt
+names-none Run rest deed (inl h) = subst NamesSession (sym h.1) tt
+names-none Run rest deed (inr h) = subst NamesSession (sym h.2) tt
+names-none Undo rest deed h = subst NamesSession (sym h.1) tt
+names-none Back rest deed (inl h) = subst NamesSession (sym h.1) tt
+names-none Back rest deed (inr h) = subst NamesSession (sym h.2) tt
+names-none Why rest deed h = absurd h
+names-none Waiting rest deed h = absurd h
+names-none Outline rest deed h = absurd h
+names-none Vars rest deed h = absurd h
+names-none ListWord rest deed h = absurd h
+names-none Show rest deed h = absurd h
+names-none Save rest deed h = absurd h
+names-none SaveOver rest deed h = absurd h
+names-none Load rest deed h = absurd h
+names-none Script rest deed h = absurd h
+names-none ScriptOver rest deed h = absurd h
+names-none Help rest deed h = absurd h
+names-none Quit rest deed h = absurd h
+
+-- what a word means, part by part
+flat-means : (word : Word) (rest : List ℕ) (deed : Deed) → WordMeans word rest deed
+    → AsksDeed word rest deed ⊎ (AsksNoDeed word rest × GoesOnWith word rest × (deed ≡ Deed.Rest))
+flat-means word rest deed (inl h) = inl h
+flat-means word rest deed (inr (none, rests)) = inr (none, rests.0, rests.1)
+
+-- what a word means a text asks that it begins
+pub word-asks : (text spelled rest : List ℕ) (word : Word) → CutAtSpace text spelled rest → spelling word ≡ spelled
+    → (deed : Deed) → WordMeans word rest deed → WordsAsk text deed
+word-asks text spelled rest word cut e deed h = (spelled, rest, cut, inl (word, e, flat-means word rest deed h))
+
+-- a text that begins with a word is it with the rest behind it
+pub word-begins : (text spelled rest : List ℕ) (word : Word) → CutAtSpace text spelled rest → spelling word ≡ spelled
+    → (w : Word) (r : List ℕ) → Begun word rest w r → IsWordWith text w r
+word-begins text spelled rest word cut e w r (same, alike) =
+    subst (λ (v : Word). IsWordWith text v r) (sym same)
+    (subst (λ (t : List ℕ). IsWordWith text word t) (sym alike) (subst (λ (t : List ℕ). CutAtSpace text t rest) (sym e) cut))
+
+-- a text whose first word is none asks nothing
+pub no-word-asks : (text spelled rest : List ℕ) → CutAtSpace text spelled rest → SpellsNothing spelled → WordsAsk text Deed.Rest
+no-word-asks text spelled rest cut none = (spelled, rest, cut, inr (none, refl))
+
+-- what is answered to a line of a script is answered to what it says
+pub own-line : (source : List ℕ) (b b' : AtBench) (line own : List ℕ) (said : Line) → SaysOneThing
+    → Says b.desk.machine.checked line said → SaidAsScript source b said own b' → AnsweredAsScript source b line own b'
+own-line source b b' line own said one says h other also =
+    subst (λ (l : Line). SaidAsScript source b l own b') (one b.desk.machine.checked line said other says also) h
+
+-- a fault that is no want of memory
+pub not-want : (fault : Fault) (r : Bool) → r ≡ is_want fault → r ≡ false → fault ≡ Fault.Memory → ⊥
+not-want fault r e f m =
+    let same : true ≡ false = ap is_want (sym m) ∙ (sym e ∙ f) in false≢true (sym same)
+
+-- why a text was not read as a line of a script
+abbrev pub Unsaid : System → List ℕ → Fault → Type 0
+Unsaid system line fault =
+    ((fault ≡ Fault.Memory) × MayBeStep line) ⊎ ((fault ≡ Fault.BadCommand 1) × (line ≢ []) × AsksNothing system line)
+
+-- a text that was not read, and not for want of memory, asks nothing
+pub asks-nothing : (system checked : System) (line : List ℕ) (fault : Fault) → checked ≡ system → (fault ≡ Fault.Memory → ⊥)
+    → Unsaid checked line fault → AsksNothing system line
+asks-nothing system checked line fault e not (inl h) = absurd (not h.0)
+asks-nothing system checked line fault e not (inr h) = subst (λ (s : System). AsksNothing s line) e h.2
+
+-- and it is not empty
+pub not-empty : (checked : System) (line : List ℕ) (fault : Fault) → (fault ≡ Fault.Memory → ⊥) → Unsaid checked line fault → line ≢ []
+not-empty checked line fault not (inl h) = absurd (not h.0)
+not-empty checked line fault not (inr h) = h.1
+
+-- a text that is no line of a script has no answer of one
+unsaid-own : (source : List ℕ) (b b' : AtBench) (line own : List ℕ) → AsksNothing b.desk.machine.checked line → line ≢ []
+    → AnsweredAsScript source b line own b'
+unsaid-own source b b' line own nothing filled said (inl asks) = absurd (nothing said asks)
+unsaid-own source b b' line own nothing filled said (inr h) = absurd (filled h.0)
+
+-- the same of what is answered, if something is
+pub unsaid-owns : {V : Type 0} (items : V → List ℕ) (source : List ℕ) (b b' : AtBench) (line : List ℕ) (answer : Option V)
+    → AsksNothing b.desk.machine.checked line → line ≢ [] → IfSome answer (λ v. AnsweredAsScript source b line (items v) b')
+unsaid-owns items source b b' line answer nothing filled =
+    if-some (λ v. AnsweredAsScript source b line (items v) b') answer (λ v. unsaid-own source b b' line (items v) nothing filled)
+
+-- what is answered to what a line says is answered to the line, if something is
+pub own-lines : {V : Type 0} (items : V → List ℕ) (source : List ℕ) (b b' : AtBench) (line : List ℕ) (said : Line) (answer : Option V)
+    (checked : System) → checked ≡ b.desk.machine.checked → SaysOneThing → Says checked line said
+    → IfSome answer (λ v. SaidAsScript source b said (items v) b') → IfSome answer (λ v. AnsweredAsScript source b line (items v) b')
+own-lines items source b b' line said answer checked e one says h =
+    if-some-by (λ v. SaidAsScript source b said (items v) b') (λ v. AnsweredAsScript source b line (items v) b') answer
+    (λ v own. own-line source b b' line (items v) said one (subst (λ (s : System). Says s line said) e says) own) h
+
+-- what a line of a script is answered is what it is answered as typed
+pub typed-said : (source : List ℕ) (b b' : AtBench) (line own : List ℕ) (said : Line) → Says b.desk.machine.checked line said
+    → AnsweredAsScript source b line own b' → AnsweredAsTyped source b line own b'
+typed-said source b b' line own said (inl asks) h = (h, (λ nothing. absurd (nothing said asks)))
+typed-said source b b' line own said (inr empty) h =
+    (h, (λ nothing. subst (λ (t : List ℕ). AnsweredAsScript source b t own b') (empty.0 ∙ sym (ap tidied empty.0)) h))
+
+-- the same of what is answered, if something is
+pub typed-says : {V : Type 0} (items : V → List ℕ) (source : List ℕ) (b b' : AtBench) (line : List ℕ) (said : Line) (answer : Option V)
+    (checked : System) → checked ≡ b.desk.machine.checked → Says checked line said
+    → IfSome answer (λ v. AnsweredAsScript source b line (items v) b') → IfSome answer (λ v. AnsweredAsTyped source b line (items v) b')
+typed-says items source b b' line said answer checked e says h =
+    if-some-by (λ v. AnsweredAsScript source b line (items v) b') (λ v. AnsweredAsTyped source b line (items v) b') answer
+    (λ v own. typed-said source b b' line (items v) said (subst (λ (s : System). Says s line said) e says) own) h
+
+-- what a line is answered once it is tidied is what it is answered as typed, where it is none of a script
+pub typed-loose : {V : Type 0} (items : V → List ℕ) (source : List ℕ) (b b' : AtBench) (line : List ℕ) (answer : Option V)
+    → AsksNothing b.desk.machine.checked line → line ≢ []
+    → IfSome answer (λ v. AnsweredAsScript source b (tidied line) (items v) b')
+    → IfSome answer (λ v. AnsweredAsTyped source b line (items v) b')
+typed-loose items source b b' line answer nothing filled h =
+    if-some-by (λ v. AnsweredAsScript source b (tidied line) (items v) b') (λ v. AnsweredAsTyped source b line (items v) b') answer
+    (λ v own. (unsaid-own source b b' line (items v) nothing filled, (λ none. own))) h
+
+-- what a text is answered that is a tidied line is what the tidied line is answered
+pub owns-as : {V : Type 0} (items : V → List ℕ) (source : List ℕ) (b b' : AtBench) (text line : List ℕ) (answer : Option V)
+    → text ≡ tidied line → IfSome answer (λ v. AnsweredAsScript source b text (items v) b')
+    → IfSome answer (λ v. AnsweredAsScript source b (tidied line) (items v) b')
+owns-as items source b b' text line answer e h =
+    subst (λ (t : List ℕ). IfSome answer (λ v. AnsweredAsScript source b t (items v) b')) e h
+
+-- a line that is none of a script as it stands leaves what it leaves once it is tidied
+pub loose-line : (holds : Holding) (source stimulus line text : List ℕ) (b b' : AtBench) (outcome : Outcome) → text ≡ tidied line
+    → AsksNothing b.desk.machine.checked line
+    → Leaves (TextAsks b.desk.machine.checked text) (IsWordWith text) holds source stimulus b outcome b'
+    → LineLeaves holds source stimulus b line outcome b'
+loose-line holds source stimulus line text b b' outcome e nothing h =
+    leaves-by (TextAsks b.desk.machine.checked (tidied line)) (LineAsks b.desk.machine.checked line) (IsWordWith (tidied line))
+    (IsWordWith (tidied line)) holds source stimulus b b' outcome (λ deed asks. inr (nothing, asks)) (λ w rest is. is)
+    (subst (λ (t : List ℕ). Leaves (TextAsks b.desk.machine.checked t) (IsWordWith t) holds source stimulus b outcome b') e h)
+
+-- a text that is none of a script leaves what it leaves in a shell
+pub shell-text : (holds : Holding) (source stimulus text : List ℕ) (b b' : AtBench) (outcome : Outcome) → AsksNothing b.desk.machine.checked text
+    → Leaves (ShellAsks text) (IsWordWith text) holds source stimulus b outcome b'
+    → Leaves (TextAsks b.desk.machine.checked text) (IsWordWith text) holds source stimulus b outcome b'
+shell-text holds source stimulus text b b' outcome nothing h =
+    leaves-by (ShellAsks text) (TextAsks b.desk.machine.checked text) (IsWordWith text) (IsWordWith text) holds source stimulus
+    b b' outcome (λ deed asks. inr (nothing, asks)) (λ w rest is. is) h

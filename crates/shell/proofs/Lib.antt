@@ -1,0 +1,5 @@
+pub mod BeginLemmas
+pub mod LawLemmas
+pub mod LeavesLemmas
+pub mod OwnLemmas
+pub mod TakenLemmas

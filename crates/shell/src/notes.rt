@@ -1,0 +1,204 @@
+// What a session keeps in mind of its commands: the lines of a script that does the same, and the answers of one line.
+use debug_session::write_answer;
+use locked_execution::{Choice, Command, Desk, Machine, Reply};
+use plain_words::Text;
+use shell_desk::Watch;
+use std::alloc::Global;
+use std::mem;
+use system::System;
+
+/// Which answers of a line are kept.
+#[derive(Clone, Copy, Debug, PartialEq, Eq)]
+pub(crate) enum Shows {
+    None,
+    All,
+    /// but for those of branches that have no step, and of a breakpoint that is passed
+    Steps,
+}
+
+/// The record of a session.
+#[derive(Drop)]
+pub struct Notes {
+    alloc: Global,
+    script: Vec<u8>,
+    /// Whether there was memory for all lines of the script.
+    is_whole: bool,
+    /// The session whose lines come in the script.
+    session: u32,
+    shows: Shows,
+    shown: Text,
+    /// How many steps the commands of this line took or took back.
+    steps: u64,
+}
+
+impl Notes {
+    /// Nothing yet.
+    pub(crate) fn new(alloc: Global) -> Notes {
+        Notes {
+            alloc,
+            script: Vec::new(alloc),
+            is_whole: true,
+            session: 0,
+            shows: Shows::None,
+            shown: Text::new(alloc),
+            steps: 0,
+        }
+    }
+
+    /// Begins with the steps of this machine, in place of what was recorded.
+    pub(crate) fn begin_again(&mut self, machine: &Machine) {
+        self.script.clear();
+        self.is_whole = true;
+        self.session = 0;
+        for index in 0..machine.live_events().len() as u64 {
+            self.add_live(machine, index);
+        }
+    }
+
+    /// Adds the step at this index of the live ones.
+    fn add_live(&mut self, machine: &Machine, index: u64) {
+        let Some((_, event)) = machine.live_at(index) else {
+            return;
+        };
+        match event.choice(self.alloc) {
+            Ok(choice) => self.add_command(machine.checked().system(), 0, &Command::Step(choice)),
+            Err(_) => self.is_whole = false,
+        }
+    }
+
+    /// Begins a line, of which these answers are kept.
+    pub(crate) fn begin_line(&mut self, shows: Shows) {
+        self.shows = shows;
+        self.shown = Text::new(self.alloc);
+        self.steps = 0;
+    }
+
+    /// How many steps the commands of this line took or took back.
+    pub(crate) fn steps(&self) -> u64 {
+        self.steps
+    }
+
+    /// The answers of this line, `None` where there was no memory for them.
+    pub(crate) fn take_shown(&mut self) -> Option<Vec<u8>> {
+        let shown = mem::replace(&mut self.shown, Text::new(self.alloc));
+        shown.into_bytes().ok()
+    }
+
+    /// Adds a line of this session that asks for no command.
+    pub(crate) fn add_line(&mut self, session: u32, line: &[u8]) {
+        let mut text = self.begin_text(session);
+        text.add(line);
+        self.keep(text);
+    }
+
+    /// The lines so far, `None` where there was no memory for some.
+    pub(crate) fn script(&self) -> Option<&[u8]> {
+        if self.is_whole {
+            Some(self.script.as_slice())
+        } else {
+            None
+        }
+    }
+
+    /// Adds the line of a command of this session.
+    fn add_command(&mut self, system: &System, session: u32, command: &Command) {
+        let mut text = self.begin_text(session);
+        add_command(&mut text, system, command);
+        self.keep(text);
+    }
+
+    /// A text with the line that names the session, where it is another than before.
+    fn begin_text(&mut self, session: u32) -> Text {
+        let mut text = Text::new(self.alloc);
+        if session != self.session {
+            self.session = session;
+            text.add_counted(b"session ", u64::from(session), b"\n");
+        }
+        text
+    }
+
+    /// Keeps these lines.
+    fn keep(&mut self, text: Text) {
+        let kept = match text.into_bytes() {
+            Ok(bytes) => self.script.extend_from_slice(bytes.as_slice()).is_ok(),
+            Err(_) => false,
+        };
+        if !kept {
+            self.is_whole = false;
+        }
+    }
+
+    /// Keeps the answer to a command, where it is to be shown.
+    fn show(&mut self, desk: &Desk, command: &Command, reply: &Reply) {
+        if self.shows == Shows::None || (self.shows == Shows::Steps && is_done(reply)) {
+            return;
+        }
+        match write_answer(self.alloc, desk.machine().checked(), command, reply) {
+            Ok(bytes) => self.shown.add(bytes.as_slice()),
+            Err(error) => self.shown.add_if(Err(error), b""),
+        }
+    }
+}
+
+impl Watch for Notes {
+    fn see(&mut self, desk: &Desk, session: u32, command: &Command, reply: &Reply) {
+        if self.shows == Shows::Steps && is_idle(reply) {
+            return;
+        }
+        if is_step(reply) {
+            self.steps = self.steps.saturating_add(1);
+        }
+        self.add_command(desk.machine().checked().system(), session, command);
+        self.show(desk, command, reply);
+    }
+}
+
+/// Whether no branch had a step.
+fn is_idle(reply: &Reply) -> bool {
+    matches!(reply, Reply::Idle)
+}
+
+/// Whether a breakpoint was set or taken off.
+fn is_done(reply: &Reply) -> bool {
+    matches!(reply, Reply::Done)
+}
+
+/// Whether a step was taken or taken back.
+fn is_step(reply: &Reply) -> bool {
+    matches!(reply, Reply::Stepped(_, _) | Reply::Undone(_, _))
+}
+
+/// Adds the line of a command.
+fn add_command(text: &mut Text, system: &System, command: &Command) {
+    match command {
+        Command::Step(choice) => add_step(text, choice),
+        Command::Undo(ticket) => text.add_counted(b"undo ", *ticket, b"\n"),
+        Command::Roll(ticket) => text.add_counted(b"roll ", *ticket, b"\n"),
+        Command::RollValue(variable) => add_named(text, system, b"rollvalue ", *variable),
+        Command::Blame(variable) => add_named(text, system, b"blame ", *variable),
+        Command::Ready => text.add(b"ready\n"),
+        Command::Consequences(ticket) => text.add_counted(b"consequences ", *ticket, b"\n"),
+        Command::Live => text.add(b"live\n"),
+        Command::Value(variable) => add_named(text, system, b"value ", *variable),
+        Command::Branch(branch) => text.add_counted(b"branch ", u64::from(*branch), b"\n"),
+        Command::Break(line) => text.add_counted(b"break ", *line, b"\n"),
+        Command::Clear(line) => text.add_counted(b"clear ", *line, b"\n"),
+    }
+}
+
+/// Adds a line of a word and the name of a variable.
+fn add_named(text: &mut Text, system: &System, word: &[u8], variable: u32) {
+    text.add(word);
+    text.add_variable(system, Some(variable));
+    text.add(b"\n");
+}
+
+/// Adds the line of a step.
+fn add_step(text: &mut Text, choice: &Choice) {
+    text.add(b"step ");
+    text.add_place(&choice.place);
+    if choice.arm != 0 {
+        text.add_counted(b" ", u64::from(choice.arm), b"");
+    }
+    text.add(b"\n");
+}

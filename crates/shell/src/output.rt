@@ -1,0 +1,83 @@
+// What is written for people.
+ghost use Rattle.std.specs.Prelude.{◌≡◌, List, ℕ, ◌++◌, MatchOption, MatchResult};
+ghost use Rattle.std.specs.Io.KnownBytes.{Appends};
+ghost use Rattle.devices.specs.Counting.{device};
+ghost use Rattle.debug_session.specs.declared.fault.Fault.TheVariants.{WriteFailed};
+ghost use Rattle.shell.specs.Taken.{TellsLack};
+ghost use Rattle.shell.specs.walking.Next.{Answers};
+
+use crate::{Answer, Outcome};
+use debug_session::{Counted, Fault, write_out};
+use plain_words::Text;
+use std::io::Write;
+
+/// Writes an answer: that of a script first, and words behind it.
+pub(crate) fn write_answer<W: Write>(out: &mut Counted<W>, answer: Answer) -> Result<(), Fault>
+    ensures { MatchResult result
+        (λ _. Answers answer.own (λ text. text.items) (W.contents (device out.old)) (W.contents (device out.new)))
+        (λ fault. fault ≡ WriteFailed) }
+{
+    let Answer {
+        outcome,
+        own,
+        words,
+    } = answer;
+    match write_own(out, &own, outcome) {
+        Ok(()) => write_text(out, words),
+        Err(fault) => Err(fault),
+    }
+}
+
+/// Writes the answer of a script, or that there was no memory for it.
+fn write_own<W: Write>(
+    out: &mut Counted<W>,
+    own: &Option<Vec<u8>>,
+    outcome: Outcome,
+) -> Result<(), Fault>
+    ensures { MatchResult result
+        (λ _. (told : List ℕ) × Appends (W.contents (device out.old)) (W.contents (device out.new)) told
+        × MatchOption own.now (TellsLack told) (λ text. told ≡ text.items))
+        (λ fault. fault ≡ WriteFailed) }
+{
+    match own {
+        Some(bytes) => write_some(out, bytes.as_slice()),
+        None => write_some(out, lost(outcome)),
+    }
+}
+
+/// What is said where there was no memory for the answer of a script.
+fn lost(outcome: Outcome) -> &'static [u8]
+    ensures { TellsLack result.now }
+{
+    match outcome {
+        Outcome::Unread => b"  there was no memory to read this line, and nothing was done\n",
+        _ => b"  the line was done, but there was no memory for its answer\n",
+    }
+}
+
+/// Writes words, or that there was no memory for them.
+pub(crate) fn write_text<W: Write>(out: &mut Counted<W>, text: Text) -> Result<(), Fault>
+    ensures { MatchResult result
+        (λ _. (words : List ℕ) × Appends (W.contents (device out.old)) (W.contents (device out.new)) words)
+        (λ fault. fault ≡ WriteFailed) }
+{
+    match text.into_bytes() {
+        Ok(bytes) => write_some(out, bytes.as_slice()),
+        Err(_) => write_some(
+            out,
+            b"  there was no memory for the words that belong here\n",
+        ),
+    }
+}
+
+/// Writes the bytes, where there are some.
+pub(crate) fn write_some<W: Write>(out: &mut Counted<W>, bytes: &[u8]) -> Result<(), Fault>
+    ensures { MatchResult result
+        (λ _. Appends (W.contents (device out.old)) (W.contents (device out.new)) bytes.now)
+        (λ fault. fault ≡ WriteFailed) }
+{
+    if bytes.is_empty() {
+        return Ok(());
+    }
+    write_out(out, bytes)
+}

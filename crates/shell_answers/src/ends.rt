@@ -1,0 +1,170 @@
+// How a run, a way back and a number that means nothing ended.
+use crate::Scene;
+use crate::refused::add_refused;
+use crate::steps::steps_word;
+use locked_execution::{Command, Reply};
+use offered_sides::Side;
+use plain_words::{Text, add_reason};
+use shell_desk::{Deed, End};
+use system::{Branch, System};
+use waiting::{Partner, Progress, Waiting, who_waits};
+
+/// Why a run ended that took so many steps.
+pub fn run_text(scene: &Scene<'_>, end: End, taken: u64) -> Text {
+    let mut text = Text::new(scene.alloc);
+    match end {
+        End::Enough => add_taken(&mut text, taken, b", as many as were asked for\n"),
+        End::Idle => add_still(&mut text, scene, taken),
+        End::AtBreak(line) => {
+            add_taken(&mut text, taken, b"; ");
+            text.add_counted(b"the breakpoint on line ", line, b" ends the run. ");
+            text.add_counted(
+                b"`run` goes on from there, `clear ",
+                line,
+                b"` takes it off\n",
+            );
+        }
+        End::Refused(why) => {
+            add_taken(&mut text, taken, b"; ");
+            add_reason(&mut text, why);
+            text.add(b"\n");
+        }
+    }
+    text
+}
+
+/// Adds how many steps were taken.
+fn add_taken(text: &mut Text, taken: u64, behind: &[u8]) {
+    text.add_counted(b"  took ", taken, steps_word(taken));
+    text.add(behind);
+}
+
+/// Adds that all is done, or who waits.
+fn add_still(text: &mut Text, scene: &Scene<'_>, taken: u64) {
+    let live = scene.machine().live_events().len() as u64;
+    add_taken(text, taken, b"; ");
+    match who_waits(scene.alloc, scene.machine()) {
+        Ok(waiting) => match waiting.progress {
+            Progress::Done => {
+                text.add_counted(b"all done after ", live, steps_word(live));
+                text.add(b"\n");
+            }
+            _ => {
+                text.add_counted(b"nothing can go on after ", live, steps_word(live));
+                add_why_still(text, scene, &waiting);
+                add_waiting(text, scene, &waiting);
+            }
+        },
+        Err(_) => text.add(b"no branch has a step\n"),
+    }
+}
+
+/// Adds why nothing can go on, where that is plain: a ring of those that wait, or a stimulus that is used up.
+fn add_why_still(text: &mut Text, scene: &Scene<'_>, waiting: &Waiting) {
+    if !waiting.ring.is_empty() {
+        text.add(b": a deadlock, where each waits for the next\n");
+        return;
+    }
+    if let Some(channel) = used_up(scene, waiting) {
+        text.add(b": the stimulus of ");
+        text.add_channel(scene.system(), Some(channel));
+        text.add(b" is used up");
+    }
+    text.add(b"\n");
+}
+
+/// The channel of the first side of the circuit that waits for more than the stimulus has, if there is one.
+fn used_up(scene: &Scene<'_>, waiting: &Waiting) -> Option<u32> {
+    for (index, offered) in waiting.sides.as_slice().iter().enumerate() {
+        let is_of_circuit = scene.machine().line(&offered.place).is_some();
+        if let (Some(Partner::Gone), Some(channel)) = (
+            waiting.partners.get(index),
+            channel_taken(&offered.side),
+        ) {
+            if is_of_circuit && is_fed(scene.system(), channel) {
+                return Some(channel);
+            }
+        }
+    }
+    None
+}
+
+/// The channel on which the side takes something, if it does.
+fn channel_taken(side: &Side) -> Option<u32> {
+    match side {
+        Side::Receives(channel, _) | Side::Opens(channel, _) | Side::Syncs(channel) => Some(
+            *channel,
+        ),
+        _ => None,
+    }
+}
+
+/// Whether the stimulus has values or handshakes for the channel.
+fn is_fed(system: &System, channel: u32) -> bool {
+    for branch in system.environment.as_slice() {
+        if feeds(branch, channel) {
+            return true;
+        }
+    }
+    false
+}
+
+/// Whether the branch of the environment has some for the channel.
+fn feeds(branch: &Branch, channel: u32) -> bool {
+    match branch {
+        Branch::Feed(port, _, _) | Branch::Syncs(port, _) => *port == channel,
+        Branch::Drain(_) => false,
+    }
+}
+
+/// Adds who waits.
+pub(crate) fn add_waiting(text: &mut Text, scene: &Scene<'_>, waiting: &Waiting) {
+    let mut lines = Vec::new(scene.alloc);
+    let written = waiting.write_to(scene.machine(), &mut lines);
+    text.add_if(written, lines.as_slice());
+}
+
+/// What is said behind steps that were taken back, of which the last was answered so.
+pub fn way_text(scene: &Scene<'_>, last: &Option<Reply>, taken: u64) -> Text {
+    let mut text = Text::new(scene.alloc);
+    match last {
+        None => add_back(&mut text, scene, taken),
+        Some(Reply::Refused(why)) => add_refused(&mut text, scene, &Command::Ready, *why),
+        Some(_) => {}
+    }
+    text
+}
+
+/// Adds how many steps were taken back, and how many are left.
+fn add_back(text: &mut Text, scene: &Scene<'_>, taken: u64) {
+    let left = scene.machine().live_events().len() as u64;
+    if taken == 0 {
+        text.add(b"  no step was taken back: none is live, or none was asked for\n");
+        return;
+    }
+    text.add_counted(b"  took back ", taken, steps_word(taken));
+    text.add_counted(b"; ", left, steps_word(left));
+    text.add(if left == 1 {
+        b" is live\n"
+    } else {
+        b" are live\n"
+    });
+}
+
+/// What is said where a deed names what is not there.
+pub fn unknown_text(scene: &Scene<'_>, deed: &Deed) -> Text {
+    let mut text = Text::new(scene.alloc);
+    match deed {
+        Deed::Take(number) => {
+            text.add_counted(
+                b"  no step has the number ",
+                *number,
+                b" here; `ready` numbers those that can be taken\n",
+            );
+        }
+        _ => text.add(
+            b"  no branch was stepped yet; `next 0` steps branch 0, and `ready` numbers what can be taken\n",
+        ),
+    }
+    text
+}

@@ -1,0 +1,50 @@
+// Help: all words on one screen, or one word with an example.
+use crate::Scene;
+use crate::mistakes::add_nearest;
+use crate::usage::usage_of;
+use plain_words::Text;
+
+/// All words.
+const SCREEN: &[u8] = b"  ready, r       number the steps that can be taken; a bare number takes one
+  run [N]        step the branches in turn: to a breakpoint, to the end, N steps
+  next [K], n    the next step of branch K, or of the branch stepped last
+  undo, back [N] take back the newest step, the newest N
+  undo T         take back step T alone; roll T with all that depend on it
+  rollvalue X    take back what wrote X last, with all that depend on it
+  vars, value X  all variables, one variable
+  why X, why T   the steps that led to the value of X, to step T; with `all` all
+  waiting        who waits for whom
+  live, show T   the steps so far, one step in words
+  blame X        the last step that wrote X
+  consequences T the steps that depend on step T
+  list [LINE]    the source around a line: > can go on, * breakpoint, ! choice
+  view           the whole source with its marks
+  outline        branches, variables and channels with their numbers
+  break LINE     a breakpoint on a line; clear LINE takes it off
+  session K      the lines that follow are those of session K, 0 to 15
+  step PLACE [ARM], branch K, trace   as in a script
+  save NAME      the trace to a new file; load NAME takes the steps of a trace
+  script NAME    the lines so far to a new file; save! and script! write over
+  help WORD      more of one word, with an example
+  quit           end; what was saved stays
+";
+
+/// Adds help on all words, or on the one that `rest` names.
+pub(crate) fn add_help(text: &mut Text, scene: &Scene<'_>, rest: &[u8]) {
+    let word = rest.strip_prefix(b" ").unwrap_or(b"");
+    if word.is_empty() {
+        return text.add(SCREEN);
+    }
+    match usage_of(word) {
+        Some(usage) => {
+            text.add(b"  ");
+            text.add(usage.form.as_bytes());
+            text.add(b"\n    ");
+            text.add(usage.does.as_bytes());
+            text.add(b"\n    example: ");
+            text.add(usage.example.as_bytes());
+            text.add(b"\n");
+        }
+        None => add_nearest(text, scene.alloc, word),
+    }
+}

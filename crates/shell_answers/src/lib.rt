@@ -1,0 +1,26 @@
+//! What a shell says in plain words: behind an answer, on questions, and to mistakes.
+#![tactic(auto)]
+
+mod ends;
+mod first_lines;
+mod help;
+mod listing;
+mod mistakes;
+mod names;
+mod numbering;
+mod questions_asked;
+mod refused;
+mod replies;
+mod scene;
+mod showing;
+mod steps;
+mod usage;
+mod values;
+
+pub use ends::{run_text, unknown_text, way_text};
+pub use first_lines::greeting;
+pub use mistakes::mistake_text;
+pub use names::add_given;
+pub use questions_asked::question_text;
+pub use replies::reply_text;
+pub use scene::Scene;

@@ -1,0 +1,144 @@
+// Lines that say nothing here.
+use crate::Scene;
+use crate::names::{add_given, add_unknown_name};
+use crate::usage::{USAGES, add_usage, usage_of};
+use findings::Nearest;
+use line_text::cut_at_space;
+use plain_words::Text;
+use std::alloc::Global;
+use std::str;
+
+/// What is said to a line that says nothing: the nearest word where its word is none, else how the word is written.
+pub fn mistake_text(scene: &Scene<'_>, line: &[u8]) -> Text {
+    let mut text = Text::new(scene.alloc);
+    let (word, rest) = cut_at_space(line);
+    if usage_of(word).is_none() {
+        add_nearest(&mut text, scene.alloc, word);
+    } else if names_variable(word) && is_one_field(rest) {
+        add_unknown_name(&mut text, scene, rest.get(1..).unwrap_or(b""));
+    } else {
+        add_usage(&mut text, word);
+    }
+    text
+}
+
+/// Whether the name of a variable stands behind the word.
+fn names_variable(word: &[u8]) -> bool {
+    word == b"value".as_slice() || word == b"blame".as_slice() || word == b"rollvalue".as_slice()
+}
+
+/// Whether there is one field behind a space, and no more.
+fn is_one_field(rest: &[u8]) -> bool {
+    match rest {
+        [b' ', field @ ..] => !field.is_empty() && !field.contains(&b' '),
+        _ => false,
+    }
+}
+
+/// Adds that this is no word, and the nearest one, if one is near.
+pub(crate) fn add_nearest(text: &mut Text, alloc: Global, word: &[u8]) {
+    let given = str::from_utf8(word).unwrap_or("");
+    if given.is_empty() || given.len() > 40 {
+        text.add(b"  this says nothing here; `help` lists what you can type\n");
+        return;
+    }
+    text.add(b"  `");
+    add_given(text, word);
+    text.add(b"` is no word here; ");
+    match usual_word(given).or(nearest_word(alloc, given)) {
+        Some(near) => {
+            text.add(b"did you mean `");
+            text.add(near.as_bytes());
+            text.add(b"`?\n");
+        }
+        None => text.add(b"`help` lists what you can type\n"),
+    }
+}
+
+/// A word of other debuggers, and the one that does the same here.
+#[derive(Clone, Copy)]
+struct Usual {
+    given: &'static str,
+    word: &'static str,
+}
+
+/// What people type who know other debuggers.
+const USUALS: [Usual; 14] = [
+    Usual {
+        given: "exit",
+        word: "quit",
+    },
+    Usual {
+        given: "bye",
+        word: "quit",
+    },
+    Usual {
+        given: "q",
+        word: "quit",
+    },
+    Usual {
+        given: "?",
+        word: "help",
+    },
+    Usual {
+        given: "h",
+        word: "help",
+    },
+    Usual {
+        given: "man",
+        word: "help",
+    },
+    Usual {
+        given: "continue",
+        word: "run",
+    },
+    Usual {
+        given: "c",
+        word: "run",
+    },
+    Usual {
+        given: "go",
+        word: "run",
+    },
+    Usual {
+        given: "print",
+        word: "value",
+    },
+    Usual {
+        given: "p",
+        word: "value",
+    },
+    Usual {
+        given: "b",
+        word: "break",
+    },
+    Usual {
+        given: "l",
+        word: "list",
+    },
+    Usual {
+        given: "u",
+        word: "undo",
+    },
+];
+
+/// The word that does here what this one does elsewhere.
+fn usual_word(given: &str) -> Option<&'static str> {
+    for usual in &USUALS {
+        if usual.given == given {
+            return Some(usual.word);
+        }
+    }
+    None
+}
+
+/// The nearest word, if one is near.
+fn nearest_word(alloc: Global, given: &str) -> Option<&'static str> {
+    let mut nearest = Nearest::none();
+    for usage in &USAGES {
+        if nearest.offer(alloc, given, usage.word).is_err() {
+            return None;
+        }
+    }
+    nearest.name
+}

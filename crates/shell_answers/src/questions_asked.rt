@@ -1,0 +1,115 @@
+// What words that ask nothing of the desk are answered.
+use crate::Scene;
+use crate::ends::add_waiting;
+use crate::help::add_help;
+use crate::listing::add_lines;
+use crate::names::add_unknown_name;
+use crate::showing::{add_past, add_shown};
+use crate::usage::add_usage;
+use crate::values::{add_valued, add_variables};
+use line_text::read_ticket;
+use outline::outline_of;
+use plain_words::Text;
+use questions::{Reason, reason_of};
+use shell_desk::Word;
+use std::str;
+use waiting::who_waits;
+
+/// The answer to a word that asks nothing of the desk, or how it is written where `rest` does not fit.
+pub fn question_text(scene: &Scene<'_>, word: Word, rest: &[u8]) -> Text {
+    let mut text = Text::new(scene.alloc);
+    match word {
+        Word::Waiting if rest.is_empty() => add_who_waits(&mut text, scene),
+        Word::Outline if rest.is_empty() => add_outline(&mut text, scene),
+        Word::Vars if rest.is_empty() => add_variables(&mut text, scene),
+        Word::List => add_list(&mut text, scene, rest),
+        Word::Show => add_show(&mut text, scene, rest),
+        Word::Why => add_why(&mut text, scene, rest),
+        Word::Help => add_help(&mut text, scene, rest),
+        _ => add_usage(&mut text, word.spelling()),
+    }
+    text
+}
+
+/// Adds who waits.
+fn add_who_waits(text: &mut Text, scene: &Scene<'_>) {
+    match who_waits(scene.alloc, scene.machine()) {
+        Ok(waiting) => add_waiting(text, scene, &waiting),
+        Err(_) => text.add(b"  there was no memory to find who waits\n"),
+    }
+}
+
+/// Adds what there is in the system.
+fn add_outline(text: &mut Text, scene: &Scene<'_>) {
+    let mut lines = Vec::new(scene.alloc);
+    match outline_of(scene.alloc, scene.bench.desk().machine().checked()) {
+        Ok(outline) => {
+            let written = outline.write_to(&mut lines);
+            text.add_if(written, lines.as_slice());
+        }
+        Err(_) => text.add(b"  there was no memory for the outline\n"),
+    }
+}
+
+/// Adds the source, around a line where one is given.
+fn add_list(text: &mut Text, scene: &Scene<'_>, rest: &[u8]) {
+    if rest.is_empty() {
+        return add_lines(text, scene, None);
+    }
+    match read_ticket(rest) {
+        Some(line) => add_lines(text, scene, Some(line)),
+        None => add_usage(text, b"list"),
+    }
+}
+
+/// Adds one step.
+fn add_show(text: &mut Text, scene: &Scene<'_>, rest: &[u8]) {
+    match read_ticket(rest) {
+        Some(ticket) => add_shown(text, scene, ticket),
+        None => add_usage(text, b"show"),
+    }
+}
+
+/// Adds why a variable has its value, or why a step could be taken.
+fn add_why(text: &mut Text, scene: &Scene<'_>, rest: &[u8]) {
+    let Some(asked) = rest.strip_prefix(b" ") else {
+        return add_usage(text, b"why");
+    };
+    match asked.strip_suffix(b" all") {
+        Some(subject) => add_reason_of(text, scene, subject, true),
+        None => add_reason_of(text, scene, asked, false),
+    }
+}
+
+/// Adds why the subject is so.
+fn add_reason_of(text: &mut Text, scene: &Scene<'_>, subject: &[u8], all: bool) {
+    let Ok(name) = str::from_utf8(subject) else {
+        return add_usage(text, b"why");
+    };
+    match reason_of(scene.alloc, scene.machine(), name, all) {
+        Ok(reason) => add_reason(text, scene, subject, &reason),
+        Err(_) => text.add(b"  there was no memory to find it out\n"),
+    }
+}
+
+/// Adds the reason.
+fn add_reason(text: &mut Text, scene: &Scene<'_>, subject: &[u8], reason: &Reason) {
+    match reason {
+        Reason::Value(variable, past) => {
+            add_valued(text, scene, *variable);
+            add_past(text, scene, past, subject);
+        }
+        Reason::Step(_, past) => add_past(text, scene, past, subject),
+        Reason::Unwritten => {
+            text.add(b"  no live step wrote `");
+            text.add(subject);
+            text.add(b"`, so it is 0 as at the beginning\n");
+        }
+        Reason::Missing => {
+            text.add(b"  no live step has the number ");
+            text.add(subject);
+            text.add(b"; `live` lists them\n");
+        }
+        Reason::Unknown => add_unknown_name(text, scene, subject),
+    }
+}

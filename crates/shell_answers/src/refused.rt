@@ -1,0 +1,39 @@
+// What is told of a command that was refused.
+use crate::Scene;
+use crate::steps::{add_numbers, add_step, steps_word};
+use locked_execution::Command;
+use plain_words::{Text, add_reason, consequences_of};
+use runs::Refusal;
+
+/// Adds why the command was refused, and what helps.
+pub(crate) fn add_refused(text: &mut Text, scene: &Scene<'_>, command: &Command, why: Refusal) {
+    match (command, why) {
+        (Command::Undo(ticket), Refusal::NeededBy(other)) => add_needed(
+            text, scene, *ticket, other,
+        ),
+        _ => {
+            text.add(b"  ");
+            add_reason(text, why);
+            text.add(b"\n");
+        }
+    }
+}
+
+/// Adds that a step stays since another depends on it, and what a rollback of it takes back.
+fn add_needed(text: &mut Text, scene: &Scene<'_>, ticket: u64, other: u64) {
+    text.add_counted(b"  step ", ticket, b" stays: ");
+    add_step(text, scene, other);
+    text.add(b" depends on it. ");
+    text.add_counted(b"`roll ", ticket, b"` takes back ");
+    match consequences_of(scene.alloc, scene.machine(), ticket) {
+        Ok(tickets) => {
+            let count = tickets.len() as u64;
+            text.add_number(count);
+            text.add(steps_word(count));
+            text.add(b": ");
+            add_numbers(text, tickets.as_slice());
+        }
+        Err(_) => text.add(b"all of them"),
+    }
+    text.add(b"\n");
+}

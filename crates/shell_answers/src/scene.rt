@@ -1,0 +1,26 @@
+use machine::Machine;
+use plain_words::Elements;
+use shell_desk::Bench;
+use std::alloc::Global;
+use system::System;
+
+/// What is told of: a bench, the elements of the source's enumerations, and the source.
+#[derive(Clone, Copy)]
+pub struct Scene<'a> {
+    pub alloc: Global,
+    pub bench: &'a Bench,
+    pub elements: &'a Elements<'a>,
+    pub source: &'a [u8],
+}
+
+impl<'a> Scene<'a> {
+    /// The machine at the bench.
+    pub(crate) fn machine(&self) -> &'a Machine {
+        self.bench.desk().machine()
+    }
+
+    /// The system.
+    pub(crate) fn system(&self) -> &'a System {
+        self.bench.desk().machine().checked().system()
+    }
+}

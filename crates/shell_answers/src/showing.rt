@@ -1,0 +1,101 @@
+// One step in words, and what led to it.
+ghost use Rattle.runs.specs.Live.{IsLive};
+
+use crate::Scene;
+use crate::steps::{add_numbers, add_step, steps_word};
+use dependence::Live;
+use past::Past;
+use plain_words::{Text, consequences_of};
+
+/// Adds the live step of this ticket: what it does, on what it depends, and what depends on it.
+pub(crate) fn add_shown(text: &mut Text, scene: &Scene<'_>, ticket: u64) {
+    let live = scene.machine().live_events();
+    let Some(index) = live.index_of(ticket) else {
+        text.add_counted(
+            b"  no live step has the number ",
+            ticket,
+            b"; `live` lists them\n",
+        );
+        return;
+    };
+    text.add(b"  ");
+    add_step(text, scene, ticket);
+    text.add(b"\n");
+    add_leads(text, live, index as u64);
+    add_dependents(text, scene, ticket);
+}
+
+/// Adds on which steps the live step at this index depends directly.
+fn add_leads(text: &mut Text, live: &Live, index: u64) {
+    let Some((ticket, _)) = live.pair_at(index) else {
+        return;
+    };
+    let leads = leads_of(live, ticket);
+    if leads.is_empty() {
+        text.add(b"  it depends on no other step\n");
+    } else {
+        text.add(b"  it depends directly on");
+        text.add(steps_word(leads.len() as u64));
+        text.add(b" ");
+        add_numbers(text, leads);
+        text.add(b"\n");
+    }
+}
+
+/// The steps that the live step of this ticket follows.
+fn leads_of(live: &Live, ticket: u64) -> &[u64]
+    requires { IsLive live.now.live ticket }
+{
+    live.leads(ticket)
+}
+
+/// Adds how many steps depend on the one of this ticket.
+fn add_dependents(text: &mut Text, scene: &Scene<'_>, ticket: u64) {
+    let Ok(tickets) = consequences_of(scene.alloc, scene.machine(), ticket) else {
+        text.add(b"  there was no memory to list what depends on it\n");
+        return;
+    };
+    if let [_, others @ ..] = tickets.as_slice() {
+        if others.is_empty() {
+            text.add(b"  no step depends on it: `undo` takes it back alone\n");
+        } else {
+            text.add(b" ");
+            text.add(steps_word(others.len() as u64));
+            text.add(b" ");
+            add_numbers(text, others);
+            text.add(depend_word(others.len()));
+        }
+    }
+}
+
+/// That so many depend on it.
+fn depend_word(count: usize) -> &'static [u8] {
+    if count == 1 {
+        b" depends on it\n"
+    } else {
+        b" depend on it\n"
+    }
+}
+
+/// Adds a line for each of the steps that led to one, and how many are left out.
+pub(crate) fn add_past(text: &mut Text, scene: &Scene<'_>, past: &Past, subject: &[u8]) {
+    for told in past.events.as_slice() {
+        text.add(b"  ");
+        add_step(text, scene, told.ticket);
+        let follows = told.follows.as_slice();
+        if !follows.is_empty() {
+            text.add(b", after");
+            text.add(steps_word(follows.len() as u64));
+            text.add(b" ");
+            add_numbers(text, follows);
+        }
+        text.add(b"\n");
+    }
+    if past.left_out > 0 {
+        let count = past.left_out as u64;
+        text.add_counted(b"  ", count, steps_word(count));
+        text.add(b" without a value left out: `why ");
+        text.add(subject);
+        text.add(b" all`\n");
+    }
+}

@@ -1,0 +1,4 @@
+pub mod Counts
+pub mod Seen
+pub mod Stands
+pub mod walking

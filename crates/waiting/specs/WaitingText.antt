@@ -1,0 +1,130 @@
+-- The text that tells who waits, line by line.
+use Rattle.std.specs.Prelude.{ℕ, ◌+◌, List, [], ◌∷◌, ◌++◌, Bool, true, false, Option, None, Some, codes, length, slice_get}
+use Rattle.std.specs.Fmt.{decimal}
+use Rattle.std.specs.List.{flat_map}
+use Rattle.address.specs.Text.{text_of}
+use Rattle.system.specs.declared.system.System.{System}
+use Rattle.system_places.specs.SystemBranches.{branch_at}
+use Rattle.runs.specs.Events.{acting}
+use Rattle.runs.specs.Moves.{Place}
+use Rattle.runs.specs.declared.event.Event.{Event}
+use Rattle.line_text.specs.AnswerText.{ending, entry_text, numbered_text}
+use Rattle.line_text.specs.EventText.{channel_text}
+use Rattle.machine.specs.AtMachine.{AtMachine}
+use Rattle.offered_sides.specs.declared.side.OfferedSide.{OfferedSide}
+use Rattle.offered_sides.specs.declared.side.Side.{Side}
+use Rattle.offered_sides.specs.declared.side.Side.TheVariants as side
+use Rattle.rings.specs.declared.partner.Partner.{Partner}
+use Rattle.rings.specs.declared.partner.Partner.TheVariants as partner
+use Rattle.waiting.specs.Input.{fed_channel, lacks_input, line_at}
+use Rattle.waiting.specs.declared.progress.Progress.{Progress}
+use Rattle.waiting.specs.declared.progress.Progress.TheVariants.{GoesOn, Done, Stuck}
+use Rattle.waiting.specs.declared.waiting.Waiting.{Waiting}
+
+-- that nothing can go on, and whether more in the stimulus is all that is missing
+abbrev pub stuck_line : Bool → List ℕ
+stuck_line true = codes "out of input" ++ ending
+stuck_line false = codes "stuck" ++ ending
+
+-- how the run stands; of one that is stuck, whether it lacks input
+abbrev pub progress_line : Progress → Bool → List ℕ
+progress_line GoesOn lacks = codes "goes on" ++ ending
+progress_line Done lacks = codes "done" ++ ending
+progress_line Stuck lacks = stuck_line lacks
+
+-- ---- places
+
+-- a place behind the number by which `branch` calls its branch, if it lies in one
+abbrev pub in_branch : Option ℕ → Place → List ℕ
+in_branch None a = text_of a
+in_branch (Some k) a = codes "branch " ++ decimal k ++ codes " " ++ text_of a
+
+abbrev pub placed : System → Place → List ℕ
+placed system a = in_branch (branch_at system a) a
+
+-- the number of the branch; 0 where it lies in none, as no place of a run does
+abbrev pub branch_or_first : Option ℕ → ℕ
+branch_or_first None = 0
+branch_or_first (Some k) = k
+
+-- ---- the steps that can be taken, as `ready` has them, each behind the number of its branch
+abbrev pub ready_line : System → Event → List ℕ
+ready_line system e = entry_text system (codes "  branch") (branch_or_first (branch_at system (acting e))) e
+
+-- nothing where there is none
+abbrev pub ready_lines : System → List Event → List ℕ
+ready_lines system [] = []
+ready_lines system (e ∷ es) = numbered_text (codes "ready") (length (e ∷ es)) ++ flat_map (ready_line system) (e ∷ es)
+
+-- ---- what waits
+
+-- where it stands in the source
+abbrev pub line_text : Option ℕ → List ℕ
+line_text None = codes " environment:"
+line_text (Some line) = codes " line " ++ decimal line ++ codes ":"
+
+-- words, and the name of a channel
+abbrev pub on_channel : System → List ℕ → ℕ → List ℕ
+on_channel system words c = words ++ channel_text system (Some c)
+
+-- what it waits to do
+abbrev pub deed_text : System → Side → List ℕ
+deed_text system (side.Sends c v xs) = codes " sends " ++ decimal v.bits ++ on_channel system (codes " on ") c
+deed_text system (side.Receives c (Some x)) = on_channel system (codes " receives from ") c
+deed_text system (side.Receives c None) = on_channel system (codes " takes from ") c
+deed_text system (side.Syncs c) = on_channel system (codes " syncs on ") c
+deed_text system (side.Opens c k) = codes " opens arm " ++ decimal k ++ on_channel system (codes " on ") c
+deed_text system (side.Releases c) = on_channel system (codes " is held on ") c
+deed_text system (side.Closes c) = on_channel system (codes " closes ") c
+deed_text system (side.Assigns x v xs) = codes " assigns"
+deed_text system (side.Tests k xs) = codes " tests"
+deed_text system side.Turns = codes " turns"
+
+-- the stimulus of a channel is used up, or nobody else uses what a side on a line or of the environment waits on
+abbrev pub used_up_text : System → Option ℕ → Option ℕ → List ℕ
+used_up_text system (Some line) (Some c) = on_channel system (codes ", the stimulus of ") c ++ codes " is used up"
+used_up_text system _ _ = codes ", nobody else uses it any more"
+
+-- why no partner can come any more
+abbrev pub gone_text : System → Option ℕ → Side → List ℕ
+gone_text system line (side.Releases c) = codes ", by an arm that never ends"
+gone_text system line x = used_up_text system line (fed_channel system x)
+
+-- what is known of its partner
+abbrev pub partner_text : System → Option ℕ → Side → Option Partner → List ℕ
+partner_text system line x (Some (partner.Behind a)) = codes ", behind " ++ placed system a
+partner_text system line x (Some partner.Gone) = gone_text system line x
+partner_text system line x _ = []
+
+-- a side that waits
+abbrev pub side_line : System → Option ℕ → OfferedSide → Option Partner → List ℕ
+side_line system line x p =
+    codes "  " ++ placed system x.place ++ line_text line ++ deed_text system x.side ++ partner_text system line x.side p ++ ending
+
+-- these sides, of which the first has the partner of number n
+abbrev pub side_lines : AtMachine → List Partner → ℕ → List OfferedSide → List ℕ
+side_lines m partners n [] = []
+side_lines m partners n (x ∷ xs) =
+    side_line m.checked (line_at m x.place) x (slice_get partners n) ++ side_lines m partners (n + 1) xs
+
+-- ---- a ring
+
+-- the place of the side of this index
+abbrev pub ring_line : System → Option OfferedSide → List ℕ
+ring_line system None = []
+ring_line system (Some x) = codes "  " ++ placed system x.place ++ ending
+
+-- nothing where there is none
+abbrev pub ring_lines : System → List OfferedSide → List ℕ → List ℕ
+ring_lines system sides [] = []
+ring_lines system sides (i ∷ ring) =
+    numbered_text (codes "ring") (length (i ∷ ring)) ++ flat_map (λ (j : ℕ). ring_line system (slice_get sides j)) (i ∷ ring)
+
+-- ---- all of it
+abbrev pub waiting_text : AtMachine → Waiting → List ℕ
+waiting_text m w =
+    progress_line w.progress (lacks_input m w)
+    ++ ready_lines m.checked w.ready
+    ++ numbered_text (codes "waiting") (length w.sides)
+    ++ side_lines m w.partners.items 0 w.sides
+    ++ ring_lines m.checked w.sides w.ring.items

@@ -1,0 +1,103 @@
+"""The runs that are drawn: those of examples/, random ones, and some that go to a limit."""
+
+from dataclasses import dataclass
+from pathlib import Path
+from random import Random
+
+from random_cases.cases import case_of
+from reference.debugger import accept
+from reference.faults import Refused
+from reference.machine import Machine
+from reference.traces import load, trace_of
+
+EXAMPLES = Path(__file__).resolve().parents[2] / "examples"
+HEADER = b"balsadbg trace 1\n"
+
+
+@dataclass(frozen=True)
+class Case:
+    name: str
+    source: bytes
+    stimulus: bytes
+    trace: bytes
+
+
+def random_trace(source: bytes, stimulus: bytes, seed: int, steps: int) -> bytes:
+    """The trace of so many random steps, or of fewer, where none is left."""
+    random, machine = Random(seed), Machine(accept(source, stimulus))
+    for _ in range(steps):
+        ready = machine.ready()
+        if not ready:
+            break
+        event = random.choice(ready)
+        machine.step(event.acting, event.arm)
+    return "".join(line + "\n" for line in trace_of(machine)).encode()
+
+
+def examples(lengths: tuple[int, ...] = (0, 7, 60, 200)) -> list[Case]:
+    """The runs that lie in examples/, and of each circuit random ones of so many steps."""
+    found = []
+    for file in sorted(EXAMPLES.glob("*.balsa")):
+        source, stimulus = file.read_bytes(), file.with_suffix(".stimulus").read_bytes()
+        trace = file.with_suffix(".trace")
+        if trace.exists():
+            found.append(Case(file.stem, source, stimulus, trace.read_bytes()))
+        for seed, steps in enumerate(lengths):
+            found.append(Case(f"{file.stem}_{steps}", source, stimulus, random_trace(source, stimulus, seed, steps)))
+    return found
+
+
+def random_runs(count: int) -> list[Case]:
+    found, seed = [], 0
+    while len(found) < count:
+        seed += 1
+        case = case_of("trace-run", seed)
+        try:
+            load(accept(case.source, case.stimulus), case.trace)
+        except Refused:
+            continue
+        found.append(Case(f"random_{seed}", case.source, case.stimulus, case.trace))
+    return found
+
+
+def long_run(rounds: int) -> Case:
+    """So many rounds of one step in each of the two buffers of examples/, behind which both wait for a value: five events a round."""
+    lines = []
+    for turn in range(rounds):
+        lines += [f"step /0/0.{2 * turn} 0", f"step /0/0.{2 * turn + 1}.0 0", f"step /0/1.{2 * turn} 0", f"step /0/1.{2 * turn + 1}.0 0",
+                  f"step /2.{turn} 0"]
+    stimulus = "i =" + " 5" * rounds + "\n"
+    trace = HEADER + "".join(line + "\n" for line in lines).encode()
+    return Case(f"long_{5 * rounds}", (EXAMPLES / "two_buffers.balsa").read_bytes(), stimulus.encode(), trace)
+
+
+def one_lane(turns: int) -> Case:
+    """One branch that counts, so often."""
+    source = b"type byte is 8 bits\nprocedure count is\n  variable x : byte\nbegin\n  loop\n    x := (x + 1 as byte)\n  end\nend\n"
+    lines = "".join(f"step /0.{turn} 0\n" for turn in range(turns))
+    return Case(f"one_lane_{turns}", source, b"", HEADER + lines.encode())
+
+
+def wide(lanes: int) -> Case:
+    """So many branches side by side, each with one assignment."""
+    names = [f"x{number}" for number in range(lanes)]
+    source = ("type byte is 8 bits\nprocedure wide is\n  variable " + ", ".join(names) + " : byte\nbegin\n  "
+              + " || ".join(f"{name} := 1" for name in names) + "\nend\n")
+    lines = "".join(f"step /0/{number} 0\n" for number in range(lanes))
+    return Case(f"wide_{lanes}", source.encode(), b"", HEADER + lines.encode())
+
+
+def long_names(letters: int) -> Case:
+    """A port, a channel and a variable with names of so many letters."""
+    port, channel, variable = ("p" * letters, "c" * letters, "v" * letters)
+    source = (f"type byte is 8 bits\nprocedure names (output {port} : byte) is\n  channel {channel} : byte\n  variable {variable} : byte\n"
+              f"begin\n  [ {channel} <- 1 || {channel} -> {variable} ] ;\n  {port} <- {variable}\nend\n")
+    trace = HEADER + b"step /0.0/1 0\nstep /1.0 0\n"
+    return Case(f"names_{letters}", source.encode(), b"", trace)
+
+
+def odd_bytes() -> Case:
+    """A source with a comment that is no UTF-8, that would end a script or a comment of a page, and that has signs of XML."""
+    comment = b"-- \xff\xfe \xc3( </script><!-- & ]]> \xe2\x82\xac \x01\n"
+    case = next(one for one in examples(()) if one.name == "one")
+    return Case("odd_bytes", comment + case.source, case.stimulus, case.trace)
