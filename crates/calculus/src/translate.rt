@@ -300,7 +300,7 @@ fn channels_of(alloc: Global, arms: &[Arm]) -> Result<Items<u32>, AllocError>
 
 /// The children one after another.
 #[tactic(auto, using(crate::proofs::Children::sequence_begins))]
-pub(crate) fn in_sequence(
+pub fn in_sequence(
     alloc: Global,
     children: Items<Shared<Left>>,
 ) -> Result<Shared<Left>, AllocError>
@@ -316,7 +316,7 @@ pub(crate) fn in_sequence(
 
 /// The children beside one another.
 #[tactic(auto, using(crate::proofs::Children::parallel_begins))]
-pub(crate) fn in_parallel(
+pub fn in_parallel(
     alloc: Global,
     children: Items<Shared<Left>>,
 ) -> Result<Shared<Left>, AllocError>

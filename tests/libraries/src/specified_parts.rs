@@ -5,14 +5,13 @@ use crate::examples::{BUFFER, TWO_BUFFERS};
 use crate::told::{events, into, meet, turn};
 use address::{Address, before, read};
 use calculus::{Choice, Event, Kind, Plain, replay, same_run};
-use channel_uses::ChannelUses;
 use dependence::Live;
 use elaborate::{Stimulus, System, elaborate};
 use event_inverse::{Record, apply, invert};
 use lexer::{Token, lex};
 use parser::parse;
-use process_tree::{Tree, system_code};
-use rendezvous::{event_with, ready_events};
+use process_tree::Tree;
+use rendezvous::{event_at, ready_events};
 use sharing_check::{Checked, check_sharing};
 use std::alloc::{AllocError, Global};
 use std::cmp::Ordering;
@@ -117,23 +116,15 @@ fn a_list_is_replayed(rt: HostRuntime) -> Result<(), Fail> {
 #[test]
 fn an_event_is_found_made_and_taken_back(rt: HostRuntime) -> Result<(), Fail> {
     let checked = BUFFER.checked(rt.alloc())?;
-    let code = system_code(rt.alloc(), checked.system())?;
-    let uses = ChannelUses::new(rt.alloc(), &code)?;
     let mut tree: Tree = Tree::new(rt.alloc(), checked.system())?;
     let mut store: Store = Store::new(rt.alloc(), checked.system())?;
-    let ready: Result<Items<Event>, AllocError> = ready_events(rt.alloc(), &uses, &tree, &store);
+    let ready: Result<Items<Event>, AllocError> = ready_events(rt.alloc(), &tree, &store);
     assert_eq!(rt; ready?.len(), 1);
     let choice = Choice {
         place: read(rt.alloc(), b"/0.0")?.ok_or("a place")?,
         arm: 0,
     };
-    let found: Result<Option<Event>, AllocError> = event_with(
-        rt.alloc(),
-        &uses,
-        &tree,
-        &store,
-        &choice,
-    );
+    let found: Result<Option<Event>, AllocError> = event_at(rt.alloc(), &tree, &store, &choice);
     let event = found?.ok_or("an event")?;
     let record: Result<Record, AllocError> = apply(rt.alloc(), &mut tree, &mut store, event);
     let back: Event = invert(&mut tree, &mut store, record?);
