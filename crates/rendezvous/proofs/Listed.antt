@@ -1,9 +1,8 @@
 -- The allowed events, as the slow replay lists them, of the state of a tree.
-use Rattle.std.proofs.Common.{◌≡◌, List, sym, subst}
+use Rattle.std.proofs.Common.{List}
 use Rattle.std.specs.Prelude.{◌↔◌}
 use Rattle.syntax.specs.Lists.{In}
 use Rattle.runs.specs.Ready.{ReadyList}
-use Rattle.runs.specs.Choices.{choice_of}
 use Rattle.runs.specs.Steps.{State, Allowed}
 use Rattle.runs.specs.declared.event.Choice.{Choice}
 use Rattle.runs.specs.declared.event.Event.{Event}

@@ -78,32 +78,41 @@ pub(crate) fn left_of_repeat(
 
 /// An `if` or `case` before its test.
 #[cycle(left_of_code)]
-#[tactic(auto, using(crate::proofs::Rows::arms_listed))]
 pub(crate) fn left_of_decide(alloc: Global, decide: &Decide) -> Result<Shared<Left>, AllocError>
     ensures { IfOk result (λ made.
         residual_of_left made ≡ model.test (decide_view decide.now).0 (residual_arms (decide_view decide.now).1)) }
 {
-    let arms = lefts_of_codes(alloc, decide.arms.as_slice())?;
     let decision = decide.decision.copy(alloc)?;
+    let arms = lefts_of_codes(alloc, decide.arms.as_slice())?;
     Left::test(alloc, decision, arms)
 }
 
 /// Arms that wait on their channels.
 #[cycle(left_of_code)]
-#[tactic(auto, using(crate::proofs::Rows::arms_listed))]
 pub(crate) fn left_of_await(alloc: Global, waiting: &Await) -> Result<Shared<Left>, AllocError>
     ensures { IfOk result (λ made.
         residual_of_left made ≡ model.choose (await_view waiting.now).0 (residual_arms (await_view waiting.now).1)) }
 {
     let arms = lefts_of_codes(alloc, waiting.arms.as_slice())?;
+    choose(alloc, waiting.channels.as_slice(), arms)
+}
+
+/// Arms that wait on these channels.
+fn choose(
+    alloc: Global,
+    channels: &[u32],
+    arms: Items<Shared<Left>>,
+) -> Result<Shared<Left>, AllocError>
+    ensures { IfOk result (λ made.
+        residual_of_left made ≡ model.choose channels.now (arms_of (map residual_of_left arms) None)) }
+{
     let arms = Shared::new(alloc, arms)?;
-    let channels = Vec::from_slice(alloc, waiting.channels.as_slice())?;
+    let channels = Vec::from_slice(alloc, channels)?;
     Shared::new(alloc, Left::Choose(Items::from_vec(channels), arms))
 }
 
 /// Children one after another.
 #[cycle(left_of_code)]
-#[tactic(auto, using(crate::proofs::Rows::sequence_listed))]
 fn left_in_turn(alloc: Global, row: &Row) -> Result<Shared<Left>, AllocError>
     ensures { IfOk result (λ made. residual_of_left made ≡ residual_sequence 0 (row_view row.now)) }
 {
@@ -113,7 +122,6 @@ fn left_in_turn(alloc: Global, row: &Row) -> Result<Shared<Left>, AllocError>
 
 /// Children side by side.
 #[cycle(left_of_code)]
-#[tactic(auto, using(crate::proofs::Rows::parallel_listed))]
 fn left_side_by_side(alloc: Global, row: &Row) -> Result<Shared<Left>, AllocError>
     ensures { IfOk result (λ made. residual_of_left made ≡ residual_parallel 0 (row_view row.now)) }
 {
@@ -124,7 +132,7 @@ fn left_side_by_side(alloc: Global, row: &Row) -> Result<Shared<Left>, AllocErro
 /// What each of the commands is to do.
 #[cycle(left_of_code)]
 fn lefts_of_codes(alloc: Global, codes: &[Code]) -> Result<Items<Shared<Left>>, AllocError>
-    ensures { IfOk result (λ made. map residual_of_left made ≡ map residual (map code_view codes.now)) }
+    ensures { IfOk result (λ made. map residual_of_left made ≡ map (λ c. residual (code_view c)) codes.now) }
 {
     let mut lefts = Items::with_capacity(alloc, codes.len())?;
     for code in codes {

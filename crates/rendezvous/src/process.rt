@@ -1,5 +1,5 @@
 // What the processes of a tree still have to do, as the slow replay holds it.
-ghost use Rattle.std.specs.Prelude.{◌≡◌, ◌≤◌, ◌++◌, ◌∷◌, length, map, take, drop, IfOk};
+ghost use Rattle.std.specs.Prelude.{◌≡◌, ◌≤◌, ◌++◌, ◌∷◌, length, map, take, IfOk};
 ghost use Rattle.system.specs.Residual as model;
 ghost use Rattle.calculus.specs.Left.{residual_of_left};
 ghost use Rattle.process_tree.specs.Left.{left, left_parallel, left_sequence, puts, residual, with_value};
@@ -12,9 +12,7 @@ use crate::code::{
 };
 use calculus::{Left, in_parallel, in_sequence, with_received, within};
 use offered_sides::body_of_turn;
-use process_tree::{
-    Await, Code, Decide, Gate, Phase, Proc, Repeat, Row, Sender, Tested, Turns,
-};
+use process_tree::{Await, Code, Decide, Gate, Phase, Proc, Repeat, Row, Sender, Tested, Turns};
 use std::alloc::{AllocError, Global};
 use syntax::{Items, Shared};
 use value::Value;
@@ -40,7 +38,12 @@ pub(crate) fn left_of(
         Proc::Loop(repeat, turns) => left_of_loop(alloc, turns, repeat.get(), received),
         Proc::Test(decide, tested) => left_of_test(alloc, tested, decide.get(), received),
         Proc::Arms(waiting, gate) => left_of_arms(alloc, gate, waiting.get(), received),
-        Proc::Sequence(row, begun) => left_of_sequence(alloc, begun.as_slice(), row.get(), received),
+        Proc::Sequence(row, begun) => left_of_sequence(
+            alloc,
+            begun.as_slice(),
+            row.get(),
+            received,
+        ),
         Proc::Parallel(procs) => left_of_parallel(alloc, procs.as_slice(), received),
         Proc::Drained(channel, count) => Shared::new(alloc, Left::Drain(*channel, *count)),
     }
@@ -154,7 +157,6 @@ fn left_of_arms(
 
 /// Children one after another.
 #[cycle(left_of)]
-#[tactic(auto, using(crate::proofs::Rows::begun_listed))]
 fn left_of_sequence(
     alloc: Global,
     begun: &[Proc],
@@ -167,13 +169,12 @@ fn left_of_sequence(
     let codes = row.codes.as_slice();
     let end = begun.len().min(codes.len());
     let mut children = lefts_of(alloc, begun, end, received)?;
-    add_others(alloc, codes, end, received, &mut children)?;
+    add_others(alloc, &codes[end..], received, &mut children)?;
     in_sequence(alloc, children)
 }
 
 /// Children side by side.
 #[cycle(left_of)]
-#[tactic(auto, using(crate::proofs::Rows::procs_listed))]
 fn left_of_parallel(
     alloc: Global,
     procs: &[Proc],
@@ -196,7 +197,7 @@ fn lefts_of(
 ) -> Result<Items<Shared<Left>>, AllocError>
     requires { end ≤ length procs.now }
     ensures { IfOk result (λ made.
-        map residual_of_left made ≡ map (left received.now) (map proc_view (take end procs.now))) }
+        map residual_of_left made ≡ map (λ p. left received.now (proc_view p)) (take end procs.now)) }
 {
     let mut lefts = Items::with_capacity(alloc, end)?;
     let mut number = 0;
@@ -207,21 +208,18 @@ fn lefts_of(
     Ok(lefts)
 }
 
-/// Adds what the commands from this one on are to do, with the received values put.
+/// Adds what the commands are to do, with the received values put.
 fn add_others(
     alloc: Global,
     codes: &[Code],
-    from: usize,
     received: &[(u32, Value)],
     lefts: &mut Items<Shared<Left>>,
 ) -> Result<(), AllocError>
-    requires { from ≤ length codes.now }
     ensures { IfOk result (λ _.
         map residual_of_left lefts.new
-        ≡ map residual_of_left lefts.old
-        ++ map (λ c. puts received.now (residual c)) (map code_view (drop from codes.now))) }
+        ≡ map residual_of_left lefts.old ++ map (λ c. puts received.now (residual (code_view c))) codes.now) }
 {
-    for code in &codes[from..] {
+    for code in codes {
         let left = left_of_code(alloc, code)?;
         lefts.push(put_all(alloc, left, received)?)?;
     }
@@ -241,9 +239,7 @@ fn with_one(
     if let Some(value) = value {
         inner.push((channel, value))?;
     }
-    for one in received {
-        inner.push(*one)?;
-    }
+    inner.extend_from_slice(received)?;
     Ok(inner)
 }
 

@@ -17,11 +17,7 @@ use syntax::Items;
 /// then of their arms, then of their other addresses. It asks nothing of the tree, and copies all that is left of it.
 /// It is an error if there is no memory; a place with a number of 2^32 and more is answered so too, which no run
 /// reaches.
-pub fn ready_events(
-    alloc: Global,
-    tree: &Tree,
-    store: &Store,
-) -> Result<Items<Event>, AllocError>
+pub fn ready_events(alloc: Global, tree: &Tree, store: &Store) -> Result<Items<Event>, AllocError>
     ensures { IfOk result (λ events. ReadyList (state_of tree.now store.now) events) }
 {
     let state = plain_state(alloc, tree, store)?;

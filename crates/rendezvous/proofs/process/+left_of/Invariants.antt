@@ -7,7 +7,7 @@ use Rattle.rendezvous.proofs.process.+left_of.Given as goal
 
 abbrev pub invariant-lefts_of-children : goal.invariant-lefts_of-children
 invariant-lefts_of-children l =
-    (l.number ≤ l.end) × (map residual_of_left l.lefts ≡ map (left l.received) (map proc_view (take l.number l.procs)))
+    (l.number ≤ l.end) × (map residual_of_left l.lefts ≡ map (λ p. left l.received (proc_view p)) (take l.number l.procs))
 
 abbrev pub decreases-lefts_of-children : goal.decreases-lefts_of-children
 decreases-lefts_of-children l = l.end - l.number

@@ -1,5 +1,5 @@
 -- What the slow replay lists, in order.
-use Rattle.std.proofs.Common.{◌≡◌, [], sym, subst}
+use Rattle.std.proofs.Common.{[], sym, subst}
 use Rattle.std.proofs.lemmas.Result.{IfOk-weaker}
 use Rattle.runs.specs.Steps.{State}
 use Rattle.runs.specs.WellFormed.{WellFormed}
