@@ -1,5 +1,5 @@
 -- What the test of order tells, and where it puts an event.
-use Rattle.std.proofs.Common.{◌≡◌, ◌⊎◌, inl, inr, ℕ, suc, ◌==◌, ◌<◌, List, [], ◌∷◌, ◌++◌, Bool, true, false, cond, length, take, drop, refl, sym, ◌∙◌, ap, subst, arith}
+use Rattle.std.proofs.Common.{◌≡◌, ◌⊎◌, inl, inr, ℕ, suc, ◌==◌, ◌<◌, ◌≤◌, List, [], ◌∷◌, ◌++◌, Bool, true, false, cond, length, take, drop, refl, sym, ◌∙◌, ap, subst, arith}
 use Rattle.std.proofs.lemmas.Bool.{ltb-true}
 use Rattle.std.proofs.lemmas.Bool.Decides.{nat_tests}
 use Rattle.std.specs.Prelude.{nat_lt}
@@ -204,3 +204,9 @@ sorting-stop listed left sorted list s el is =
 pub left-none : (left : List Event) (n : ℕ) → n ≡ length left → n ≡ 0 → left ≡ []
 left-none [] n is none = refl
 left-none (e ∷ left) n is none = absurd (omega arith)
+
+-- one event at most is in order
+pub sorted-few : (es : List Event) (n : ℕ) → n ≡ length es → n ≤ 1 → SortedOf es es
+sorted-few [] n is few = record { same = λ e. (λ i. i, λ i. i); in_order = tt }
+sorted-few (e ∷ []) n is few = record { same = λ f. (λ i. i, λ i. i); in_order = (tt, tt) }
+sorted-few (e ∷ f ∷ es) n is few = absurd (omega arith)

@@ -63,8 +63,19 @@ pub fn ready_below(
 }
 
 /// The same events in the order of their acting addresses, then of their arms, then of their other addresses; each
-/// stands once.
+/// stands once. One event, as a step finds it nearly always, is in order as it is.
 pub fn in_order(alloc: Global, events: Items<Event>) -> Result<Items<Event>, AllocError>
+    ensures { (S : State) → WellFormed S.residual → ((e : any.Event) → In e events → Allowed S e) →
+        IfOk result (λ sorted. SortedOf events sorted) }
+{
+    if events.len() <= 1 {
+        return Ok(events);
+    }
+    sort(alloc, events)
+}
+
+/// The same, event by event.
+fn sort(alloc: Global, events: Items<Event>) -> Result<Items<Event>, AllocError>
     ensures { (S : State) → WellFormed S.residual → ((e : any.Event) → In e events → Allowed S e) →
         IfOk result (λ sorted. SortedOf events sorted) }
 {

@@ -5,7 +5,7 @@ use Rattle.runs.specs.Steps.{State, Allowed}
 use Rattle.runs.specs.WellFormed.{WellFormed}
 use Rattle.runs.specs.declared.event.Event.{Event}
 use Rattle.allowed_events.proofs.Sooner.{Sorting}
-use Rattle.allowed_events.proofs.ready.in_order.Given as goal
+use Rattle.allowed_events.proofs.ready.sort.Given as goal
 
 abbrev pub invariant-loop-event : goal.invariant-loop-event
 invariant-loop-event l =
