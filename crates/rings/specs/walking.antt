@@ -1,2 +1,4 @@
+pub mod Loosened
+pub mod Loosening
 pub mod Search
 pub mod Seen
