@@ -4,7 +4,7 @@
 ghost use Rattle.std.specs.Prelude.{ℕ, List, IfOk, OnOk, ⊤};
 
 use std::alloc::Global;
-use std::fs::File;
+use std::fs::{File, Permissions};
 use std::io::{Eprint, Error, ErrorKind, Write};
 use std::time::{Clock, Duration};
 use std::{fs, io};
@@ -87,10 +87,8 @@ impl<R: fs::Files + AllocGlobal + Clock + Eprint> Host for Local<'_, R> {
 
     fn write(&self, alloc: Global, name: &str, bytes: &[u8], over: bool) -> Result<(), FileFault> {
         match (standing_at(self.rt, name)?, over) {
-            (Standing::Nothing, false) => write_beside(self.rt, alloc, name, bytes, false),
-            (Standing::Nothing | Standing::File, true) => {
-                write_beside(self.rt, alloc, name, bytes, true)
-            }
+            (Standing::Nothing, _) => write_beside(self.rt, alloc, name, bytes, over, None),
+            (Standing::File, true) => write_over(self.rt, alloc, name, bytes),
             (Standing::Link, true) => write_behind(self.rt, alloc, name, bytes),
             (_, false) => Err(FileFault::Exists),
         }
@@ -160,7 +158,7 @@ fn write_behind<R: fs::Files + AllocGlobal>(
     bytes: &[u8],
 ) -> Result<(), FileFault> {
     match fs::canonicalize(rt, link) {
-        Ok(file) => match write_beside(rt, alloc, file.as_str(), bytes, true) {
+        Ok(file) => match write_over(rt, alloc, file.as_str(), bytes) {
             Err(FileFault::PartExists) => Err(FileFault::LinkPartExists),
             done => done,
         },
@@ -168,24 +166,50 @@ fn write_behind<R: fs::Files + AllocGlobal>(
     }
 }
 
-/// Writes the bytes to a file beside, and gives it the name, over a file that has it or where none has it.
+/// Writes the bytes over a file. Who may read and write it stays as it was.
+fn write_over<R: fs::Files>(
+    rt: &R,
+    alloc: Global,
+    name: &str,
+    bytes: &[u8],
+) -> Result<(), FileFault> {
+    match rt.metadata(name) {
+        Ok(found) => write_beside(rt, alloc, name, bytes, true, Some(found.permissions())),
+        Err(error) => Err(fault_of(&error)),
+    }
+}
+
+/// Writes the bytes to a file beside, which has these permissions if there are some, and gives it the name, over a file
+/// that has it or where none has it.
 fn write_beside<R: fs::Files>(
     rt: &R,
     alloc: Global,
     name: &str,
     bytes: &[u8],
     over: bool,
+    permissions: Option<Permissions>,
 ) -> Result<(), FileFault> {
     let Ok(beside) = format!(in alloc; "{name}.part") else {
         return Err(FileFault::Memory);
     };
     match File::create_new(rt, beside.as_str()) {
         Ok(file) => {
-            let written = write_whole(file, bytes);
+            let written = match protect(rt, beside.as_str(), permissions) {
+                Ok(()) => write_whole(file, bytes),
+                Err(error) => Err(error),
+            };
             finish(rt, name, beside.as_str(), over, written)
         }
         Err(error) if error.kind() == ErrorKind::AlreadyExists => Err(FileFault::PartExists),
         Err(error) => Err(fault_of(&error)),
+    }
+}
+
+/// Gives the file these permissions, if there are some.
+fn protect<R: fs::Files>(rt: &R, name: &str, permissions: Option<Permissions>) -> io::Result<()> {
+    match permissions {
+        Some(permissions) => rt.set_permissions(name, permissions),
+        None => Ok(()),
     }
 }
 
