@@ -1,1 +1,3 @@
 pub mod EachStands
+pub mod SpotLaws
+pub mod WaitLaws

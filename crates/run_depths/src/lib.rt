@@ -1,9 +1,11 @@
-//! The row of each live event in a picture, which is the length of the longest chain of events that led to it, and how far on its
-//! followers stand.
+//! The row of each live event in a picture, which is the length of the longest chain of events that led to it, how far on its
+//! followers stand, and the orders that only a shared variable makes.
 #![tactic(auto)]
 
 mod ahead;
 mod depth;
+mod races;
 
 pub use ahead::all_ahead;
 pub use depth::depths_of;
+pub use races::{Race, races_of};

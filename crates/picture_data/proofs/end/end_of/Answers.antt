@@ -1,0 +1,32 @@
+use Rattle.std.proofs.Common.{◌≡◌, ◌∙◌, ℕ, List, ap, subst}
+use Rattle.std.specs.Prelude.{slice_get}
+use Rattle.std.specs.List.{flat_map}
+use Rattle.std.specs.Option.{option_to_list}
+use Rattle.runs.specs.declared.event.Event.{Event}
+use Rattle.picture_data.specs.Shown.{EachStandsIn}
+use Rattle.picture_data.specs.Spots.{ready_spots}
+use Rattle.picture_data.specs.walking.SpotsSoFar.{AddsSpots}
+use Rattle.picture_data.proofs.WaitLaws.{shows-waits}
+use Rattle.picture_data.proofs.end.end_of.Goals as goal
+
+pub returns : goal.returns
+returns c =
+    let told = c.in_ok-waiting.ensures in
+    record {
+      ready = c.in_ok-ready.ensures;
+      sides = subst (λ (es : List Event). EachStandsIn c.args.machine.now c.args.table.now.lanes.items es c.in_ok-ready_sides.ready_sides.items)
+          c.as_slice-events.ensures c.in_ok-ready_sides.ensures;
+      progress = (told.0, told.1, told.2.progress);
+      waits = shows-waits c.args.machine.now c.args.table.now.lanes.items c.in_ok-waiting.waiting _ c.in_ok-shown.shown.places.items
+          c.in_ok-shown.shown.place_of_side.items c.in_ok-waiting.ensures c.in_ok-shown.ensures
+          (subst
+          (λ (es : List Event).
+          AddsSpots c.args.table.now.lanes.items c.in_ok-shown.shown.places.items c.add_ready_places.new.places.items
+          (ready_spots c.args.machine.now es))
+          c.as_slice-events.ensures c.in_ok-add_ready_places.ensures)
+          (c.in_ok-ring.ensures
+          ∙ ap (λ (found : List ℕ). flat_map (λ (i : ℕ). option_to_list (slice_get found i)) c.as_slice-ring_sides.result.now)
+          c.as_slice-place_of_side.ensures.value
+          ∙ ap (λ (sides : List ℕ). flat_map (λ (i : ℕ). option_to_list (slice_get c.in_ok-shown.shown.place_of_side.items i)) sides)
+          c.as_slice-ring_sides.ensures.value);
+    }
