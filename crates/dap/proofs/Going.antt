@@ -1,5 +1,5 @@
 -- What a session keeps.
-use Rattle.std.proofs.Common.{ℕ, codes, ◌≡◌, ◌⊎◌, ◌||◌, Bool, true, false, Option, None, Some, inl, inr, refl, sym, ◌∙◌, ap, subst}
+use Rattle.std.proofs.Common.{ℕ, codes, ◌≡◌, ◌⊎◌, ◌||◌, List, Bool, true, false, Option, None, Some, inl, inr, refl, sym, ◌∙◌, ap, subst}
 use Rattle.serde_json.specs.View.{view}
 use Rattle.system_places.specs.SystemBranches.{branch_count}
 use Rattle.machine.specs.AtMachine.{AtMachine}
@@ -9,69 +9,96 @@ use Rattle.dap_messages.specs.Arguments.{number_named}
 use Rattle.dap_messages.specs.declared.kind.Kind.{Kind}
 use Rattle.dap_messages.specs.declared.request.Request.{Request}
 use Rattle.dap_moves.specs.Led.{Led}
-use Rattle.dap_moves.specs.Moves.{StepsBack}
-use Rattle.dap_moves.specs.declared.back.Back.{Back}
 use Rattle.dap_moves.proofs.Leading.{led_nowhere}
 use Rattle.dap_server.specs.Kinds.{moves}
 use Rattle.dap_threads.specs.Threads.{branch_named}
 use Rattle.dap.specs.Goes.{DeskGoes, Goes, IsSound}
 use Rattle.dap.specs.Kinds.{asks, changes}
 use Rattle.dap.specs.Launching.{IsBegun, Stands}
-use Rattle.dap.specs.Steps.{Backward, Steps, thread_of}
+use Rattle.dap.specs.Steps.{Forward, Steps, thread_of}
 use Rattle.dap.specs.declared.launch.Launched.{Launched}
 
 -- a desk that stays was led nowhere
 pub led_still : (d d' : AtDesk) → d' ≡ d → Led d d'
 led_still d d' same = subst (λ (x : AtDesk). Led d x) (sym same) (led_nowhere d)
 
--- what is no step back may leave any desk
-pub steps_other : (d d' : AtDesk) (kind : Kind) (request : Request) → (kind ≡ Kind.StepBack → ⊥) → Steps d kind request d'
-steps_other d d' Kind.StepBack request other = absurd (other refl)
-steps_other d d' _ request other = tt
+-- a request that does not ask a thread to move moves none
+pub steps_otherwise : (lines : List ℕ) (d d' : AtDesk) (kind : Kind) (request : Request) → moves kind ≡ false → Steps lines d kind request d'
+steps_otherwise lines d d' Kind.StepBack request none = absurd (cc)
+steps_otherwise lines d d' Kind.Next request none = absurd (cc)
+steps_otherwise lines d d' Kind.StepIn request none = absurd (cc)
+steps_otherwise lines d d' Kind.StepOut request none = absurd (cc)
+steps_otherwise lines d d' Kind.Continue request none = absurd (cc)
+steps_otherwise lines d d' Kind.Pause request none = absurd (cc)
+steps_otherwise lines d d' _ request none = tt
 
--- so may what does not ask a thread to move
-pub steps_otherwise : (d d' : AtDesk) (kind : Kind) (request : Request) → moves kind ≡ false → Steps d kind request d'
-steps_otherwise d d' Kind.StepBack request none = absurd (cc)
-steps_otherwise d d' _ request none = tt
+-- a request of a known kind
+pub steps_as : (lines : List ℕ) (d d' : AtDesk) (kind known : Kind) (request : Request) → kind ≡ known → Steps lines d known request d'
+    → Steps lines d kind request d'
+steps_as lines d d' kind known request is h = subst (λ (k : Kind). Steps lines d k request d') (sym is) h
 
--- a step back
-pub steps_back : (d d' : AtDesk) (kind : Kind) (request : Request) → kind ≡ Kind.StepBack → Backward d (thread_of d request) d'
-    → Steps d kind request d'
-steps_back d d' kind request is h =
-    let to : Steps d Kind.StepBack request d' = h in subst (λ (k : Kind). Steps d k request d') (sym is) to
+-- one that is none of these asks for a step, or for nothing
+pub steps_forward : (lines : List ℕ) (d d' : AtDesk) (kind : Kind) (request : Request) → (kind ≡ Kind.StepBack → ⊥) → (kind ≡ Kind.Continue → ⊥)
+    → (kind ≡ Kind.Pause → ⊥) → Forward d kind (thread_of d request) d' → Steps lines d kind request d'
+steps_forward lines d d' Kind.StepBack request one two three h = absurd (one refl)
+steps_forward lines d d' Kind.Continue request one two three h = absurd (two refl)
+steps_forward lines d d' Kind.Pause request one two three h = absurd (three refl)
+steps_forward lines d d' Kind.Next request one two three h = h
+steps_forward lines d d' Kind.StepIn request one two three h = h
+steps_forward lines d d' Kind.StepOut request one two three h = h
+steps_forward lines d d' _ request one two three h = tt
 
--- a request that asks a thread to move may change the desk
-pub moves_desk : (d d' : AtDesk) (request : Request) → moves request.kind ≡ true → Led d d' → Steps d request.kind request d' → DeskGoes d request d'
-moves_desk d d' request is led steps = record {
+-- what is not over
+not_over : (over : Bool) (d d' : AtDesk) → over ≡ false → over ≡ true → d' ≡ d
+not_over over d d' on ended = let no : true ≡ false = sym ended ∙ on in absurd (cc)
+
+-- a request that asks a thread to move may change the desk, where it is not over
+pub moves_desk : (over : Bool) (lines : List ℕ) (d d' : AtDesk) (request : Request) → moves request.kind ≡ true → Led d d'
+    → over ≡ false → Steps lines d request.kind request d' → DeskGoes over lines d request d'
+moves_desk over lines d d' request is led on steps = record {
   led = led;
   reads = λ reads. let other : changes request.kind ≡ true = ap (λ (b : Bool). b || asks request.kind) is in
       let no : true ≡ false = sym other ∙ reads in absurd (cc);
-  steps = steps;
+  stays = not_over over d d' on;
+  steps = λ _. steps;
 }
 
 -- and so may one that asks
-pub asks_desk : (d d' : AtDesk) (request : Request) → moves request.kind ≡ false → asks request.kind ≡ true → Led d d' → DeskGoes d request d'
-asks_desk d d' request none is led = record {
+pub asks_desk : (over : Bool) (lines : List ℕ) (d d' : AtDesk) (request : Request) → moves request.kind ≡ false → asks request.kind ≡ true → Led d d'
+    → over ≡ false → DeskGoes over lines d request d'
+asks_desk over lines d d' request none is led on = record {
   led = led;
   reads = λ reads. let other : changes request.kind ≡ asks request.kind = ap (λ (b : Bool). b || asks request.kind) none in
       let no : true ≡ false = sym is ∙ sym other ∙ reads in absurd (cc);
-  steps = steps_otherwise d d' request.kind request none;
+  stays = not_over over d d' on;
+  steps = λ _. steps_otherwise lines d d' request.kind request none;
 }
 
 -- a desk that stays
-pub still_desk : (d : AtDesk) (request : Request) → moves request.kind ≡ false → DeskGoes d request d
-still_desk d request none = record {
+pub still_desk : (over : Bool) (lines : List ℕ) (d : AtDesk) (request : Request) → moves request.kind ≡ false → DeskGoes over lines d request d
+still_desk over lines d request none = record {
   led = led_nowhere d;
   reads = λ _. refl;
-  steps = steps_otherwise d d request.kind request none;
+  stays = λ _. refl;
+  steps = λ _. steps_otherwise lines d d request.kind request none;
+}
+
+-- one of which the client was told that it is over
+pub over_desk : (over : Bool) (lines : List ℕ) (d : AtDesk) (request : Request) → over ≡ true → DeskGoes over lines d request d
+over_desk over lines d request ended = record {
+  led = led_nowhere d;
+  reads = λ _. refl;
+  stays = λ _. refl;
+  steps = λ on. let no : true ≡ false = sym ended ∙ on in absurd (cc);
 }
 
 -- a restart begins anew, or what is launched stays
 pub restarts_or_stays : (l m : Launched) (request : Request) → request.kind ≡ Kind.Restart → Stands m.desk ⊎ (m ≡ l)
-    → ((request.kind ≡ Kind.Restart) × Stands m.desk) ⊎ DeskGoes l.desk request m.desk
+    → ((request.kind ≡ Kind.Restart) × Stands m.desk) ⊎ DeskGoes l.program.ended l.program.stops.items l.desk request m.desk
 restarts_or_stays l m request is h = elim h [
   | inl anew ↦ inl (is, anew)
-  | inr same ↦ inr (subst (λ (n : Launched). DeskGoes l.desk request n.desk) (sym same) (still_desk l.desk request (ap (λ (k : Kind). moves k) is)))
+  | inr same ↦ inr (subst (λ (n : Launched). DeskGoes l.program.ended l.program.stops.items l.desk request n.desk) (sym same)
+      (still_desk l.program.ended l.program.stops.items l.desk request (ap (λ (k : Kind). moves k) is)))
 ]
 
 -- the branch of a request's thread
@@ -80,41 +107,37 @@ thread_found : (d : AtDesk) (m : AtMachine) (request : Request) (found : Option 
 thread_found d m request found same is =
     sym (is ∙ ap (λ (n : AtMachine). branch_named (branch_count n.checked) (number_named (codes "threadId") (view request.arguments))) same)
 
--- a step back of it
-pub backward_in : (d d' : AtDesk) (m : AtMachine) (request : Request) (found : Option ℕ) (k : ℕ) → m ≡ d.machine
+-- what comes of a request that names a branch
+pub in_thread : (Q : Option ℕ → Type 0) (d : AtDesk) (m : AtMachine) (request : Request) (found : Option ℕ) (k : ℕ) → m ≡ d.machine
     → found ≡ branch_named (branch_count m.checked) (number_named (codes "threadId") (view request.arguments)) → found ≡ Some k
-    → (told : Back) × StepsBack d k told d' → Backward d (thread_of d request) d'
-backward_in d d' m request found k same is some h =
-    let to : Backward d (Some k) d' = h in
-    subst (λ (thread : Option ℕ). Backward d thread d') (sym (thread_found d m request found same is ∙ some)) to
+    → Q (Some k) → Q (thread_of d request)
+in_thread Q d m request found k same is some h = subst Q (sym (thread_found d m request found same is ∙ some)) h
 
--- none, where there is no such thread
-pub backward_none : (d d' : AtDesk) (m : AtMachine) (request : Request) (found : Option ℕ) → m ≡ d.machine
+-- and of one that names none
+pub in_no_thread : (Q : Option ℕ → Type 0) (d : AtDesk) (m : AtMachine) (request : Request) (found : Option ℕ) → m ≡ d.machine
     → found ≡ branch_named (branch_count m.checked) (number_named (codes "threadId") (view request.arguments)) → found ≡ None
-    → d' ≡ d → Backward d (thread_of d request) d'
-backward_none d d' m request found same is none stays =
-    let to : Backward d None d' = stays in
-    subst (λ (thread : Option ℕ). Backward d thread d') (sym (thread_found d m request found same is ∙ none)) to
+    → Q None → Q (thread_of d request)
+in_no_thread Q d m request found same is none h = subst Q (sym (thread_found d m request found same is ∙ none)) h
 
 pub ruleset desk_goes = (moves_desk, asks_desk, still_desk)
 
 same : (x : Option Launched) (request : Request) → moves request.kind ≡ false → Goes x request x
 same None request none = tt
-same (Some l) request none = inr (still_desk l.desk request none)
+same (Some l) request none = inr (still_desk l.program.ended l.program.stops.items l.desk request none)
 
 -- nothing changes
 pub goes_nowhere : (x y : Option Launched) (request : Request) → moves request.kind ≡ false → y ≡ x → Goes x request y
 goes_nowhere x y request none is = subst (λ (z : Option Launched). Goes x request z) (sym is) (same x request none)
 
 -- what is launched goes on
-pub goes_on : (x y : Option Launched) (l m : Launched) (request : Request) → x ≡ Some l → y ≡ Some m → DeskGoes l.desk request m.desk → Goes x request y
+pub goes_on : (x y : Option Launched) (l m : Launched) (request : Request) → x ≡ Some l → y ≡ Some m → DeskGoes l.program.ended l.program.stops.items l.desk request m.desk → Goes x request y
 goes_on x y l m request is there h =
     let to : Goes (Some l) request (Some m) = inr h in
     subst (λ (z : Option Launched). Goes z request y) (sym is) (subst (λ (z : Option Launched). Goes (Some l) request z) (sym there) to)
 
 -- it goes on, or is begun anew
 pub goes_anew : (x y : Option Launched) (l m : Launched) (request : Request) → x ≡ Some l → y ≡ Some m
-    → ((request.kind ≡ Kind.Restart) × Stands m.desk) ⊎ DeskGoes l.desk request m.desk → Goes x request y
+    → ((request.kind ≡ Kind.Restart) × Stands m.desk) ⊎ DeskGoes l.program.ended l.program.stops.items l.desk request m.desk → Goes x request y
 goes_anew x y l m request is there h =
     let to : Goes (Some l) request (Some m) = h in
     subst (λ (z : Option Launched). Goes z request y) (sym is) (subst (λ (z : Option Launched). Goes (Some l) request z) (sym there) to)

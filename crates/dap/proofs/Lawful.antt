@@ -24,7 +24,7 @@ session-is-led a b next [] sent led session = subst (λ (f : Face). IsLed f.laun
 session-is-led a b next (Some request ∷ heard) sent led session =
     session-is-led session.0 b (next + length session.1) heard session.2
     (led-one a.launched session.0.launched request led session.3.answered.goes) session.4
-session-is-led a b next (None ∷ heard) sent led session = session-is-led a b (next + 1) heard session.1 led session.3
+session-is-led a b next (None ∷ heard) sent led session = session-is-led a b (next + 1) heard session.1 led session.2
 
 -- a session with a client that has just come
 pub served : (a b : Face) (u v : Option (List ℕ)) → a.launched ≡ None → (after : ℕ) × Serves Comes a 1 b after u v

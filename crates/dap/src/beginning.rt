@@ -7,12 +7,25 @@ use dap_requests::{run, run_free, stop};
 use dap_views::Program;
 use std::alloc::Global;
 
+/// Begins, unless it has begun already.
+#[tactic(auto, using(crate::proofs::Going::led_still))]
+pub(crate) fn begin_once(alloc: Global, desk: &mut Desk, program: &mut Program, answer: &mut Answer)
+    ensures { Led desk.old desk.new }
+{
+    if program.begun {
+        answer.refuse(107, "the run has begun already");
+    } else {
+        begin(alloc, desk, program, answer);
+    }
+}
+
 /// Begins, once the client has set what it wants to set: it stops before the first step, or goes on.
 #[tactic(auto, using(crate::proofs::Going::led_still))]
 pub(crate) fn begin(alloc: Global, desk: &mut Desk, program: &mut Program, answer: &mut Answer)
     ensures { Led desk.old desk.new }
 {
     program.sight = None;
+    program.begun = true;
     if program.launch.free {
         begin_free(alloc, desk, program, answer);
     } else if program.launch.stops {
@@ -36,6 +49,7 @@ fn begin_free(alloc: Global, desk: &mut Desk, program: &mut Program, answer: &mu
     ensures { Led desk.old desk.new }
 {
     run_free(alloc, desk, program, answer);
+    program.ended = true;
     let mut body = Members::new(alloc);
     body.number("exitCode", 0);
     answer.note(Told::Exited, body);

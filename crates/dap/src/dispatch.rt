@@ -1,12 +1,13 @@
 // What is asked of a program that is launched.
-ghost use Rattle.std.specs.Prelude.{◌≡◌, true};
+ghost use Rattle.std.specs.Prelude.{◌≡◌, true, false};
+ghost use Rattle.dap_messages.specs.Notes.{IsRefusal};
 ghost use Rattle.dap_moves.specs.Led.{Led};
 ghost use Rattle.dap_requests.specs.Said.{Runs};
 ghost use Rattle.dap_server.specs.Kinds.{moves};
 ghost use Rattle.dap.specs.Goes.{DeskGoes};
 ghost use Rattle.dap.specs.Kinds.{asks};
 
-use crate::beginning::begin;
+use crate::beginning::begin_once;
 use crate::face::{attach, unknown};
 use crate::moves::make_move;
 use dap_messages::{Answer, Kind, Members, Request, Told};
@@ -16,7 +17,7 @@ use dap_requests::{
 };
 use dap_server::is_move;
 use dap_threads::{scopes, stack_trace, threads, variables};
-use dap_views::{Program, sight_of};
+use dap_views::{Program, Sight, sight_of};
 use std::alloc::Global;
 
 /// Answers a request, but for those that name files.
@@ -27,21 +28,21 @@ pub(crate) fn perform(
     request: &Request,
     answer: &mut Answer,
 )
-    ensures goes { DeskGoes desk.old request.now desk.new }
+    ensures goes { DeskGoes program.old.ended program.old.stops.items desk.old request.now desk.new }
     ensures stops { moves request.now.kind ≡ true → Runs answer.old answer.new }
 {
-    keep_sight(desk.machine(), program);
-    change(alloc, desk, program, request, answer);
+    keep_sight(desk.machine(), &mut program.sight);
+    act(alloc, desk, program, request, answer);
     if is_move(request.kind) {
         program.sight = None;
     }
-    keep_sight(desk.machine(), program);
+    keep_sight(desk.machine(), &mut program.sight);
 }
 
 /// Looks at what the state offers, where that is not known. Without memory it stays unknown.
-fn keep_sight(machine: &Machine, program: &mut Program) {
-    if program.sight.is_none() {
-        program.sight = sight_of(machine).ok();
+fn keep_sight(machine: &Machine, sight: &mut Option<Sight>) {
+    if sight.is_none() {
+        *sight = sight_of(machine).ok();
     }
 }
 
@@ -52,7 +53,66 @@ fn is_asked(kind: Kind) -> bool
     matches!(kind, Kind::ConfigurationDone | Kind::Evaluate)
 }
 
-/// Answers a request, where it is known what the state offers.
+/// Answers a request, where it is known what the state offers. Nothing moves where the client was told that it is over.
+#[tactic(auto, using(crate::proofs::Going::over_desk))]
+fn act(
+    alloc: Global,
+    desk: &mut Desk,
+    program: &mut Program,
+    request: &Request,
+    answer: &mut Answer,
+)
+    ensures goes { DeskGoes program.old.ended program.old.stops.items desk.old request.now desk.new }
+    ensures stops { moves request.now.kind ≡ true → Runs answer.old answer.new }
+{
+    if program.ended {
+        look_back(alloc, desk.machine(), program, request, answer);
+    } else {
+        change(alloc, desk, program, request, answer);
+    }
+}
+
+/// Answers a request where the client was told that it is over: what only reads is answered.
+#[tactic(auto, using(dap_requests::proofs::Saying::run_ends))]
+fn look_back(
+    alloc: Global,
+    machine: &Machine,
+    program: &mut Program,
+    request: &Request,
+    answer: &mut Answer,
+)
+    ensures stops { moves request.now.kind ≡ true → Runs answer.old answer.new }
+{
+    if is_move(request.kind) {
+        refuse_over(answer);
+    } else {
+        read_back(alloc, machine, program, request, answer);
+    }
+}
+
+/// Answers a request that asks no thread to move where the client was told that it is over.
+fn read_back(
+    alloc: Global,
+    machine: &Machine,
+    program: &mut Program,
+    request: &Request,
+    answer: &mut Answer,
+) {
+    if is_asked(request.kind) {
+        refuse_over(answer);
+    } else {
+        look(alloc, machine, program, request, answer);
+    }
+}
+
+/// Refuses what would move something where the client was told that it is over.
+fn refuse_over(answer: &mut Answer)
+    ensures { IsRefusal answer.new.outcome × (answer.new.notes ≡ answer.old.notes) }
+{
+    answer.refuse(103, "it is over: `restart` begins again");
+}
+
+/// Answers a request, where it is known what the state offers and it is not over.
 #[tactic(auto, using(crate::proofs::Going::desk_goes))]
 fn change(
     alloc: Global,
@@ -61,7 +121,8 @@ fn change(
     request: &Request,
     answer: &mut Answer,
 )
-    ensures goes { DeskGoes desk.old request.now desk.new }
+    requires { program.old.ended ≡ false }
+    ensures goes { DeskGoes program.old.ended program.old.stops.items desk.old request.now desk.new }
     ensures stops { moves request.now.kind ≡ true → Runs answer.old answer.new }
 {
     if is_move(request.kind) {
@@ -72,6 +133,7 @@ fn change(
         look(alloc, desk.machine(), program, request, answer);
     }
 }
+
 /// Answers the first request to run, or a line that is typed.
 fn ask(
     alloc: Global,
@@ -83,7 +145,7 @@ fn ask(
     ensures { Led desk.old desk.new }
 {
     match request.kind {
-        Kind::ConfigurationDone => begin(alloc, desk, program, answer),
+        Kind::ConfigurationDone => begin_once(alloc, desk, program, answer),
         _ => evaluate(alloc, desk, program, request, answer),
     }
 }
@@ -119,9 +181,16 @@ fn set(
         Kind::SetBreakpoints => set_lines(alloc, machine, program, request, answer),
         Kind::BreakpointLocations => locations(alloc, machine, program, request, answer),
         Kind::SetDataBreakpoints => set_data(alloc, program, request, answer),
-        Kind::SetExceptionBreakpoints => set_exceptions(program, request),
+        Kind::SetExceptionBreakpoints => set_exceptions(program, request, answer),
+        Kind::Terminate => terminate(program, answer),
         _ => tell_other(alloc, program, request, answer),
     }
+}
+
+/// Answers `terminate`: nothing moves any more, unless a `restart` begins again.
+fn terminate(program: &mut Program, answer: &mut Answer) {
+    program.ended = true;
+    answer.tell(Told::Terminated);
 }
 
 /// Answers a request that has nothing to do with the machine.
@@ -129,7 +198,6 @@ fn tell_other(alloc: Global, program: &Program, request: &Request, answer: &mut 
     match request.kind {
         Kind::ExceptionInfo => exception_info(alloc, program, answer),
         Kind::Completions => completions(alloc, program, request, answer),
-        Kind::Terminate => answer.tell(Told::Terminated),
         Kind::Attach => attach(answer),
         _ => unknown(answer),
     }

@@ -130,7 +130,7 @@ impl Face {
     {
         match request.kind {
             Kind::Initialize => self.initialize(request, answer),
-            Kind::Disconnect => self.over = true,
+            Kind::Disconnect => self.finish(answer),
             Kind::Launch => self.launch(files, counting, request, answer),
             _ => self.ask(files, request, answer),
         }
@@ -144,9 +144,17 @@ impl Face {
     {
         match request.kind {
             Kind::Initialize => self.initialize(request, answer),
-            Kind::Disconnect => self.over = true,
+            Kind::Disconnect => self.finish(answer),
             _ => self.refuse_early(answer),
         }
+    }
+
+    /// Answers `disconnect`.
+    fn finish(&mut self, answer: &mut Answer)
+        ensures { self.new.launched ≡ self.old.launched }
+    {
+        self.over = true;
+        answer.did();
     }
 
     /// Answers `initialize`.
@@ -161,6 +169,7 @@ impl Face {
             lines: base(request.flag("linesStartAt1", true)),
             columns: base(request.flag("columnsStartAt1", true)),
         });
+        answer.did();
         answer.body(capabilities(self.alloc));
     }
 
@@ -229,8 +238,17 @@ impl Face {
         ensures { self.new.launched ≡ self.old.launched }
     {
         match request.kind {
-            Kind::SetExceptionBreakpoints => self.excepts = asks_for_refusals(request),
+            Kind::SetExceptionBreakpoints => self.set_exceptions(request, answer),
             _ => tell_early(self.alloc, request, answer),
+        }
+    }
+
+    /// Answers `setExceptionBreakpoints` before something is launched.
+    fn set_exceptions(&mut self, request: &Request, answer: &mut Answer)
+        ensures { self.new.launched ≡ self.old.launched }
+    {
+        if let Some(excepts) = asks_for_refusals(request, answer) {
+            self.excepts = excepts;
         }
     }
 }
@@ -244,7 +262,8 @@ fn ask_of<F: Sources>(
     answer: &mut Answer,
 )
     ensures { ((request.now.kind ≡ Asks.Restart) × Stands launched.new.desk)
-        ⊎ DeskGoes launched.old.desk request.now launched.new.desk }
+        ⊎ DeskGoes launched.old.program.ended launched.old.program.stops.items launched.old.desk request.now
+        launched.new.desk }
 {
     match request.kind {
         Kind::Restart => restart(alloc, files, launched, request, answer),
@@ -254,7 +273,8 @@ fn ask_of<F: Sources>(
 
 /// Answers a request of which the desk is asked nothing but what commands of sessions may ask.
 fn perform_on(alloc: Global, launched: &mut Launched, request: &Request, answer: &mut Answer)
-    ensures goes { DeskGoes launched.old.desk request.now launched.new.desk }
+    ensures goes { DeskGoes launched.old.program.ended launched.old.program.stops.items launched.old.desk request.now
+        launched.new.desk }
     ensures stops { moves request.now.kind ≡ true → Runs answer.old answer.new }
 {
     perform(

@@ -9,7 +9,7 @@ use crate::sources::Sources;
 use dap_messages::{Answer, Members, Told, field, number_in, text_in};
 use dap_moves::{Desk, Machine};
 use dap_requests::tell;
-use dap_views::{Counting, Index, Launch, Lines, Program, Words, base_of};
+use dap_views::{Counting, Index, Launch, Lines, Program, Words, base_of, own_name};
 use front_end::accept;
 use refusal_pages::page_of;
 use serde_json::Value;
@@ -212,39 +212,112 @@ fn program_of(
         lines,
         index,
         asked: Vec::new(alloc),
+        elsewhere: None,
         stops: Vec::new(alloc),
         watched: Vec::new(alloc),
         seen: Vec::new(alloc),
         refused: None,
         excepts: true,
         last_id: 0,
+        begun: false,
+        ended: false,
         sight: None,
     })
 }
 
 /// What the arguments ask to launch.
 fn launch_of(alloc: Global, arguments: &Value, answer: &mut Answer) -> Result<Launch, Failed> {
+    if let Some(wrong) = wrong_in(arguments) {
+        refuse_type(alloc, wrong, answer);
+        return Err(Failed::Told);
+    }
     let program = text_in(arguments, "program").unwrap_or("");
     if program.is_empty() {
         answer.refuse(108, "`program` is missing: the path of a Balsa source");
         return Err(Failed::Told);
     }
+    let folder = text_in(arguments, "cwd").unwrap_or("");
     Ok(Launch {
-        program: String::from_str(alloc, program)?,
-        stimulus: copied(alloc, text_in(arguments, "stimulus"))?,
-        trace: copied(alloc, text_in(arguments, "trace"))?,
+        stimulus: whole_of(alloc, folder, text_in(arguments, "stimulus"))?,
+        trace: whole_of(alloc, folder, text_in(arguments, "trace"))?,
         stops: flag_in(arguments, "stopOnEntry", true),
         most: number_in(arguments, "maxSteps")
             .unwrap_or(MOST_STEPS)
             .max(1),
         free: flag_in(arguments, "noDebug", false),
+        program: whole(alloc, folder, program)?,
     })
 }
 
-/// A copy of a text that is not empty.
-fn copied(alloc: Global, text: Option<&str>) -> Result<Option<String>, AllocError> {
-    match text {
-        Some(text) if !text.is_empty() => Ok(Some(String::from_str(alloc, text)?)),
+/// Refuses an argument of another type than it should have.
+fn refuse_type(alloc: Global, wrong: (&str, Wanted), answer: &mut Answer) {
+    let (name, wanted) = wrong;
+    let mut words = Words::of(alloc, "`");
+    words.add(name);
+    words.add(match wanted {
+        Wanted::Text => "` is no text",
+        Wanted::Flag => "` is neither true nor false",
+        Wanted::Number => "` is no whole number from 0 on",
+    });
+    answer.refuse(104, words.as_str());
+}
+
+/// What an argument should be.
+#[derive(Clone, Copy, Debug, PartialEq, Eq)]
+enum Wanted {
+    Text,
+    Flag,
+    Number,
+}
+
+/// The arguments of a launch.
+static WANTED: [(&str, Wanted); 7] = [
+    ("program", Wanted::Text),
+    ("cwd", Wanted::Text),
+    ("stimulus", Wanted::Text),
+    ("trace", Wanted::Text),
+    ("stopOnEntry", Wanted::Flag),
+    ("noDebug", Wanted::Flag),
+    ("maxSteps", Wanted::Number),
+];
+
+/// The first argument that is not what it should be.
+fn wrong_in(arguments: &Value) -> Option<(&'static str, Wanted)> {
+    for (name, wanted) in &WANTED {
+        if let Some(value) = field(arguments, name) {
+            if !is_wanted(value, *wanted) {
+                return Some((*name, *wanted));
+            }
+        }
+    }
+    None
+}
+
+/// Whether the value is what it should be.
+fn is_wanted(value: &Value, wanted: Wanted) -> bool {
+    match wanted {
+        Wanted::Text => value.as_str().is_some(),
+        Wanted::Flag => value.as_bool().is_some(),
+        Wanted::Number => value.as_u64().is_some(),
+    }
+}
+
+/// The path of a file of this name: one that does not begin with `/` counts from the folder. Where no folder is named that is the
+/// one in which the adapter was started.
+fn whole(alloc: Global, folder: &str, name: &str) -> Result<String, AllocError> {
+    if name.starts_with('/') || folder.is_empty() {
+        return String::from_str(alloc, name);
+    }
+    let mut path = String::from_str(alloc, folder.trim_end_matches('/'))?;
+    path.push_str("/")?;
+    path.push_str(own_name(name))?;
+    Ok(path)
+}
+
+/// The path of a file, where one is named.
+fn whole_of(alloc: Global, folder: &str, name: Option<&str>) -> Result<Option<String>, AllocError> {
+    match name {
+        Some(name) if !name.is_empty() => Ok(Some(whole(alloc, folder, name)?)),
         _ => Ok(None),
     }
 }
@@ -286,7 +359,7 @@ fn stimulus<F: Sources>(
     if let Some(name) = &asked.stimulus {
         return file(alloc, files, name.as_str(), answer);
     }
-    let beside = beside(alloc, asked.program.as_str());
+    let beside = beside(alloc, asked.program.as_str())?;
     match files.read(alloc, beside.as_str())? {
         Some(bytes) => Ok(bytes),
         None => {
@@ -300,10 +373,10 @@ fn stimulus<F: Sources>(
 }
 
 /// The name of the stimulus beside a source.
-fn beside(alloc: Global, program: &str) -> Words {
-    let mut words = Words::of(alloc, program.strip_suffix(".balsa").unwrap_or(program));
-    words.add(".stimulus");
-    words
+fn beside(alloc: Global, program: &str) -> Result<String, AllocError> {
+    let mut name = String::from_str(alloc, program.strip_suffix(".balsa").unwrap_or(program))?;
+    name.push_str(".stimulus")?;
+    Ok(name)
 }
 
 /// The system of source and stimulus.
@@ -351,12 +424,33 @@ fn refuse_texts(
         );
         return;
     }
-    let beside = beside(alloc, asked.program.as_str());
-    let name = match &asked.stimulus {
-        Some(name) => name.as_str(),
-        None => beside.as_str(),
-    };
-    refuse_at(alloc, name, field.max(1), 1, number, counting, answer);
+    let line = field.max(1);
+    match &asked.stimulus {
+        Some(name) => refuse_at(alloc, name.as_str(), line, 1, number, counting, answer),
+        None => refuse_beside(
+            alloc,
+            asked.program.as_str(),
+            line,
+            number,
+            counting,
+            answer,
+        ),
+    }
+}
+
+/// Refuses the stimulus beside a source.
+fn refuse_beside(
+    alloc: Global,
+    program: &str,
+    line: u64,
+    number: u32,
+    counting: Counting,
+    answer: &mut Answer,
+) {
+    match beside(alloc, program) {
+        Ok(name) => refuse_at(alloc, name.as_str(), line, 1, number, counting, answer),
+        Err(AllocError) => answer.lacks = true,
+    }
 }
 
 /// The line and the column of the byte at this offset, from 1.

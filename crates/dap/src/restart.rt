@@ -6,9 +6,9 @@ ghost use Rattle.dap.specs.Launching.{IsBegun, Stands};
 use crate::beginning::begin;
 use crate::launch::{Launched, start};
 use crate::sources::Sources;
-use dap_messages::{Answer, Members, Request, text_in};
-use dap_requests::tell_changed;
-use dap_views::Program;
+use dap_messages::{Answer, Members, Request, field};
+use dap_requests::{Placing, place_again, tell_changed};
+use dap_views::{Launch, Program};
 use std::alloc::Global;
 use std::mem;
 
@@ -24,25 +24,36 @@ pub(crate) fn restart<F: Sources>(
     ensures { Stands launched.new.desk ⊎ (launched.new ≡ launched.old) }
 {
     match started_again(alloc, files, &launched.program, request, answer) {
-        Some(anew) => begin_again(alloc, launched, anew, answer),
+        Some(anew) => replace(alloc, launched, anew, answer),
         None => {}
     }
 }
 
+/// Takes what was launched anew in place of what was, if there is memory for its breakpoints.
+fn replace(alloc: Global, launched: &mut Launched, anew: Launched, answer: &mut Answer)
+    ensures { Led anew.desk launched.new.desk ⊎ (launched.new ≡ launched.old) }
+{
+    match place_again(alloc, anew.desk.machine(), &launched.program, &anew.program) {
+        Some(placing) => begin_again(alloc, launched, anew, placing, answer),
+        None => answer.lacks = true,
+    }
+}
+
 /// Takes what was launched anew in place of what was.
-fn begin_again(alloc: Global, launched: &mut Launched, anew: Launched, answer: &mut Answer)
+fn begin_again(
+    alloc: Global,
+    launched: &mut Launched,
+    anew: Launched,
+    placing: Placing,
+    answer: &mut Answer,
+)
     ensures { Led anew.desk launched.new.desk }
 {
     let Launched { program, desk } = anew;
     let before = mem::replace(&mut launched.program, program);
     launched.desk = desk;
     keep_settings(before, &mut launched.program);
-    tell_changed(
-        alloc,
-        launched.desk.machine(),
-        &mut launched.program,
-        answer,
-    );
+    tell_changed(alloc, &mut launched.program, placing, answer);
     begin(alloc, &mut launched.desk, &mut launched.program, answer);
 }
 
@@ -57,7 +68,7 @@ fn started_again<F: Sources>(
     ensures { IfSome result (λ launched. IsBegun launched.desk) }
 {
     match request.part("arguments") {
-        Some(given) if text_in(given, "program").is_some() => {
+        Some(given) if field(given, "program").is_some() => {
             start(alloc, files, program.counting, given, answer)
         }
         _ => start_same(alloc, files, program, answer),
@@ -82,24 +93,39 @@ fn start_same<F: Sources>(
     }
 }
 
-/// Keeps what the client has set on the program before; what is watched only where the source is the same.
+/// Keeps what the client has set on the program before; what is watched only where the source is the same. The breakpoints are
+/// placed apart from this.
 fn keep_settings(old: Program, program: &mut Program) {
     let Program {
-        launch: _launch,
+        launch,
         counting: _counting,
         source,
         lines: _lines,
         index: _index,
-        asked,
+        asked: _asked,
+        elsewhere,
         stops: _stops,
         watched,
         seen: _seen,
         refused: _refused,
         excepts,
         last_id,
+        begun: _begun,
+        ended: _ended,
         sight: _sight,
     } = old;
-    program.asked = asked;
+    let Launch {
+        program: own,
+        stimulus: _stimulus,
+        trace: _trace,
+        stops: _stops_first,
+        most: _most,
+        free: _free,
+    } = launch;
+    let file = elsewhere.unwrap_or(own);
+    if file.as_str() != program.launch.program.as_str() {
+        program.elsewhere = Some(file);
+    }
     program.excepts = excepts;
     program.last_id = last_id;
     if source.as_slice() == program.source.as_slice() {

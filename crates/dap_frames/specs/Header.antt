@@ -1,5 +1,5 @@
 -- What a header says.
-use Rattle.std.specs.Prelude.{ℕ, Bool, true, cond, ◌&&◌, ◌==◌, ◌+◌, List, [], ◌∷◌, Option, Some, None, MatchOption, drop, nat_eq, codes}
+use Rattle.std.specs.Prelude.{ℕ, Bool, true, false, not, cond, ◌&&◌, ◌==◌, ◌+◌, List, [], ◌∷◌, Option, Some, None, MatchOption, drop, nat_eq, codes}
 use Rattle.std.specs.List.{starts_with}
 use Rattle.decimal.specs.Reading.{Reads, IsNoNumber}
 use Rattle.dap_frames.specs.Frames.{header_end}
@@ -16,6 +16,11 @@ header_length_from n (x ∷ xs) = cond (ends_here (x ∷ xs)) (Some (n + 4)) (he
 -- the index behind the first empty line
 abbrev pub header_length : List ℕ → Option ℕ
 header_length bytes = header_length_from 0 bytes
+
+-- whether a line ends by a byte 10 with no byte 13 before it; `returned` where a byte 13 stands before these
+abbrev pub ends_bare : Bool → List ℕ → Bool
+ends_bare returned [] = false
+ends_bare returned (x ∷ xs) = cond (x == 10 && not returned) true (ends_bare (x == 13) xs)
 
 -- the key stands at the beginning
 abbrev pub has_key : List ℕ → Bool

@@ -1,6 +1,6 @@
 -- What stands at the beginning of some bytes.
-use Rattle.std.specs.Prelude.{ℕ, ◌≡◌, ◌+◌, ◌-◌, ◌<◌, ◌≤◌, ◌⊎◌, List, length, take, None, Some}
-use Rattle.dap_frames.specs.Header.{header_length, Tells, TellsNone}
+use Rattle.std.specs.Prelude.{ℕ, ◌≡◌, ◌+◌, ◌-◌, ◌<◌, ◌≤◌, ◌⊎◌, List, length, take, true, false, None, Some}
+use Rattle.dap_frames.specs.Header.{ends_bare, header_length, Tells, TellsNone}
 use Rattle.dap_frames.specs.declared.beginning.Unframed.{Unframed}
 use Rattle.dap_frames.specs.declared.beginning.TheConstants.{MOST_BODY, MOST_HEADER}
 
@@ -12,10 +12,10 @@ BodyAt bytes start Unframed.Begun = (n : ℕ) × Tells (take start bytes) n × (
 BodyAt bytes start (Unframed.Large from n) = (from ≡ start) × Tells (take start bytes) n × (MOST_BODY < n)
 BodyAt bytes start Unframed.Broken = TellsNone (take start bytes)
 
--- the bytes have no header yet, or one that is too long
+-- the bytes have no header yet; or one that is too long, or has a line that does not end as it should
 abbrev pub WithoutHeader : List ℕ → Unframed → Type 0
-WithoutHeader bytes Unframed.Begun = length bytes < MOST_HEADER
-WithoutHeader bytes Unframed.Broken = MOST_HEADER ≤ length bytes
+WithoutHeader bytes Unframed.Begun = (length bytes < MOST_HEADER) × (ends_bare false bytes ≡ false)
+WithoutHeader bytes Unframed.Broken = (MOST_HEADER ≤ length bytes) ⊎ (ends_bare false bytes ≡ true)
 WithoutHeader bytes _ = ⊥
 
 -- what stands there

@@ -1,7 +1,7 @@
 ghost use Rattle.std.specs.Prelude.{◌≡◌, ◌≤◌, length};
-ghost use Rattle.dap_frames.specs.Unframing.{Unframes, BodyAt};
+ghost use Rattle.dap_frames.specs.Unframing.{Unframes, BodyAt, WithoutHeader};
 
-use crate::header::{body_length, header_length};
+use crate::header::{body_length, ends_bare, header_length};
 
 /// The most bytes that a body may have, 4 MB.
 pub const MOST_BODY: u64 = 4_194_304;
@@ -29,8 +29,20 @@ pub fn unframe(bytes: &[u8]) -> Unframed
     match header_length(bytes) {
         Some(start) if start <= MOST_HEADER => body_at(bytes, start),
         Some(_) => Unframed::Broken,
-        None if bytes.len() < MOST_HEADER => Unframed::Begun,
-        None => Unframed::Broken,
+        None => without_header(bytes),
+    }
+}
+
+/// What stands at the beginning of bytes in which no header ends. One whose lines end in a byte 10 alone would never end.
+fn without_header(bytes: &[u8]) -> Unframed
+    ensures { WithoutHeader bytes.now result }
+{
+    if ends_bare(bytes) {
+        Unframed::Broken
+    } else if bytes.len() < MOST_HEADER {
+        Unframed::Begun
+    } else {
+        Unframed::Broken
     }
 }
 

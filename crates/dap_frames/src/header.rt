@@ -1,5 +1,5 @@
 // The header of a frame: where it ends, and how many bytes it tells.
-ghost use Rattle.std.specs.Prelude.{◌≡◌, ◌≤◌, ◌<◌, length, drop, Some, None, MatchOption, IfSome, true};
+ghost use Rattle.std.specs.Prelude.{◌≡◌, ◌≤◌, ◌<◌, length, drop, Some, None, MatchOption, IfSome, true, false};
 ghost use Rattle.std.specs.Option.{option_copied};
 ghost use Rattle.dap_frames.specs.Header as model;
 
@@ -24,6 +24,20 @@ fn ends_here(bytes: &[u8]) -> bool
     ensures length { result ≡ true → 4 ≤ length bytes.now }
 {
     bytes.starts_with(b"\r\n\r\n")
+}
+
+/// Whether a line ends by a byte 10 with no byte 13 before it.
+pub(crate) fn ends_bare(bytes: &[u8]) -> bool
+    ensures { result ≡ model.ends_bare false bytes.now }
+{
+    let mut returned = false;
+    for i in 0..bytes.len() {
+        if bytes[i] == b'\n' && !returned {
+            return true;
+        }
+        returned = bytes[i] == b'\r';
+    }
+    false
 }
 
 /// How many bytes the body has, as the header tells: the decimal number behind `Content-Length:` and spaces, up to the end of its

@@ -7,5 +7,5 @@ mod header;
 mod laws;
 
 pub use beginning::{MOST_BODY, MOST_HEADER, Unframed, unframe};
-pub use frames::{frame, write_header};
+pub use frames::write_header;
 pub use laws::frames_come_back;

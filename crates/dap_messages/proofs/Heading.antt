@@ -9,7 +9,7 @@ use Rattle.serde_json.specs.declared.value.Value.{Value}
 use Rattle.serde_json.proofs.Views.{get_member-put, get_member-put_other}
 use Rattle.dap_messages.specs.Json.{IsJsonOf}
 use Rattle.dap_messages.specs.Written.{Has, Puts, PutsSome}
-use Rattle.dap_messages.specs.walking.Heads.{KeepsHead}
+use Rattle.dap_messages.specs.walking.Heads.{Keeps, KeepsHead}
 use Rattle.dap_messages.specs.declared.members.Members.{Members}
 use Rattle.dap_messages.specs.declared.message.Message.{Message}
 
@@ -32,17 +32,24 @@ has_stays a b name other d e apart h k = λ full.
 
 -- so do the first members
 pub keeps_put : (a b : Members) (other : List ℕ) (e : Data) → bytes_eq (codes "type") other ≡ false → bytes_eq (codes "request_seq") other ≡ false →
-    Puts a other e b → KeepsHead a b
-keeps_put a b other e one two h = record {
+    bytes_eq (codes "command") other ≡ false → bytes_eq (codes "event") other ≡ false → Puts a other e b → KeepsHead a b
+keeps_put a b other e one two three four h = record {
   type = λ d k. has_stays a b (codes "type") other d e one h k;
   request = λ d k. has_stays a b (codes "request_seq") other d e two h k;
+  command = λ d k. has_stays a b (codes "command") other d e three h k;
+  event = λ d k. has_stays a b (codes "event") other d e four h k;
 }
 
 pub keeps_same : (a : Members) → KeepsHead a a
-keeps_same a = record { type = λ d k. k; request = λ d k. k }
+keeps_same a = record { type = λ d k. k; request = λ d k. k; command = λ d k. k; event = λ d k. k }
 
 pub keeps_on : (a m b : Members) → KeepsHead a m → KeepsHead m b → KeepsHead a b
-keeps_on a m b h k = record { type = λ d x. k.type d (h.type d x); request = λ d x. k.request d (h.request d x) }
+keeps_on a m b h k = record {
+  type = λ d x. k.type d (h.type d x);
+  request = λ d x. k.request d (h.request d x);
+  command = λ d x. k.command d (h.command d x);
+  event = λ d x. k.event d (h.event d x);
+}
 
 -- there was no memory for what should have been put
 pub puts_lacking : (a b : Members) (name : List ℕ) → b.lacks ≡ true → PutsSome a name b

@@ -1,5 +1,5 @@
 -- One event more.
-use Rattle.std.proofs.Common.{◌≡◌, ℕ, ◌+◌, List, [], ◌∷◌, ◌++◌, length, None, ap, refl, ◌∙◌, arith}
+use Rattle.std.proofs.Common.{◌≡◌, ℕ, ◌+◌, List, [], ◌∷◌, ◌++◌, length, ap, refl, ◌∙◌, arith}
 use Rattle.dap_messages.specs.Messages.{AreEvents, IsEvent}
 use Rattle.dap_messages.specs.Notes.{told_by}
 use Rattle.dap_messages.specs.declared.answer.Note.{Note}
@@ -10,6 +10,15 @@ pub told-more : (notes : List Note) (note : Note) → told_by (notes ++ note ∷
 told-more [] note = refl
 told-more (other ∷ notes) note = ap (λ (ts : List Told). other.told ∷ ts) (told-more notes note)
 
-pub events-more : (next : ℕ) (ms : List Message) (m : Message) → AreEvents next ms → m.seq ≡ next + length ms → IsEvent m → AreEvents next (ms ++ m ∷ [])
-events-more next [] m all number none = (number ∙ omega arith, none, tt)
-events-more next (other ∷ ms) m all number none = (all.0, all.1, events-more (next + 1) ms m all.2 (number ∙ omega arith) none)
+pub events-more : (next : ℕ) (ts : List Told) (ms : List Message) (t : Told) (m : Message) → AreEvents next ts ms → m.seq ≡ next + length ms
+    → IsEvent t m → AreEvents next (ts ++ t ∷ []) (ms ++ m ∷ [])
+events-more next [] [] t m all number is = (number ∙ omega arith, is, tt)
+events-more next [] (other ∷ ms) t m all number is = absurd all
+events-more next (u ∷ ts) [] t m all number is = absurd all
+events-more next (u ∷ ts) (other ∷ ms) t m all number is =
+    (all.0, all.1, events-more (next + 1) ts ms t m all.2 (number ∙ omega arith) is)
+
+-- nothing is left where no item is
+pub none_left : {X : Type 0} (xs : List X) → length xs ≡ 0 → xs ≡ []
+none_left [] e = refl
+none_left (x ∷ xs) e = absurd (omega arith)

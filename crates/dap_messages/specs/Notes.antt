@@ -1,5 +1,7 @@
 -- The events behind an answer, and what it is.
-use Rattle.std.specs.Prelude.{◌≡◌, ◌⊎◌, List, [], ◌∷◌, ◌++◌, Bool, true}
+use Rattle.std.specs.Prelude.{◌≡◌, ◌⊎◌, List, [], ◌∷◌, ◌++◌, true}
+use Rattle.dap_messages.specs.declared.answer.Answer.{Answer}
+use Rattle.dap_messages.specs.declared.answer.Effect.{Effect}
 use Rattle.dap_messages.specs.declared.answer.Note.{Note}
 use Rattle.dap_messages.specs.declared.answer.Outcome.{Outcome}
 use Rattle.dap_messages.specs.declared.told.Told.{Told}
@@ -9,12 +11,28 @@ abbrev pub told_by : List Note → List Told
 told_by [] = []
 told_by (note ∷ notes) = note.told ∷ told_by notes
 
--- one event more, or no memory for it
-abbrev pub Adds : List Note → Bool → Told → List Note → Bool → Type 0
-Adds notes lacks told after lacks_after =
-    ((told_by after ≡ told_by notes ++ told ∷ []) × (lacks_after ≡ lacks)) ⊎ ((after ≡ notes) × (lacks_after ≡ true))
+-- what stays where this event is told too: without these three a client would wait for ever
+abbrev pub effect_with : Effect → Told → Effect
+effect_with effect Told.Initialized = Effect.Due Told.Initialized
+effect_with effect Told.Stopped = Effect.Due Told.Stopped
+effect_with effect Told.Terminated = Effect.Due Told.Terminated
+effect_with effect Told.Output = effect
+effect_with effect Told.Exited = effect
+effect_with effect Told.Breakpoint = effect
+
+-- one event more, or no memory for it; either way it is kept in mind where it has to come
+pub record Adds (a : Answer) (told : Told) (b : Answer) : Type 0 where
+  pub events : ((told_by b.notes.items ≡ told_by a.notes.items ++ told ∷ []) × (b.lacks ≡ a.lacks))
+      ⊎ ((b.notes.items ≡ a.notes.items) × (b.lacks ≡ true))
+  pub outcome : b.outcome ≡ a.outcome
+  pub effect : b.effect ≡ effect_with a.effect told
 
 -- whether a request is refused
 abbrev pub IsRefusal : Outcome → Type 0
 IsRefusal (Outcome.Done body) = ⊥
 IsRefusal (Outcome.Refused number words) = Unit {0}
+
+-- or done
+abbrev pub IsDone : Outcome → Type 0
+IsDone (Outcome.Done body) = Unit {0}
+IsDone (Outcome.Refused number words) = ⊥

@@ -1,5 +1,6 @@
 ghost use Rattle.std.specs.Prelude.{◌≡◌, [], false};
-ghost use Rattle.dap_messages.specs.Notes.{Adds, IsRefusal};
+ghost use Rattle.dap_messages.specs.Notes.{Adds, IsDone, IsRefusal, effect_with};
+ghost use Rattle.dap_messages.specs.declared.answer.Effect.{Effect as Stays};
 
 use crate::members::Members;
 use crate::told::Told;
@@ -13,6 +14,29 @@ pub enum Outcome {
     Done(Option<Value>),
     /// it is refused, for the reason of this number in these words
     Refused(u64, String),
+}
+
+/// What was done for a request, and stays, however little memory there is to tell it.
+#[derive(Clone, Copy, Debug, PartialEq, Eq)]
+pub enum Effect {
+    /// nothing
+    Nothing,
+    /// something behind which no event has to come
+    Done,
+    /// something behind which this event has to come, or the client waits for ever
+    Due(Told),
+}
+
+impl Effect {
+    /// What stays where this event is told too.
+    fn with_event(self, told: Told) -> Effect
+        ensures { result ≡ effect_with self told }
+    {
+        match told {
+            Told::Initialized | Told::Stopped | Told::Terminated => Effect::Due(told),
+            Told::Output | Told::Exited | Told::Breakpoint => self,
+        }
+    }
 }
 
 /// An event behind the answer.
@@ -30,23 +54,34 @@ pub struct Answer {
     pub outcome: Outcome,
     pub notes: Vec<Note>,
     pub lacks: bool,
+    pub effect: Effect,
 }
 
 impl Answer {
     /// Done, without a body and without events.
     pub fn new(alloc: Global) -> Answer
-        ensures { result.notes.items ≡ [] }
+        ensures notes { result.notes.items ≡ [] }
+        ensures done { IsDone result.outcome }
+        ensures full { result.lacks ≡ false }
     {
         Answer {
             alloc,
             outcome: Outcome::Done(None),
             notes: Vec::new(alloc),
             lacks: false,
+            effect: Effect::Nothing,
         }
+    }
+
+    /// Keeps in mind that something was done that stays.
+    pub fn did(&mut self) {
+        self.effect = Effect::Done;
     }
 
     /// Gives the response this body.
     pub fn body(&mut self, members: Members)
+        ensures done { IsDone self.old.outcome → IsDone self.new.outcome }
+        ensures effect { self.new.effect ≡ self.old.effect }
         ensures same { self.new.notes ≡ self.old.notes }
         ensures lacks { self.new.lacks ≡ false → self.old.lacks ≡ false }
     {
@@ -73,27 +108,36 @@ impl Answer {
 
     /// Adds an event with this body.
     pub fn note(&mut self, told: Told, members: Members)
-        ensures { Adds self.old.notes.items self.old.lacks told self.new.notes.items self.new.lacks }
+        ensures { Adds self.old told self.new }
     {
         match members.into_value() {
             Some(body) => self.add(told, Some(body)),
-            None => self.lacks = true,
+            None => self.lack(told),
         }
     }
 
     /// Adds an event without a body.
     pub fn tell(&mut self, told: Told)
-        ensures { Adds self.old.notes.items self.old.lacks told self.new.notes.items self.new.lacks }
+        ensures { Adds self.old told self.new }
     {
         self.add(told, None);
     }
 
-    /// Adds an event.
-    fn add(&mut self, told: Told, body: Option<Value>)
-        ensures { Adds self.old.notes.items self.old.lacks told self.new.notes.items self.new.lacks }
+    /// Adds an event with this body, if one is given.
+    pub fn add(&mut self, told: Told, body: Option<Value>)
+        ensures { Adds self.old told self.new }
     {
+        self.effect = self.effect.with_event(told);
         if self.notes.push(Note { told, body }).is_err() {
             self.lacks = true;
         }
+    }
+
+    /// Keeps in mind that there was no memory for an event.
+    fn lack(&mut self, told: Told)
+        ensures { Adds self.old told self.new }
+    {
+        self.effect = self.effect.with_event(told);
+        self.lacks = true;
     }
 }

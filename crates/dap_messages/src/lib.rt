@@ -8,7 +8,7 @@ mod message;
 mod request;
 mod told;
 
-pub use answer::{Answer, Note, Outcome};
+pub use answer::{Answer, Effect, Note, Outcome};
 pub use kind::{Kind, kind_of};
 pub use members::{Listed, Members, field, number_in, text_in};
 pub use message::{Message, messages_of, write_message};

@@ -1,9 +1,10 @@
-ghost use Rattle.std.specs.Prelude.{◌≡◌, ◌∷◌, [], ◌++◌, ◌+◌, IfOk, OnOk, codes};
-ghost use Rattle.serde_json.specs.Data.{number, string, unsigned};
+ghost use Rattle.std.specs.Prelude.{◌≡◌, ◌∷◌, [], ◌++◌, ◌+◌, false, true, IfOk, OnOk, codes, string_bytes};
+ghost use Rattle.serde_json.specs.Data.{boolean, number, string, unsigned};
 ghost use Rattle.dap_messages.specs.Json.{IsJsonOf};
-ghost use Rattle.dap_messages.specs.Messages.{IsAnswerTo, EventsAdded};
+ghost use Rattle.dap_messages.specs.Messages.{IsAnswerTo, EventsAdded, event_name, is_done};
+ghost use Rattle.dap_messages.specs.Notes.{told_by};
 ghost use Rattle.dap_messages.specs.Written.{Has};
-ghost use Rattle.dap_messages.specs.walking.Heads.{KeepsHead};
+ghost use Rattle.dap_messages.specs.walking.Heads.{Keeps, KeepsHead};
 
 use crate::answer::{Answer, Note, Outcome};
 use crate::members::Members;
@@ -30,13 +31,14 @@ pub fn messages_of(
     answer: Answer,
     next: u64,
 ) -> Result<Vec<Message>, AllocError>
-    ensures { IfOk result (λ messages. IsAnswerTo request.now.seq next messages.items) }
+    ensures { IfOk result (λ messages. (answer.lacks ≡ false) × IsAnswerTo request.now answer next messages.items) }
 {
     let Answer {
         alloc: _,
         outcome,
         notes,
         lacks,
+        effect: _,
     } = answer;
     if lacks {
         return Err(AllocError);
@@ -58,7 +60,7 @@ fn add_events(
     messages: &mut Vec<Message>,
     first: u64,
 ) -> Result<(), AllocError>
-    ensures { OnOk result (EventsAdded messages.old.items (first + 1) messages.new.items) }
+    ensures { OnOk result (EventsAdded messages.old.items (first + 1) (told_by notes.items) messages.new.items) }
 {
     let mut seq = first;
     for note in notes {
@@ -86,6 +88,8 @@ fn following(seq: u64) -> Result<u64, AllocError>
 fn response(alloc: Global, request: &Request, outcome: Outcome) -> Members
     ensures type_is { Has result (codes "type") (string (codes "response")) }
     ensures request { Has result (codes "request_seq") (number (unsigned request.now.seq)) }
+    ensures command { Has result (codes "command") (string (string_bytes request.now.command)) }
+    ensures success { Has result (codes "success") (boolean (is_done outcome)) }
 {
     let mut members = Members::new(alloc);
     members.text("type", "response");
@@ -97,7 +101,8 @@ fn response(alloc: Global, request: &Request, outcome: Outcome) -> Members
 
 /// Adds whether the request is done, and what it gives.
 fn add_outcome(alloc: Global, members: &mut Members, outcome: Outcome)
-    ensures { KeepsHead members.old members.new }
+    ensures head { KeepsHead members.old members.new }
+    ensures success { Has members.new (codes "success") (boolean (is_done outcome)) }
 {
     match outcome {
         Outcome::Done(body) => add_done(members, body),
@@ -107,7 +112,8 @@ fn add_outcome(alloc: Global, members: &mut Members, outcome: Outcome)
 
 /// Adds that the request is done.
 fn add_done(members: &mut Members, body: Option<Value>)
-    ensures { KeepsHead members.old members.new }
+    ensures head { KeepsHead members.old members.new }
+    ensures success { Has members.new (codes "success") (boolean true) }
 {
     members.flag("success", true);
     add_body(members, body);
@@ -115,7 +121,8 @@ fn add_done(members: &mut Members, body: Option<Value>)
 
 /// Adds the body, if there is one.
 fn add_body(members: &mut Members, body: Option<Value>)
-    ensures { KeepsHead members.old members.new }
+    ensures head { KeepsHead members.old members.new }
+    ensures success { Keeps (codes "success") members.old members.new }
 {
     match body {
         Some(body) => members.value("body", body),
@@ -123,24 +130,39 @@ fn add_body(members: &mut Members, body: Option<Value>)
     }
 }
 
-/// Adds that the request is refused. A client may show the words, in which no `{` stands.
+/// Adds that the request is refused.
 fn add_refusal(alloc: Global, members: &mut Members, number: u64, words: &str)
-    ensures { KeepsHead members.old members.new }
+    ensures head { KeepsHead members.old members.new }
+    ensures success { Has members.new (codes "success") (boolean false) }
 {
-    let mut error = Members::new(alloc);
-    error.number("id", number);
-    error.text("format", words);
-    error.flag("showUser", true);
     let mut body = Members::new(alloc);
-    body.object("error", error);
+    body.object("error", error_of(alloc, number, words));
     members.flag("success", false);
     members.text("message", words);
     members.object("body", body);
 }
 
+/// The error, in words that a client may show. In a `format` braces stand around the name of a variable, so words that have some
+/// are a variable themselves.
+fn error_of(alloc: Global, number: u64, words: &str) -> Members {
+    let mut error = Members::new(alloc);
+    error.number("id", number);
+    if words.contains('{') || words.contains('}') {
+        let mut variables = Members::new(alloc);
+        variables.text("words", words);
+        error.text("format", "{words}");
+        error.object("variables", variables);
+    } else {
+        error.text("format", words);
+    }
+    error.flag("showUser", true);
+    error
+}
+
 /// The members of the event.
 fn event(alloc: Global, note: Note) -> Members
-    ensures { Has result (codes "type") (string (codes "event")) }
+    ensures type_is { Has result (codes "type") (string (codes "event")) }
+    ensures event { Has result (codes "event") (string (event_name note.told)) }
 {
     let Note { told, body } = note;
     let mut members = Members::new(alloc);

@@ -1,3 +1,6 @@
+ghost use Rattle.std.specs.Prelude.{◌≡◌};
+ghost use Rattle.dap_messages.specs.Messages.{event_name};
+
 /// What is told without being asked: the events of the protocol that are used.
 #[derive(Clone, Copy, Debug, PartialEq, Eq)]
 pub enum Told {
@@ -17,7 +20,9 @@ pub enum Told {
 
 impl Told {
     /// Its name in the protocol.
-    pub fn name(self) -> &'static str {
+    pub fn name(self) -> &'static str
+        ensures { result.now ≡ event_name self }
+    {
         match self {
             Told::Initialized => "initialized",
             Told::Output => "output",

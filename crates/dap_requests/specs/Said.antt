@@ -1,8 +1,9 @@
 -- What an answer tells behind its response.
 use Rattle.std.specs.Prelude.{◌≡◌, ◌++◌, ◌⊎◌, List, [], ◌∷◌, false}
 use Rattle.syntax.specs.Lists.{Every}
-use Rattle.dap_messages.specs.Notes.{IsRefusal, told_by}
+use Rattle.dap_messages.specs.Notes.{IsDone, IsRefusal, told_by}
 use Rattle.dap_messages.specs.declared.answer.Answer.{Answer}
+use Rattle.dap_messages.specs.declared.answer.Effect.{Effect}
 use Rattle.dap_messages.specs.declared.told.Told.{Told}
 
 -- these events are told behind those of before, where there is memory for all
@@ -18,12 +19,16 @@ pub record TellsOutputs (a b : Answer) : Type 0 where
   pub outputs : List Told
   pub are : AreOutputs outputs
   pub told : Tells a outputs b
+  pub done : IsDone a.outcome → IsDone b.outcome
+  pub effect : b.effect ≡ a.effect
 
--- texts are told, and behind them one `stopped`
+-- texts are told, and behind them one `stopped`, which comes even where there is no memory for others
 pub record TellsStop (a b : Answer) : Type 0 where
   pub outputs : List Told
   pub are : AreOutputs outputs
   pub told : Tells a (outputs ++ Told.Stopped ∷ []) b
+  pub done : IsDone a.outcome → IsDone b.outcome
+  pub effect : b.effect ≡ Effect.Due Told.Stopped
 
 -- a request to run is refused and tells nothing, or ends with one `stopped`
 abbrev pub Runs : Answer → Answer → Type 0

@@ -1,10 +1,10 @@
 // Breakpoints on lines.
 ghost use Rattle.dap_requests.specs.Stands.{StandsOn};
 
-use crate::said::tell;
 use dap_messages::{Answer, Listed, Members, Request, Told, number_in, text_in};
 use dap_moves::{Machine, first_stop, stop_lines};
 use dap_views::{Asked, Program, Words, base_of};
+use serde_json::Value;
 use std::alloc::Global;
 
 /// How many lines may have a breakpoint.
@@ -15,17 +15,63 @@ const MOST_LOCATIONS: u64 = 10_000;
 
 /// Answers `setBreakpoints` while nothing is launched: none is verified.
 pub fn set_before(alloc: Global, request: &Request, answer: &mut Answer) {
+    set_none(alloc, request, "nothing is launched yet", answer);
+}
+
+/// Answers that none is set, for this reason.
+fn set_none(alloc: Global, request: &Request, reason: &str, answer: &mut Answer) {
+    let Some(lines) = lines_in(alloc, request, answer) else {
+        return;
+    };
     let mut list = Listed::new(alloc);
-    for value in request.items("breakpoints").unwrap_or(&[]) {
-        list.push(unset(
-            alloc,
-            number_in(value, "line").unwrap_or(0),
-            "nothing is launched yet",
-        ));
+    for line in &lines {
+        list.push(unset(alloc, *line, reason));
     }
     let mut body = Members::new(alloc);
     body.list("breakpoints", list);
     answer.body(body);
+}
+
+/// The items of the list of this name; none where it is not there. It is refused where it is no list.
+pub(crate) fn items_in<'a>(
+    request: &'a Request,
+    name: &str,
+    answer: &mut Answer,
+) -> Option<&'a [Value]> {
+    let Some(value) = request.part(name) else {
+        return Some(&[]);
+    };
+    match value.as_array() {
+        Some(items) => Some(items.as_slice()),
+        None => {
+            answer.refuse(104, "what is to be set is no list");
+            None
+        }
+    }
+}
+
+/// The lines that are asked for, as the client counts. It is refused where one is missing or no number.
+fn lines_in(alloc: Global, request: &Request, answer: &mut Answer) -> Option<Vec<u64>> {
+    let bare = request.part("breakpoints").is_none();
+    let name = if bare { "lines" } else { "breakpoints" };
+    let items = items_in(request, name, answer)?;
+    let mut lines = Vec::new(alloc);
+    for value in items {
+        let line = if bare {
+            value.as_u64()
+        } else {
+            number_in(value, "line")
+        };
+        let Some(line) = line else {
+            answer.refuse(104, "`line` is missing or no number");
+            return None;
+        };
+        if lines.push(line).is_err() {
+            answer.lacks = true;
+            return None;
+        }
+    }
+    Some(lines)
 }
 
 /// A breakpoint that is not set, for this reason.
@@ -37,7 +83,8 @@ fn unset(alloc: Global, line: u64, reason: &str) -> Members {
     one
 }
 
-/// Answers `setBreakpoints`: those of this file are set anew.
+/// Answers `setBreakpoints`: those of this file are set anew, or of the one for which they were set before another was launched.
+/// Where it is refused, or there is no memory, they stay as they were.
 pub fn set_lines(
     alloc: Global,
     machine: &Machine,
@@ -45,96 +92,159 @@ pub fn set_lines(
     request: &Request,
     answer: &mut Answer,
 ) {
-    let path = match request.part("source") {
+    let path = path_in(request);
+    let own = program.is_at(path);
+    if own || is_elsewhere(program, path) {
+        set_anew(alloc, machine, program, own, request, answer);
+    } else {
+        let words = other_words(alloc, program);
+        set_none(alloc, request, words.as_str(), answer);
+    }
+}
+
+/// The path of the source that the request names.
+fn path_in(request: &Request) -> &str {
+    match request.part("source") {
         Some(source) => text_in(source, "path").unwrap_or(""),
         None => "",
-    };
-    if path != program.launch.program.as_str() {
-        set_elsewhere(alloc, program, request, answer);
-        return;
     }
-    if keep_asked(alloc, program, request).is_none() {
-        answer.lacks = true;
-        return;
-    }
-    let mut list = Listed::new(alloc);
-    place_all(alloc, machine, program, &mut list, answer);
-    let mut body = Members::new(alloc);
-    body.list("breakpoints", list);
-    answer.body(body);
 }
 
-/// Answers for a file that is not launched.
-fn set_elsewhere(alloc: Global, program: &Program, request: &Request, answer: &mut Answer) {
+/// Whether the breakpoints were asked for in this file, and another is debugged.
+fn is_elsewhere(program: &Program, path: &str) -> bool {
+    match &program.elsewhere {
+        Some(file) => file.as_str() == path,
+        None => false,
+    }
+}
+
+/// Why none is set in a file that is not debugged.
+fn other_words(alloc: Global, program: &Program) -> Words {
     let mut words = Words::of(alloc, "another file is debugged, ");
     words.add(base_of(program.launch.program.as_str()));
-    let mut list = Listed::new(alloc);
-    for value in request.items("breakpoints").unwrap_or(&[]) {
-        list.push(unset(alloc, number_in(value, "line").unwrap_or(0), words.as_str()));
-    }
-    let mut body = Members::new(alloc);
-    body.list("breakpoints", list);
-    answer.body(body);
+    words
 }
 
-/// Keeps the lines that are asked for, each with a number of its own.
-fn keep_asked(alloc: Global, program: &mut Program, request: &Request) -> Option<()> {
-    let mut asked = Vec::new(alloc);
-    let mut id = program.last_id;
-    match request.items("breakpoints") {
-        Some(items) => {
-            for value in items {
-                id = id.saturating_add(1);
-                let line = program.meant_line(number_in(value, "line").unwrap_or(0));
-                asked.push(Asked { id, line, at: None }).ok()?;
-            }
-        }
-        None => {
-            for value in request.items("lines").unwrap_or(&[]) {
-                id = id.saturating_add(1);
-                let line = program.meant_line(value.as_u64().unwrap_or(0));
-                asked.push(Asked { id, line, at: None }).ok()?;
-            }
-        }
-    }
-    program.last_id = id;
-    program.asked = asked;
-    Some(())
-}
-
-/// Places the breakpoints that are asked for on lines that stop, and lists them.
-fn place_all(
+/// Sets the breakpoints that are asked for, in the file that is debugged or in another.
+fn set_anew(
     alloc: Global,
     machine: &Machine,
     program: &mut Program,
-    list: &mut Listed,
+    own: bool,
+    request: &Request,
     answer: &mut Answer,
 ) {
-    let mut stops = Vec::new(alloc);
-    let mut placed_all = Vec::new(alloc);
-    for asked in &program.asked {
-        let placed = place(alloc, machine, program, *asked, stops.as_slice());
-        if !placed.words.is_empty() {
-            tell_moved(alloc, program, *asked, &placed.words, answer);
-        }
-        list.push(shown(alloc, program, *asked, &placed));
-        let kept = placed_all.push(Asked {
-            at: placed.line,
-            ..*asked
-        });
-        if kept.is_err() || !add_stop(&mut stops, placed.line) {
-            answer.lacks = true;
-        }
+    let Some(lines) = lines_in(alloc, request, answer) else {
+        return;
+    };
+    let Some(asked) = asked_for(alloc, program, lines.as_slice()) else {
+        answer.lacks = true;
+        return;
+    };
+    let Some(placing) = place_all(alloc, machine, program, asked.as_slice(), own) else {
+        answer.lacks = true;
+        return;
+    };
+    if own {
+        program.elsewhere = None;
     }
-    program.asked = placed_all;
-    program.stops = stops;
+    program.last_id = program.last_id.saturating_add(lines.len() as u64);
+    answer.did();
+    let shown = keep(program, placing, answer);
+    let mut body = Members::new(alloc);
+    body.value("breakpoints", Value::Array(shown));
+    answer.body(body);
 }
 
-/// Adds the line to those that stop, where there is one; whether there was memory for it.
-fn add_stop(stops: &mut Vec<u64>, line: Option<u64>) -> bool {
+/// Breakpoints on these lines, each with a number of its own; `None` where there is no memory.
+fn asked_for(alloc: Global, program: &Program, lines: &[u64]) -> Option<Vec<Asked>> {
+    let mut asked = Vec::new(alloc);
+    let mut id = program.last_id;
+    for line in lines {
+        id = id.saturating_add(1);
+        let line = program.meant_line(*line);
+        asked.push(Asked { id, line, at: None }).ok()?;
+    }
+    Some(asked)
+}
+
+/// Breakpoints where they stand, the lines that stop, and what is to be told.
+#[derive(Drop)]
+pub struct Placing {
+    asked: Vec<Asked>,
+    stops: Vec<u64>,
+    /// each as the client sees it
+    shown: Vec<Value>,
+    /// a line of text for each that stands on another line, or on none
+    moved: Vec<Value>,
+}
+
+/// Where the breakpoints stand of a program that was launched before, on this one; `None` where there is no memory.
+pub fn place_again(
+    alloc: Global,
+    machine: &Machine,
+    before: &Program,
+    program: &Program,
+) -> Option<Placing> {
+    let file = match &before.elsewhere {
+        Some(file) => file.as_str(),
+        None => before.launch.program.as_str(),
+    };
+    let own = file == program.launch.program.as_str();
+    place_all(alloc, machine, program, before.asked.as_slice(), own)
+}
+
+/// Where these breakpoints stand: on lines that stop, if they are of the file that is debugged. `None` where there is no memory.
+fn place_all(
+    alloc: Global,
+    machine: &Machine,
+    program: &Program,
+    asked: &[Asked],
+    own: bool,
+) -> Option<Placing> {
+    let mut stops = Vec::new(alloc);
+    let mut placed_all = Vec::new(alloc);
+    let mut shown_all = Listed::new(alloc);
+    let mut moved = Listed::new(alloc);
+    for one in asked {
+        let placed = place_in(alloc, machine, program, *one, own, stops.as_slice());
+        if !placed.words.is_empty() {
+            moved.push(moved_line(alloc, program, *one, &placed.words));
+        }
+        shown_all.push(shown(alloc, program, *one, &placed));
+        let at = placed.line;
+        placed_all.push(Asked { at, ..*one }).ok()?;
+        add_stop(&mut stops, at)?;
+    }
+    Some(Placing {
+        asked: placed_all,
+        stops,
+        shown: shown_all.into_items()?,
+        moved: moved.into_items()?,
+    })
+}
+
+/// Keeps the breakpoints, tells which have moved, and gives each as the client sees it.
+fn keep(program: &mut Program, placing: Placing, answer: &mut Answer) -> Vec<Value> {
+    let Placing {
+        asked,
+        stops,
+        shown,
+        moved,
+    } = placing;
+    program.asked = asked;
+    program.stops = stops;
+    for body in moved {
+        answer.add(Told::Output, Some(body));
+    }
+    shown
+}
+
+/// Adds the line to those that stop, where there is one; `None` where there is no memory for it.
+fn add_stop(stops: &mut Vec<u64>, line: Option<u64>) -> Option<()> {
     match line {
-        Some(line) if !stops.as_slice().contains(&line) => stops.push(line).is_ok(),
-        _ => true,
+        Some(line) if !stops.as_slice().contains(&line) => stops.push(line).ok(),
+        _ => Some(()),
     }
 }
 
@@ -143,6 +253,27 @@ fn add_stop(stops: &mut Vec<u64>, line: Option<u64>) -> bool {
 struct Placed {
     line: Option<u64>,
     words: Words,
+}
+
+/// Where the breakpoint stands, if it is of the file that is debugged.
+fn place_in(
+    alloc: Global,
+    machine: &Machine,
+    program: &Program,
+    asked: Asked,
+    own: bool,
+    stops: &[u64],
+) -> Placed
+    ensures { StandsOn machine.now.checked.main asked.line result.line }
+{
+    if own {
+        place(alloc, machine, program, asked, stops)
+    } else {
+        Placed {
+            line: None,
+            words: other_words(alloc, program),
+        }
+    }
 }
 
 /// Where the breakpoint stands: on its line, else on the next one of the same procedure that stops.
@@ -193,14 +324,17 @@ fn moved_words(alloc: Global, program: &Program, asked: u64, stop: u64) -> Words
     words
 }
 
-/// Tells where a breakpoint has gone, since not every client shows it.
-fn tell_moved(alloc: Global, program: &Program, asked: Asked, why: &Words, answer: &mut Answer) {
+/// A line of text that tells where a breakpoint has gone, since not every client shows it.
+fn moved_line(alloc: Global, program: &Program, asked: Asked, why: &Words) -> Members {
     let mut words = Words::of(alloc, "Breakpoint at line ");
     words.number(program.shown_line(asked.line));
     words.add(": ");
     words.add(why.as_str());
-    words.add(".");
-    tell(alloc, words.as_str(), "console", answer);
+    words.add(".\n");
+    let mut body = Members::new(alloc);
+    body.text("category", "console");
+    body.text("output", words.as_str());
+    body
 }
 
 /// A breakpoint as the client sees it.
@@ -218,18 +352,12 @@ fn shown(alloc: Global, program: &Program, asked: Asked, placed: &Placed) -> Mem
     one
 }
 
-/// Tells the breakpoints again, which may have moved in another source.
-pub fn tell_changed(alloc: Global, machine: &Machine, program: &mut Program, answer: &mut Answer) {
-    let mut list = Listed::new(alloc);
-    place_all(alloc, machine, program, &mut list, answer);
-    let Some(items) = list.into_items() else {
-        answer.lacks = true;
-        return;
-    };
-    for item in items {
+/// Keeps the breakpoints, and tells them again, since they may have moved in another source.
+pub fn tell_changed(alloc: Global, program: &mut Program, placing: Placing, answer: &mut Answer) {
+    for shown in keep(program, placing, answer) {
         let mut body = Members::new(alloc);
         body.text("reason", "changed");
-        body.value("breakpoint", item);
+        body.value("breakpoint", shown);
         answer.note(Told::Breakpoint, body);
     }
 }
@@ -274,14 +402,23 @@ pub fn locations(
 }
 
 /// Answers `setExceptionBreakpoints`.
-pub fn set_exceptions(program: &mut Program, request: &Request) {
-    program.excepts = asks_for_refusals(request);
+pub fn set_exceptions(program: &mut Program, request: &Request, answer: &mut Answer) {
+    if let Some(excepts) = asks_for_refusals(request, answer) {
+        program.excepts = excepts;
+    }
 }
 
-/// Whether the filters that are set have refusals among them.
-pub fn asks_for_refusals(request: &Request) -> bool {
-    for value in request.items("filters").unwrap_or(&[]) {
-        if value.as_str() == Some("refused") {
+/// Whether the filters that are set have refusals among them. It is refused where they are no list.
+pub fn asks_for_refusals(request: &Request, answer: &mut Answer) -> Option<bool> {
+    let filters = items_in(request, "filters", answer)?;
+    answer.did();
+    Some(has_refusals(filters))
+}
+
+/// Whether refusals are among these filters.
+fn has_refusals(filters: &[Value]) -> bool {
+    for filter in filters {
+        if filter.as_str() == Some("refused") {
             return true;
         }
     }

@@ -14,9 +14,14 @@ pub fn targets(
     request: &Request,
     answer: &mut Answer,
 ) {
-    let found = frame_in(alloc, machine, program, request, answer);
-    if let (Some((branch, _)), Some(sight)) = (found, &program.sight) {
-        answer.body(target_list(alloc, machine, sight.ready.as_slice(), branch));
+    let Some((branch, _)) = frame_in(alloc, machine, program, request, answer) else {
+        return;
+    };
+    match &program.sight {
+        Some(sight) => {
+            answer.body(target_list(alloc, machine, sight.ready.as_slice(), branch));
+        }
+        None => answer.lacks = true,
     }
 }
 

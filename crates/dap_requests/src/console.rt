@@ -309,6 +309,9 @@ fn ask(
 {
     let reply = asked(desk, command);
     show_reply(alloc, desk.machine(), command, &reply, answer);
+    if let Command::Break(_) | Command::Clear(_) = command {
+        answer.did();
+    }
     if let Command::Break(_) = command {
         let words =
             "`branch` in the console stops there. `continue` stops where the editor has a breakpoint.";

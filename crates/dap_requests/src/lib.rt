@@ -10,11 +10,12 @@ mod said;
 mod watches;
 
 pub use breakpoints::{
-    asks_for_refusals, locations, set_before, set_exceptions, set_lines, tell_changed,
+    Placing, asks_for_refusals, locations, place_again, set_before, set_exceptions, set_lines,
+    tell_changed,
 };
 pub use choices::targets;
 pub use completing::completions;
 pub use console::evaluate;
-pub use moves::{back, back_in, go, next, reverse, reverse_in, run, run_free};
+pub use moves::{back_in, go_in, reverse, reverse_in, run, run_free, step_in};
 pub use said::{stop, tell};
 pub use watches::{data_info, set_data, set_data_before};

@@ -1,14 +1,15 @@
 // Requests to run: forth and back. Each that succeeds ends with one `stopped`.
-ghost use Rattle.std.specs.Prelude.{◌≡◌, slice_get};
+ghost use Rattle.std.specs.Prelude.{◌≡◌, MatchOption, slice_get};
 ghost use Rattle.locked_execution.specs.declared.command.Reply.{Reply as Replied};
 ghost use Rattle.dap_moves.specs.Led.{Led};
 ghost use Rattle.dap_moves.specs.Moves.{StepsAt, StepsBack, targets};
 ghost use Rattle.dap_moves.specs.declared.back.Back.{Back as MovedBack};
-ghost use Rattle.dap_requests.specs.Forth.{StepsForth, Takes};
+ghost use Rattle.dap_messages.specs.Notes.{IsRefusal};
+ghost use Rattle.dap_requests.specs.Forth.{ForthBy, IsTarget, RunsBy, StepsForth, Takes};
 ghost use Rattle.dap_requests.specs.Said.{Runs, TellsOutputs, TellsStop};
 
 use crate::said::{stop, stop_at_line, tell, tell_outputs, tell_refused, tell_step, words_of};
-use dap_messages::{Answer, Members, Request};
+use dap_messages::{Answer, Kind, Members, Request};
 use dap_moves::{
     Back, Desk, Ended, Machine, Marks, Plan, Reply, Rewound, go_on, rewind, rewind_branch, step_at,
     step_back, target_at,
@@ -21,22 +22,53 @@ use std::mem;
 use syntax::Items;
 use system_places::branch_at;
 
-/// Answers `next`, `stepIn` and `stepOut`: one step of the thread.
+/// Answers `next`, `stepIn` and `stepOut`: one step of the branch.
 #[tactic(auto, using(crate::proofs::Saying::run_ends, crate::proofs::Reading::led_still))]
-pub fn next(
+pub fn step_in(
     alloc: Global,
     desk: &mut Desk,
     program: &mut Program,
+    branch: u32,
     request: &Request,
     answer: &mut Answer,
 )
     ensures led { Led desk.old desk.new }
-    ensures system { desk.new.machine.checked ≡ desk.old.machine.checked }
     ensures stops { Runs answer.old answer.new }
+    ensures forth { ForthBy desk.old request.now.kind branch desk.new }
 {
-    if let Some(branch) = thread_in(request, desk.machine(), answer) {
-        let number = request.number("targetId").unwrap_or(1).saturating_sub(1);
-        next_in(alloc, desk, program, branch, number, answer);
+    match target_in(request, answer) {
+        Some(number) => next_in(alloc, desk, program, branch, number, answer),
+        None => {}
+    }
+}
+
+/// The number of the step that is asked for among those that it can be, from 0. `stepIn` may name one, and is refused where it
+/// names none by a number from 1 on.
+fn target_in(request: &Request, answer: &mut Answer) -> Option<u64>
+    ensures target { IsTarget request.now.kind result }
+    ensures outcome { MatchOption result (IsRefusal answer.new.outcome × (answer.new.notes ≡ answer.old.notes))
+        (λ _. answer.new ≡ answer.old) }
+{
+    match request.kind {
+        Kind::StepIn => target_named(request, answer),
+        _ => Some(0),
+    }
+}
+
+/// The number of the step that `stepIn` names, from 0; the first where it names none.
+fn target_named(request: &Request, answer: &mut Answer) -> Option<u64>
+    ensures { MatchOption result (IsRefusal answer.new.outcome × (answer.new.notes ≡ answer.old.notes))
+        (λ _. answer.new ≡ answer.old) }
+{
+    let Some(value) = request.part("targetId") else {
+        return Some(0);
+    };
+    match value.as_u64() {
+        Some(number) if number >= 1 => Some(number - 1),
+        _ => {
+            answer.refuse(104, "`targetId` is no number from 1 on");
+            None
+        }
     }
 }
 
@@ -208,26 +240,40 @@ fn add_wait(
     }
 }
 
-/// Answers `continue`.
-pub fn go(
+/// Answers `continue`: goes on from where the branch stands, alone or in turn with the others.
+pub fn go_in(
     alloc: Global,
     desk: &mut Desk,
     program: &mut Program,
-    request: &Request,
+    branch: u32,
+    single: bool,
     answer: &mut Answer,
 )
     ensures led { Led desk.old desk.new }
-    ensures system { desk.new.machine.checked ≡ desk.old.machine.checked }
-    ensures stops { Runs answer.old answer.new }
+    ensures stops { TellsStop answer.old answer.new }
+    ensures passes { RunsBy program.old.stops.items desk.old desk.new }
 {
-    if let Some(branch) = thread_in(request, desk.machine(), answer) {
-        let single = request.flag("singleThread", false);
-        let mut body = Members::new(alloc);
-        body.flag("allThreadsContinued", !single);
-        answer.body(body);
-        let only = if single { Some(branch) } else { None };
-        run(alloc, desk, program, Some(branch), only, answer);
-    }
+    answer.body(continued(alloc, single));
+    run(
+        alloc,
+        desk,
+        program,
+        Some(branch),
+        alone(branch, single),
+        answer,
+    );
+}
+
+/// That all threads go on, or one.
+fn continued(alloc: Global, single: bool) -> Members {
+    let mut body = Members::new(alloc);
+    body.flag("allThreadsContinued", !single);
+    body
+}
+
+/// The branch, where it steps alone.
+fn alone(branch: u32, single: bool) -> Option<u32> {
+    if single { Some(branch) } else { None }
 }
 
 /// Goes on from where the branch stands, which a run has seen.
@@ -242,6 +288,7 @@ pub fn run(
     ensures led { Led desk.old desk.new }
     ensures system { desk.new.machine.checked ≡ desk.old.machine.checked }
     ensures stops { TellsStop answer.old answer.new }
+    ensures passes { RunsBy program.old.stops.items desk.old desk.new }
 {
     let before = desk.machine().live_events().len();
     let ended = run_on(alloc, desk, program, branch, only);
@@ -286,15 +333,17 @@ fn run_on(
 ) -> Ended
     ensures led { Led desk.old desk.new }
     ensures system { desk.new.machine.checked ≡ desk.old.machine.checked }
+    ensures passes { RunsBy program.old.stops.items desk.old desk.new }
 {
     let mut seen = mem::replace(&mut program.seen, Vec::new(alloc));
     if !program.stops.is_empty() {
         see_first(alloc, desk.machine(), branch, &mut seen);
     }
+    let lines = program.stops.as_slice();
     let plan = Plan {
         first: branch.unwrap_or(0),
         only,
-        lines: program.stops.as_slice(),
+        lines,
         watched: program.watched.as_slice(),
         seen: seen.as_slice(),
         most: program.launch.most,
@@ -398,24 +447,6 @@ fn watched_words(alloc: Global, machine: &Machine, ticket: u64) -> Words {
         }
     }
     words
-}
-
-/// Answers `stepBack`.
-#[tactic(auto, using(crate::proofs::Saying::run_ends, crate::proofs::Reading::led_still))]
-pub fn back(
-    alloc: Global,
-    desk: &mut Desk,
-    program: &mut Program,
-    request: &Request,
-    answer: &mut Answer,
-)
-    ensures led { Led desk.old desk.new }
-    ensures system { desk.new.machine.checked ≡ desk.old.machine.checked }
-    ensures stops { Runs answer.old answer.new }
-{
-    if let Some(branch) = thread_in(request, desk.machine(), answer) {
-        back_in(alloc, desk, program, branch, answer);
-    }
 }
 
 /// Takes the newest step of the branch back.

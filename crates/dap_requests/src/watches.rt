@@ -1,4 +1,5 @@
 // Breakpoints on variables and on channels.
+use crate::breakpoints::items_in;
 use dap_messages::{Answer, Listed, Members, Request, field, text_in};
 use dap_moves::{Handle, Machine, Watched, handle_of};
 use dap_threads::frame_in;
@@ -90,27 +91,46 @@ fn whole_name(alloc: Global, machine: &Machine, thing: Thing) -> Words {
     words
 }
 
-/// Answers `setDataBreakpoints`.
+/// Answers `setDataBreakpoints`. Where it is refused, or there is no memory, what is watched stays.
 pub fn set_data(alloc: Global, program: &mut Program, request: &Request, answer: &mut Answer) {
+    let Some(items) = items_in(request, "breakpoints", answer) else {
+        return;
+    };
     let mut watched = Vec::new(alloc);
     let mut list = Listed::new(alloc);
-    for value in request.items("breakpoints").unwrap_or(&[]) {
+    for value in items {
         let found = watched_by(program, text_in(value, "dataId").unwrap_or(""));
-        let mut one = Members::new(alloc);
-        one.flag("verified", found.is_some());
-        match found {
-            Some(found) => {
-                if watched.push(found).is_err() {
-                    answer.lacks = true;
-                }
+        list.push(shown(alloc, found.is_some()));
+        if let Some(found) = found {
+            if watched.push(found).is_err() {
+                list.lack();
             }
-            None => one.text("message", "no such variable or channel"),
         }
-        list.push(one);
     }
-    program.watched = watched;
+    match list.into_value() {
+        Some(list) => {
+            program.watched = watched;
+            answer.did();
+            give(alloc, list, answer);
+        }
+        None => answer.lacks = true,
+    }
+}
+
+/// A data breakpoint as the client sees it.
+fn shown(alloc: Global, verified: bool) -> Members {
+    let mut one = Members::new(alloc);
+    one.flag("verified", verified);
+    if !verified {
+        one.text("message", "no such variable or channel");
+    }
+    one
+}
+
+/// Gives the response this list of breakpoints.
+fn give(alloc: Global, list: Value, answer: &mut Answer) {
     let mut body = Members::new(alloc);
-    body.list("breakpoints", list);
+    body.value("breakpoints", list);
     answer.body(body);
 }
 
@@ -126,8 +146,11 @@ fn watched_by(program: &Program, id: &str) -> Option<Watched> {
 
 /// Answers `setDataBreakpoints` while nothing is launched.
 pub fn set_data_before(alloc: Global, request: &Request, answer: &mut Answer) {
+    let Some(items) = items_in(request, "breakpoints", answer) else {
+        return;
+    };
     let mut list = Listed::new(alloc);
-    for value in request.items("breakpoints").unwrap_or(&[]) {
+    for value in items {
         let mut one = Members::new(alloc);
         one.flag("verified", false);
         if field(value, "dataId").is_some() {

@@ -1,15 +1,18 @@
 -- Frames that are made and sent one after another.
-use Rattle.std.proofs.Common.{◌≡◌, ◌≤◌, ◌+◌, ℕ, List, [], ◌∷◌, ◌++◌, length, Option, ◌⊎◌, inl, inr, refl, sym, ap, ◌∙◌, subst, append_assoc, append-nil, arith}
+use Rattle.std.proofs.Common.{◌≡◌, ◌≤◌, ◌+◌, ℕ, List, [], ◌∷◌, ◌++◌, length, Option, Some, None, false, inl, inr, refl, sym, ap, ◌∙◌, subst, append_assoc, append-nil, arith}
 use Rattle.std.specs.Io.KnownBytes.{Appends}
 use Rattle.dap_frames.specs.Frames.{framed}
 use Rattle.dap_messages.specs.Json.{IsJsonOf}
-use Rattle.dap_messages.specs.Messages.{AreEvents, IsAnswerTo}
+use Rattle.dap_messages.specs.Messages.{IsAnswerTo}
 use Rattle.dap_messages.specs.declared.answer.Answer.{Answer}
 use Rattle.dap_messages.specs.declared.message.Message.{Message}
 use Rattle.dap_messages.specs.declared.request.Request.{Request}
-use Rattle.dap_server.specs.Sent.{AnswerRequest, AreJson, HasSent, IsBatch, IsBehind, Sends, TellEvents, TellsEvent, Responds, frames}
+use Rattle.dap_messages.specs.declared.told.Told.{Told}
+use Rattle.dap_server.specs.Sent.{AddsDue, AreJson, HasSent, IsBatch, IsBehind, IsWhole, Sends, frames}
 use Rattle.dap_server.specs.Session.{Exchange}
+use Rattle.dap_server.specs.Short.{due_bodies, gist_of, short_bodies, short_event}
 use Rattle.dap_server.specs.declared.batch.Batch.{Batch}
+use Rattle.dap_server.specs.declared.gist.Gist.{Gist}
 
 -- nothing is left where no item is
 pub none_left : {X : Type 0} (xs : List X) → length xs ≡ 0 → xs ≡ []
@@ -38,20 +41,6 @@ frames_join (x ∷ xs) ys = ap (λ (t : List ℕ). framed x ++ t) (frames_join x
 
 pub frames_more : (xs : List (List ℕ)) (body : List ℕ) → frames (xs ++ body ∷ []) ≡ frames xs ++ framed body
 frames_more xs body = frames_join xs (body ∷ []) ∙ ap (λ (t : List ℕ). frames xs ++ t) (append-nil (framed body))
-
--- events that are JSON tell events
-tell_events : (next : ℕ) (ms : List Message) (bodies : List (List ℕ)) → AreEvents next ms → AreJson ms bodies → TellEvents next bodies
-tell_events next [] [] h k = tt
-tell_events next [] (b ∷ bodies) h k = absurd k
-tell_events next (m ∷ ms) [] h k = absurd k
-tell_events next (m ∷ ms) (b ∷ bodies) h k = (inl (m, h.0, h.1, k.0), tell_events (next + 1) ms bodies h.2 k.1)
-
--- and the messages of an answer answer
-pub answer_request : (request next : ℕ) (ms : List Message) (bodies : List (List ℕ)) → IsAnswerTo request next ms → AreJson ms bodies
-    → AnswerRequest request next bodies
-answer_request request next [] bodies h k = absurd h
-answer_request request next (m ∷ ms) [] h k = absurd k
-answer_request request next (m ∷ ms) (b ∷ bodies) h k = (inl (m, h.0, h.1, k.0), tell_events (next + 1) ms bodies h.2 k.1)
 
 -- the frames of messages, and how many they are
 pub batch_made : (ms : List Message) (start : List ℕ) (batch : Batch) → start ≡ [] → batch.count ≡ length ms
@@ -85,53 +74,47 @@ batch_of_two first second before after h k = record {
 }
 
 -- a short answer: a response alone, or with an event behind it
-pub short_made : (request seq : ℕ) (before after : Batch) → (body : List ℕ) × IsBatch (body ∷ []) before × Responds request seq body
-    → (after ≡ before) ⊎ ((body : List ℕ) × IsBehind before body after × TellsEvent (seq + 1) body)
-    → (bodies : List (List ℕ)) × IsBatch bodies after × AnswerRequest request seq bodies
-short_made request seq before after h k = elim k [
-  | inl same ↦ (h.0 ∷ [], subst (λ (b : Batch). IsBatch (h.0 ∷ []) b) (sym same) h.1, (h.2, tt))
-  | inr more ↦ (h.0 ∷ more.0 ∷ [], batch_of_two h.0 more.0 before after h.1 more.1, (h.2, (more.2, tt)))
-]
+pub short_made : (request : Request) (due : Option Told) (first : List ℕ) (seq : ℕ) (before after : Batch) → IsBatch (first ∷ []) before
+    → AddsDue before (due_bodies request due seq) after → IsBatch (first ∷ due_bodies request due seq) after
+short_made request None first seq before after h k = subst (λ (b : Batch). IsBatch (first ∷ []) b) (sym k) h
+short_made request (Some told) first seq before after h k = batch_of_two first (short_event request told seq) before after h k
 
--- a message that says this is framed
-pub first_says : (Q : List ℕ → Type 0) (body : List ℕ) (batch : Batch) → Q body → IsBatch (body ∷ []) batch
-    → (b : List ℕ) × IsBatch (b ∷ []) batch × Q b
-first_says Q body batch says made = (body, made, says)
+-- one that has to come
+pub due_added : (request : Request) (due : Option Told) (told : Told) (seq : ℕ) (before after : Batch) → due ≡ Some told
+    → IsBehind before (short_event request told seq) after → AddsDue before (due_bodies request due seq) after
+due_added request due told seq before after is h =
+    subst (λ (d : Option Told). AddsDue before (due_bodies request d seq) after) (sym is) h
 
-pub second_says : (Q : List ℕ → Type 0) (body : List ℕ) (before after : Batch) → Q body → IsBehind before body after
-    → (b : List ℕ) × IsBehind before b after × Q b
-second_says Q body before after says made = (body, made, says)
+pub due_none : (request : Request) (due : Option Told) (seq : ℕ) (before after : Batch) → due ≡ None → after ≡ before
+    → AddsDue before (due_bodies request due seq) after
+due_none request due seq before after is h =
+    subst (λ (d : Option Told). AddsDue before (due_bodies request d seq) after) (sym is) h
 
--- an event behind the message of this number
-pub behind : (before after : Batch) (seq next : ℕ) → next ≡ seq + 1 → (b : List ℕ) × IsBehind before b after × TellsEvent next b
-    → (b : List ℕ) × IsBehind before b after × TellsEvent (seq + 1) b
-behind before after seq next is h = (h.0, h.1, subst (λ (n : ℕ). TellsEvent n h.0) is h.2)
+-- a message of which the text is known is framed
+pub first_is : (text body : List ℕ) (batch : Batch) → body ≡ text → IsBatch (body ∷ []) batch → IsBatch (text ∷ []) batch
+first_is text body batch is made = subst (λ (b : List ℕ). IsBatch (b ∷ []) batch) is made
+
+pub second_is : (text body : List ℕ) (before after : Batch) → body ≡ text → IsBehind before body after → IsBehind before text after
+second_is text body before after is made = subst (λ (b : List ℕ). IsBehind before b after) is made
 
 -- the messages of an answer are sent
 pub answer_sent : {A : Type 0} (answers : A → Request → Answer → A → Type 0) (a : A) (request : Request) (answer : Answer) (b : A) (batch : Batch)
     (old new : Option (List ℕ)) (next after : ℕ) → answers a request answer b
-    → (bodies : List (List ℕ)) × IsBatch bodies batch × AnswerRequest request.seq next bodies → HasSent batch old new next after
+    → (bodies : List (List ℕ)) × IsBatch bodies batch × IsWhole request answer next bodies → HasSent batch old new next after
     → (sent : List (List ℕ)) × Exchange answers a request next sent b × Sends sent old new next after
 answer_sent answers a request answer b batch old new next after is h k =
-    (h.0, record { answer = answer; answered = is; told = h.2 }, sends_all h.0 batch old new next after h.1 k)
+    (h.0, record { answer = answer; answered = is; told = inl h.2 }, sends_all h.0 batch old new next after h.1 k)
 
--- those of a short one are
-pub short_sent : (request : ℕ) (batch : Batch) (old new : Option (List ℕ)) (next after : ℕ)
-    → (bodies : List (List ℕ)) × IsBatch bodies batch × AnswerRequest request next bodies → HasSent batch old new next after
-    → (sent : List (List ℕ)) × AnswerRequest request next sent × Sends sent old new next after
-short_sent request batch old new next after h k = (h.0, h.2, sends_all h.0 batch old new next after h.1 k)
-
--- and answer the request all the same
-pub short_answers : {A : Type 0} (answers : A → Request → Answer → A → Type 0) (a : A) (request : Request) (answer : Answer) (b : A)
-    (old new : Option (List ℕ)) (next after : ℕ) → answers a request answer b
-    → (sent : List (List ℕ)) × AnswerRequest request.seq next sent × Sends sent old new next after
+-- short ones answer the request all the same
+pub short_answers : {A : Type 0} (answers : A → Request → Answer → A → Type 0) (a : A) (request : Request) (answer : Answer) (b : A) (gist : Gist)
+    (old new : Option (List ℕ)) (next after : ℕ) → answers a request answer b → gist ≡ gist_of answer.outcome answer.effect
+    → Sends (short_bodies request gist next) old new next after
     → (sent : List (List ℕ)) × Exchange answers a request next sent b × Sends sent old new next after
-short_answers answers a request answer b old new next after is h = (h.0, record { answer = answer; answered = is; told = h.1 }, h.2)
-
--- an event is sent
-pub event_sent : (batch : Batch) (old new : Option (List ℕ)) (next after : ℕ) → (body : List ℕ) × IsBatch (body ∷ []) batch × TellsEvent next body
-    → HasSent batch old new next after → (body : List ℕ) × TellsEvent next body × Sends (body ∷ []) old new next after
-event_sent batch old new next after h k = (h.0, h.2, sends_all (h.0 ∷ []) batch old new next after h.1 k)
+short_answers answers a request answer b gist old new next after is same h = (
+  short_bodies request gist next,
+  record { answer = answer; answered = is; told = inr (ap (λ (g : Gist). short_bodies request g next) same) },
+  h,
+)
 
 -- the frame of a message alone, in place of what was there
 pub first_framed : (body slice start : List ℕ) (batch : Batch) → batch.count ≡ 1 → slice ≡ body → start ≡ []
@@ -148,7 +131,8 @@ second_framed body slice before after two same is = record {
 }
 
 -- frames that answer a request
-pub answers_with : (request next : ℕ) (ms : List Message) → IsAnswerTo request next ms → (batch : Batch)
-    → (bodies : List (List ℕ)) × AreJson ms bodies × IsBatch bodies batch
-    → (bodies : List (List ℕ)) × IsBatch bodies batch × AnswerRequest request next bodies
-answers_with request next ms is batch h = (h.0, h.2, answer_request request next ms h.0 is h.1)
+pub answers_with : (request : Request) (answer : Answer) (next : ℕ) (ms : List Message) → (answer.lacks ≡ false) × IsAnswerTo request answer next ms
+    → (batch : Batch) → (bodies : List (List ℕ)) × AreJson ms bodies × IsBatch bodies batch
+    → (bodies : List (List ℕ)) × IsBatch bodies batch × IsWhole request answer next bodies
+answers_with request answer next ms is batch h =
+    (h.0, h.2, record { full = is.0; messages = ms; answers = is.1; json = h.1 })

@@ -3,7 +3,8 @@ use Rattle.std.proofs.Common.{◌≡◌, ◌+◌, ℕ, List, [], ◌∷◌, ◌+
 use Rattle.std.specs.Io.KnownBytes.{Appends}
 use Rattle.dap_messages.specs.declared.answer.Answer.{Answer}
 use Rattle.dap_messages.specs.declared.request.Request.{Request}
-use Rattle.dap_server.specs.Sent.{Sends, TellsEvent, frames}
+use Rattle.dap_server.specs.Sent.{Sends, frames}
+use Rattle.dap_server.specs.Short.{short_line}
 use Rattle.dap_server.specs.Session.{Exchange, Session, Serves}
 use Rattle.dap_server.proofs.Sending.{frames_join}
 
@@ -48,13 +49,12 @@ session_then answers a m b next after (Some request ∷ heard) more sent rest at
       ap (λ (xs : List (List ℕ)). xs ++ rest) h.5 ∙ append_assoc h.1 h.2 rest,
     )
 session_then answers a m b next after (None ∷ heard) more sent rest at h k =
-    let size : length sent ≡ length h.1 + 1 = ap (λ (xs : List (List ℕ)). length xs) h.4 ∙ omega arith in
+    let size : length sent ≡ length h.1 + 1 = ap (λ (xs : List (List ℕ)). length xs) h.3 ∙ omega arith in
     let there : after ≡ next + 1 + length h.1 = omega arith in (
       h.0,
       h.1 ++ rest,
-      h.2,
-      session_then answers a m b (next + 1) after heard more h.1 rest there h.3 k,
-      ap (λ (xs : List (List ℕ)). xs ++ rest) h.4,
+      session_then answers a m b (next + 1) after heard more h.1 rest there h.2 k,
+      ap (λ (xs : List (List ℕ)). xs ++ rest) h.3,
     )
 
 -- nothing came
@@ -84,13 +84,17 @@ serves_request answers a b request l n u v h = record {
 
 -- what came is no request
 pub serves_other : {A : Type 0} (answers : A → Request → Answer → A → Type 0) (a : A) (l n : ℕ) (u v : Option (List ℕ))
-    → (body : List ℕ) × TellsEvent l body × Sends (body ∷ []) u v l n → Serves answers a l a n u v
+    → (line : List ℕ) × Sends (short_line line l ∷ []) u v l n → Serves answers a l a n u v
 serves_other answers a l n u v h = record {
   heard = None ∷ [];
-  sent = h.0 ∷ [];
-  sends = h.2;
-  session = (h.0, [], h.1, (refl, refl), refl);
+  sent = short_line h.0 l ∷ [];
+  sends = h.1;
+  session = (h.0, [], (refl, refl), refl);
 }
+
+pub serves_line : {A : Type 0} (answers : A → Request → Answer → A → Type 0) (a : A) (l n : ℕ) (u v : Option (List ℕ)) (line : List ℕ)
+    → Sends (short_line line l ∷ []) u v l n → Serves answers a l a n u v
+serves_line answers a l n u v line h = serves_other answers a l n u v (line, h)
 
 -- the first number is known
 pub serves_from : {A : Type 0} (answers : A → Request → Answer → A → Type 0) (a b : A) (next first after : ℕ) (u v : Option (List ℕ))

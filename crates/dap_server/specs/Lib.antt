@@ -1,3 +1,4 @@
 pub mod Kinds
 pub mod Sent
 pub mod Session
+pub mod Short

@@ -1,11 +1,13 @@
 -- The messages that are sent, and the requests that they answer.
-use Rattle.std.specs.Prelude.{ℕ, ◌≡◌, ◌⊎◌, ◌+◌, List, [], ◌∷◌, ◌++◌, length, Option, codes}
+use Rattle.std.specs.Prelude.{ℕ, ◌≡◌, ◌⊎◌, ◌+◌, false, List, [], ◌∷◌, ◌++◌, length, Option}
 use Rattle.std.specs.Io.KnownBytes.{Appends}
-use Rattle.std.specs.Fmt.{decimal}
 use Rattle.dap_frames.specs.Frames.{framed}
 use Rattle.dap_messages.specs.Json.{IsJsonOf}
-use Rattle.dap_messages.specs.Messages.{IsEvent, IsResponse}
+use Rattle.dap_messages.specs.Messages.{IsAnswerTo}
+use Rattle.dap_messages.specs.declared.answer.Answer.{Answer}
 use Rattle.dap_messages.specs.declared.message.Message.{Message}
+use Rattle.dap_messages.specs.declared.request.Request.{Request}
+use Rattle.dap_server.specs.Short.{gist_of, short_bodies}
 use Rattle.dap_server.specs.declared.batch.Batch.{Batch}
 
 -- the frames of these messages, one behind another
@@ -13,39 +15,24 @@ abbrev pub frames : List (List ℕ) → List ℕ
 frames [] = []
 frames (body ∷ bodies) = framed body ++ frames bodies
 
--- how a short message begins: with its number
-abbrev pub numbered : ℕ → List ℕ
-numbered seq = codes "{\"seq\":" ++ decimal seq
+-- these are the JSON of the messages, one for each
+abbrev pub AreJson : List Message → List (List ℕ) → Type 0
+AreJson [] [] = Unit {0}
+AreJson (m ∷ ms) (body ∷ bodies) = IsJsonOf m body × AreJson ms bodies
+AreJson _ _ = ⊥
 
--- how a short response begins: with its number, and that of the request
-abbrev pub short_response : ℕ → ℕ → List ℕ
-short_response request seq = numbered seq ++ (codes ",\"type\":\"response\",\"request_seq\":" ++ decimal request)
+-- these are the messages of the answer to a request, each as JSON, numbered on from `next`: its response, and its events
+pub record IsWhole (request : Request) (answer : Answer) (next : ℕ) (bodies : List (List ℕ)) : Type 0 where
+  pub full : answer.lacks ≡ false
+  pub messages : List Message
+  pub answers : IsAnswerTo request answer next messages
+  pub json : AreJson messages bodies
 
--- how a short event begins
-abbrev pub short_event : ℕ → List ℕ
-short_event seq = numbered seq ++ codes ",\"type\":\"event\""
-
--- it is JSON of a message that responds to the request of this number; or, where there was no memory for that, it begins as one
-abbrev pub Responds : ℕ → ℕ → List ℕ → Type 0
-Responds request seq body =
-    ((m : Message) × (m.seq ≡ seq) × IsResponse request m × IsJsonOf m body)
-    ⊎ ((rest : List ℕ) × (body ≡ short_response request seq ++ rest))
-
--- the same of an event
-abbrev pub TellsEvent : ℕ → List ℕ → Type 0
-TellsEvent seq body =
-    ((m : Message) × (m.seq ≡ seq) × IsEvent m × IsJsonOf m body)
-    ⊎ ((rest : List ℕ) × (body ≡ short_event seq ++ rest))
-
--- events, numbered on from `next`
-abbrev pub TellEvents : ℕ → List (List ℕ) → Type 0
-TellEvents next [] = Unit {0}
-TellEvents next (body ∷ bodies) = TellsEvent next body × TellEvents (next + 1) bodies
-
--- the first is the response to the request of this number, and the others are events; they are numbered on from `next`
-abbrev pub AnswerRequest : ℕ → ℕ → List (List ℕ) → Type 0
-AnswerRequest request next [] = ⊥
-AnswerRequest request next (body ∷ bodies) = Responds request next body × TellEvents (next + 1) bodies
+-- these messages answer a request, the first of which is the response; or, where there was no memory for them, short ones do,
+-- which tell the gist of the answer
+abbrev pub AnswerRequest : Request → Answer → ℕ → List (List ℕ) → Type 0
+AnswerRequest request answer next bodies =
+    IsWhole request answer next bodies ⊎ (bodies ≡ short_bodies request (gist_of answer.outcome answer.effect) next)
 
 -- these messages are sent, of which `next` is the first number, and `after` the one behind the last
 pub record Sends (bodies : List (List ℕ)) (old new : Option (List ℕ)) (next after : ℕ) : Type 0 where
@@ -62,11 +49,10 @@ pub record IsBehind (before : Batch) (body : List ℕ) (after : Batch) : Type 0 
   pub written : after.bytes.items ≡ before.bytes.items ++ framed body
   pub counted : after.count ≡ 2
 
--- these are the JSON of the messages, one for each
-abbrev pub AreJson : List Message → List (List ℕ) → Type 0
-AreJson [] [] = Unit {0}
-AreJson (m ∷ ms) (body ∷ bodies) = IsJsonOf m body × AreJson ms bodies
-AreJson _ _ = ⊥
+-- the frame of an event is put behind that of the response, if one has to come
+abbrev pub AddsDue : Batch → List (List ℕ) → Batch → Type 0
+AddsDue before [] after = after ≡ before
+AddsDue before (body ∷ bodies) after = IsBehind before body after
 
 -- it is written, and `after` is the number behind that of its last message
 pub record HasSent (batch : Batch) (old new : Option (List ℕ)) (next after : ℕ) : Type 0 where

@@ -2,17 +2,18 @@
 use Rattle.std.specs.Prelude.{ℕ, ◌≡◌, ◌+◌, List, [], ◌∷◌, ◌++◌, length, Option, None, Some}
 use Rattle.dap_messages.specs.declared.answer.Answer.{Answer}
 use Rattle.dap_messages.specs.declared.request.Request.{Request}
-use Rattle.dap_server.specs.Sent.{AnswerRequest, Sends, TellsEvent}
+use Rattle.dap_server.specs.Sent.{AnswerRequest, Sends}
+use Rattle.dap_server.specs.Short.{short_line}
 
--- the adapter answers a request once, and sends these for it, of which the first alone is a response
+-- the adapter answers a request once, and these are sent for that answer, of which the first alone is a response
 pub record Exchange {A : Type 0} (answers : A → Request → Answer → A → Type 0) (a : A) (request : Request) (next : ℕ)
     (sent : List (List ℕ)) (b : A) : Type 0 where
   pub answer : Answer
   pub answered : answers a request answer b
-  pub told : AnswerRequest request.seq next sent
+  pub told : AnswerRequest request answer next sent
 
 -- what comes, one after another, a request or what is none, and what is sent: for each request its response and the events
--- behind it, and for what is no request one event, which changes nothing. All is numbered on from `next`
+-- behind it, and for what is no request one line, which changes nothing. All is numbered on from `next`
 abbrev pub Session : {A : Type 0} → (A → Request → Answer → A → Type 0) → A → ℕ → List (Option Request) → List (List ℕ) → A
     → Type 0
 Session answers a next [] sent b = (sent ≡ []) × (b ≡ a)
@@ -20,7 +21,7 @@ Session {A} answers a next (Some request ∷ heard) sent b =
     (m : A) × (own : List (List ℕ)) × (rest : List (List ℕ)) × Exchange answers a request next own m
     × Session answers m (next + length own) heard rest b × (sent ≡ own ++ rest)
 Session answers a next (None ∷ heard) sent b =
-    (own : List ℕ) × (rest : List (List ℕ)) × TellsEvent next own × Session answers a (next + 1) heard rest b × (sent ≡ own ∷ rest)
+    (line : List ℕ) × (rest : List (List ℕ)) × Session answers a (next + 1) heard rest b × (sent ≡ short_line line next ∷ rest)
 
 -- some messages came, and the adapter became `b`; what was sent is written, and `after` is the number of the next message
 pub record Serves {A : Type 0} (answers : A → Request → Answer → A → Type 0) (a : A) (next : ℕ) (b : A) (after : ℕ)

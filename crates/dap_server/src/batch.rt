@@ -2,7 +2,7 @@
 ghost use Rattle.std.specs.Prelude.{ℕ, ◌≡◌, List, ◌++◌, length, IfOk, OnOk};
 ghost use Rattle.dap_frames.specs.Frames.{framed};
 ghost use Rattle.dap_messages.specs.Json.{IsJsonOf};
-ghost use Rattle.dap_server.specs.Sent.{AnswerRequest, AreJson, IsBatch, frames};
+ghost use Rattle.dap_server.specs.Sent.{AreJson, IsBatch, IsWhole, frames};
 
 use dap_frames::write_header;
 use dap_messages::{Answer, Message, Request, messages_of, write_message};
@@ -24,7 +24,7 @@ pub(crate) fn batch_of(
     next: u64,
 ) -> Result<Batch, AllocError>
     ensures { IfOk result (λ batch. (bodies : List (List ℕ))
-        × IsBatch bodies batch × AnswerRequest request.now.seq next bodies) }
+        × IsBatch bodies batch × IsWhole request.now answer next bodies) }
 {
     match messages_of(alloc, request, answer, next) {
         Ok(messages) => framed_all(alloc, messages),

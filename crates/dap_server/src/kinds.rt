@@ -1,6 +1,6 @@
 // What requests may do.
 ghost use Rattle.std.specs.Prelude.{◌≡◌};
-ghost use Rattle.dap_server.specs.Kinds.{begins, moves, stops};
+ghost use Rattle.dap_server.specs.Kinds.{moves};
 
 use dap_messages::Kind;
 
@@ -18,18 +18,4 @@ pub fn is_move(kind: Kind) -> bool
             | Kind::ReverseContinue
             | Kind::Pause
     )
-}
-
-/// Whether a request of this kind ends with a `stopped`.
-pub fn ends_in_stop(kind: Kind) -> bool
-    ensures { result ≡ stops kind }
-{
-    is_move(kind) || is_beginning(kind)
-}
-
-/// Whether it is the request with which a run begins.
-fn is_beginning(kind: Kind) -> bool
-    ensures { result ≡ begins kind }
-{
-    matches!(kind, Kind::ConfigurationDone)
 }

@@ -4,13 +4,15 @@
 mod adapter;
 mod batch;
 mod fault;
+mod gist;
 mod input;
 mod kinds;
 mod output;
 mod room;
 mod serving;
+mod short;
 
 pub use adapter::Adapter;
 pub use fault::Fault;
-pub use kinds::{ends_in_stop, is_move};
+pub use kinds::is_move;
 pub use serving::serve;

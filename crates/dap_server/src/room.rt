@@ -1,13 +1,13 @@
 // Messages for where there is no memory: they are written into room that was set aside before.
-ghost use Rattle.std.specs.Prelude.{ℕ, ◌≡◌, ◌⊎◌, ◌+◌, List, [], ◌∷◌, ◌++◌, IfOk, OnOk};
-ghost use Rattle.std.specs.Fmt.{decimal};
-ghost use Rattle.dap_server.specs.Sent.{AnswerRequest, IsBatch, IsBehind, Responds, TellsEvent, numbered, short_event, short_response};
+ghost use Rattle.std.specs.Prelude.{◌≡◌, ◌+◌, [], ◌∷◌, IfOk, OnOk};
+ghost use Rattle.dap_server.specs.Sent.{AddsDue, IsBatch, IsBehind};
+ghost use Rattle.dap_server.specs.Short as model;
 
 use crate::batch::{Batch, add_framed};
-use crate::kinds::ends_in_stop;
-use dap_messages::{Kind, Request};
+use crate::gist::Gist;
+use crate::short::{write_event, write_line, write_response};
+use dap_messages::{Request, Told};
 use std::alloc::{AllocError, Global};
-use std::io::Write;
 
 /// The room for a message, which is at most half as long.
 const BODY_ROOM: usize = 1_024;
@@ -34,67 +34,66 @@ impl Room {
         })
     }
 
-    /// Makes the frames of the answer to a request for whose answer there is no memory, numbered from `seq` on. A request to run
-    /// succeeds even so, since what it did stays, and a `stopped` comes behind its response.
-    pub(crate) fn answer(&mut self, request: &Request, seq: u64) -> Result<(), AllocError>
-        ensures { OnOk result ((bodies : List (List ℕ))
-            × IsBatch bodies self.new.batch × AnswerRequest request.now.seq seq bodies) }
+    /// Makes the frames of the messages that answer a request for whose answer there is no memory, numbered from `seq` on.
+    pub(crate) fn answer(
+        &mut self,
+        request: &Request,
+        gist: Gist,
+        seq: u64,
+    ) -> Result<(), AllocError>
+        ensures { OnOk result (IsBatch (model.short_bodies request.now gist seq) self.new.batch) }
     {
-        match self.respond(request, seq) {
-            Ok(()) => self.stop_if_due(request, seq),
+        match self.respond(request, gist, seq) {
+            Ok(()) => self.add_due(request, due_of(gist), seq),
             Err(AllocError) => Err(AllocError),
         }
     }
 
     /// Makes the frame of an event that tells a line on standard error.
     pub(crate) fn tell(&mut self, line: &str, seq: u64) -> Result<(), AllocError>
-        ensures { OnOk result ((body : List ℕ) × IsBatch (body ∷ []) self.new.batch × TellsEvent seq body) }
+        ensures { OnOk result (IsBatch (model.short_line line.now seq ∷ []) self.new.batch) }
     {
-        match write_told(&mut self.body, line, seq) {
+        match write_line(&mut self.body, line, seq) {
             Ok(()) => self.frame_first(),
             Err(AllocError) => Err(AllocError),
         }
     }
 
     /// Makes the frame of the response to the request.
-    fn respond(&mut self, request: &Request, seq: u64) -> Result<(), AllocError>
-        ensures { OnOk result ((body : List ℕ) × IsBatch (body ∷ []) self.new.batch × Responds request.now.seq seq body) }
+    fn respond(&mut self, request: &Request, gist: Gist, seq: u64) -> Result<(), AllocError>
+        ensures { OnOk result (IsBatch (model.short_response request.now gist seq ∷ []) self.new.batch) }
     {
-        match write_response(&mut self.body, request, seq) {
+        match write_response(&mut self.body, request, gist, seq) {
             Ok(()) => self.frame_first(),
             Err(AllocError) => Err(AllocError),
         }
     }
 
-    /// Adds the `stopped` behind the response of this number, where the request is one to run.
-    fn stop_if_due(&mut self, request: &Request, seq: u64) -> Result<(), AllocError>
-        ensures { OnOk result ((self.new.batch ≡ self.old.batch) ⊎ ((body : List ℕ)
-            × IsBehind self.old.batch body self.new.batch × TellsEvent (seq + 1) body)) }
+    /// Adds the event behind the response of this number, if one has to come.
+    fn add_due(&mut self, request: &Request, due: Option<Told>, seq: u64) -> Result<(), AllocError>
+        ensures { OnOk result (AddsDue self.old.batch (model.due_bodies request.now due (seq + 1)) self.new.batch) }
     {
-        if ends_in_stop(request.kind) {
-            self.add_stop(request, seq)
-        } else {
-            Ok(())
+        match due {
+            Some(told) => self.add_event(request, told, seq),
+            None => Ok(()),
         }
     }
 
-    /// Adds the `stopped` behind the response of this number.
-    fn add_stop(&mut self, request: &Request, seq: u64) -> Result<(), AllocError>
-        ensures { OnOk result ((body : List ℕ)
-            × IsBehind self.old.batch body self.new.batch × TellsEvent (seq + 1) body) }
+    /// Adds the event behind the response of this number.
+    fn add_event(&mut self, request: &Request, told: Told, seq: u64) -> Result<(), AllocError>
+        ensures { OnOk result (IsBehind self.old.batch (model.short_event request.now told (seq + 1)) self.new.batch) }
     {
         match following(seq) {
-            Ok(next) => self.add_stopped(request, next),
+            Ok(next) => self.add_numbered(request, told, next),
             Err(AllocError) => Err(AllocError),
         }
     }
 
-    /// Adds the `stopped` of this number.
-    fn add_stopped(&mut self, request: &Request, seq: u64) -> Result<(), AllocError>
-        ensures { OnOk result ((body : List ℕ)
-            × IsBehind self.old.batch body self.new.batch × TellsEvent seq body) }
+    /// Adds the event of this number.
+    fn add_numbered(&mut self, request: &Request, told: Told, seq: u64) -> Result<(), AllocError>
+        ensures { OnOk result (IsBehind self.old.batch (model.short_event request.now told seq) self.new.batch) }
     {
-        match write_stopped(&mut self.body, request, seq) {
+        match write_event(&mut self.body, request, told, seq) {
             Ok(()) => self.frame_second(),
             Err(AllocError) => Err(AllocError),
         }
@@ -118,6 +117,16 @@ impl Room {
     }
 }
 
+/// The event that has to come, if one has.
+fn due_of(gist: Gist) -> Option<Told>
+    ensures { result ≡ model.due_of gist }
+{
+    match gist {
+        Gist::Due(told) => Some(told),
+        _ => None,
+    }
+}
+
 /// The number behind this.
 fn following(seq: u64) -> Result<u64, AllocError>
     ensures { IfOk result (λ next. next ≡ seq + 1) }
@@ -126,123 +135,4 @@ fn following(seq: u64) -> Result<u64, AllocError>
         Some(next) => Ok(next),
         None => Err(AllocError),
     }
-}
-
-/// Writes the response to the request.
-fn write_response(body: &mut Vec<u8>, request: &Request, seq: u64) -> Result<(), AllocError>
-    ensures { OnOk result (Responds request.now.seq seq body.new.items) }
-{
-    begin_response(body, request.seq, seq)?;
-    add_outcome(body, request)
-}
-
-/// Writes the `stopped` behind the response to a request to run.
-fn write_stopped(body: &mut Vec<u8>, request: &Request, seq: u64) -> Result<(), AllocError>
-    ensures { OnOk result (TellsEvent seq body.new.items) }
-{
-    begin_event(body, seq)?;
-    add_place(body, request.number("threadId").unwrap_or(1))
-}
-
-/// Writes an event that tells a line.
-fn write_told(body: &mut Vec<u8>, line: &str, seq: u64) -> Result<(), AllocError>
-    ensures { OnOk result (TellsEvent seq body.new.items) }
-{
-    begin_event(body, seq)?;
-    add_line(body, line)
-}
-
-/// Begins a message of this number, in place of what was there.
-fn begin(body: &mut Vec<u8>, seq: u64) -> Result<(), AllocError>
-    ensures { OnOk result (body.new.items ≡ numbered seq) }
-{
-    body.clear();
-    body.extend_from_slice(b"{\"seq\":")?;
-    add_number(body, seq)
-}
-
-/// Begins a response to the request of this number.
-fn begin_response(body: &mut Vec<u8>, request: u64, seq: u64) -> Result<(), AllocError>
-    ensures { OnOk result (body.new.items ≡ short_response request seq) }
-{
-    begin(body, seq)?;
-    body.extend_from_slice(b",\"type\":\"response\",\"request_seq\":")?;
-    add_number(body, request)
-}
-
-/// Begins an event.
-fn begin_event(body: &mut Vec<u8>, seq: u64) -> Result<(), AllocError>
-    ensures { OnOk result (body.new.items ≡ short_event seq) }
-{
-    begin(body, seq)?;
-    body.extend_from_slice(b",\"type\":\"event\"")
-}
-
-/// Adds what the request was, and what came of it.
-fn add_outcome(body: &mut Vec<u8>, request: &Request) -> Result<(), AllocError>
-    ensures { OnOk result ((rest : List ℕ) × (body.new.items ≡ body.old.items ++ rest)) }
-{
-    body.extend_from_slice(b",\"command\":\"")?;
-    body.extend_from_slice(name_of(request).as_bytes())?;
-    body.extend_from_slice(outcome_of(request.kind))
-}
-
-/// What comes of a request of this kind for whose answer there is no memory.
-fn outcome_of(kind: Kind) -> &'static [u8] {
-    if ends_in_stop(kind) {
-        b"\",\"success\":true,\"body\":{\"allThreadsContinued\":true}}"
-    } else {
-        b"\",\"success\":false,\"message\":\"refused 1: there is no memory left\"}"
-    }
-}
-
-/// Adds why and where it stopped.
-fn add_place(body: &mut Vec<u8>, thread: u64) -> Result<(), AllocError>
-    ensures { OnOk result ((rest : List ℕ) × (body.new.items ≡ body.old.items ++ rest)) }
-{
-    body.extend_from_slice(
-        b",\"event\":\"stopped\",\"body\":{\"reason\":\"exception\",\"threadId\":",
-    )?;
-    add_number(body, thread)?;
-    body.extend_from_slice(
-        b",\"allThreadsStopped\":true,\"text\":\"refused 1: there is no memory left\"}}",
-    )
-}
-
-/// Adds a line.
-fn add_line(body: &mut Vec<u8>, line: &str) -> Result<(), AllocError>
-    ensures { OnOk result ((rest : List ℕ) × (body.new.items ≡ body.old.items ++ rest)) }
-{
-    body.extend_from_slice(
-        b",\"event\":\"output\",\"body\":{\"category\":\"stderr\",\"output\":\"balsadbg: ",
-    )?;
-    body.extend_from_slice(line.as_bytes())?;
-    body.extend_from_slice(b"\\n\"}}")
-}
-
-/// Adds a number in decimal.
-fn add_number(body: &mut Vec<u8>, number: u64) -> Result<(), AllocError>
-    ensures { OnOk result (body.new.items ≡ body.old.items ++ decimal number) }
-{
-    write!(body, "{number}").map_err(|_| AllocError)
-}
-
-/// The name of the request, where it needs no signs of its own in JSON.
-fn name_of(request: &Request) -> &str {
-    let name = request.command.as_str();
-    if name.len() < 64 && is_plain(name.as_bytes()) {
-        name
-    } else {
-        "unknown"
-    }
-}
-
-/// Whether each byte is a letter or a digit.
-fn is_plain(name: &[u8]) -> bool {
-    for byte in name {
-        if !byte.is_ascii_alphanumeric() {
-            return false;
-        }
-    }
-    true
 }

@@ -1,11 +1,13 @@
 // A session over a reader and a writer.
 ghost use Rattle.std.specs.Prelude.{ℕ, ◌≡◌, List, [], ◌∷◌, IfOk, OnOk};
-ghost use Rattle.dap_server.specs.Sent.{AnswerRequest, Sends, TellsEvent};
+ghost use Rattle.dap_server.specs.Sent.{Sends};
 ghost use Rattle.dap_server.specs.Session.{Exchange, Serves};
+ghost use Rattle.dap_server.specs.Short.{short_bodies, short_line};
 
 use crate::adapter::Adapter;
 use crate::batch::batch_of;
 use crate::fault::Fault;
+use crate::gist::{Gist, gist_of};
 use crate::input::{Input, Next};
 use crate::output::send;
 use crate::room::Room;
@@ -123,8 +125,8 @@ impl Server {
 
     /// Tells that a message was passed over, and that others may follow.
     fn pass_over<W: Write>(&mut self, writer: &mut W) -> Result<bool, Fault>
-        ensures { IfOk result (λ more. (body : List ℕ) × TellsEvent self.old.next body
-            × Sends (body ∷ []) (W.contents writer.old) (W.contents writer.new) self.old.next self.new.next) }
+        ensures { IfOk result (λ more. (line : List ℕ)
+            × Sends (short_line line self.old.next ∷ []) (W.contents writer.old) (W.contents writer.new) self.old.next self.new.next) }
     {
         match self.tell(writer, "a message of more than 4 MB is passed over") {
             Ok(()) => Ok(true),
@@ -180,18 +182,24 @@ impl Server {
             × Sends sent (W.contents writer.old) (W.contents writer.new) self.old.next self.new.next) }
     {
         let answer = adapter.answer(context, request);
+        let gist = gist_of(&answer);
         match batch_of(self.alloc, request, answer, self.next) {
             Ok(batch) => send(writer, &batch, &mut self.next),
-            Err(AllocError) => self.answer_short(writer, request),
+            Err(AllocError) => self.answer_short(writer, request, gist),
         }
     }
 
     /// Answers a request for whose answer there is no memory.
-    fn answer_short<W: Write>(&mut self, writer: &mut W, request: &Request) -> Result<(), Fault>
-        ensures { OnOk result ((sent : List (List ℕ)) × AnswerRequest request.now.seq self.old.next sent
-            × Sends sent (W.contents writer.old) (W.contents writer.new) self.old.next self.new.next) }
+    fn answer_short<W: Write>(
+        &mut self,
+        writer: &mut W,
+        request: &Request,
+        gist: Gist,
+    ) -> Result<(), Fault>
+        ensures { OnOk result (Sends (short_bodies request.now gist self.old.next) (W.contents writer.old) (W.contents writer.new)
+            self.old.next self.new.next) }
     {
-        match self.room.answer(request, self.next) {
+        match self.room.answer(request, gist, self.next) {
             Ok(()) => send(writer, &self.room.batch, &mut self.next),
             Err(AllocError) => Err(Fault::Memory),
         }
@@ -199,8 +207,8 @@ impl Server {
 
     /// Tells a line.
     fn tell<W: Write>(&mut self, writer: &mut W, line: &str) -> Result<(), Fault>
-        ensures { OnOk result ((body : List ℕ) × TellsEvent self.old.next body
-            × Sends (body ∷ []) (W.contents writer.old) (W.contents writer.new) self.old.next self.new.next) }
+        ensures { OnOk result (Sends (short_line line.now self.old.next ∷ []) (W.contents writer.old) (W.contents writer.new)
+            self.old.next self.new.next) }
     {
         match self.room.tell(line, self.next) {
             Ok(()) => send(writer, &self.room.batch, &mut self.next),

@@ -10,7 +10,7 @@ mod words;
 
 pub use index::{Index, Named, Thing};
 pub use lines::{Heading, Lines};
-pub use program::{Asked, Counting, Launch, Program, Refused, base_of};
+pub use program::{Asked, Counting, Launch, Program, Refused, base_of, own_name};
 pub use short::event_words;
 pub use sight::{
     Rank, Sight, add_side, add_waits, add_who, channel_of, line_at, sight_of, variable_of,

@@ -55,6 +55,8 @@ pub struct Program {
     pub index: Index,
     /// the breakpoints that were asked for
     pub asked: Vec<Asked>,
+    /// the file for which they were, where another one is debugged now
+    pub elsewhere: Option<String>,
     /// the lines that stop
     pub stops: Vec<u64>,
     pub watched: Vec<Watched>,
@@ -65,11 +67,28 @@ pub struct Program {
     /// whether a refusal stops as an exception
     pub excepts: bool,
     pub last_id: u64,
+    /// whether its run has begun
+    pub begun: bool,
+    /// whether the client was told that it is over: nothing moves any more
+    pub ended: bool,
     /// what the state offers, where it is known
     pub sight: Option<Sight>,
 }
 
 impl Program {
+    /// Whether a client means this program by the path. Where it was launched by a name that does not begin with `/`, it does so
+    /// by each path that ends in that.
+    pub fn is_at(&self, path: &str) -> bool {
+        let program = self.launch.program.as_str();
+        if program.starts_with('/') {
+            return path == program;
+        }
+        match path.strip_suffix(own_name(program)) {
+            Some(folder) => folder.is_empty() || folder.ends_with('/'),
+            None => false,
+        }
+    }
+
     /// Adds the file.
     pub fn add_source(&self, alloc: Global, members: &mut Members) {
         let path = self.launch.program.as_str();
@@ -96,6 +115,11 @@ impl Program {
     pub fn meant_line(&self, line: u64) -> u64 {
         line.saturating_add(self.counting.lines)
     }
+}
+
+/// The name of a file that counts from a folder, without the sign for that folder.
+pub fn own_name(name: &str) -> &str {
+    name.strip_prefix("./").unwrap_or(name)
 }
 
 /// The name of a file without the folders before it.

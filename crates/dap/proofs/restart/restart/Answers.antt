@@ -1,8 +1,8 @@
-use Rattle.std.proofs.Common.{inl, inr, refl}
+use Rattle.std.proofs.Common.{◌⊎◌, inl, inr, refl}
 use Rattle.dap.proofs.restart.restart.Goals as goal
 
 pub returns-in-Some : goal.returns-in-Some
-returns-in-Some g c = inl (c.in-Some.anew.desk, c.in-Some.ensures, c.begin_again.ensures)
+returns-in-Some g c = elim c.replace.ensures [ inl led ↦ inl (c.in-Some.anew.desk, c.in-Some.ensures, led) | inr same ↦ inr same ]
 
 pub returns-in-None : goal.returns-in-None
 returns-in-None g c = inr refl

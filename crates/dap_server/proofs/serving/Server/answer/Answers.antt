@@ -12,6 +12,6 @@ returns-in-Ok g c =
 pub returns-in-Err : goal.returns-in-Err
 returns-in-Err g c =
     on_ok_weaker c.answer_short.result
-    (short_answers g.A.Adapter.answers c.args.adapter.now c.args.request.now c.answer-answer.result c.answer-answer.new.self
+    (short_answers g.A.Adapter.answers c.args.adapter.now c.args.request.now c.answer-answer.result c.answer-answer.new.self c.gist_of-gist.result
     (g.W.Write.contents c.args.writer.now) (g.W.Write.contents c.answer_short.new.writer) c.args.self.now.next c.answer_short.new.self.next
-    c.answer-answer.ensures) c.answer_short.ensures
+    c.answer-answer.ensures c.gist_of-gist.ensures) c.answer_short.ensures

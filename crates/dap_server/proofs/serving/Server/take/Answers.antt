@@ -1,5 +1,5 @@
 use Rattle.std.proofs.lemmas.Result.{on_ok_weaker}
-use Rattle.dap_server.proofs.Sessions.{serves_other, serves_request}
+use Rattle.dap_server.proofs.Sessions.{serves_line, serves_request}
 use Rattle.dap_server.proofs.serving.Server.take.Goals as goal
 
 pub returns-in-Ok : goal.returns-in-Ok
@@ -11,5 +11,5 @@ returns-in-Ok g c =
 pub returns-in-Err : goal.returns-in-Err
 returns-in-Err g c =
     on_ok_weaker c.tell.result
-    (serves_other g.A.Adapter.answers c.args.adapter.now c.args.self.now.next c.tell.new.self.next (g.W.Write.contents c.args.writer.now)
-    (g.W.Write.contents c.tell.new.writer)) c.tell.ensures
+    (serves_line g.A.Adapter.answers c.args.adapter.now c.args.self.now.next c.tell.new.self.next (g.W.Write.contents c.args.writer.now)
+    (g.W.Write.contents c.tell.new.writer) c.words_of.result.now) c.tell.ensures

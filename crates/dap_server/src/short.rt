@@ -1,0 +1,250 @@
+// The texts of messages for which there is no memory.
+ghost use Rattle.std.specs.Prelude.{◌≡◌, ◌++◌, OnOk, codes, string_bytes};
+ghost use Rattle.std.specs.Fmt.{decimal};
+ghost use Rattle.dap_messages.specs.Messages.{event_name};
+ghost use Rattle.dap_server.specs.Short as model;
+
+use crate::gist::Gist;
+use dap_messages::{Kind, Request, Told};
+use std::alloc::AllocError;
+use std::io::Write;
+
+/// Writes the response to the request of which this came, in place of what was there.
+pub(crate) fn write_response(
+    body: &mut Vec<u8>,
+    request: &Request,
+    gist: Gist,
+    seq: u64,
+) -> Result<(), AllocError>
+    ensures { OnOk result (body.new.items ≡ model.short_response request.now gist seq) }
+{
+    begin_response(body, request.seq, seq)?;
+    add_key(body)?;
+    add_short_name(body, request)?;
+    add_result(body, request.kind, gist)
+}
+
+/// Writes the event that has to come behind the response to the request, in place of what was there.
+pub(crate) fn write_event(
+    body: &mut Vec<u8>,
+    request: &Request,
+    told: Told,
+    seq: u64,
+) -> Result<(), AllocError>
+    ensures { OnOk result (body.new.items ≡ model.short_event request.now told seq) }
+{
+    begin_event(body, seq)?;
+    body.extend_from_slice(told.name().as_bytes())?;
+    add_rest(body, request, told)
+}
+
+/// Writes an event that tells a line, in place of what was there.
+pub(crate) fn write_line(body: &mut Vec<u8>, line: &str, seq: u64) -> Result<(), AllocError>
+    ensures { OnOk result (body.new.items ≡ model.short_line line.now seq) }
+{
+    begin_event(body, seq)?;
+    begin_line(body)?;
+    add_text(body, line)?;
+    end_line(body)
+}
+
+/// Adds that a line comes.
+fn begin_line(body: &mut Vec<u8>) -> Result<(), AllocError>
+    ensures { OnOk result (body.new.items ≡ body.old.items ++ model.line_key) }
+{
+    body.extend_from_slice(b"output\",\"body\":{\"category\":\"stderr\",\"output\":\"balsadbg: ")
+}
+
+/// Adds that the line ends.
+fn end_line(body: &mut Vec<u8>) -> Result<(), AllocError>
+    ensures { OnOk result (body.new.items ≡ body.old.items ++ model.line_end) }
+{
+    body.extend_from_slice(b"\\n\"}}")
+}
+
+/// Begins a message of this number, in place of what was there.
+fn begin(body: &mut Vec<u8>, seq: u64) -> Result<(), AllocError>
+    ensures { OnOk result (body.new.items ≡ model.numbered seq) }
+{
+    body.clear();
+    body.extend_from_slice(b"{\"seq\":")?;
+    add_number(body, seq)
+}
+
+/// Begins a response to the request of this number.
+fn begin_response(body: &mut Vec<u8>, request: u64, seq: u64) -> Result<(), AllocError>
+    ensures { OnOk result (body.new.items ≡ model.response_head request seq) }
+{
+    begin(body, seq)?;
+    body.extend_from_slice(b",\"type\":\"response\",\"request_seq\":")?;
+    add_number(body, request)
+}
+
+/// Begins an event, up to its name.
+fn begin_event(body: &mut Vec<u8>, seq: u64) -> Result<(), AllocError>
+    ensures { OnOk result (body.new.items ≡ model.event_head seq) }
+{
+    begin(body, seq)?;
+    body.extend_from_slice(b",\"type\":\"event\",\"event\":\"")
+}
+
+/// Adds that a name comes.
+fn add_key(body: &mut Vec<u8>) -> Result<(), AllocError>
+    ensures { OnOk result (body.new.items ≡ body.old.items ++ model.command_key) }
+{
+    body.extend_from_slice(b",\"command\":\"")
+}
+
+/// Adds the name of the request, where it needs no signs of its own in JSON.
+fn add_short_name(body: &mut Vec<u8>, request: &Request) -> Result<(), AllocError>
+    ensures { OnOk result (body.new.items ≡ body.old.items ++ model.short_name (string_bytes request.now.command)) }
+{
+    add_text(body, short_name(request.command.as_str()))
+}
+
+/// Adds a text.
+fn add_text(body: &mut Vec<u8>, text: &str) -> Result<(), AllocError>
+    ensures { OnOk result (body.new.items ≡ body.old.items ++ text.now) }
+{
+    body.extend_from_slice(text.as_bytes())
+}
+
+/// Adds what came of a request of this kind.
+fn add_result(body: &mut Vec<u8>, kind: Kind, gist: Gist) -> Result<(), AllocError>
+    ensures { OnOk result (body.new.items ≡ body.old.items ++ model.result_text kind gist) }
+{
+    match gist {
+        Gist::Refused(why) => add_refusal(body, why, "there is no memory left to say why"),
+        Gist::Untold => add_refusal(body, 1, "there is no memory left"),
+        Gist::Done => add_done(body, kind),
+        Gist::Due(_) => add_done(body, kind),
+    }
+}
+
+/// Adds that the request is done.
+fn add_done(body: &mut Vec<u8>, kind: Kind) -> Result<(), AllocError>
+    ensures { OnOk result (body.new.items ≡ body.old.items ++ model.done_text kind) }
+{
+    if needs_more(kind) {
+        add_refusal(
+            body,
+            1,
+            "it is done, and there is no memory left to tell more",
+        )
+    } else {
+        body.extend_from_slice(success_text(kind))
+    }
+}
+
+/// Whether the protocol wants more with a response that such a request is done than there is memory for.
+fn needs_more(kind: Kind) -> bool
+    ensures { result ≡ model.needs_more kind }
+{
+    matches!(
+        kind,
+        Kind::Initialize | Kind::SetBreakpoints | Kind::SetDataBreakpoints
+    )
+}
+
+/// That another request is done.
+fn success_text(kind: Kind) -> &'static [u8]
+    ensures { result.now ≡ model.success_text kind }
+{
+    match kind {
+        Kind::Continue => b"\",\"success\":true,\"body\":{\"allThreadsContinued\":true}}",
+        Kind::Evaluate => {
+            b"\",\"success\":true,\"body\":{\"result\":\"done; there is no memory left to tell more\",\"variablesReference\":0}}"
+        }
+        _ => b"\",\"success\":true}",
+    }
+}
+
+/// Adds that the request is refused, for the reason of this number, in these words.
+fn add_refusal(body: &mut Vec<u8>, why: u64, words: &str) -> Result<(), AllocError>
+    ensures { OnOk result (body.new.items ≡ body.old.items ++ model.refusal_text why words.now) }
+{
+    add_message(body, why, words)?;
+    add_error(body, why, words)
+}
+
+/// Adds the message of a refusal, up to the end of its words.
+fn add_message(body: &mut Vec<u8>, why: u64, words: &str) -> Result<(), AllocError>
+    ensures { OnOk result (body.new.items ≡ body.old.items
+        ++ (codes "\",\"success\":false,\"message\":\"refused " ++ decimal why ++ codes ": " ++ words.now)) }
+{
+    body.extend_from_slice(b"\",\"success\":false,\"message\":\"refused ")?;
+    add_number(body, why)?;
+    body.extend_from_slice(b": ")?;
+    body.extend_from_slice(words.as_bytes())
+}
+
+/// Adds the error of a refusal, and all that is left.
+fn add_error(body: &mut Vec<u8>, why: u64, words: &str) -> Result<(), AllocError>
+    ensures { OnOk result (body.new.items ≡ body.old.items
+        ++ (codes "\",\"body\":{\"error\":{\"id\":" ++ decimal why ++ codes ",\"format\":\"" ++ words.now
+        ++ codes "\",\"showUser\":true}}}")) }
+{
+    body.extend_from_slice(b"\",\"body\":{\"error\":{\"id\":")?;
+    add_number(body, why)?;
+    body.extend_from_slice(b",\"format\":\"")?;
+    body.extend_from_slice(words.as_bytes())?;
+    body.extend_from_slice(b"\",\"showUser\":true}}}")
+}
+
+/// Adds what stands behind the name of an event.
+fn add_rest(body: &mut Vec<u8>, request: &Request, told: Told) -> Result<(), AllocError>
+    ensures { OnOk result (body.new.items ≡ body.old.items ++ model.event_rest request.now told) }
+{
+    match told {
+        Told::Stopped => add_stopped(body, thread_named(request)),
+        _ => body.extend_from_slice(b"\"}"),
+    }
+}
+
+/// The thread that the request names, else the first.
+fn thread_named(request: &Request) -> u64
+    ensures { result ≡ model.thread_named request.now }
+{
+    request.number("threadId").unwrap_or(1)
+}
+
+/// Adds that nothing moves, since memory is lacking.
+fn add_stopped(body: &mut Vec<u8>, thread: u64) -> Result<(), AllocError>
+    ensures { OnOk result (body.new.items ≡ body.old.items ++ model.stopped_text thread) }
+{
+    body.extend_from_slice(b"\",\"body\":{\"reason\":\"exception\",\"threadId\":")?;
+    add_number(body, thread)?;
+    body.extend_from_slice(
+        b",\"allThreadsStopped\":true,\"text\":\"refused 1: there is no memory left\"}}",
+    )
+}
+
+/// Adds a number in decimal.
+fn add_number(body: &mut Vec<u8>, number: u64) -> Result<(), AllocError>
+    ensures { OnOk result (body.new.items ≡ body.old.items ++ decimal number) }
+{
+    write!(body, "{number}").map_err(|_| AllocError)
+}
+
+/// The name of a request, where it needs no signs of its own in JSON.
+fn short_name(name: &str) -> &str
+    ensures { result.now ≡ model.short_name name.now }
+{
+    if name.len() < 64 && is_plain(name.as_bytes()) {
+        name
+    } else {
+        "unknown"
+    }
+}
+
+/// Whether each byte is a letter or a digit.
+fn is_plain(name: &[u8]) -> bool
+    ensures { result ≡ model.is_plain name.now }
+{
+    for byte in name {
+        if !byte.is_ascii_alphanumeric() {
+            return false;
+        }
+    }
+    true
+}
