@@ -335,24 +335,24 @@ ring-rest places found sides (i ∷ is) (a ∷ ring) told h =
     ∙ ap (λ (o : Option Place). o ∷ map (place_at places) (flat_map (look found) is)) one.2
     ∙ ap (λ (os : List (Option Place)). Some a ∷ os) (ring-rest places found sides is ring told rest)
 
-ring-first : (S : State) (places : List Shown) (found : List ℕ) (sides : List OfferedSide) (i : ℕ) (is : List ℕ) →
-    map (place_at places) found ≡ map side_place sides → NamesRing S sides (i ∷ is) → (ring : List Place) →
+ring-first : (m : AtMachine) (S : State) (places : List Shown) (found : List ℕ) (sides : List OfferedSide) (i : ℕ) (is : List ℕ) →
+    map (place_at places) found ≡ map side_place sides → NamesRing m S sides (i ∷ is) → (ring : List Place) →
     places_at sides (i ∷ is) ≡ map (λ (a : Place). Some a) ring → (k : ℕ) × (flat_map (look found) (i ∷ is) ≡ k ∷ flat_map (look found) is)
-ring-first S places found sides i is told h [] at = cc
-ring-first S places found sides i is told h (a ∷ ring) at =
+ring-first m S places found sides i is told h [] at = cc
+ring-first m S places found sides i is told h (a ∷ ring) at =
     let here : option_map (λ (x : OfferedSide). x.place) (slice_get sides i) ≡ Some a = cc in
     let one = place-found places found sides i a told here in
     (one.0, ap (λ (o : Option ℕ). option_to_list o ++ flat_map (look found) is) one.1)
 
-pub ring-shown : (S : State) (places : List Shown) (found : List ℕ) (sides : List OfferedSide) (is ring : List ℕ) →
-    map (place_at places) found ≡ map side_place sides → NamesRing S sides is → ring ≡ flat_map (look found) is → ShowsRing S places ring
-ring-shown S places found sides [] ring told h made = subst (ShowsRing S places) (sym made) h
-ring-shown S places found sides (i ∷ is) ring told h made =
-    let first = ring-first S places found sides i is told h h.0 h.1 in
+pub ring-shown : (m : AtMachine) (S : State) (places : List Shown) (found : List ℕ) (sides : List OfferedSide) (is ring : List ℕ) →
+    map (place_at places) found ≡ map side_place sides → NamesRing m S sides is → ring ≡ flat_map (look found) is → ShowsRing m S places ring
+ring-shown m S places found sides [] ring told h made = subst (ShowsRing m S places) (sym made) h
+ring-shown m S places found sides (i ∷ is) ring told h made =
+    let first = ring-first m S places found sides i is told h h.0 h.1 in
     let all : map (place_at places) (flat_map (look found) (i ∷ is)) ≡ map (λ (a : Place). Some a) h.0 = ring-rest places found sides (i ∷ is) h.0 told h.1 in
     let all_first : map (place_at places) (first.0 ∷ flat_map (look found) is) ≡ map (λ (a : Place). Some a) h.0 =
     ap (map (place_at places)) (sym first.1) ∙ all in
-    subst (ShowsRing S places) (sym (made ∙ first.1)) (h.0, all_first, h.2, h.3)
+    subst (ShowsRing m S places) (sym (made ∙ first.1)) (h.0, all_first, h.2, h.3)
 
 pub all-found : (m : AtMachine) (lanes : List Lane) (ps : List Partner) (sides : List OfferedSide) (old new : List Shown) (found : List ℕ) (ss : List Spot) →
     SpotsOf m lanes ps sides old found → AddsSpots lanes old new ss → map (place_at new) found ≡ map side_place sides

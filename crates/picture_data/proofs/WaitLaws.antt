@@ -25,7 +25,7 @@ shows-waits m lanes w end old found told spots adds ring = record {
   ring = (
     told.0,
     told.1,
-    ring-shown told.0 end.places.items found w.sides w.ring.items end.ring.items
+    ring-shown m told.0 end.places.items found w.sides w.ring.items end.ring.items
         (all-found m lanes w.partners.items w.sides old end.places.items found (ready_spots m end.ready) spots adds) told.2.ring ring,
   );
 }

@@ -54,7 +54,7 @@ pub record ShowsWaits (m : AtMachine) (lanes : List Lane) (end : End) : Type 0 w
   pub told : TellsWaits m waiting
   pub places : AreSpots m waiting end.ready end.places.items
   pub in_lanes : Every (LiesInLane lanes) end.places.items
-  pub ring : (S : State) × Reaches (object m) S × ShowsRing S end.places.items end.ring.items
+  pub ring : (S : State) × Reaches (object m) S × ShowsRing m S end.places.items end.ring.items
 
 -- the events that can be taken and where each stands, how the run stands, and who waits
 pub record ShowsEnd (m : AtMachine) (lanes : List Lane) (end : End) : Type 0 where

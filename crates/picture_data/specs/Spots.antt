@@ -164,8 +164,8 @@ abbrev pub place_at : List Shown → ℕ → Option Place
 place_at places k = option_map (λ (p : Shown). p.place) (slice_get places k)
 
 -- the places of these indexes are a ring of places that wait, each once; or there is no ring, and none is told
-abbrev pub ShowsRing : State → List Shown → List ℕ → Type 0
-ShowsRing S places [] = (ring : List Place) → IsRingIn S ring → ⊥
-ShowsRing S places (k ∷ rest) =
-    (ring : List Place) × (map (place_at places) (k ∷ rest) ≡ map (λ (a : Place). Some a) ring) × IsRingIn S ring
+abbrev pub ShowsRing : AtMachine → State → List Shown → List ℕ → Type 0
+ShowsRing m S places [] = (ring : List Place) → IsRingIn m S ring → ⊥
+ShowsRing m S places (k ∷ rest) =
+    (ring : List Place) × (map (place_at places) (k ∷ rest) ≡ map (λ (a : Place). Some a) ring) × IsRingIn m S ring
     × EachOnce ring

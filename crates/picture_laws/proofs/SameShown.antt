@@ -1,6 +1,6 @@
 -- Pictures of equal runs show the same.
-use Rattle.std.proofs.Common.{◌≡◌, inl, inr, ℕ, zero, suc, ◌+◌, List, [], ◌∷◌, Option, None, Some, refl, sym, ◌∙◌, ap, subst, arith}
-use Rattle.std.specs.Prelude.{IfSome, slice_get, slice_index}
+use Rattle.std.proofs.Common.{◌≡◌, inl, inr, ℕ, zero, suc, ◌+◌, ◌||◌, ◌&&◌, Bool, List, [], ◌∷◌, Option, None, Some, refl, sym, ◌∙◌, ap, ap₂, subst, arith}
+use Rattle.std.specs.Prelude.{IfSome, is_some, slice_get, slice_index}
 use Rattle.syntax.specs.Lists.{In}
 use Rattle.sharing_check.specs.declared.checked.Checked.{Checked}
 use Rattle.branch_lanes.specs.Lanes.{lane_of}
@@ -22,8 +22,15 @@ use Rattle.depth_laws.proofs.EqualRaces.{races-agree, same-event}
 use Rattle.depth_laws.proofs.EqualRuns.{depths-agree, followers-agree}
 use Rattle.depth_laws.proofs.OneState.{lines-agree, ready-agree, ready-lists}
 use Rattle.machine.specs.AtMachine.{AtMachine, object}
-use Rattle.waiting.specs.Progress.{StandsLike}
+use Rattle.offered_sides.specs.declared.side.OfferedSide.{OfferedSide}
+use Rattle.rings.specs.Partners.{partner_in}
+use Rattle.rings.specs.Rings.{Helped, IsRing}
+use Rattle.rings.specs.declared.partner.Partner.{Partner}
+use Rattle.rings.specs.declared.partner.Partner.TheVariants as partner
+use Rattle.waiting.specs.Input.{fed_channel, helped_in, is_starved, takes_input}
+use Rattle.waiting.specs.Progress.{StandsLike, is_outlet}
 use Rattle.waiting.specs.Told.{IsTold}
+use Rattle.waiting.specs.Waits.{Waits}
 use Rattle.waiting.specs.declared.progress.Progress.{Progress}
 use Rattle.waiting.specs.declared.waiting.Waiting.{Waiting}
 use Rattle.picture_data.specs.Lines.{IsLaneOf, line_of, line_or_zero}
@@ -96,9 +103,29 @@ both-reach m n S T one equal here there =
     let same : Run (opening m.checked) (events n.live) T = subst (λ (c : Checked). Run (opening c) (events n.live) T) (sym one) there in
     one_state m.checked (events n.live) T S same (respecting_orders m.checked (events m.live) (events n.live) S here equal.forth)
 
-no-ring : (S : State) (places others : List Shown) (ring other : List ℕ) → ShowsRing S places ring → ShowsRing S others other → ring ≡ [] → other ≡ []
-no-ring S places others ring [] here there none = refl
-no-ring S places others ring (k ∷ other) here there none = absurd (subst (ShowsRing S places) none here there.0 there.2)
+-- what helps a side is the same of both
+takes-agree : (m n : AtMachine) (x : OfferedSide) → m.checked ≡ n.checked → AreEqualRuns m.checked m.live n.live → takes_input m x ≡ takes_input n x
+takes-agree m n x one equal =
+    ap₂ (λ (line channel : Option ℕ). is_some line && is_some channel)
+    (lines-agree m.checked m.live n.live x.place equal ∙ ap (λ (c : Checked). line_after (events n.live) c x.place) one)
+    (ap (λ (c : Checked). fed_channel c x.side) one)
+
+starved-agree : (m n : AtMachine) (x : OfferedSide) (p : Option Partner) → m.checked ≡ n.checked → AreEqualRuns m.checked m.live n.live →
+    is_starved m x p ≡ is_starved n x p
+starved-agree m n x None one equal = refl
+starved-agree m n x (Some partner.Gone) one equal = takes-agree m n x one equal
+starved-agree m n x (Some (partner.Behind a)) one equal = refl
+starved-agree m n x (Some partner.Open) one equal = refl
+
+helped-agree : (m n : AtMachine) (S : State) → m.checked ≡ n.checked → AreEqualRuns m.checked m.live n.live → helped_in n S ≡ helped_in m S
+helped-agree m n S one equal =
+    λ i. λ (x : OfferedSide). ap (λ (b : Bool). is_outlet x.side || b) (sym (starved-agree m n x (Some (partner_in S.residual x)) one equal)) i
+
+no-ring : (m n : AtMachine) (S : State) (places others : List Shown) (ring other : List ℕ) → helped_in n S ≡ helped_in m S → ShowsRing m S places ring →
+    ShowsRing n S others other → ring ≡ [] → other ≡ []
+no-ring m n S places others ring [] same here there none = refl
+no-ring m n S places others ring (k ∷ other) same here there none =
+    absurd (subst (ShowsRing m S places) none here there.0 (subst (λ (h : Helped). IsRing (Waits S) h S.residual there.0) same there.2))
 
 one-end : (m n : AtMachine) (p q : Picture) → m.checked ≡ n.checked → AreEqualRuns m.checked m.live n.live → Shows m p → Shows n q → IsOneEnd m n p q
 one-end m n p q one equal here there =
@@ -113,12 +140,13 @@ one-end m n p q one equal here there =
     let told2 = there.end.waits.told in
     let ring = here.end.waits.ring in
     let ring2 = there.end.waits.ring in
-    let told_here : IsTold told.0 there.end.waits.waiting =
-    subst (λ (S : State). IsTold S there.end.waits.waiting) (both-reach m n told.0 told2.0 one equal told.1 told2.1) told2.2 in
+    let told_here : IsTold n told.0 there.end.waits.waiting =
+    subst (λ (S : State). IsTold n S there.end.waits.waiting) (both-reach m n told.0 told2.0 one equal told.1 told2.1) told2.2 in
     let progress_here : StandsLike goes.0 q.end.progress =
     subst (λ (S : State). StandsLike S q.end.progress) (both-reach m n goes.0 goes2.0 one equal goes.1 goes2.1) goes2.2 in
-    let ring_here : ShowsRing ring.0 q.end.places.items q.end.ring.items =
-    subst (λ (S : State). ShowsRing S q.end.places.items q.end.ring.items) (both-reach m n ring.0 ring2.0 one equal ring.1 ring2.1) ring2.2 in
+    let helped = helped-agree m n ring.0 one equal in
+    let ring_here : ShowsRing n ring.0 q.end.places.items q.end.ring.items =
+    subst (λ (S : State). ShowsRing n S q.end.places.items q.end.ring.items) (both-reach m n ring.0 ring2.0 one equal ring.1 ring2.1) ring2.2 in
     record {
       ready = ready;
       progress = one-progress goes.0 p.end.progress q.end.progress goes.2 progress_here;
@@ -132,8 +160,8 @@ one-end m n p q one equal here there =
       other_places =
           same-places m n there.end.waits.waiting p.end.ready q.end.places.items (same-lines m n one equal)
           (subst (λ (es : List Event). AreSpots n there.end.waits.waiting es q.end.places.items) (sym ready) there.end.waits.places);
-      ring = no-ring ring.0 p.end.places.items q.end.places.items p.end.ring.items q.end.ring.items ring.2 ring_here;
-      other_ring = no-ring ring.0 q.end.places.items p.end.places.items q.end.ring.items p.end.ring.items ring_here ring.2;
+      ring = no-ring m n ring.0 p.end.places.items q.end.places.items p.end.ring.items q.end.ring.items helped ring.2 ring_here;
+      other_ring = no-ring n m ring.0 q.end.places.items p.end.places.items q.end.ring.items p.end.ring.items (sym helped) ring_here ring.2;
     }
 
 -- ---- the steps

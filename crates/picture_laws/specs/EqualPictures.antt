@@ -44,10 +44,10 @@ pub record IsOneEnd (m n : AtMachine) (p q : Picture) : Type 0 where
   pub state : State
   pub reached : Reaches (object m) state
   pub waiting : Waiting
-  pub told : IsTold state waiting
+  pub told : IsTold m state waiting
   pub places : AreSpots m waiting p.end.ready p.end.places.items
   pub other : Waiting
-  pub other_told : IsTold state other
+  pub other_told : IsTold n state other
   pub other_places : AreSpots m other p.end.ready q.end.places.items
   -- the one has a ring exactly where the other has
   pub ring : p.end.ring.items ≡ [] → q.end.ring.items ≡ []
