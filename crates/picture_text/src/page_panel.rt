@@ -639,9 +639,9 @@ addEventListener('afterprint', () => $('sheets').innerHTML = '');
 {
   const q = new Set(location.hash.slice(1).split('&'));
   theme(q.has('dark') || !q.has('light') && matchMedia('(prefers-color-scheme:dark)').matches);
-  const base = R.files[0].split('/')[0];
+  const base = R.files[0].split('/').at(-1).replace(/\.balsa$/, '');
   $('title').textContent = base || 'a run';
-  document.title = base + ': picture of a run';
+  document.title = (base || 'balsadbg') + ': picture of a run';
   const ring = R.rings.length,
     s = $('state');
   s.textContent = ring ? 'deadlock' : R.ready.length ? R.ready.length + ' ready' : 'no step left';
