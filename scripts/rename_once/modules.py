@@ -109,7 +109,7 @@ def rename_in_code(path: str, text: str, old: str, new: str) -> str:
     text = re.sub(rf"^(file: src/){old}\.rt$", rf"\g<1>{new}.rt", text, flags=re.M)
     text = re.sub(rf"\b((?:crate|self|super)::){old}\b(?=::|;|,| as|\}})", rf"\g<1>{new}", text)
     text = re.sub(r"\b(?:pub )?use crate::\{.*?\};", lambda found: rename_in_group(found[0], old, new), text, flags=re.S)
-    if path.endswith("/lib.rt"):
+    if path.endswith(("/src/lib.rt", "/src/main.rt")):
         text = re.sub(rf"(?<![\w:.]){old}::", f"{new}::", text)
     return text
 

@@ -11,8 +11,11 @@ def change_phrases(repository: Repository, table: Path) -> list[str]:
     missing = []
     for phrase in tomllib.loads(table.read_text())["phrase"]:
         path, old, new = phrase["file"], phrase["old"], phrase["new"]
-        if repository.files.get(path, "").count(old) == 1:
-            repository.files[path] = repository.files[path].replace(old, new)
-        elif new not in repository.files.get(path, ""):
+        text = repository.files.get(path, "")
+        if new in text:
+            continue
+        if text.count(old) == 1:
+            repository.files[path] = text.replace(old, new)
+        else:
             missing.append(f"{path}: {old[:60]!r} does not stand there once")
     return missing

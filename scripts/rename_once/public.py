@@ -14,7 +14,7 @@ def public_modules(repository: Repository) -> dict[str, set[str]]:
         named = [tuple(part[0].split(".")[1:4:2]) for part in MODULE_PATH.finditer(text) if in_proofs(part[0])]
         named += [(part[1], part[3].split("::")[1]) for part in CODE_PATH.finditer(text) if part[2] == "proofs"]
         for crate, module in named:
-            if crate in found and crate != crate_of(path) and f"crates/{crate}/proofs/{module}.antt" in repository.files:
+            if crate in found and module != "public" and crate != crate_of(path) and f"crates/{crate}/proofs/{module}.antt" in repository.files:
                 found[crate].add(module)
     return found
 
@@ -33,13 +33,13 @@ def make_public(repository: Repository) -> int:
             continue
         moves = {module: f"public.{module}" for module in sorted(modules)}
         if moves:
-            repository.files[f"crates/{crate}/proofs/public.antt"] = ""
+            repository.files.setdefault(f"crates/{crate}/proofs/public.antt", "")
             move_modules(repository, crate, "proofs", moves)
         lines = re.sub(r"^pub mod (?!public$)", "mod ", repository.files[root], flags=re.M)
         if moves:
             public = f"crates/{crate}/proofs/public.antt"
             repository.files[public] = re.sub(r"^mod ", "pub mod ", repository.files[public], flags=re.M)
-            lines = "pub mod public\n" + lines
+            lines = lines if "pub mod public\n" in lines else "pub mod public\n" + lines
         repository.files[root] = lines
         names |= paths_of(crate, "proofs", moves)
         count += len(moves)

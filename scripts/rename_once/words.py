@@ -19,6 +19,8 @@ class Section:
     """Words that are renamed in some crates; the heads of lemmas and all that is made of a word by `-` follow."""
 
     crates: list[str]
+    # how the paths of its files begin, where it is not whole crates
+    files: list[str] = field(default_factory=list)
     with_comments: bool = False
     # no word of it is seen outside its crates
     is_inner: bool = False
@@ -43,8 +45,10 @@ def read_words(path: Path) -> tuple[list[Section], list[Definition]]:
         if not line:
             continue
         if line.startswith("["):
-            crates, _, more = line.strip("[]").partition("|")
-            sections.append(Section(crates.split(), "comments" in more, "inner" in more))
+            places, _, more = line.strip("[]").partition("|")
+            crates = list(dict.fromkeys(place.split("/")[0] for place in places.split()))
+            files = [f"crates/{place}" for place in places.split() if "/" in place]
+            sections.append(Section(crates, files, "comments" in more, "inner" in more))
             continue
         old, new = line.split(" -> ")
         if "." in old:
@@ -60,6 +64,9 @@ def rename_sections(repository: Repository, sections: list[Section]) -> None:
     for section in sections:
         users = [path for path in repository.logic() if belongs(repository, path, section)]
         repository.change(users, lambda path, text: in_section(path, text, section if crate_of(path) else called(section)))
+        if section.files:
+            repository.change([path for path in repository.files if path.endswith(".edit")], lambda path, text: in_edit(path, text, section))
+            continue
         others = [path for path in repository.logic() if path not in users]
         repository.change(others, lambda path, text: in_paths(text, section))
         for crate in section.crates:
@@ -69,6 +76,18 @@ def rename_sections(repository: Repository, sections: list[Section]) -> None:
                     if new != path:
                         repository.move(path, new)
         repository.change(repository.documents(), lambda path, text: in_document(text, section))
+
+
+def in_edit(path: str, text: str, section: Section) -> str:
+    """An edit of one of the files of a section."""
+    lines, is_own = text.split("\n"), False
+    for index, line in enumerate(lines):
+        word, _, value = line.partition(": ")
+        if word == "file":
+            is_own = f"crates/{crate_of(path)}/{value}".startswith(tuple(section.files))
+        elif is_own:
+            lines[index] = rename_all(line, section.words)
+    return "\n".join(lines)
 
 
 def called(section: Section) -> Section:
@@ -83,6 +102,8 @@ def is_small(word: str) -> bool:
 
 def belongs(repository: Repository, path: str, section: Section) -> bool:
     """Whether the file is one of these crates, or a test over one of them."""
+    if section.files:
+        return path.startswith(tuple(section.files))
     crate = crate_of(path)
     if crate or section.is_inner:
         return crate in section.crates
@@ -93,7 +114,7 @@ def faults_of(repository: Repository, section: Section) -> list[str]:
     """Files in which a new word stands already beside the old one, or in which the old one is another crate's."""
     said = []
     for path in repository.logic():
-        if crate_of(path) not in section.crates:
+        if crate_of(path) not in section.crates or not belongs(repository, path, section):
             continue
         text = repository.files[path]
         if not any(old in text for old in section.words):
@@ -280,7 +301,7 @@ def logic_parts(path: str, text: str) -> list[tuple[bool, str]]:
     if not path.endswith((".rt", ".rs")):
         return [(True, text)]
     spans = [found.span() for found in IMPORT.finditer(text)]
-    spans += [(found.start(), closed(text, found.end() - 1)) for found in CLAUSE_BEGIN.finditer(text)]
+    spans += [(found.end() - 1, closed(text, found.end() - 1)) for found in CLAUSE_BEGIN.finditer(text)]
     parts, end = [], 0
     for begin, stop in sorted(spans):
         if begin < end:
