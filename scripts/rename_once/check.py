@@ -5,7 +5,6 @@ import re
 from repository import Repository, crate_of
 from words import IMPORT
 
-DECLARED = re.compile(r"^\s*(?:pub |abbrev |unfoldable |data |record |module |mod )*([^\s:({]+)", re.M)
 
 
 def edit_faults(repository: Repository) -> tuple[int, list[str]]:
@@ -79,3 +78,15 @@ def name_faults(repository: Repository, path: str, file: str, names: str) -> lis
         if not re.search(rf"(?<![\w.◌-]){re.escape(name)}(?![\w-])", text):
             faults.append(f"{path}: {file} does not declare {name}")
     return faults
+
+
+def clashes(repository: Repository) -> list[str]:
+    """Files of proofs/ that have the name of a module of src/, up to case, which the toolchain refuses."""
+    found = []
+    for crate in repository.crates:
+        modules = {path.split("/")[3].removesuffix(".rt").lower() for path in repository.below(crate, "src/", ".rt")}
+        for path in repository.below(crate, "proofs/", ".antt"):
+            parts = path.split("/")
+            if len(parts) == 4 and parts[3].removesuffix(".antt").lower() in modules - {"lib"}:
+                found.append(path)
+    return found

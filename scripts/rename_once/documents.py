@@ -11,15 +11,14 @@ FILE = re.compile(r"`([\w./+-]+\.(?:rt|antt))`")
 def rename_files(repository: Repository) -> int:
     """Lets the names of files between back quotes follow those that moved. Answers how many texts changed."""
     moved = {old: new for new, old in repository.origins.items() if old != new}
-    folders = {old.rpartition("/")[0] for old in moved} | {path.rpartition("/")[0] for path in repository.files}
 
     def in_text(path: str, text: str) -> str:
         own = crate_of(repository.origins.get(path, path))
         if path.endswith(".md"):
-            return Names(repository, moved, folders, None).replace(text)
+            return Names(repository, moved, None).replace(text)
         if own and path.endswith((".rt", ".antt")):
             return "".join(
-                Names(repository, moved, folders, own).replace(piece) if kind == "comment" else piece for kind, piece in pieces(path, text)
+                Names(repository, moved, own).replace(piece) if kind == "comment" else piece for kind, piece in pieces(path, text)
             )
         return text
 
@@ -29,9 +28,8 @@ def rename_files(repository: Repository) -> int:
 class Names:
     """The names of files in one text, from its beginning on: a name without a folder stands in the folder of the one before."""
 
-    def __init__(self, repository: Repository, moved: dict[str, str], folders: set[str], crate: str | None):
-        self.repository, self.moved, self.folders = repository, moved, folders
-        self.crate = crate
+    def __init__(self, repository: Repository, moved: dict[str, str], crate: str | None):
+        self.repository, self.moved, self.crate = repository, moved, crate
         self.folder = None
 
     def replace(self, text: str) -> str:
