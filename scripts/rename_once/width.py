@@ -48,6 +48,8 @@ def places(line: str) -> list[tuple[int, float]]:
             cost = cost_at(line, index, bool(is_lambda) and is_lambda[-1] == depth)
             if line[index - 1] == "." and is_lambda and is_lambda[-1] == depth:
                 is_lambda.pop()
+            if depth > 0 and line[:index].endswith(" ="):
+                cost = None
             if line.endswith(" where"):
                 cost = 0.0 if depth == 0 and line[index + 1] in OPENS else None
             if cost is not None:
