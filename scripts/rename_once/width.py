@@ -5,7 +5,7 @@
 
 import re
 
-from repository import Repository
+from repository import Repository, crate_of
 
 COLUMNS = 120
 DEEPER = 4
@@ -117,11 +117,12 @@ def is_last(line: str, index: int) -> bool:
     return True
 
 
-def wrapped(line: str) -> str:
-    """The line in several, each within the columns where that can be had."""
+def wrapped(line: str, whole: list[str]) -> str:
+    """The line in several, each within the columns where that can be had. Texts of edits stay whole."""
     deeper = " " * (len(line) - len(line.lstrip()) + DEEPER)
     lines, rest = [], line
-    candidates = places(line)
+    kept = [(line.find(text), line.find(text) + len(text)) for text in whole if text in line]
+    candidates = [(index, cost) for index, cost in places(line) if not any(begin < index < end for begin, end in kept)]
     gone = 0
     while len(rest) > COLUMNS:
         shift = gone - (len(rest) - len(rest.lstrip()) if lines else 0)
@@ -137,14 +138,14 @@ def wrapped(line: str) -> str:
     return "\n".join([*lines, rest])
 
 
-def wrap_text(path: str, text: str) -> str:
+def wrap_text(path: str, text: str, whole: list[str]) -> str:
     is_code = path.endswith(".rt")
     lines, in_clause, balance = [], False, 0
     for line in text.split("\n"):
         if is_code and not in_clause and CLAUSE.match(line):
             in_clause, balance = True, 0
         if len(line) > COLUMNS and may_be_wrapped(path, line) and (in_clause or not is_code):
-            line = wrapped(line)
+            line = wrapped(line, whole)
         if in_clause:
             balance += line.count("{") - line.count("}")
             in_clause = balance > 0
@@ -183,10 +184,17 @@ def paths_of(repository: Repository) -> list[str]:
     return [path for path in paths if "scripts/picture_page" not in repository.files[path]]
 
 
+def edited_texts(repository: Repository, crate: str) -> list[str]:
+    """What the edits of a crate look for."""
+    edits = [repository.files[path] for path in repository.below(crate, ending=".edit")]
+    return [line.removeprefix("old: ") for text in edits for line in text.splitlines() if line.startswith("old: ")]
+
+
 def narrow(repository: Repository) -> tuple[int, list[str]]:
     """Wraps all. Answers how many files that changed, and the lines that stay too long, but for imports."""
     paths = paths_of(repository)
-    count = repository.change(paths, lambda path, text: fill_comments(wrap_text(path, text)))
+    whole = {crate: edited_texts(repository, crate) for crate in repository.crates}
+    count = repository.change(paths, lambda path, text: fill_comments(wrap_text(path, text, whole[crate_of(path)])))
     return count, too_long(repository, paths)
 
 
