@@ -59,6 +59,27 @@ def read_words(path: Path) -> tuple[list[Section], list[Definition]]:
     return sections, definitions
 
 
+IN_CODE = re.compile(r"\buse (\w+)::([^;]*);")
+
+
+def let_importers_join(repository: Repository, section: Section) -> None:
+    """Adds the crates that import one of the words from a crate of the section, and those that do so from these."""
+    if section.is_inner or section.files:
+        return
+    grows = True
+    while grows:
+        others = [path for path in repository.logic() if crate_of(path) and crate_of(path) not in section.crates]
+        found = {crate_of(path) for path in others if imports_word(repository.files[path], section)}
+        grows = bool(found)
+        section.crates += [crate for crate in repository.crates if crate in found]
+
+
+def imports_word(text: str, section: Section) -> bool:
+    named = [(one[1].split(".")[1], one[2] or "") for one in IMPORT.finditer(text)]
+    named += [(one[1], one[2]) for one in IN_CODE.finditer(text)]
+    return any(crate in section.crates and set(WORD.findall(names)) & set(section.words) for crate, names in named)
+
+
 def rename_sections(repository: Repository, sections: list[Section]) -> None:
     """Renames the words of the sections."""
     for section in sections:
