@@ -13,7 +13,7 @@ use value::{Value, Width};
 
 /// What is still to do at a place: a tree without its finished parts, with a copy of every expression in it. Trees
 /// share their parts.
-pub(crate) enum Left {
+pub enum Left {
     Done,
     Halted,
     /// a child in order, and what comes after it
@@ -66,14 +66,14 @@ impl Drop for Left {
 
 impl Left {
     /// Nothing.
-    pub(crate) fn done(alloc: Global) -> Result<Shared<Left>, AllocError>
+    pub fn done(alloc: Global) -> Result<Shared<Left>, AllocError>
         ensures { IfOk result (λ made. residual_of_left made ≡ model.done) }
     {
         Shared::new(alloc, Left::Done)
     }
 
     /// A test with these arms.
-    pub(crate) fn test(
+    pub fn test(
         alloc: Global,
         decision: Decision,
         arms: Items<Shared<Left>>,
@@ -122,7 +122,7 @@ pub(crate) enum Passed {
 /// along a sequence or branches by a loop, so that many take no stack.
 #[cycle(received)]
 #[tactic(auto, using(crate::proofs::Passing::passes_inside, crate::proofs::Passing::passes_beside))]
-pub(crate) fn with_received(
+pub fn with_received(
     alloc: Global,
     left: &Left,
     channel: u32,
@@ -324,7 +324,7 @@ fn before(alloc: Global, child: Passed, rest: Shared<Left>) -> Result<Shared<Lef
 
 /// The child at a place in order and then what comes next; a finished child is erased.
 #[tactic(auto, using(crate::proofs::Arms::within_is))]
-pub(crate) fn within(
+pub fn within(
     alloc: Global,
     number: u64,
     child: Shared<Left>,
@@ -342,7 +342,7 @@ pub(crate) fn within(
 
 /// The child in a branch beside the other branches; a finished child is erased.
 #[tactic(auto, using(crate::proofs::Arms::along_is))]
-pub(crate) fn along(
+pub fn along(
     alloc: Global,
     number: u64,
     child: Shared<Left>,

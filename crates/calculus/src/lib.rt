@@ -25,6 +25,7 @@ mod uses;
 mod walk;
 
 pub use laws::one_run_laws;
+pub use left::{Left, along, with_received, within};
 pub use one_run::same_run;
 pub use plain::Plain;
 pub use runs::{
@@ -37,3 +38,4 @@ pub use runs::{
     soundness_laws, state_laws, step_laws, ticket_law, undo_laws, writes,
 };
 pub use slow::{replay, replay_live};
+pub use translate::{in_parallel, in_sequence};

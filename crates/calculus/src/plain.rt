@@ -1,5 +1,5 @@
 ghost use Rattle.std.specs.Prelude.{◌≡◌, slice_get};
-ghost use Rattle.calculus.specs.Left.{state_of};
+ghost use Rattle.calculus.specs.Left.{residual_of_left, state_of};
 
 use crate::left::Left;
 use syntax::Shared;
@@ -13,6 +13,13 @@ pub struct Plain {
 }
 
 impl Plain {
+    /// The state in which this is still to do, with these values of the variables.
+    pub fn new(left: Shared<Left>, values: Vec<Value>) -> Plain
+        ensures { state_of result ≡ record { residual = residual_of_left left; store = values.items } }
+    {
+        Plain { left, values }
+    }
+
     /// The value of the variable of this number; `None` past the last.
     pub fn value(&self, variable: u32) -> Option<Value>
         ensures { result ≡ slice_get (state_of self.now).store variable }

@@ -300,10 +300,7 @@ fn channels_of(alloc: Global, arms: &[Arm]) -> Result<Items<u32>, AllocError>
 
 /// The children one after another.
 #[tactic(auto, using(crate::proofs::Children::sequence_begins))]
-pub(crate) fn in_sequence(
-    alloc: Global,
-    children: Items<Shared<Left>>,
-) -> Result<Shared<Left>, AllocError>
+pub fn in_sequence(alloc: Global, children: Items<Shared<Left>>) -> Result<Shared<Left>, AllocError>
     ensures { IfOk result (λ made. residual_of_left made ≡ translation.in_sequence 0 (map residual_of_left children)) }
 {
     let mut left = Left::done(alloc)?;
@@ -316,10 +313,7 @@ pub(crate) fn in_sequence(
 
 /// The children beside one another.
 #[tactic(auto, using(crate::proofs::Children::parallel_begins))]
-pub(crate) fn in_parallel(
-    alloc: Global,
-    children: Items<Shared<Left>>,
-) -> Result<Shared<Left>, AllocError>
+pub fn in_parallel(alloc: Global, children: Items<Shared<Left>>) -> Result<Shared<Left>, AllocError>
     ensures { IfOk result (λ made. residual_of_left made ≡ translation.in_parallel 0 (map residual_of_left children)) }
 {
     let mut left = Left::done(alloc)?;

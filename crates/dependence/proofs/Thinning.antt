@@ -2,6 +2,7 @@
 use Rattle.std.proofs.Common.{◌≡◌, inl, inr, ℕ, suc, ◌+◌, ◌<◌, ◌≤◌, List, [], ◌∷◌, ◌++◌, Bool, true, false, not, cond, length, take, get_or, Option, Some, None, refl, sym, ◌∙◌, ap, subst, arith, length-set}
 use Rattle.std.specs.Prelude.{slice_get, slice_set, is_some, MatchOption}
 use Rattle.std.specs.List.{filter}
+use Rattle.std.specs.List.Retain.{RetainsInTurn}
 use Rattle.std.proofs.lemmas.Bool.{cases_eq, cases_lt}
 use Rattle.std.proofs.lemmas.Option.{slice_get_within, slice_get-get_or}
 use Rattle.syntax.specs.Lists.{In}
@@ -16,6 +17,16 @@ use Rattle.dependence.specs.walking.Tables.{StandsAt, Linked}
 use Rattle.dependence.specs.walking.Unmarked.{Thinned, AllThinned, NotBehind, IsLoose}
 use Rattle.dependence.proofs.ListPlaces.{at-one, at-within, set-here, set-other, take-next, take-all}
 use Rattle.dependence.proofs.Linking.{one-index, linked-part, lists-ascend}
+
+-- what is left where no call changes the closure or an element is what passes the test
+pub filter-kept : {X F : Type 0} (R : F → X → Bool → F → X → Type 0) (test : X → Bool) (f : F) →
+    ((x : X) (b : Bool) (g : F) (y : X) → R f x b g y → (b ≡ test x) × (g ≡ f) × (y ≡ x)) → (xs ys : List X) → RetainsInTurn R f xs ys → ys ≡ filter test xs
+filter-kept R test f says [] ys h = h
+filter-kept R test f says (x ∷ xs) ys h =
+    let said = says x h.0 h.1 h.2 h.3 in
+    let later = subst (λ g. RetainsInTurn R g xs h.4) said.1 h.5 in
+    let rest = filter-kept R test f says xs h.4 later in
+    h.6 ∙ (λ i. cond (said.0 i) (said.2 i ∷ rest i) (rest i))
 
 -- what passes a test
 in-passed : (test : ℕ → Bool) (ts : List ℕ) (u : ℕ) → In u (filter test ts) → In u ts × (test u ≡ true)

@@ -10,6 +10,7 @@ ghost use Rattle.dependence.specs.walking.Unmarked.{Thinned};
 use crate::links::{Links, remove};
 use crate::live::LiveEvent;
 use crate::taking::thin;
+use smallvec::SmallVec;
 use std::alloc::{AllocError, Global};
 use std::marker::Model;
 
@@ -33,7 +34,7 @@ impl HeldLinks {
         ensures { IfOk result (λ held. (held.followers.items ≡ []) × (held.leads.items ≡ leads.items)) }
     {
         let links = Links {
-            followers: Vec::new(alloc),
+            followers: SmallVec::new(alloc),
             leads,
         };
         Ok(HeldLinks {

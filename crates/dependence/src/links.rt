@@ -9,12 +9,16 @@ ghost use Rattle.dependence.specs.walking.Tables.{IsRising, Falling, PartLinked,
 use crate::held::HeldLinks;
 use crate::indexes::{index_in, index_of_live};
 use crate::live::LiveEvent;
+use smallvec::SmallVec;
 use std::alloc::AllocError;
+
+/// The tickets of followers. Mostly they are one or two, which need no memory of their own.
+pub(crate) type Followers = SmallVec<u64, 2>;
 
 /// Of one live event: the tickets of its followers, ascending, and of the events that it follows, falling.
 #[derive(Drop)]
 pub(crate) struct Links {
-    pub(crate) followers: Vec<u64>,
+    pub(crate) followers: Followers,
     pub(crate) leads: Vec<u64>,
 }
 
@@ -84,7 +88,7 @@ fn unlink_one(live: &[LiveEvent], links: &mut [HeldLinks], lead: u64, ticket: u6
 }
 
 /// Takes the ticket out of those that ascend.
-pub(crate) fn remove(tickets: &mut Vec<u64>, ticket: u64)
+pub(crate) fn remove(tickets: &mut Followers, ticket: u64)
     requires { InOrder ◌<◌ tickets.old.items }
     ensures { Removed ticket tickets.old.items tickets.new.items }
 {

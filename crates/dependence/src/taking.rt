@@ -13,6 +13,7 @@ ghost use Rattle.dependence.specs.walking.Whole.{IsWhole};
 
 use crate::held::HeldLinks;
 use crate::indexes::{index_in, index_of_live};
+use crate::links::Followers;
 use crate::live::LiveEvent;
 use crate::marks::{clear, is_marked, unmarked_below};
 use crate::tables::Tables;
@@ -116,7 +117,7 @@ fn unlink_from(live: &[LiveEvent], links: &mut [HeldLinks], marks: &[bool], lead
 }
 
 /// Takes the marked tickets out of these, which ascend, where this one is among them. Else they are out already.
-pub(crate) fn thin(live: &[LiveEvent], marks: &[bool], tickets: &mut Vec<u64>, ticket: u64)
+pub(crate) fn thin(live: &[LiveEvent], marks: &[bool], tickets: &mut Followers, ticket: u64)
     requires rising { IsRising live.now }
     requires size { length marks.now ≡ length live.now }
     requires ordered { InOrder ◌<◌ tickets.old.items }

@@ -84,7 +84,6 @@ pub(crate) fn take_back(tree: &mut Tree, event: &Event, outs: Outs)
     let first = event.first.entries();
     match (asks_of(event), outs) {
         (Some(Asks::Alone(_)), Outs::One(out)) => tree.retreat(first, out),
-        (Some(Asks::Alone(_)), Outs::Two(out, _)) => tree.retreat(first, out),
         (Some(Asks::Together(_, _)), Outs::Two(out, other)) => match &event.second {
             Some(second) => take_two_back(tree, first, out, second.entries(), other),
             None => unreachable!(),

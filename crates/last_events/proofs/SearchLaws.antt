@@ -227,3 +227,23 @@ split-last ps p n m is before last all = record {
   below = all;
   above = subst (λ (k : ℕ). (a : List Entry) → In a (drop k ps) → order_of a p ≡ Less → ⊥) (sym before) last.above;
 }
+
+-- before the place of no entries there is none
+nothing-less : (a p : List Entry) → length p ≡ 0 → order_of a p ≡ Less → ⊥
+nothing-less [] [] h less = less-not-equal (sym less)
+nothing-less (x ∷ a) [] h less = greater-not-less less
+nothing-less a (y ∷ p) h less = absurd (omega arith)
+
+pub split-none : (ps : List (List Entry)) (p : List Entry) → length p ≡ 0 → Splits ps p 0
+split-none ps p none = record { within = omega arith; below = λ a i. absurd i; above = λ a i less. nothing-less a p none less }
+
+-- so many are less than the place that stands at an index
+pub split-at : (ps : List (List Entry)) (p : List Entry) (n : ℕ) → Rising ps → n < length ps → slice_get ps n ≡ Some p → Splits ps p n
+split-at ps p n r within at = record {
+  within = omega arith;
+  below = λ a i. rising-before ps n p a r at i;
+  above = λ a i less. elim (in-drop-here ps n p a at i) [
+    | inl same ↦ less-not-equal (sym (subst (λ (b : List Entry). order_of b p ≡ Less) same less) ∙ order-itself p)
+    | inr later ↦ less-not-equal (sym (order-transitive p a p (rising-after ps n p a r at later) less) ∙ order-itself p)
+  ];
+}

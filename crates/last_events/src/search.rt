@@ -1,5 +1,5 @@
 // Looking for a place by halves.
-ghost use Rattle.std.specs.Prelude.{◌≡◌, ◌≤◌, map, length, true, false, List};
+ghost use Rattle.std.specs.Prelude.{◌≡◌, ◌≤◌, map, length, true, false, List, MatchOption};
 ghost use Rattle.address.specs.declared.Entry.{Entry};
 ghost use Rattle.last_events.specs.walking.Search.{AllLess, LastNotLess, Rising, Splits};
 ghost use Rattle.last_events.specs.walking.Seats.{seat_way};
@@ -25,12 +25,19 @@ impl Placed for Seat {
     }
 }
 
-/// How many of these places, which rise, are less than this one. The last two are looked at first, since a new place is behind
-/// all others nearly always.
+/// How many of these places, which rise, are less than this one. Before the place of no entries there is none. Behind a branch
+/// number it is looked where that branch stands if each before it has events; else at the last two first, since a new place is
+/// behind all others nearly always.
 pub(crate) fn count_less<T: Placed>(seats: &[T], place: &[Entry]) -> usize
     requires { Rising (map T.place seats.now) }
     ensures { Splits (map T.place seats.now) place.now result }
 {
+    if place.is_empty() {
+        return 0;
+    }
+    if let Some(index) = at_number(seats, place) {
+        return index;
+    }
     let count = seats.len();
     if is_behind(seats, count, place) {
         return count;
@@ -40,6 +47,39 @@ pub(crate) fn count_less<T: Placed>(seats: &[T], place: &[Entry]) -> usize
         return fewer;
     }
     count_by_halves(seats, place)
+}
+
+/// The index of this place, if that is the branch number with which it begins.
+fn at_number<T: Placed>(seats: &[T], place: &[Entry]) -> Option<usize>
+    requires { Rising (map T.place seats.now) }
+    ensures { MatchOption result (Unit {0}) (λ index. Splits (map T.place seats.now) place.now index) }
+{
+    let index = branch_number(place)?;
+    if is_at(seats, index, place) {
+        Some(index)
+    } else {
+        None
+    }
+}
+
+/// The branch number with which a place begins.
+fn branch_number(place: &[Entry]) -> Option<usize> {
+    match place.first() {
+        Some(Entry::Branch(number)) => Some(*number as usize),
+        _ => None,
+    }
+}
+
+/// Whether this place stands at the index, among places that rise. Then so many are less.
+fn is_at<T: Placed>(seats: &[T], index: usize, place: &[Entry]) -> bool
+    requires { Rising (map T.place seats.now) }
+    ensures { result ≡ true → Splits (map T.place seats.now) place.now index }
+{
+    if index >= seats.len() {
+        return false;
+    }
+    let seat = seats[index].place();
+    seat == place
 }
 
 /// Whether the first so many of these places, which rise, are less than this one. Else there is a last of them, and it is not.

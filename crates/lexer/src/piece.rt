@@ -1,9 +1,10 @@
 ghost use Rattle.std.specs.Prelude.{◌≡◌, ◌+◌, ◌≤◌, length, take, drop, MatchOption, IsSome, IsTrue, is_some, nat_le, ◌&&◌};
 ghost use Rattle.std.specs.List.{prefix_len};
+ghost use Rattle.std.specs.Option.{IfSome};
 ghost use Rattle.lexer.specs.Comment.{IsOpenComment, is_nested_comment, is_opening};
 ghost use Rattle.lexer.specs.Spelling.{NothingSpelled, begins, may_hold};
 ghost use Rattle.lexer.specs.Table.{symbol};
-ghost use Rattle.lexer.specs.declared.class.Class.TheVariants.{LineComment};
+ghost use Rattle.lexer.specs.declared.class.Class.TheVariants.{Blank, LineComment};
 ghost use Rattle.lexer.specs.walking.Fronts.{IsFront, NoSymbolBeyond, class_at};
 
 use crate::class::{Class, is_blank};
@@ -137,11 +138,25 @@ fn class_at(rest: &[u8]) -> Class
 #[inline(always)]
 fn run(class: Class, rest: &[u8]) -> Piece
     requires { IsTrue (begins class rest.now) }
-    ensures { IsFront result.class result.length rest.now }
+    ensures class { result.class ≡ class }
+    ensures front { IsFront result.class result.length rest.now }
 {
     Piece {
         class,
         length: run_length(class, rest),
+    }
+}
+
+/// How many blanks are at the front. None: it has no blank.
+#[inline(always)]
+pub fn blanks_length(rest: &[u8]) -> Option<usize>
+    ensures { IfSome result (λ n. IsFront Blank n rest.now) }
+{
+    let first = rest.first().copied().unwrap_or(0);
+    if is_blank(first) {
+        Some(run(Class::Blank, rest).length)
+    } else {
+        None
     }
 }
 

@@ -12,6 +12,9 @@ use runs::{Event, Refusal};
 use std::alloc::AllocError;
 use system::System;
 
+/// Few lines of an event are longer.
+const USUAL_LENGTH: usize = 96;
+
 /// Adds a line of a word and a number.
 pub fn add_numbered(out: &mut Vec<u8>, word: &[u8], number: u64) -> Result<(), AllocError>
     ensures { OnOk result (out.new.items ≡ out.old.items ++ numbered_text word.now number) }
@@ -29,6 +32,7 @@ pub fn add_entry(
 ) -> Result<(), AllocError>
     ensures { OnOk result (out.new.items ≡ out.old.items ++ entry_text system.now word.now ticket event.now) }
 {
+    out.reserve(USUAL_LENGTH)?;
     add_fields(out, word, &[Field::Number(ticket)])?;
     end_with_event(out, system, event)
 }

@@ -21,7 +21,7 @@ use Rattle.runs.proofs.Lists.{every-in, in-parts, in-right}
 use Rattle.runs.proofs.ReadyLists.{sooner-asymmetric}
 use Rattle.runs.proofs.SortedLists.{same-elements}
 use Rattle.offered_sides.specs.Sides.{Under}
-use Rattle.rendezvous.specs.ReadyBelow.{ReadyBelow}
+use Rattle.allowed_events.specs.ReadyBelow.{ReadyBelow}
 use Rattle.machine.specs.Branching.{is_branch}
 use Rattle.machine.specs.walking.Sites.{IsAtSite, ReadyWith, site_among}
 use Rattle.machine.specs.declared.branching.Site.{Site}

@@ -20,7 +20,7 @@ use crate::history::History;
 use channel_uses::ChannelUses;
 use event_inverse::{Inverse, Record, apply, invert};
 use offered_sides::{OfferedSide, sides_of};
-use rendezvous::{event_with, ready_events};
+use allowed_events::{event_with, ready_events};
 use rows::Rows;
 use runs::{Choice, Command, Event, LAST_TICKET, MOST_LIVE_EVENTS, Refusal};
 use sharing_check::Checked;

@@ -1,43 +1,28 @@
--- The events of a side with those of a list.
-use Rattle.std.proofs.Common.{◌≡◌, ◌⊎◌, inl, inr, List, [], ◌∷◌, Option, Some, None, refl, sym, ap, subst}
+-- The allowed events, as the slow replay lists them, of the state of a tree.
+use Rattle.std.proofs.Common.{List}
+use Rattle.std.specs.Prelude.{◌↔◌}
 use Rattle.syntax.specs.Lists.{In}
-use Rattle.runs.specs.walking.AllowedEvents.{those}
+use Rattle.runs.specs.Ready.{ReadyList}
+use Rattle.runs.specs.Steps.{State, Allowed}
+use Rattle.runs.specs.declared.event.Choice.{Choice}
 use Rattle.runs.specs.declared.event.Event.{Event}
-use Rattle.offered_sides.specs.declared.side.OfferedSide.{OfferedSide}
-use Rattle.rendezvous.specs.walking.Meeting.{met, met_with}
+use Rattle.allowed_events.specs.walking.Acting.{ReadyWith, SortedOf}
 
--- what there is, is in the list
-pub in-those-first : (o : Option Event) (e : Event) (rest : List Event) → o ≡ Some e → In e (those o rest)
-in-those-first None e rest h = cc
-in-those-first (Some f) e rest h = inl (let same : e ≡ f = cc in same)
+-- exactly the allowed events of an equal state
+abbrev pub Exactly : State → List Event → Type 0
+Exactly S es = (e : Event) → In e es ↔ Allowed S e
 
-in-those-rest : (o : Option Event) (e : Event) (rest : List Event) → In e rest → In e (those o rest)
-in-those-rest None e rest h = h
-in-those-rest (Some f) e rest h = inr h
+-- in order they are the list
+pub sorted-ready : (S : State) (listed sorted : List Event) → Exactly S listed → SortedOf listed sorted → ReadyList S sorted
+sorted-ready S listed sorted all s = record {
+  exactly = λ e. (λ i. (all e).0 ((s.same e).0 i), λ a. (s.same e).1 ((all e).1 a));
+  in_order = s.in_order;
+}
 
-pub those-in : (o : Option Event) (e : Event) (rest : List Event) → In e (those o rest) → (o ≡ Some e) ⊎ In e rest
-those-in None e rest h = inr h
-those-in (Some f) e rest h = elim h [ inl u ↦ inl (ap (λ (x : Event). Some x) (sym u)) | inr u ↦ inr u ]
-
--- the event of l with one of the list
-pub in-met : (l k : OfferedSide) (ks : List OfferedSide) (e : Event) → In k ks → met l.place l.side k.place k.side ≡ Some e → In e (met_with l ks)
-in-met l k [] e i h = absurd i
-in-met l k (o ∷ ks) e i h =
-    elim i [
-      | inl u ↦ in-those-first _ e (met_with l ks) (subst (λ (x : OfferedSide). met l.place l.side x.place x.side ≡ Some e) u h)
-      | inr u ↦ in-those-rest _ e (met_with l ks) (in-met l k ks e u h)
-    ]
-
--- an event of l with one of the list
-pub record Met (l : OfferedSide) (ks : List OfferedSide) (e : Event) : Type 0 where
-  pub partner : OfferedSide
-  pub there : In partner ks
-  pub made : met l.place l.side partner.place partner.side ≡ Some e
-
-pub met-in : (l : OfferedSide) (ks : List OfferedSide) (e : Event) → In e (met_with l ks) → Met l ks e
-met-in l [] e i = absurd i
-met-in l (k ∷ ks) e i =
-    elim (those-in _ e (met_with l ks) i) [
-      | inl u ↦ record { partner = k; there = inl refl; made = u }
-      | inr u ↦ let later = met-in l ks e u in record { partner = later.partner; there = inr later.there; made = later.made }
-    ]
+-- among them are all with a choice
+pub ready-with : (S : State) (c : Choice) (es : List Event) → ReadyList S es → ReadyWith S c es
+ready-with S c es r = record {
+  sound = λ e i. (r.exactly e).0 i;
+  complete = λ e a is. (r.exactly e).1 a;
+  in_order = r.in_order;
+}

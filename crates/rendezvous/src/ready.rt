@@ -1,103 +1,53 @@
-// The events that are allowed in the state of a tree, in order.
-ghost use Rattle.std.specs.Prelude.{◌≡◌, IfOk, IsTrue, Some, true, false, slice_get};
-ghost use Rattle.runs.specs.InOrder.{InOrder};
-ghost use Rattle.runs.specs.Ready.{ReadyList, Sooner};
-ghost use Rattle.runs.specs.Steps.{State, Allowed};
-ghost use Rattle.runs.specs.Tests.{same_event};
-ghost use Rattle.runs.specs.WellFormed.{WellFormed};
-ghost use Rattle.runs.specs.declared.event.Event as any;
-ghost use Rattle.syntax.specs.Lists.{In};
-ghost use Rattle.process_tree.specs.Code.{Code};
-ghost use Rattle.process_tree.specs.Tidy.{Tidy};
-ghost use Rattle.process_tree.specs.View.{tree_view};
+// The events that are ready in any tree and store, in order, and the one that a choice means.
+ghost use Rattle.std.specs.Prelude.{◌≡◌, IfOk, MatchOption};
+ghost use Rattle.runs.specs.Ready.{ChoiceAllowed, Chosen, ReadyList};
+ghost use Rattle.calculus.specs.Left as slow;
 ghost use Rattle.offered_sides.specs.View.{state_of};
-ghost use Rattle.channel_uses.specs.StemsFrom.{StemsFrom};
-ghost use Rattle.channel_uses.specs.Table.{IsTableOf};
-ghost use Rattle.rendezvous.specs.ReadyBelow.{ReadyBelow};
-ghost use Rattle.rendezvous.specs.walking.Acting.{SortedOf};
-ghost use Rattle.rendezvous.specs.walking.Sorting.{inserted};
 
-use crate::acting::acted_by;
-use crate::order::{latest_first, sooner_count};
-use address::Entry;
-use channel_uses::ChannelUses;
-use offered_sides::sides_below;
+use crate::process::left_of;
+use allowed_events::{first_with, in_order};
+use calculus::Plain;
 use process_tree::Tree;
-use runs::Event;
+use runs::{Choice, Event};
 use std::alloc::{AllocError, Global};
 use store::Store;
 use syntax::Items;
 
 /// Exactly the events that are allowed in the state of the tree and the store: in the order of their acting addresses,
-/// then of their arms, then of their other addresses. The tree is to be tidy and to stem from the command whose uses of
-/// channels these are. It is an error if there is no memory.
-pub fn ready_events(
+/// then of their arms, then of their other addresses. It asks nothing of the tree, and copies all that is left of it.
+/// It is an error if there is no memory; a place with a number of 2^32 and more is answered so too, which no run
+/// reaches.
+pub fn ready_events(alloc: Global, tree: &Tree, store: &Store) -> Result<Items<Event>, AllocError>
+    ensures { IfOk result (λ events. ReadyList (state_of tree.now store.now) events) }
+{
+    let state = plain_state(alloc, tree, store)?;
+    let events = state.allowed(alloc)?;
+    in_order(alloc, events)
+}
+
+/// The event that the choice means in the state of the tree and the store: of those that are allowed and have the
+/// choice the one whose other address is the least. `None` where there is none. It asks nothing of the tree, and costs
+/// as much as `ready_events`, with the same errors.
+pub fn event_at(
     alloc: Global,
-    uses: &ChannelUses,
     tree: &Tree,
     store: &Store,
-) -> Result<Items<Event>, AllocError>
-    ensures { (code : Code) → IsTableOf code uses.now → StemsFrom (tree_view tree.now) code →
-        Tidy (tree_view tree.now) →
-        IfOk result (λ events. ReadyList (state_of tree.now store.now) events) }
+    choice: &Choice,
+) -> Result<Option<Event>, AllocError>
+    ensures { IfOk result (λ found.
+        MatchOption found
+        (ChoiceAllowed (state_of tree.now store.now) choice.now →
+        ⊥) (λ event. Chosen (state_of tree.now store.now) choice.now event)) }
 {
-    ready_below(alloc, uses, tree, store, &[])
+    let events = ready_events(alloc, tree, store)?;
+    Ok(first_with(events, choice))
 }
 
-/// Those of them that act at the place or below it. It goes down along the place, and for each side that is found there
-/// looks at those on its channel alone. It is an error if there is no memory.
-pub fn ready_below(
-    alloc: Global,
-    uses: &ChannelUses,
-    tree: &Tree,
-    store: &Store,
-    place: &[Entry],
-) -> Result<Items<Event>, AllocError>
-    ensures { (code : Code) → IsTableOf code uses.now → StemsFrom (tree_view tree.now) code →
-        Tidy (tree_view tree.now) →
-        IfOk result (λ events. ReadyBelow (state_of tree.now store.now) place.now events) }
+/// The state of the tree and the store, as the slow replay holds it.
+fn plain_state(alloc: Global, tree: &Tree, store: &Store) -> Result<Plain, AllocError>
+    ensures { IfOk result (λ made. slow.state_of made ≡ state_of tree.now store.now) }
 {
-    let acting = sides_below(alloc, tree, store, place)?;
-    let made = acted_by(alloc, uses, tree, store, acting.as_slice())?;
-    in_order(alloc, made)
-}
-
-/// The same events in the order of their acting addresses, then of their arms, then of their other addresses; each
-/// stands once.
-pub(crate) fn in_order(alloc: Global, events: Items<Event>) -> Result<Items<Event>, AllocError>
-    ensures { (S : State) → WellFormed S.residual → ((e : any.Event) → In e events → Allowed S e) →
-        IfOk result (λ sorted. SortedOf events sorted) }
-{
-    let mut left = events.into_vec();
-    left.sort_unstable_by(|one, other| latest_first(one, other));
-    let mut sorted = Vec::new(alloc);
-    while let Some(event) = left.pop() {
-        insert(&mut sorted, event)?;
-    }
-    Ok(Items::from_vec(sorted))
-}
-
-/// Puts the event where it belongs, unless it is there.
-fn insert(sorted: &mut Vec<Event>, event: Event) -> Result<(), AllocError>
-    ensures { InOrder Sooner sorted.old.items → IfOk result (λ _. sorted.new.items ≡ inserted event sorted.old.items) }
-{
-    let index = sooner_count(&event, sorted.as_slice());
-    if is_there(sorted.as_slice(), index, &event) {
-        return Ok(());
-    }
-    sorted.insert(index, event)?;
-    Ok(())
-}
-
-/// Whether the event stands at this index.
-fn is_there(sorted: &[Event], index: usize, event: &Event) -> bool
-    ensures there { IsTrue result →
-        ((f : Event) × (slice_get sorted.now index ≡ Some f) × (same_event f event.now ≡ true)) }
-    ensures elsewhere { result ≡ false → (f : Event) → slice_get sorted.now index ≡ Some f →
-        same_event f event.now ≡ false }
-{
-    match sorted.get(index) {
-        Some(found) => found.equals(event),
-        None => false,
-    }
+    let left = left_of(alloc, tree.root(), &[])?;
+    let values = Vec::from_slice(alloc, store.as_slice())?;
+    Ok(Plain::new(left, values))
 }

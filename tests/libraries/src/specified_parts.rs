@@ -5,14 +5,13 @@ use crate::examples::{BUFFER, TWO_BUFFERS};
 use crate::told::{events, into, meet, turn};
 use address::{Address, before, read};
 use calculus::{Choice, Event, Kind, Plain, replay, same_run};
-use channel_uses::ChannelUses;
 use dependence::Live;
 use elaborate::{Stimulus, System, elaborate};
 use event_inverse::{Record, apply, invert};
 use lexer::{Token, lex};
 use parser::parse;
-use process_tree::{Tree, system_code};
-use rendezvous::{event_with, ready_events};
+use process_tree::Tree;
+use rendezvous::{event_at, ready_events};
 use sharing_check::{Checked, check_sharing};
 use std::alloc::{AllocError, Global};
 use std::cmp::Ordering;
@@ -21,7 +20,7 @@ use store::Store;
 use syntax::{Boxed, Description, Items};
 use typed::Typed;
 use types::check_types;
-use value::{Value, add, bit_and, bit_or, bit_xor, not, resize, sub};
+use value::{Comparison, Value, add, bit_and, bit_or, bit_xor, compare, not, resize, sub};
 
 #[test]
 fn values_are_reckoned(rt: HostRuntime) -> Result<(), Fail> {
@@ -34,6 +33,7 @@ fn values_are_reckoned(rt: HostRuntime) -> Result<(), Fail> {
     assert!(rt; bit_xor(three, five) == Value::make(6, 8));
     assert!(rt; not(three) == Value::make(12, 4));
     assert!(rt; resize(five, 2) == Value::make(1, 2));
+    assert!(rt; compare(Comparison::Less, three, five) == Value::make(1, 1));
     assert!(rt; Value::new(16, 4).is_none());
     Ok(())
 }
@@ -111,29 +111,23 @@ fn a_list_is_replayed(rt: HostRuntime) -> Result<(), Fail> {
     assert!(rt; same?.is_some());
     let choice: Result<Choice, AllocError> = one[0].choice(rt.alloc());
     assert_eq!(rt; choice?.arm, 0);
+    let copy: Result<Event, AllocError> = one[0].copy(rt.alloc());
+    assert!(rt; copy?.kind == Kind::Turn);
     Ok(())
 }
 
 #[test]
 fn an_event_is_found_made_and_taken_back(rt: HostRuntime) -> Result<(), Fail> {
     let checked = BUFFER.checked(rt.alloc())?;
-    let code = system_code(rt.alloc(), checked.system())?;
-    let uses = ChannelUses::new(rt.alloc(), &code)?;
     let mut tree: Tree = Tree::new(rt.alloc(), checked.system())?;
     let mut store: Store = Store::new(rt.alloc(), checked.system())?;
-    let ready: Result<Items<Event>, AllocError> = ready_events(rt.alloc(), &uses, &tree, &store);
+    let ready: Result<Items<Event>, AllocError> = ready_events(rt.alloc(), &tree, &store);
     assert_eq!(rt; ready?.len(), 1);
     let choice = Choice {
         place: read(rt.alloc(), b"/0.0")?.ok_or("a place")?,
         arm: 0,
     };
-    let found: Result<Option<Event>, AllocError> = event_with(
-        rt.alloc(),
-        &uses,
-        &tree,
-        &store,
-        &choice,
-    );
+    let found: Result<Option<Event>, AllocError> = event_at(rt.alloc(), &tree, &store, &choice);
     let event = found?.ok_or("an event")?;
     let record: Result<Record, AllocError> = apply(rt.alloc(), &mut tree, &mut store, event);
     let back: Event = invert(&mut tree, &mut store, record?);

@@ -5,12 +5,13 @@ ghost use Rattle.std.specs.Prelude.{◌<◌};
 use crate::examples::*;
 use crate::numbered::numbers_of;
 use crate::told::*;
+use allowed_events::{event_with, ready_below, ready_events};
 use calculus::{Ask, Choice, Event};
 use channel_uses::ChannelUses;
 use event_inverse::{Record, apply, invert};
 use offered_sides::{Side, sides_of};
 use process_tree::{Code, Proc, Tree, Turns, code_of, start, system_code};
-use rendezvous::{event_with, ready_below, ready_events};
+use rendezvous::event_at;
 use sharing_check::Checked;
 use std::alloc::{AllocError, Global};
 use std::process::Abort;
@@ -76,10 +77,11 @@ fn undo(run: &mut Run, place: usize) -> Event {
     invert(&mut run.tree, &mut run.store, record)
 }
 
-/// Whether these events are ready, in this order, and no others.
+/// Whether these events are ready, in this order, and no others, by the fast call and by the plain one.
 fn are_ready(alloc: Global, run: &Run, told: &[Told]) -> Result<bool, Fail> {
     let ready = ready_events(alloc, &run.uses, &run.tree, &run.store)?;
-    are_events(alloc, &ready, told)
+    let plain = rendezvous::ready_events(alloc, &run.tree, &run.store)?;
+    Ok(are_events(alloc, &ready, told)? && are_events(alloc, &plain, told)?)
 }
 
 /// Whether these events are ready at the place and below it, in this order, and no others.
@@ -315,16 +317,41 @@ fn each_place_offers_its_side(rt: HostRuntime) -> Result<(), Fail> {
     Ok(())
 }
 
-/// Whether the choice means the event; `None` for a choice that means none.
+/// Whether the choice means the event, by the fast call and by the plain one; `None` for a choice that means none.
 fn means(alloc: Global, run: &Run, at: &[u8], arm: u32, told: Option<Told>) -> Result<bool, Fail> {
     let place = place(alloc, at)?;
     let choice = Choice { place, arm };
     let found = event_with(alloc, &run.uses, &run.tree, &run.store, &choice)?;
+    let plain = event_at(alloc, &run.tree, &run.store, &choice)?;
+    Ok(is_told(alloc, &found, told)? && is_told(alloc, &plain, told)?)
+}
+
+fn is_told(alloc: Global, found: &Option<Event>, told: Option<Told>) -> Result<bool, Fail> {
     Ok(match (found, told) {
         (Some(found), Some(told)) => found.equals(&event(alloc, told)?),
         (None, None) => true,
         _ => false,
     })
+}
+
+#[test]
+fn any_tree_has_its_events(rt: HostRuntime) -> Result<(), Fail> {
+    let alloc = rt.alloc();
+    let checked = TWO_WRITES.checked(alloc)?;
+    let mut tree = Tree::new(alloc, checked.system())?;
+    let store = Store::new(alloc, checked.system())?;
+    let (first, second) = (place(alloc, b"/0.0")?, place(alloc, b"/0.1")?);
+    tree.advance(alloc, first.entries(), Ask::Assign)?;
+    tree.advance(alloc, second.entries(), Ask::Assign)?;
+    tree.retreat(first.entries(), None);
+    let ready = rendezvous::ready_events(alloc, &tree, &store)?;
+    assert!(rt; are_events(alloc, &ready, &[assign(b"/0.0", 0, 1)])?);
+    let choice = Choice {
+        place: second,
+        arm: 0,
+    };
+    assert!(rt; event_at(alloc, &tree, &store, &choice)?.is_none());
+    Ok(())
 }
 
 #[test]

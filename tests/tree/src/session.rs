@@ -4,11 +4,12 @@ use crate::numbered::numbers_of;
 use crate::random::Random;
 use crate::rows::{Rows, row_of};
 use crate::states::{allowed, are_equal, below};
+use allowed_events::{event_with, ready_below, ready_events};
 use calculus::{Choice, Event, Plain, depends_directly, replay};
 use channel_uses::ChannelUses;
 use event_inverse::{Record, apply, invert};
 use process_tree::{Tree, system_code};
-use rendezvous::{event_with, ready_below, ready_events};
+use rendezvous::event_at;
 use sharing_check::Checked;
 use std::alloc::Global;
 use std::io;
@@ -153,6 +154,9 @@ impl Session {
         let ready = ready_events(self.alloc, &self.uses, &self.tree, &self.store)?;
         let is_same = are_equal(ready.as_slice(), expected.as_slice());
         self.expect(is_same, "ready_events")?;
+        let plain = rendezvous::ready_events(self.alloc, &self.tree, &self.store)?;
+        let is_same = are_equal(plain.as_slice(), expected.as_slice());
+        self.expect(is_same, "the plain ready_events")?;
         self.look_at_choices(random, expected.as_slice())?;
         self.look_below(random, expected.as_slice())
     }
@@ -190,7 +194,9 @@ impl Session {
     fn look_at_choice(&self, choice: &Choice, expected: &[Event]) -> io::Result<()> {
         let same = first_with(expected, choice);
         let found = event_with(self.alloc, &self.uses, &self.tree, &self.store, choice)?;
-        self.expect(is_that(&found, same), "event_with")
+        self.expect(is_that(&found, same), "event_with")?;
+        let plain = event_at(self.alloc, &self.tree, &self.store, choice)?;
+        self.expect(is_that(&plain, same), "event_at")
     }
 
     /// Compares the list of a part of the tree.

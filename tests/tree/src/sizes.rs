@@ -2,12 +2,12 @@
 
 use crate::numbered::numbers_of;
 use crate::states::{allowed, are_equal};
+use allowed_events::ready_events;
 use calculus::{Event, Kind, replay};
 use channel_uses::ChannelUses;
 use event_inverse::{Record, apply, invert};
 use offered_sides::{OfferedSide, Side, sides_of};
 use process_tree::{Tree, system_code};
-use rendezvous::ready_events;
 use sharing_check::Checked;
 use std::alloc::{AllocError, Global};
 use std::io;

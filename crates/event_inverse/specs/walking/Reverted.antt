@@ -13,9 +13,10 @@ use Rattle.process_tree.specs.Proc.{Proc}
 use Rattle.process_tree.specs.walking.Retreated.{retreated}
 use Rattle.event_inverse.specs.Grown.{TreeAndStore, Taken}
 
--- the process before the moves, which took these out: the last is taken back first
+-- the process before the moves, which took these out, one a move: the last is taken back first
 abbrev pub all_retreated : Proc → List (Place × Ask) → List (Option Proc) → Option Proc
-all_retreated p [] outs = Some p
+all_retreated p [] [] = Some p
+all_retreated p [] (out ∷ outs) = None
 all_retreated p (k ∷ ks) [] = None
 all_retreated p (k ∷ ks) (out ∷ outs) = option_and_then (λ q. retreated q k.0 out) (all_retreated p ks outs)
 

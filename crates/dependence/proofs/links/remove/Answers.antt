@@ -6,4 +6,4 @@ use Rattle.dependence.proofs.links.remove.Goals as goal
 pub returns-in-Some : goal.returns-in-Some
 returns-in-Some c =
     removed c.args.tickets.now.items c.remove.new.self.items c.in-Some.index c.args.ticket
-    (ap (λ (k : List ℕ). slice_get k c.in-Some.index) (sym c.as_slice.ensures.value) ∙ c.in-Some.ensures) c.requires c.remove.ensures.items
+    (ap (λ (k : List ℕ). slice_get k c.in-Some.index) (sym c.as_slice.ensures) ∙ c.in-Some.ensures) c.requires c.remove.ensures.items

@@ -50,7 +50,7 @@ mark_all-requires-clause-live c = λ t i.
     let same_length : length (take (length l - c.args.base) (drop c.args.base l)) ≡ length (drop c.args.base l) = ap length rest in
     let less : c.args.base + c.loop-index.index < length l = omega (arith, length-drop c.args.base l) in
     let here = linked-here l c.args.links.now (c.args.base + c.loop-index.index) c.index-links-base.result c.requires.linked less in
-    let inside = subst (λ (k : List ℕ). In t k) (c.as_slice.ensures.value ∙ ap (λ (m : Links). m.followers.items) (c.get.ensures ∙ c.index-links-base.is)) i in
+    let inside = subst (λ (k : List ℕ). In t k) (c.as_slice.ensures ∙ ap (λ (m : Links). m.followers.items) (c.get.ensures ∙ c.index-links-base.is)) i in
     subst (λ (k : Live). IsLive k t) (sym rest)
     (followers-from l c.args.base c.loop-index.index here.ticket here.event _ c.requires.rising here.stands here.followers t inside)
 
@@ -78,7 +78,7 @@ loop-index-preserved c =
           subst (λ (k : List Bool). MarkedBelow d l c.args.ticket (suc index) k) (sym w.marks-is)
           (pass-marked 0 r.0 d l c.args.ticket index here.ticket here.event c.loop-index.marks w.mark_all.new.marks r.1
           (get-drop l c.args.base index ∙ here.stands) c.loop-index.invariant w.as_slice.result.now (read ∙ ap (λ (b : Bool). Some b) w.if-marks-index.true)
-          (subst (λ (k : List ℕ). ListsFollowers l here.ticket k) (sym (w.as_slice.ensures.value ∙ ap (λ (m : Links). m.followers.items) (w.get.ensures ∙ w.index-links-base.is))) here.followers) both)
+          (subst (λ (k : List ℕ). ListsFollowers l here.ticket k) (sym (w.as_slice.ensures ∙ ap (λ (m : Links). m.followers.items) (w.get.ensures ∙ w.index-links-base.is))) here.followers) both)
       | else-marks-index w ↦
           let here = at-within d index less in
           subst (λ (k : List Bool). MarkedBelow d l c.args.ticket (suc index) k) (sym w.marks-is)

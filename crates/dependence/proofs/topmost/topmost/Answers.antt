@@ -17,7 +17,7 @@ is_flagged-below-requires-clause-live c = λ t i.
     let p : ℕ = c.loop-index.index - 1 in
     let less : p < length c.args.live.now = omega arith in
     let here = linked-here c.args.live.now c.args.links.now p c.index-links-index.result c.requires.linked less in
-    let f = (here.followers.exactly t).0 (subst (λ (k : List ℕ). In t k) (c.as_slice-in-loop-index.ensures.value ∙ ap (λ (m : Links). m.followers.items) (c.get.ensures ∙ c.index-links-index.is)) i) in
+    let f = (here.followers.exactly t).0 (subst (λ (k : List ℕ). In t k) (c.as_slice-in-loop-index.ensures ∙ ap (λ (m : Links). m.followers.items) (c.get.ensures ∙ c.index-links-index.is)) i) in
     (f.dependent.dependent, f.dependent.dependent_live)
 
 pub is_flagged-below-requires-clause-passed : goal.is_flagged-below-requires-clause-passed
@@ -25,7 +25,7 @@ is_flagged-below-requires-clause-passed c = λ t i j on.
     let p : ℕ = c.loop-index.index - 1 in
     let less : p < length c.args.live.now = omega arith in
     let here = linked-here c.args.live.now c.args.links.now p c.index-links-index.result c.requires.linked less in
-    let f = (here.followers.exactly t).0 (subst (λ (k : List ℕ). In t k) (c.as_slice-in-loop-index.ensures.value ∙ ap (λ (m : Links). m.followers.items) (c.get.ensures ∙ c.index-links-index.is)) j) in
+    let f = (here.followers.exactly t).0 (subst (λ (k : List ℕ). In t k) (c.as_slice-in-loop-index.ensures ∙ ap (λ (m : Links). m.followers.items) (c.get.ensures ∙ c.index-links-index.is)) j) in
     let above : p < i = lesser-stands 0 c.requires.rising.0 c.args.live.now p i here.ticket t here.event on.0 c.requires.rising.1 here.stands on.1 f.dependent.less in
     let count : c.loop-index.index + length c.loop-index.flags.items ≡ c.args.high = c.loop-index.invariant.swept.count in
     let size : length c.as_slice.result.now ≡ length c.loop-index.flags.items = ap length c.as_slice.ensures.value in
@@ -36,7 +36,7 @@ is_flagged-below-requires-clause-ascending c =
     let p : ℕ = c.loop-index.index - 1 in
     let less : p < length c.args.live.now = omega arith in
     let here = linked-here c.args.live.now c.args.links.now p c.index-links-index.result c.requires.linked less in
-    subst (λ (k : List ℕ). InOrder ◌<◌ k) (sym (c.as_slice-in-loop-index.ensures.value ∙ ap (λ (m : Links). m.followers.items) (c.get.ensures ∙ c.index-links-index.is))) here.followers.ascending
+    subst (λ (k : List ℕ). InOrder ◌<◌ k) (sym (c.as_slice-in-loop-index.ensures ∙ ap (λ (m : Links). m.followers.items) (c.get.ensures ∙ c.index-links-index.is))) here.followers.ascending
 
 pub loop-index-init : goal.loop-index-init
 loop-index-init c =
@@ -69,7 +69,7 @@ loop-index-preserved c =
       swept = swept-next 0 c.requires.rising.0 c.args.live.now c.args.candidates.now c.args.low c.args.high c.loop-index.index p here.ticket here.event
           c.loop-index.flags.items c.push.new.self.items c.loop-index.kept.items c.add_if.new.found.items c.as_slice-in-loop-index.result.now
           c.is_among-is_one.result c.is_flagged-below.result c.either.result c.alone.result c.requires.rising.1 c.requires.stand step here.stands below
-          (subst (λ (k : List ℕ). ListsFollowers c.args.live.now here.ticket k) (sym (c.as_slice-in-loop-index.ensures.value ∙ ap (λ (m : Links). m.followers.items) (c.get.ensures ∙ c.index-links-index.is))) here.followers)
+          (subst (λ (k : List ℕ). ListsFollowers c.args.live.now here.ticket k) (sym (c.as_slice-in-loop-index.ensures ∙ ap (λ (m : Links). m.followers.items) (c.get.ensures ∙ c.index-links-index.is))) here.followers)
           c.loop-index.invariant.swept
           (c.is_among-is_one.ensures ∙ ap (λ (k : ℕ). is_in k c.args.candidates.now) ticket) told c.either.ensures c.alone.ensures c.in_ok-push.ensures.items
           (c.in_ok-add_if.ensures ∙ ap (λ (k : ℕ). cond c.alone.result (c.loop-index.kept.items ++ k ∷ []) c.loop-index.kept.items) ticket_again);

@@ -1,5 +1,5 @@
-use Rattle.std.proofs.Common.{◌<◌, ◌-◌, length, map, refl, sym, arith}
-use Rattle.last_events.proofs.SearchLaws.{split-all, split-last, length-places}
+use Rattle.std.proofs.Common.{◌≡◌, ◌<◌, ◌-◌, ◌∙◌, length, map, refl, sym, eqb-true, arith}
+use Rattle.last_events.proofs.SearchLaws.{split-all, split-last, split-none, length-places}
 use Rattle.last_events.proofs.search.count_less.Goals as goal
 
 pub returns-then-is_behind : goal.returns-then-is_behind
@@ -14,3 +14,7 @@ returns-then-is_behind-2 g c =
 
 pub overflow_sub-fewer : goal.overflow_sub-fewer
 overflow_sub-fewer g c = let last = c.is_behind.ensures.none c.if-is_behind.false in let some : 0 < length c.args.seats.now = last.some in omega arith
+
+pub returns-then-is_empty : goal.returns-then-is_empty
+returns-then-is_empty g c =
+    split-none (map g.T.Placed.place c.args.seats.now) c.args.place.now (eqb-true _ _ (sym c.is_empty.ensures ∙ c.if-is_empty.true))

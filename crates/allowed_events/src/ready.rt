@@ -1,0 +1,114 @@
+// The events that are allowed in the state of a tree, in order.
+ghost use Rattle.std.specs.Prelude.{◌≡◌, IfOk, IsTrue, Some, true, false, slice_get};
+ghost use Rattle.runs.specs.InOrder.{InOrder};
+ghost use Rattle.runs.specs.Ready.{ReadyList, Sooner};
+ghost use Rattle.runs.specs.Steps.{State, Allowed};
+ghost use Rattle.runs.specs.Tests.{same_event};
+ghost use Rattle.runs.specs.WellFormed.{WellFormed};
+ghost use Rattle.runs.specs.declared.event.Event as any;
+ghost use Rattle.syntax.specs.Lists.{In};
+ghost use Rattle.process_tree.specs.Code.{Code};
+ghost use Rattle.process_tree.specs.Tidy.{Tidy};
+ghost use Rattle.process_tree.specs.View.{tree_view};
+ghost use Rattle.offered_sides.specs.View.{state_of};
+ghost use Rattle.channel_uses.specs.StemsFrom.{StemsFrom};
+ghost use Rattle.channel_uses.specs.Table.{IsTableOf};
+ghost use Rattle.allowed_events.specs.ReadyBelow.{ReadyBelow};
+ghost use Rattle.allowed_events.specs.walking.Acting.{SortedOf};
+ghost use Rattle.allowed_events.specs.walking.Sorting.{inserted};
+
+use crate::acting::acted_by;
+use crate::order::{latest_first, sooner_count};
+use address::Entry;
+use channel_uses::ChannelUses;
+use offered_sides::sides_below;
+use process_tree::Tree;
+use runs::Event;
+use std::alloc::{AllocError, Global};
+use store::Store;
+use syntax::Items;
+
+/// Exactly the events that are allowed in the state of the tree and the store: in the order of their acting addresses,
+/// then of their arms, then of their other addresses. The tree is to be tidy and to stem from the command whose uses of
+/// channels these are. It is an error if there is no memory.
+pub fn ready_events(
+    alloc: Global,
+    uses: &ChannelUses,
+    tree: &Tree,
+    store: &Store,
+) -> Result<Items<Event>, AllocError>
+    ensures { (code : Code) → IsTableOf code uses.now → StemsFrom (tree_view tree.now) code →
+        Tidy (tree_view tree.now) →
+        IfOk result (λ events. ReadyList (state_of tree.now store.now) events) }
+{
+    ready_below(alloc, uses, tree, store, &[])
+}
+
+/// Those of them that act at the place or below it. It goes down along the place, and for each side that is found there
+/// looks at those on its channel alone. It is an error if there is no memory.
+pub fn ready_below(
+    alloc: Global,
+    uses: &ChannelUses,
+    tree: &Tree,
+    store: &Store,
+    place: &[Entry],
+) -> Result<Items<Event>, AllocError>
+    ensures { (code : Code) → IsTableOf code uses.now → StemsFrom (tree_view tree.now) code →
+        Tidy (tree_view tree.now) →
+        IfOk result (λ events. ReadyBelow (state_of tree.now store.now) place.now events) }
+{
+    let acting = sides_below(alloc, tree, store, place)?;
+    let made = acted_by(alloc, uses, tree, store, acting.as_slice())?;
+    in_order(alloc, made)
+}
+
+/// The same events in the order of their acting addresses, then of their arms, then of their other addresses; each
+/// stands once. One event, as a step finds it nearly always, is in order as it is.
+pub fn in_order(alloc: Global, events: Items<Event>) -> Result<Items<Event>, AllocError>
+    ensures { (S : State) → WellFormed S.residual → ((e : any.Event) → In e events → Allowed S e) →
+        IfOk result (λ sorted. SortedOf events sorted) }
+{
+    if events.len() <= 1 {
+        return Ok(events);
+    }
+    sort(alloc, events)
+}
+
+/// The same, event by event.
+fn sort(alloc: Global, events: Items<Event>) -> Result<Items<Event>, AllocError>
+    ensures { (S : State) → WellFormed S.residual → ((e : any.Event) → In e events → Allowed S e) →
+        IfOk result (λ sorted. SortedOf events sorted) }
+{
+    let mut left = events.into_vec();
+    left.sort_unstable_by(|one, other| latest_first(one, other));
+    let mut sorted = Vec::new(alloc);
+    while let Some(event) = left.pop() {
+        insert(&mut sorted, event)?;
+    }
+    Ok(Items::from_vec(sorted))
+}
+
+/// Puts the event where it belongs, unless it is there.
+fn insert(sorted: &mut Vec<Event>, event: Event) -> Result<(), AllocError>
+    ensures { InOrder Sooner sorted.old.items → IfOk result (λ _. sorted.new.items ≡ inserted event sorted.old.items) }
+{
+    let index = sooner_count(&event, sorted.as_slice());
+    if is_there(sorted.as_slice(), index, &event) {
+        return Ok(());
+    }
+    sorted.insert(index, event)?;
+    Ok(())
+}
+
+/// Whether the event stands at this index.
+fn is_there(sorted: &[Event], index: usize, event: &Event) -> bool
+    ensures there { IsTrue result →
+        ((f : Event) × (slice_get sorted.now index ≡ Some f) × (same_event f event.now ≡ true)) }
+    ensures elsewhere { result ≡ false → (f : Event) → slice_get sorted.now index ≡ Some f →
+        same_event f event.now ≡ false }
+{
+    match sorted.get(index) {
+        Some(found) => found.equals(event),
+        None => false,
+    }
+}

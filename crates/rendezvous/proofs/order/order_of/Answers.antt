@@ -1,6 +1,0 @@
-use Rattle.std.proofs.Common.{◌∙◌}
-use Rattle.address.proofs.Entries.{entries_cmp-is}
-use Rattle.rendezvous.proofs.order.order_of.Goals as goal
-
-pub returns : goal.returns
-returns c = c.cmp.ensures ∙ entries_cmp-is c.args.one.now c.args.two.now
