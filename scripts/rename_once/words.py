@@ -310,11 +310,17 @@ def with_definition(path: str, text: str, definition: Definition, is_home: bool)
                 if names_it and re.search(rf"λ (?:\w+ )*{old}(?: \w+)*\.|\((?:\w+ )*{old}(?: \w+)* : ", piece):
                     why.append("is a variable too")
                 for pattern in patterns:
-                    piece = re.sub(pattern, new, piece)
+                    piece = re.sub(pattern, lambda found: found[0] if is_field(found) else new, piece)
             elif kind == "comment":
                 piece = SPAN.sub(lambda found: re.sub(rf"(?<![\w.-]){old}(?![\w-])", new, found[0]), piece)
             result.append(piece)
     return "".join(result), sorted(set(why))
+
+
+def is_field(found: re.Match) -> bool:
+    """Whether it is the name of a field in `record { .. = ..; .. }`, which is no definition."""
+    before = found.string[: found.start()].rstrip()
+    return before.endswith(("{", ";")) and re.match(r"\s*=\s", found.string[found.end() :]) is not None
 
 
 def logic_parts(path: str, text: str) -> list[tuple[bool, str]]:
