@@ -1,10 +1,11 @@
 //! What a session reaches beside its lines: files that it saves to and loads from, a clock, and who waits for a long
 //! line.
 
-ghost use Rattle.std.specs.Prelude.{ℕ, List, IfOk, OnOk, ⊤};
+ghost use Rattle.std.specs.Prelude.{◌≡◌, IfOk, OnOk, false, ⊤};
+ghost use Rattle.shell.specs.Files.{Files};
 
 use std::alloc::Global;
-use std::fs::File;
+use std::fs::{File, Permissions};
 use std::io::{Eprint, Error, ErrorKind, Write};
 use std::time::{Clock, Duration};
 use std::{fs, io};
@@ -36,18 +37,19 @@ pub enum FileFault {
 
 /// What reads and writes whole files by their names, and tells a person how far a long line is.
 pub trait Host {
-    /// Whether a file of this name may have these bytes, at some moment of a session.
-    ghost holds: { Self → List ℕ → List ℕ → Type 0 };
+    /// What is known of files, at some moment of a session.
+    ghost files: { Self → Files };
 
     /// The bytes of the file.
     fn read(&self, alloc: Global, name: &str) -> Result<Vec<u8>, FileFault>
-        ensures { IfOk result (λ bytes. holds self.now name.now bytes.items) };
+        ensures { IfOk result (λ bytes. (files self.now).holds name.now bytes.items) };
 
     /// Writes the bytes as the file, `over` one that is there or only as a new one: then nothing that has the name is
     /// replaced, a link neither. Over a link the file is written to which it leads, and the link stays. It is written
     /// beside and then named, so that a file is there whole or as it was.
     fn write(&self, alloc: Global, name: &str, bytes: &[u8], over: bool) -> Result<(), FileFault>
-        ensures { OnOk result (holds self.now name.now bytes.now) };
+        ensures written { OnOk result ((files self.now).holds name.now bytes.now) }
+        ensures free { over ≡ false → OnOk result ((files self.now).free name.now) };
 
     /// The time since some beginning; `None` where nobody waits, or there is no clock.
     fn clock(&self) -> Option<Duration>;
@@ -75,7 +77,7 @@ impl<'a, R> Local<'a, R> {
 
 impl<R: fs::Files + AllocGlobal + Clock + Eprint> Host for Local<'_, R> {
     // No contract says what the system's files hold.
-    ghost holds = { λ _ _ _. ⊤ };
+    ghost files = { λ _. record { holds = λ _ _. ⊤; free = λ _. ⊤ } };
 
     fn read(&self, _alloc: Global, name: &str) -> Result<Vec<u8>, FileFault> {
         may_read(self.rt, name)?;
@@ -87,10 +89,8 @@ impl<R: fs::Files + AllocGlobal + Clock + Eprint> Host for Local<'_, R> {
 
     fn write(&self, alloc: Global, name: &str, bytes: &[u8], over: bool) -> Result<(), FileFault> {
         match (standing_at(self.rt, name)?, over) {
-            (Standing::Nothing, false) => write_beside(self.rt, alloc, name, bytes, false),
-            (Standing::Nothing | Standing::File, true) => {
-                write_beside(self.rt, alloc, name, bytes, true)
-            }
+            (Standing::Nothing, _) => write_beside(self.rt, alloc, name, bytes, over, None),
+            (Standing::File, true) => write_over(self.rt, alloc, name, bytes),
             (Standing::Link, true) => write_behind(self.rt, alloc, name, bytes),
             (_, false) => Err(FileFault::Exists),
         }
@@ -160,7 +160,7 @@ fn write_behind<R: fs::Files + AllocGlobal>(
     bytes: &[u8],
 ) -> Result<(), FileFault> {
     match fs::canonicalize(rt, link) {
-        Ok(file) => match write_beside(rt, alloc, file.as_str(), bytes, true) {
+        Ok(file) => match write_over(rt, alloc, file.as_str(), bytes) {
             Err(FileFault::PartExists) => Err(FileFault::LinkPartExists),
             done => done,
         },
@@ -168,24 +168,50 @@ fn write_behind<R: fs::Files + AllocGlobal>(
     }
 }
 
-/// Writes the bytes to a file beside, and gives it the name, over a file that has it or where none has it.
+/// Writes the bytes over a file. Who may read and write it stays as it was.
+fn write_over<R: fs::Files>(
+    rt: &R,
+    alloc: Global,
+    name: &str,
+    bytes: &[u8],
+) -> Result<(), FileFault> {
+    match rt.metadata(name) {
+        Ok(found) => write_beside(rt, alloc, name, bytes, true, Some(found.permissions())),
+        Err(error) => Err(fault_of(&error)),
+    }
+}
+
+/// Writes the bytes to a file beside, which has these permissions if there are some, and gives it the name, over a file
+/// that has it or where none has it.
 fn write_beside<R: fs::Files>(
     rt: &R,
     alloc: Global,
     name: &str,
     bytes: &[u8],
     over: bool,
+    permissions: Option<Permissions>,
 ) -> Result<(), FileFault> {
     let Ok(beside) = format!(in alloc; "{name}.part") else {
         return Err(FileFault::Memory);
     };
     match File::create_new(rt, beside.as_str()) {
         Ok(file) => {
-            let written = write_whole(file, bytes);
+            let written = match protect(rt, beside.as_str(), permissions) {
+                Ok(()) => write_whole(file, bytes),
+                Err(error) => Err(error),
+            };
             finish(rt, name, beside.as_str(), over, written)
         }
         Err(error) if error.kind() == ErrorKind::AlreadyExists => Err(FileFault::PartExists),
         Err(error) => Err(fault_of(&error)),
+    }
+}
+
+/// Gives the file these permissions, if there are some.
+fn protect<R: fs::Files>(rt: &R, name: &str, permissions: Option<Permissions>) -> io::Result<()> {
+    match permissions {
+        Some(permissions) => rt.set_permissions(name, permissions),
+        None => Ok(()),
     }
 }
 

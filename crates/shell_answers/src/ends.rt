@@ -1,12 +1,13 @@
 // How a run, a way back and a number that means nothing ended.
 use crate::Scene;
 use crate::refused::add_refused;
-use crate::steps::steps_word;
+use crate::steps::{add_possible, steps_word};
 use locked_execution::{Command, Reply};
-use offered_sides::Side;
-use plain_words::{Text, add_reason};
+use offered_sides::{OfferedSide, Side};
+use plain_words::{Text, add_reason, add_value};
 use shell_desk::{Deed, End};
 use system::{Branch, System};
+use value::Value;
 use waiting::{Partner, Progress, Waiting, who_waits};
 
 /// Why a run ended that took so many steps.
@@ -122,6 +123,53 @@ pub(crate) fn add_waiting(text: &mut Text, scene: &Scene<'_>, waiting: &Waiting)
     let mut lines = Vec::new(scene.alloc);
     let written = waiting.write_to(scene.machine(), &mut lines);
     text.add_if(written, lines.as_slice());
+    add_elements(text, scene, waiting);
+}
+
+/// Adds what waits and can be taken in words, where a value is an element of an enumeration.
+fn add_elements(text: &mut Text, scene: &Scene<'_>, waiting: &Waiting) {
+    for event in waiting.ready.as_slice() {
+        if let (Some(channel), Some(value)) = (event.channel, event.value) {
+            if scene.names(channel, value) {
+                text.add(b"  can be taken: ");
+                add_possible(text, scene, event);
+                text.add(b"\n");
+            }
+        }
+    }
+    for offered in waiting.sides.as_slice() {
+        if let Side::Sends(channel, value, _) = &offered.side {
+            if scene.names(*channel, *value) {
+                add_sender(text, scene, offered, *channel, *value);
+            }
+        }
+    }
+}
+
+/// Adds that a side waits to send the value.
+fn add_sender(
+    text: &mut Text,
+    scene: &Scene<'_>,
+    offered: &OfferedSide,
+    channel: u32,
+    value: Value,
+) {
+    text.add(b"  waits to send ");
+    add_value(
+        text,
+        scene.alloc,
+        scene.machine(),
+        scene.elements,
+        None,
+        Some(channel),
+        value.bits(),
+    );
+    text.add(b" on ");
+    text.add_channel(scene.system(), Some(channel));
+    if let Some(line) = scene.machine().line(&offered.place) {
+        text.add_counted(b", line ", line, b"");
+    }
+    text.add(b"\n");
 }
 
 /// What is said behind steps that were taken back, of which the last was answered so.

@@ -1,5 +1,6 @@
 // Names that no variable has: which ones are meant.
 use crate::Scene;
+use bstr::ByteSlice;
 use findings::Nearest;
 use plain_words::Text;
 use std::alloc::{AllocError, Global};
@@ -9,23 +10,35 @@ use system::System;
 /// So many names are told at most.
 const MOST_NAMES: usize = 12;
 
-/// So many bytes are told at most of what was typed.
+/// So many characters are told at most of what was typed.
 const MOST_GIVEN: usize = 200;
 
-/// Adds what was typed. A terminal would obey some bytes, so they are told as `?`; what is too long is cut.
+/// Adds what was typed, as a terminal may show it; what is too long is cut.
 pub fn add_given(text: &mut Text, given: &[u8]) {
     let mut told: usize = 0;
-    for byte in given {
+    for character in given.chars() {
         if told >= MOST_GIVEN {
             text.add(b"..");
             return;
         }
         told = told.saturating_add(1);
-        if byte.is_ascii_control() {
-            text.add(b"?");
-        } else {
-            text.add(&[*byte]);
-        }
+        add_character(text, character);
+    }
+}
+
+/// Adds a text as a terminal may show it.
+pub(crate) fn add_plain(text: &mut Text, given: &[u8]) {
+    for character in given.chars() {
+        add_character(text, character);
+    }
+}
+
+/// Adds a character. What a terminal would obey, and what is no UTF-8, is told as `?`, but tabs are kept.
+fn add_character(text: &mut Text, character: char) {
+    if (character.is_control() && character != '\t') || character == char::REPLACEMENT_CHARACTER {
+        text.add(b"?");
+    } else {
+        text.add(character.encode_utf8(&mut [0; 4]).as_bytes());
     }
 }
 

@@ -8,9 +8,8 @@ use crate::showing::{add_past, add_shown};
 use crate::usage::add_usage;
 use crate::values::{add_valued, add_variables};
 use line_text::read_ticket;
-use outline::outline_of;
 use plain_words::Text;
-use questions::{Reason, reason_of};
+use questions::{Reason, outline_text, reason_of};
 use shell_desk::Word;
 use std::str;
 use waiting::who_waits;
@@ -41,12 +40,8 @@ fn add_who_waits(text: &mut Text, scene: &Scene<'_>) {
 
 /// Adds what there is in the system.
 fn add_outline(text: &mut Text, scene: &Scene<'_>) {
-    let mut lines = Vec::new(scene.alloc);
-    match outline_of(scene.alloc, scene.bench.desk().machine().checked()) {
-        Ok(outline) => {
-            let written = outline.write_to(&mut lines);
-            text.add_if(written, lines.as_slice());
-        }
+    match outline_text(scene.alloc, scene.machine().checked(), scene.source) {
+        Ok(lines) => text.add(lines.as_slice()),
         Err(_) => text.add(b"  there was no memory for the outline\n"),
     }
 }

@@ -2,7 +2,7 @@
 use crate::Scene;
 use crate::numbering::add_numbered;
 use crate::refused::add_refused;
-use crate::steps::{add_done, add_step, add_step_lines, steps_word};
+use crate::steps::{add_done, add_newest, add_step, add_step_lines, steps_word};
 use crate::values::add_valued;
 use locked_execution::{Command, Reply};
 use plain_words::Text;
@@ -21,7 +21,8 @@ pub fn reply_text(scene: &Scene<'_>, command: &Command, reply: &Reply) -> Text {
         Reply::Stopped(line) => add_stopped(&mut text, *line),
         Reply::Idle => add_idle(&mut text, scene, command),
         Reply::Refused(why) => add_refused(&mut text, scene, command, *why),
-        Reply::Live(_) | Reply::Done => {}
+        Reply::Live(steps) => add_newest(&mut text, scene, steps.len()),
+        Reply::Done => {}
     }
     text
 }

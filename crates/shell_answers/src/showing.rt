@@ -57,7 +57,11 @@ fn add_dependents(text: &mut Text, scene: &Scene<'_>, ticket: u64) {
     };
     if let [_, others @ ..] = tickets.as_slice() {
         if others.is_empty() {
-            text.add(b"  no step depends on it: `undo` takes it back alone\n");
+            text.add_counted(
+                b"  no step depends on it: `undo ",
+                ticket,
+                b"` takes it back alone\n",
+            );
         } else {
             text.add(b" ");
             text.add(steps_word(others.len() as u64));

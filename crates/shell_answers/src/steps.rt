@@ -53,6 +53,22 @@ pub(crate) fn add_step_lines(text: &mut Text, scene: &Scene<'_>, tickets: &[u64]
     }
 }
 
+/// Adds a line for each of the newest live steps, of so many.
+pub(crate) fn add_newest(text: &mut Text, scene: &Scene<'_>, count: usize) {
+    let first = count.saturating_sub(MOST_TOLD);
+    if first > 0 {
+        text.add_counted(b"  the newest ", MOST_TOLD as u64, b" in words; ");
+        text.add(b"`show T` tells any one\n");
+    }
+    for index in first..count {
+        if let Some((ticket, _)) = scene.machine().live_at(index as u64) {
+            text.add(b"  ");
+            add_step(text, scene, ticket);
+            text.add(b"\n");
+        }
+    }
+}
+
 /// Adds numbers, as `1, 2 and 5`, and how many more there are.
 pub(crate) fn add_numbers(text: &mut Text, numbers: &[u64]) {
     let left = numbers.len().saturating_sub(MOST_TOLD);

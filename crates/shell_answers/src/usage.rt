@@ -28,7 +28,7 @@ pub(crate) const USAGES: [Usage; 33] = [
         word: "step",
         form: "step PLACE [ARM]",
         does: "takes the step at a place, as `ready` writes it",
-        example: "step /1.0.0",
+        example: "step /0.0/0",
     },
     Usage {
         word: "run",

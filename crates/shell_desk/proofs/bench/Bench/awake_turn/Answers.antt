@@ -1,0 +1,9 @@
+use Rattle.shell_desk.proofs.AwakeLemmas.{turn-all, turn-first, turn-second}
+use Rattle.shell_desk.proofs.bench.Bench.awake_turn.Goals as goal
+
+pub returns : goal.returns
+returns g c =
+    turn-all c.args.self.now c.ask_awake.new.self c.ask_awake-2.new.self c.turn.new.self c.args.sleepers.now.asleep.items
+    c.ask_awake.new.sleepers.asleep.items c.ask_awake-2.new.sleepers.asleep.items c.wake_all.new.self.asleep.items
+    c.branch_count-count.result c.first-first.result c.turn.result c.branch_count-count.ensures c.first-first.ensures.first
+    c.first-first.ensures.range c.in-None.ensures c.in-None-2.ensures c.turn.ensures c.wake_all.ensures
