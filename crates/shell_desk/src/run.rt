@@ -87,11 +87,11 @@ impl Bench {
         ensures { AwakeTurn self.old sleepers.old.asleep.items result self.new sleepers.new.asleep.items }
     {
         let count = self.branch_count();
-        let first = self.first(count);
-        if let Some(reply) = self.ask_awake(sleepers, first, count, watch) {
+        let start = self.first(count);
+        if let Some(reply) = self.ask_awake(sleepers, start, count, watch) {
             return reply;
         }
-        if let Some(reply) = self.ask_awake(sleepers, 0, first, watch) {
+        if let Some(reply) = self.ask_awake(sleepers, 0, start, watch) {
             return reply;
         }
         sleepers.wake_all();
