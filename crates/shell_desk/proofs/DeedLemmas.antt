@@ -1,7 +1,7 @@
 -- What is done at a desk, command by command.
-use Rattle.std.proofs.Common.{◌≡◌, inl, inr, ℕ, zero, suc, ◌+◌, ◌-◌, ◌<◌, ◌≤◌, arith, Bool, true, false, List, [], ◌∷◌, Option, Some, None, refl, sym, ap, ◌∙◌, subst}
+use Rattle.std.proofs.Common.{◌≡◌, inl, inr, ℕ, zero, suc, ◌+◌, ◌-◌, ◌<◌, ◌≤◌, arith, Bool, true, false, List, [], ◌∷◌, Option, Some, None, Result, Ok, Err, refl, sym, ap, ◌∙◌, subst}
 use Rattle.std.specs.Bool.{MatchBool}
-use Rattle.std.specs.Prelude.{option_map, slice_get, length}
+use Rattle.std.specs.Prelude.{option_map, slice_get, length, IfOk}
 use Rattle.runs.specs.Live.{Live}
 use Rattle.runs.specs.declared.event.Event.{Event}
 use Rattle.system_places.specs.SystemBranches.{branch_count}
@@ -177,6 +177,12 @@ pub numbered-from : {X : Type 0} (xs : List X) (n : ℕ) → (n ≡ 0 → ⊥) �
 numbered-from xs zero some = absurd (some refl)
 numbered-from xs (suc i) some =
     let same : suc i - 1 ≡ i = omega arith in ap (λ (k : ℕ). slice_get xs k) (sym same)
+
+-- what is copied has the number
+pub numbered-copied : {E : Type 0} (xs : List Command) (n : ℕ) (c : Command) (r : Result (Option Command) E) → (n ≡ 0 → ⊥)
+    → slice_get xs (n - 1) ≡ Some c → IfOk r (λ made. made ≡ Some c) → IfOk r (λ found. found ≡ numbered_as xs n)
+numbered-copied xs n c (Ok made) some at h = h ∙ sym (numbered-from xs n some ∙ at)
+numbered-copied xs n c (Err fault) some at h = tt
 
 -- the command that has a number is asked
 pub take-asked : (b b' : AtBench) (n : ℕ) (c : Command) (r : Reply) → (n ≡ 0 → ⊥) → slice_get b.numbered (n - 1) ≡ Some c
