@@ -27,9 +27,9 @@ word name = record (new_rule name) { action = Some Set; required = true }
 abbrev pub number : Text → ValueParser → Rule
 number name parser = record (word name) { long = Some name; value_names = 1; parser = Some parser }
 
--- the number of a refusal, which is none over 61
+-- the number of a refusal, which is none over 113
 abbrev pub refusal_number : Rule
-refusal_number = record (word (codes "N")) { parser = Some (Unsigned 1 61) }
+refusal_number = record (word (codes "N")) { parser = Some (Unsigned 1 113) }
 
 -- `--NAME`
 abbrev pub flag : Text → Rule

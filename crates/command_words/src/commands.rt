@@ -43,7 +43,7 @@ fn turns<'a>(alloc: Global) -> Arg<'a>
 fn number<'a>(alloc: Global) -> Arg<'a>
     ensures { IsArgument spec.refusal_number result }
 {
-    word(alloc, "N", help::NUMBER).value_parser(value_parser!(u64).range(1..=61))
+    word(alloc, "N", help::NUMBER).value_parser(value_parser!(u64).range(1..=113))
 }
 
 /// An option without a value.

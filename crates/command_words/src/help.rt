@@ -179,7 +179,7 @@ It answers:
 
 pub const NO_REFUSAL: &str = "\
 no refusal has this number. Refusals have the numbers 1 to 17, 21 to 28,
-31 to 34, 41, 42, 51 and 61";
+31 to 34, 41, 42, 51, 61, 101 to 111 and 113";
 
 pub const EXPLAIN_REFUSALS: &str = "\
 Refusals. The line `balsadbg: refused N` on standard error ends a run with
@@ -411,9 +411,9 @@ macro_rules! refusal_lines_over_ports {
     };
 }
 
-/// The same with the lines for a script.
+/// The same with the lines for a script, and what stands behind them.
 macro_rules! refusal_lines_of_scripts {
-    ($description:tt [$($trace:literal)*] [$($files:literal)*]) => {
+    ($description:tt [$($trace:literal)*] [$($files:literal)*] [$($behind:literal)*]) => {
         refusal_lines_over_ports!(
             $description
             [$($trace)*]
@@ -434,6 +434,7 @@ macro_rules! refusal_lines_of_scripts {
                 "  26  no ticket is left\n"
                 "  27  this session has 64 breakpoints\n"
                 "  28  no command begins on this line\n"
+                $($behind)*
             ]
         )
     };
@@ -466,6 +467,24 @@ pub const REFUSALS: &str = refusal_lines_of_scripts!(
         "  34  behind `balsadbg trace 2` another step comes before that of this line\n"
     ]
     ["  41  a file is missing, or reading it or the script failed\n"]
+    [
+        "\n"
+        "A request of an editor to `balsadbg dap` is answered with one of those above, or\n"
+        "with one of these. Nothing has changed then:\n"
+        "\n"
+        " 101  the adapter does not know this request\n"
+        " 102  `initialize` comes first\n"
+        " 103  `launch` comes before this request\n"
+        " 104  an argument of the request is missing or no number\n"
+        " 105  there is no thread with this number\n"
+        " 106  `initialize` asks for URIs, and only paths are understood\n"
+        " 107  a source is launched already\n"
+        " 108  `program` is missing from `launch`: the path of a Balsa source\n"
+        " 109  there is no such frame any more\n"
+        " 110  there are no variables with this reference\n"
+        " 111  no refusal is there of which `exceptionInfo` could tell\n"
+        " 113  `attach` finds nothing: `launch` starts the debugger on a source\n"
+    ]
 );
 
 pub const CHECK_REFUSALS: &str = refusal_lines!(
@@ -488,6 +507,7 @@ pub const DEBUG_REFUSALS: &str = refusal_lines_of_scripts!(
     together
     []
     ["  41  FILE or STIMULUS is missing, or reading it or the script failed\n"]
+    []
 );
 
 pub const WORK_REFUSALS: &str = refusal_lines_over_ports!(

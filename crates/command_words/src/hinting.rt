@@ -7,7 +7,7 @@ use std::convert::AsStr;
 /// What stands behind the text of a mistake in the words of `explain`.
 const EXPLAIN: &str = "
 The number of a refusal stands behind the word `refused`, and is one of these:
-1 to 17, 21 to 28, 31 to 34, 41, 42, 51 and 61. For example:
+1 to 17, 21 to 28, 31 to 34, 41, 42, 51, 61, 101 to 111 and 113. For example:
   balsadbg explain 16
 `balsadbg --help` has a line on each.
 ";

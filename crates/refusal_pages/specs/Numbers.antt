@@ -13,6 +13,10 @@ of_lines = 21 ∷ 22 ∷ 23 ∷ 24 ∷ 25 ∷ 26 ∷ 27 ∷ 28 ∷ []
 abbrev pub of_files : List ℕ
 of_files = 31 ∷ 32 ∷ 33 ∷ 34 ∷ 41 ∷ 42 ∷ 51 ∷ 61 ∷ []
 
+-- those that a request of an editor is answered with
+abbrev pub of_editors : List ℕ
+of_editors = 101 ∷ 102 ∷ 103 ∷ 104 ∷ 105 ∷ 106 ∷ 107 ∷ 108 ∷ 109 ∷ 110 ∷ 111 ∷ 113 ∷ []
+
 -- whether a number is among others
 abbrev pub among : ℕ → List ℕ → Bool
 among n [] = false
@@ -20,4 +24,4 @@ among n (m ∷ rest) = (n == m) || among n rest
 
 -- whether a refusal has this number
 abbrev pub is_refusal : ℕ → Bool
-is_refusal n = among n of_sources || (among n of_lines || among n of_files)
+is_refusal n = among n of_sources || (among n of_lines || (among n of_files || among n of_editors))

@@ -4,6 +4,7 @@
 #![tactic(auto)]
 
 mod answers;
+mod editor;
 mod files;
 mod form;
 mod names;

@@ -1,12 +1,12 @@
 ghost use Rattle.std.specs.Prelude.{◌≡◌, ◌↔◌, ◌∷◌, [], IsTrue, IsSome, IfSome};
-ghost use Rattle.refusal_pages.specs.Numbers.{among, is_refusal};
+ghost use Rattle.refusal_pages.specs.Numbers.{among, is_refusal, of_editors};
 
-use crate::{Page, answers, files, form, names, sharing};
+use crate::{Page, answers, editor, files, form, names, sharing};
 
 /// The numbers of all refusals, from the least to the greatest.
-pub static NUMBERS: [u32; 33] = [
+pub static NUMBERS: [u32; 45] = [
     1, 2, 3, 4, 5, 6, 7, 8, 9, 10, 11, 12, 13, 14, 15, 16, 17, 21, 22, 23, 24, 25, 26, 27, 28, 31,
-    32, 33, 34, 41, 42, 51, 61,
+    32, 33, 34, 41, 42, 51, 61, 101, 102, 103, 104, 105, 106, 107, 108, 109, 110, 111, 113,
 ];
 
 /// The page of the refusal with this number; none where no refusal has it.
@@ -19,6 +19,7 @@ pub fn page_of(number: u32) -> Option<&'static Page>
         7..=13 | 17 => names_page(number),
         14..=16 => sharing_page(number),
         21..=28 => answers_page(number),
+        101..=113 => editor_page(number),
         _ => files_page(number),
     }
 }
@@ -102,6 +103,28 @@ fn files_page(number: u32) -> Option<&'static Page>
         42 => Some(&files::WRITE_FAILED),
         51 => Some(&files::BAD_STIMULUS),
         61 => Some(&files::BAD_COMMAND),
+        _ => None,
+    }
+}
+
+/// The page of a refusal of a request of an editor.
+fn editor_page(number: u32) -> Option<&'static Page>
+    ensures each { IsSome result ↔ IsTrue (among number of_editors) }
+    ensures right { IfSome result (λ page. page.now.number ≡ number) }
+{
+    match number {
+        101 => Some(&editor::UNKNOWN_REQUEST),
+        102 => Some(&editor::NOT_INITIALIZED),
+        103 => Some(&editor::NOTHING_LAUNCHED),
+        104 => Some(&editor::BAD_ARGUMENT),
+        105 => Some(&editor::NO_THREAD),
+        106 => Some(&editor::ONLY_PATHS),
+        107 => Some(&editor::LAUNCHED_ALREADY),
+        108 => Some(&editor::NO_PROGRAM),
+        109 => Some(&editor::NO_FRAME),
+        110 => Some(&editor::NO_VARIABLES),
+        111 => Some(&editor::NOTHING_REFUSED),
+        113 => Some(&editor::NO_ATTACHING),
         _ => None,
     }
 }

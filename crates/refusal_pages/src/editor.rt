@@ -1,0 +1,161 @@
+// Pages of what a request of an editor is refused with. The number is the `id` of the error in its response.
+
+use crate::Page;
+
+pub static UNKNOWN_REQUEST: Page = Page {
+    number: 101,
+    field: "",
+    name: "an unknown request",
+    line: "the adapter does not know this request",
+    meaning: "\
+The adapter of `balsadbg dap` does not know a request of this name. Nothing has
+changed, and the session goes on.",
+    source: "",
+    told: "",
+    causes: "\
+a client that asks for what the answer to `initialize` does not offer, or a
+name that is written otherwise: capital letters count.",
+};
+
+pub static NOT_INITIALIZED: Page = Page {
+    number: 102,
+    field: "",
+    name: "not begun",
+    line: "`initialize` comes first",
+    meaning: "\
+Before `initialize` only `disconnect` is answered. Nothing has changed.",
+    source: "",
+    told: "",
+    causes: "a client of one's own that begins with `launch`.",
+};
+
+pub static NOTHING_LAUNCHED: Page = Page {
+    number: 103,
+    field: "",
+    name: "nothing is launched",
+    line: "`launch` comes before this request",
+    meaning: "\
+The request asks about a run, and no source was launched, or its launch was
+refused. Nothing has changed.",
+    source: "",
+    told: "",
+    causes: "a `launch` that was refused: its own answer says why.",
+};
+
+pub static BAD_ARGUMENT: Page = Page {
+    number: 104,
+    field: "",
+    name: "an argument is missing",
+    line: "an argument of the request is missing or no number",
+    meaning: "\
+The request needs the argument that the answer names, as `threadId`, `frameId`,
+`variablesReference` or `line`, and it is missing or no whole number from 0.
+Nothing has changed.",
+    source: "",
+    told: "",
+    causes: "a client of one's own.",
+};
+
+pub static NO_THREAD: Page = Page {
+    number: 105,
+    field: "",
+    name: "no such thread",
+    line: "there is no thread with this number",
+    meaning: "\
+A thread is a branch. The answer to `threads` has the numbers of all. Nothing
+has changed.",
+    source: "",
+    told: "",
+    causes: "a number that was kept from a session on another source.",
+};
+
+pub static ONLY_PATHS: Page = Page {
+    number: 106,
+    field: "",
+    name: "only paths",
+    line: "`initialize` asks for URIs, and only paths are understood",
+    meaning: "\
+`pathFormat` of `initialize` is `path`, or is left out. The client can ask once
+more.",
+    source: "",
+    told: "",
+    causes: "a client that names files by URIs alone.",
+};
+
+pub static LAUNCHED_ALREADY: Page = Page {
+    number: 107,
+    field: "",
+    name: "launched already",
+    line: "a source is launched already",
+    meaning: "\
+A session debugs one source. What was launched goes on, and has not changed. For
+another source begin another session.",
+    source: "",
+    told: "",
+    causes: "a client of one's own that sends `launch` twice.",
+};
+
+pub static NO_PROGRAM: Page = Page {
+    number: 108,
+    field: "",
+    name: "no program is named",
+    line: "`program` is missing from `launch`: the path of a Balsa source",
+    meaning: "\
+`launch` needs `program`, the path of a Balsa source. Nothing is launched.",
+    source: "",
+    told: "",
+    causes: "\
+settings of the editor without `program`, or with another name for it.",
+};
+
+pub static NO_FRAME: Page = Page {
+    number: 109,
+    field: "",
+    name: "no such frame",
+    line: "there is no such frame any more",
+    meaning: "\
+A frame is a call in which a branch stands. After each step that an editor asks
+for, frames are to be asked for anew. Nothing has changed.",
+    source: "",
+    told: "",
+    causes: "a frame from before a step, or of another thread.",
+};
+
+pub static NO_VARIABLES: Page = Page {
+    number: 110,
+    field: "",
+    name: "no such variables",
+    line: "there are no variables with this reference",
+    meaning: "\
+The answers to `scopes` and `variables` have the references. Nothing has
+changed.",
+    source: "",
+    told: "",
+    causes: "a reference that was kept from a session on another source.",
+};
+
+pub static NOTHING_REFUSED: Page = Page {
+    number: 111,
+    field: "",
+    name: "nothing was refused",
+    line: "no refusal is there of which `exceptionInfo` could tell",
+    meaning: "\
+`exceptionInfo` tells of the last refusal at which the session stopped, and it
+has stopped at none. Nothing has changed.",
+    source: "",
+    told: "",
+    causes: "a client that asks where the reason of `stopped` was another one.",
+};
+
+pub static NO_ATTACHING: Page = Page {
+    number: 113,
+    field: "",
+    name: "nothing to attach to",
+    line: "`attach` finds nothing: `launch` starts the debugger on a source",
+    meaning: "\
+A run lives in the debugger alone, so there is nothing to attach to. Use
+`launch`.",
+    source: "",
+    told: "",
+    causes: "settings of the editor with `\"request\": \"attach\"`.",
+};
