@@ -4,6 +4,7 @@
 //! and columns are those of `source_places`.
 #![tactic(auto)]
 
+mod clashing;
 mod described;
 mod fields;
 mod grammar;

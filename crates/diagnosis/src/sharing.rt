@@ -1,5 +1,6 @@
 // Refusals 15 and 16: what branches share.
-use branch_uses::{ChannelUses, Side, channel_uses, clash_at};
+use crate::clashing::clashing_use;
+use branch_uses::{ChannelUses, Side, channel_uses};
 use findings::{Finding, text_between};
 use lexer::Token;
 use std::alloc::AllocError;
@@ -16,7 +17,7 @@ pub fn find(
 ) -> Result<(), AllocError> {
     finding.stop = token_at(tokens, finding.start).stop;
     if number == 15 {
-        return find_variable(source, tokens, description, finding);
+        return find_variable(source, tokens, finding);
     }
     find_channel(source, description, finding)
 }
@@ -39,7 +40,6 @@ fn token_at(tokens: &[Token], offset: u64) -> Span {
 fn find_variable(
     source: &[u8],
     tokens: &[Token],
-    description: &Description,
     finding: &mut Finding,
 ) -> Result<(), AllocError> {
     let name = text_between(source, finding.start, finding.stop);
@@ -48,22 +48,13 @@ fn find_variable(
         name,
         "`, and one of them writes it",
     ])?;
-    let owner = procedure_at(description, finding.start);
-    if let Some(procedure) = description.procedures.get(owner.wrapping_sub(1))
-        && let Some(clash) = clash_at(
-            finding.alloc,
-            &procedure.body,
-            name.as_bytes(),
-            finding.start,
-        )?
-    {
-        let there = token_at(tokens, clash.there.offset);
-        let note = if clash.there.writes {
+    if let Some(other) = clashing_use(finding.alloc, source, finding.start)? {
+        let note = if other.writes {
             "and written here"
         } else {
             "and read here"
         };
-        finding.add_beside(there, note)?;
+        finding.add_beside(token_at(tokens, other.offset), note)?;
     }
     finding.advise(&[
         "give each branch a variable of its own, send the value over a channel, or declare `shared variable ",

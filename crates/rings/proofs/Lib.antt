@@ -3,3 +3,4 @@ pub mod Rows
 pub mod Ringed
 pub mod Marked
 pub mod Places
+pub mod Holding

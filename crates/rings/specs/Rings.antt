@@ -1,5 +1,7 @@
--- Rings: places of which each waits for the next one, and the last for the first. None of them goes on before another does. (Own.)
-use Rattle.std.specs.Prelude.{◌≡◌, ℕ, List, [], ◌∷◌, Option, Some, option_map, slice_get, map}
+-- Deadlocks: places of which none goes on before another of them does. In a ring of them each waits for the next one, and the last
+-- for the first. (Own. A choice waits for whichever of its arms comes first, so it is deadlocked only where each of its arms is, and
+-- it is in a ring by any one of them.)
+use Rattle.std.specs.Prelude.{◌≡◌, ◌↔◌, ℕ, List, [], ◌∷◌, length, Bool, true, false, Option, Some, option_map, slice_get, map}
 use Rattle.syntax.specs.Lists.{In}
 use Rattle.system.specs.Residual.{Residual}
 use Rattle.runs.specs.Moves.{Place}
@@ -9,33 +11,63 @@ use Rattle.rings.specs.Partners.{partner_in}
 use Rattle.rings.specs.declared.partner.Partner.{Partner}
 use Rattle.rings.specs.declared.partner.Partner.TheVariants as partner
 
+-- which sides wait
+abbrev pub Waiters : Type 1
+Waiters = OfferedSide → Type 0
+
+-- which of them are helped from elsewhere, so that none of the others has to go on for them
+abbrev pub Helped : Type 0
+Helped = OfferedSide → Bool
+
+-- a side waits at the place
+abbrev pub WaitsAt : Waiters → Place → Type 0
+WaitsAt W a = (x : OfferedSide) × W x × (x.place ≡ a)
+
+-- ---- deadlock
+
+-- the partner cannot come, or comes only once what stands at one of these places has gone on
+abbrev pub HeldBack : List Place → Partner → Type 0
+HeldBack places (partner.Behind p) = (a : Place) × In a places × Under p a
+HeldBack places partner.Gone = Unit {0}
+HeldBack places partner.Open = ⊥
+
+-- None of these places goes on before another of them does: something waits at each, and whatever waits there, each arm of a
+-- choice, is not helped, and they hold its partner back.
+abbrev pub HoldEachOther : Waiters → Helped → Residual → List Place → Type 0
+HoldEachOther W helped r places =
+    (a : Place) → In a places → WaitsAt W a × ((x : OfferedSide) → W x → x.place ≡ a → (helped x ≡ false) × HeldBack places (partner_in r x))
+
+-- the place is one of such places
+abbrev pub IsDeadlocked : Waiters → Helped → Residual → Place → Type 0
+IsDeadlocked W helped r a = (places : List Place) × In a places × HoldEachOther W helped r places
+
+-- where exactly these sides wait: for each of them whether its place is deadlocked
+abbrev pub TellsDeadlocked : Helped → Residual → List OfferedSide → List Bool → Type 0
+TellsDeadlocked helped r sides marks =
+    (length marks ≡ length sides)
+    × ((i : ℕ) (x : OfferedSide) → slice_get sides i ≡ Some x → (slice_get marks i ≡ Some true) ↔ IsDeadlocked (λ y. In y sides) helped r x.place)
+
+-- ---- rings
+
 -- the partner comes once what stands at place a has gone on
 abbrev pub IsBehind : Partner → Place → Type 0
 IsBehind (partner.Behind p) a = Under p a
 IsBehind partner.Gone a = ⊥
 IsBehind partner.Open a = ⊥
 
--- which sides wait
-abbrev pub Waiters : Type 1
-Waiters = OfferedSide → Type 0
-
--- a side waits at the place
-abbrev pub WaitsAt : Waiters → Place → Type 0
-WaitsAt W a = (x : OfferedSide) × W x × (x.place ≡ a)
-
--- where r is still to do, place a waits for place b: whatever waits at a, its only other end stands behind b
+-- where r is still to do, place a waits for place b: something waits at a whose only other end stands behind b
 abbrev pub WaitsFor : Waiters → Residual → Place → Place → Type 0
-WaitsFor W r a b = (x : OfferedSide) → W x → x.place ≡ a → IsBehind (partner_in r x) b
+WaitsFor W r a b = (x : OfferedSide) × W x × (x.place ≡ a) × IsBehind (partner_in r x) b
 
--- something waits at a and at each of the others; from a on each waits for the next one, and the last for the first
-abbrev pub Linked : Waiters → Residual → Place → Place → List Place → Type 0
-Linked W r first a [] = WaitsAt W a × WaitsFor W r a first
-Linked W r first a (b ∷ rest) = WaitsAt W a × WaitsFor W r a b × Linked W r first b rest
+-- a and each of the others are deadlocked; from a on each waits for the next one, and the last for the first
+abbrev pub Linked : Waiters → Helped → Residual → Place → Place → List Place → Type 0
+Linked W helped r first a [] = IsDeadlocked W helped r a × WaitsFor W r a first
+Linked W helped r first a (b ∷ rest) = IsDeadlocked W helped r a × WaitsFor W r a b × Linked W helped r first b rest
 
 -- these places are a ring
-abbrev pub IsRing : Waiters → Residual → List Place → Type 0
-IsRing W r [] = ⊥
-IsRing W r (a ∷ rest) = Linked W r a a rest
+abbrev pub IsRing : Waiters → Helped → Residual → List Place → Type 0
+IsRing W helped r [] = ⊥
+IsRing W helped r (a ∷ rest) = Linked W helped r a a rest
 
 -- each stands there once
 abbrev pub EachOnce : List Place → Type 0
@@ -48,7 +80,7 @@ places_at sides indexes = map (λ (i : ℕ). option_map (λ (x : OfferedSide). x
 
 -- where exactly these sides wait: the indexes are those of sides whose places are a ring, each once; or there is no ring, and none is
 -- told
-abbrev pub TellsRing : Residual → List OfferedSide → List ℕ → Type 0
-TellsRing r sides [] = (ring : List Place) → IsRing (λ x. In x sides) r ring → ⊥
-TellsRing r sides (i ∷ rest) =
-    (ring : List Place) × (places_at sides (i ∷ rest) ≡ map (λ (a : Place). Some a) ring) × IsRing (λ x. In x sides) r ring × EachOnce ring
+abbrev pub TellsRing : Helped → Residual → List OfferedSide → List ℕ → Type 0
+TellsRing helped r sides [] = (ring : List Place) → IsRing (λ x. In x sides) helped r ring → ⊥
+TellsRing helped r sides (i ∷ rest) =
+    (ring : List Place) × (places_at sides (i ∷ rest) ≡ map (λ (a : Place). Some a) ring) × IsRing (λ x. In x sides) helped r ring × EachOnce ring

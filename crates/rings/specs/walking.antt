@@ -1,2 +1,3 @@
+pub mod Loosened
 pub mod Search
 pub mod Seen

@@ -1,7 +1,8 @@
-//! Rings of sides that wait: behind which place the only other end of a channel stands, and sides of which each waits for the
-//! next one.
+//! Sides that wait: behind which place the only other end of a channel stands, which places are deadlocked, and rings of sides of
+//! which each waits for the next one.
 #![tactic(auto)]
 
+mod deadlock;
 mod found;
 mod fresh;
 mod look;
@@ -11,5 +12,6 @@ mod sought;
 mod waits;
 mod way;
 
+pub use deadlock::deadlocked_among;
 pub use partner::{Partner, partners_of};
 pub use ring::ring_among;

@@ -3,7 +3,7 @@ ghost use Rattle.std.specs.Prelude.{◌≡◌, ◌<◌, ℕ, [], true, length, s
 ghost use Rattle.syntax.specs.Lists.{In};
 ghost use Rattle.system.specs.Residual.{Residual};
 ghost use Rattle.rings.specs.Partners.{partner_in};
-ghost use Rattle.rings.specs.Rings.{TellsRing};
+ghost use Rattle.rings.specs.Rings.{Helped, TellsDeadlocked, TellsRing};
 ghost use Rattle.rings.specs.walking.Search as model;
 
 use crate::partner::Partner;
@@ -19,17 +19,20 @@ pub(crate) enum Seen {
     Done,
 }
 
-/// The indexes of sides whose places are a ring, each once, where these are the partners of the sides, in their order: the place of
-/// each waits for that of the next, and the last for the first. None where there is no ring. It is an error if there is no memory.
+/// The indexes of sides whose places are a ring of deadlocked ones, each once, where these are the partners of the sides, and `marks`
+/// says which are deadlocked, in their order: each side waits for the place of the next, and the last for that of the first. None where
+/// there is no ring. It is an error if there is no memory.
 pub fn ring_among(
     alloc: Global,
     sides: &[OfferedSide],
     partners: &[Partner],
+    marks: &[bool],
 ) -> Result<Vec<usize>, AllocError>
     requires { length partners.now ≡ length sides.now }
-    ensures { (r : Residual) → partners.now ≡ map (partner_in r) sides.now → IfOk result (λ ring. TellsRing r sides.now ring.items) }
+    ensures { (r : Residual) (help : Helped) → partners.now ≡ map (partner_in r) sides.now → TellsDeadlocked help r sides.now marks.now
+        → IfOk result (λ ring. TellsRing help r sides.now ring.items) }
 {
-    ring_of_indexes(alloc, sides, partners)
+    ring_of_indexes(alloc, sides, partners, marks)
 }
 
 /// The same by the indexes of the sides.
@@ -37,16 +40,17 @@ fn ring_of_indexes(
     alloc: Global,
     sides: &[OfferedSide],
     partners: &[Partner],
+    marks: &[bool],
 ) -> Result<Vec<usize>, AllocError>
     requires { length partners.now ≡ length sides.now }
-    ensures { IfOk result (λ ring. model.Names (length sides.now) (model.waits sides.now partners.now) (model.same_at sides.now) ring.items) }
+    ensures { IfOk result (λ ring. model.Names (length sides.now) (model.waits sides.now partners.now marks.now) (model.same_at sides.now) ring.items) }
 {
     let mut seen = all_new(alloc, sides.len())?;
     for start in 0..sides.len() {
         if !is_new(seen.as_slice(), start) {
             continue;
         }
-        let ring = ring_from(alloc, sides, partners, seen.as_mut_slice(), start)?;
+        let ring = ring_from(alloc, sides, partners, marks, seen.as_mut_slice(), start)?;
         if !ring.is_empty() {
             return Ok(ring);
         }
@@ -68,20 +72,21 @@ fn ring_from(
     alloc: Global,
     sides: &[OfferedSide],
     partners: &[Partner],
+    marks: &[bool],
     seen: &mut [Seen],
     start: usize,
 ) -> Result<Vec<usize>, AllocError>
     requires sizes { length partners.now ≡ length sides.now }
     requires start { start < length sides.now }
-    requires so_far { model.Searching (length sides.now) (model.waits sides.now partners.now) (model.same_at sides.now) seen.old [] }
-    ensures { IfOk result (λ ring. model.Searched (length sides.now) (model.waits sides.now partners.now) (model.same_at sides.now)
+    requires so_far { model.Searching (length sides.now) (model.waits sides.now partners.now marks.now) (model.same_at sides.now) seen.old [] }
+    ensures { IfOk result (λ ring. model.Searched (length sides.now) (model.waits sides.now partners.now marks.now) (model.same_at sides.now)
         seen.old seen.new start ring.items) }
 {
     let mut way = Vec::new(alloc);
     way.push(start)?;
     note(seen, start, Seen::OnWay);
     'search: while let Some(top) = way.pop() {
-        let Some(next) = next_open(sides, partners, seen, top) else {
+        let Some(next) = next_open(sides, partners, marks, seen, top) else {
             note(seen, top, Seen::Done);
             continue;
         };
@@ -127,14 +132,15 @@ fn note(seen: &mut [Seen], index: usize, state: Seen)
 fn next_open(
     sides: &[OfferedSide],
     partners: &[Partner],
+    marks: &[bool],
     seen: &[Seen],
     top: usize,
 ) -> Option<usize>
     requires { length partners.now ≡ length sides.now }
-    ensures { model.NextOpen (length sides.now) (model.waits sides.now partners.now) seen.now top result }
+    ensures { model.NextOpen (length sides.now) (model.waits sides.now partners.now marks.now) seen.now top result }
 {
     for next in 0..sides.len() {
-        if is_open(seen, next) && waits(sides, partners, top, next) {
+        if is_open(seen, next) && waits(sides, partners, marks, top, next) {
             return Some(next);
         }
     }

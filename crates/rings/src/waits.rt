@@ -1,8 +1,9 @@
 // Who waits for whom.
-ghost use Rattle.std.specs.Prelude.{◌≡◌, Some, length, slice_get};
+ghost use Rattle.std.specs.Prelude.{◌≡◌, slice_get};
 ghost use Rattle.std.specs.Option.{option_copied};
 ghost use Rattle.runs.specs.Tests.{same_place};
 ghost use Rattle.offered_sides.specs.walking.At as at;
+ghost use Rattle.rings.specs.walking.Loosened.{is_marked};
 ghost use Rattle.rings.specs.walking.Search as model;
 
 use crate::partner::Partner;
@@ -10,61 +11,36 @@ use crate::way::is_same_entry;
 use address::{Address, Entry};
 use offered_sides::OfferedSide;
 
-/// Whether the place of the one side waits for that of the other.
-pub(crate) fn waits(sides: &[OfferedSide], partners: &[Partner], one: usize, other: usize) -> bool
-    requires { length partners.now ≡ length sides.now }
-    ensures { result ≡ model.waits sides.now partners.now one other }
-{
-    match sides.get(one) {
-        Some(side) => waits_for(sides, partners, one, &side.place, sides.get(other)),
-        None => false,
-    }
-}
-
-/// Whether the place of the one side waits for that of the other side, if there is one.
-fn waits_for(
+/// Whether the one side is marked, and its partner comes once what stands at the place of the other has gone on.
+pub(crate) fn waits(
     sides: &[OfferedSide],
     partners: &[Partner],
+    marks: &[bool],
     one: usize,
-    place: &Address,
-    other: Option<&OfferedSide>,
+    other: usize,
 ) -> bool
-    requires sizes { length partners.now ≡ length sides.now }
-    requires at { model.place_at sides.now one ≡ Some place.now }
-    ensures { result ≡ model.waits_for sides.now partners.now place.now (option_copied other.entry) }
+    ensures { result ≡ model.waits sides.now partners.now marks.now one other }
 {
-    match other {
-        Some(goes) => all_at_behind(sides, partners, one, place, &goes.place),
+    is_marked(marks, one) && behind_at(partners.get(one), sides.get(other))
+}
+
+/// Whether the mark of this index is there, and set.
+pub(crate) fn is_marked(marks: &[bool], index: usize) -> bool
+    ensures { result ≡ is_marked (slice_get marks.now index) }
+{
+    match marks.get(index) {
+        Some(mark) => *mark,
         None => false,
     }
 }
 
-/// Whether all sides at the place of the one have their partner behind the other place. Its own partner mostly tells that they have
-/// not, and no others are looked at.
-fn all_at_behind(
-    sides: &[OfferedSide],
-    partners: &[Partner],
-    one: usize,
-    place: &Address,
-    other: &Address,
-) -> bool
-    requires sizes { length partners.now ≡ length sides.now }
-    requires at { model.place_at sides.now one ≡ Some place.now }
-    ensures { result ≡ model.all_behind sides.now partners.now place.now other.now }
+/// Whether both are there, and the partner comes once what stands at the place of the side has gone on.
+fn behind_at(partner: Option<&Partner>, side: Option<&OfferedSide>) -> bool
+    ensures { result ≡ model.behind_at (option_copied partner.entry) (option_copied side.entry) }
 {
-    if !own_behind(partners, one, other) {
-        return false;
-    }
-    all_behind(sides, partners, place, other)
-}
-
-/// Whether the partner of this number, if there is one, comes once what stands at the place has gone on.
-fn own_behind(partners: &[Partner], one: usize, place: &Address) -> bool
-    ensures { result ≡ model.own_behind (slice_get partners.now one) place.now }
-{
-    match partners.get(one) {
-        Some(partner) => is_behind(partner, place),
-        None => false,
+    match (partner, side) {
+        (Some(partner), Some(side)) => is_behind(partner, &side.place),
+        _ => false,
     }
 }
 
@@ -85,30 +61,6 @@ fn are_at_one(one: Option<&OfferedSide>, other: Option<&OfferedSide>) -> bool
     }
 }
 
-/// Whether all sides at the one place have their partner behind the other.
-fn all_behind(sides: &[OfferedSide], partners: &[Partner], place: &Address, other: &Address) -> bool
-    requires { length partners.now ≡ length sides.now }
-    ensures { result ≡ model.all_behind sides.now partners.now place.now other.now }
-{
-    for index in 0..sides.len() {
-        if !passes(&sides[index], &partners[index], place, other) {
-            return false;
-        }
-    }
-    true
-}
-
-/// Whether the side stands elsewhere than at the one place, or has its partner behind the other.
-fn passes(side: &OfferedSide, partner: &Partner, place: &Address, other: &Address) -> bool
-    ensures { result ≡ model.passes side.now partner.now place.now other.now }
-{
-    if is_same(&side.place, place) {
-        is_behind(partner, other)
-    } else {
-        true
-    }
-}
-
 /// Whether the partner comes once what stands at the place has gone on.
 fn is_behind(partner: &Partner, place: &Address) -> bool
     ensures { result ≡ model.is_behind partner.now place.now }
@@ -120,7 +72,7 @@ fn is_behind(partner: &Partner, place: &Address) -> bool
 }
 
 /// Whether the second place is the first or below it.
-fn is_under(place: &[Entry], other: &[Entry]) -> bool
+pub(crate) fn is_under(place: &[Entry], other: &[Entry]) -> bool
     ensures { result ≡ at.is_under place.now other.now }
 {
     let Some((first, rest)) = place.split_first() else {

@@ -1,34 +1,55 @@
--- Rings of exactly the sides that wait are rings of the state.
-use Rattle.std.proofs.Common.{◌↔◌, ℕ, List, [], ◌∷◌}
+-- What is told of exactly the sides that wait holds of the state.
+use Rattle.std.proofs.Common.{◌↔◌, ℕ, List, [], ◌∷◌, Bool}
 use Rattle.syntax.specs.Lists.{In}
 use Rattle.runs.specs.Moves.{Place}
 use Rattle.runs.specs.Steps.{State}
 use Rattle.system.specs.Residual.{Residual}
+use Rattle.machine.specs.AtMachine.{AtMachine}
 use Rattle.offered_sides.specs.declared.side.OfferedSide.{OfferedSide}
-use Rattle.rings.specs.Rings.{Waiters, WaitsAt, WaitsFor, Linked, IsRing, TellsRing}
-use Rattle.waiting.specs.Rings.{NamesRing}
+use Rattle.rings.specs.Rings.{Helped, Waiters, WaitsAt, HoldEachOther, IsDeadlocked, WaitsFor, Linked, IsRing, TellsDeadlocked, TellsRing}
+use Rattle.waiting.specs.Input.{helped_in}
+use Rattle.waiting.specs.Rings.{NamesDeadlocked, NamesRing}
 use Rattle.waiting.specs.Waits.{Waits, ListsWaiting}
 
 -- whichever of two ways is used to say who waits
 abbrev Same : Waiters → Waiters → Type 0
 Same W V = (x : OfferedSide) → W x ↔ V x
 
-module _ (W V : Waiters) (same : Same W V) (r : Residual) where
+module _ (W V : Waiters) (same : Same W V) (help : Helped) (r : Residual) where
   at : (a : Place) → WaitsAt W a → WaitsAt V a
   at a h = (h.0, (same h.0).0 h.1, h.2)
 
+  hold : (places : List Place) → HoldEachOther W help r places → HoldEachOther V help r places
+  hold places h a i = let here = h a i in (at a here.0, λ x v e. here.1 x ((same x).1 v) e)
+
+  dead : (a : Place) → IsDeadlocked W help r a → IsDeadlocked V help r a
+  dead a h = (h.0, h.1, hold h.0 h.2)
+
   for : (a b : Place) → WaitsFor W r a b → WaitsFor V r a b
-  for a b h x v e = h x ((same x).1 v) e
+  for a b h = (h.0, (same h.0).0 h.1, h.2, h.3)
 
-  linked : (f a : Place) (ring : List Place) → Linked W r f a ring → Linked V r f a ring
-  linked f a [] h = (at a h.0, for a f h.1)
-  linked f a (b ∷ ring) h = (at a h.0, for a b h.1, linked f b ring h.2)
+  linked : (f a : Place) (ring : List Place) → Linked W help r f a ring → Linked V help r f a ring
+  linked f a [] h = (dead a h.0, for a f h.1)
+  linked f a (b ∷ ring) h = (dead a h.0, for a b h.1, linked f b ring h.2)
 
-  rings : (ring : List Place) → IsRing W r ring → IsRing V r ring
+  rings : (ring : List Place) → IsRing W help r ring → IsRing V help r ring
   rings [] h = h
   rings (a ∷ ring) h = linked a a ring h
 
-pub names-ring : (S : State) (sides : List OfferedSide) (ring : List ℕ) → ListsWaiting S sides → TellsRing S.residual sides ring → NamesRing S sides ring
-names-ring S sides [] l h =
-    λ ring r. h ring (rings (Waits S) (λ x. In x sides) (λ x. ((l.exactly x).1, (l.exactly x).0)) S.residual ring r)
-names-ring S sides (i ∷ rest) l h = (h.0, h.1, rings (λ x. In x sides) (Waits S) l.exactly S.residual h.0 h.2, h.3)
+back : (S : State) (sides : List OfferedSide) → ListsWaiting S sides → Same (Waits S) (λ x. In x sides)
+back S sides l x = ((l.exactly x).1, (l.exactly x).0)
+
+pub names-deadlocked : (m : AtMachine) (S : State) (sides : List OfferedSide) (marks : List Bool) → ListsWaiting S sides
+    → TellsDeadlocked (helped_in m S) S.residual sides marks → NamesDeadlocked m S sides marks
+names-deadlocked m S sides marks l h = (
+  h.0,
+  λ i x got. (
+      λ on. dead (λ y. In y sides) (Waits S) l.exactly (helped_in m S) S.residual x.place ((h.1 i x got).0 on),
+      λ d. (h.1 i x got).1 (dead (Waits S) (λ y. In y sides) (back S sides l) (helped_in m S) S.residual x.place d),
+  ),
+)
+
+pub names-ring : (m : AtMachine) (S : State) (sides : List OfferedSide) (ring : List ℕ) → ListsWaiting S sides → TellsRing (helped_in m S) S.residual sides ring
+    → NamesRing m S sides ring
+names-ring m S sides [] l h = λ ring r. h ring (rings (Waits S) (λ x. In x sides) (back S sides l) (helped_in m S) S.residual ring r)
+names-ring m S sides (i ∷ rest) l h = (h.0, h.1, rings (λ x. In x sides) (Waits S) l.exactly (helped_in m S) S.residual h.0 h.2, h.3)

@@ -6,11 +6,13 @@ use Rattle.system.specs.declared.system.Branch.TheVariants.{Feed, Drain, Syncs}
 use Rattle.system.specs.declared.system.System.{System}
 use Rattle.runs.specs.Live.{events}
 use Rattle.runs.specs.Moves.{Place}
+use Rattle.runs.specs.Steps.{State}
 use Rattle.event_places.specs.EventPlaces.{line_after}
 use Rattle.machine.specs.AtMachine.{AtMachine}
 use Rattle.offered_sides.specs.declared.side.OfferedSide.{OfferedSide}
 use Rattle.offered_sides.specs.declared.side.Side.{Side}
 use Rattle.offered_sides.specs.declared.side.Side.TheVariants as side
+use Rattle.rings.specs.Partners.{partner_in}
 use Rattle.rings.specs.declared.partner.Partner.{Partner}
 use Rattle.rings.specs.declared.partner.Partner.TheVariants as partner
 use Rattle.waiting.specs.Progress.{is_outlet}
@@ -53,47 +55,50 @@ is_starved m x (Some (partner.Behind a)) = false
 is_starved m x (Some partner.Open) = false
 is_starved m x None = false
 
--- its partner comes behind others
-abbrev pub is_later : Option Partner → Bool
-is_later (Some (partner.Behind a)) = true
-is_later (Some partner.Gone) = false
-is_later (Some partner.Open) = false
-is_later None = false
+-- a side that none of the others has to go on for, with this partner: an output port's, or one that waits for more input
+abbrev pub is_helped : AtMachine → OfferedSide → Option Partner → Bool
+is_helped m x p = is_outlet x.side || is_starved m x p
 
--- an arm of a choice
-abbrev pub is_arm : Side → Bool
-is_arm (side.Opens c k) = true
-is_arm _ = false
+-- the same of a side that waits in S
+abbrev pub helped_in : AtMachine → State → OfferedSide → Bool
+helped_in m S x = is_helped m x (Some (partner_in S.residual x))
 
--- a side of an output port, or one that is no arm and whose partner comes behind others, or one that waits for more input.
--- (An arm whose partner comes behind others is left out: no ring goes through a choice whose arms wait for different
--- places, so that a deadlock could stand there.)
-abbrev pub is_supplied : AtMachine → OfferedSide → Option Partner → Bool
-is_supplied m x p = is_outlet x.side || (not (is_arm x.side) && is_later p) || is_starved m x p
+-- its partner may be there already, or come from more than one branch
+abbrev pub is_open : Option Partner → Bool
+is_open (Some (partner.Behind a)) = false
+is_open (Some partner.Gone) = false
+is_open (Some partner.Open) = true
+is_open None = false
+
+-- a side of an output port, or one of which it is known where its partner stands
+abbrev pub is_settled : OfferedSide → Option Partner → Bool
+is_settled x p = is_outlet x.side || not (is_open p)
 
 -- one of these sides, of which the first has the partner of number n, waits for more input
 abbrev pub any_starved : AtMachine → List Partner → ℕ → List OfferedSide → Bool
 any_starved m partners n [] = false
 any_starved m partners n (x ∷ xs) = is_starved m x (slice_get partners n) || any_starved m partners (n + 1) xs
 
--- each of them does, or is supplied by others
-abbrev pub all_supplied : AtMachine → List Partner → ℕ → List OfferedSide → Bool
-all_supplied m partners n [] = true
-all_supplied m partners n (x ∷ xs) = is_supplied m x (slice_get partners n) && all_supplied m partners (n + 1) xs
+-- of each of them it is known where its partner stands
+abbrev pub all_settled : List Partner → ℕ → List OfferedSide → Bool
+all_settled partners n [] = true
+all_settled partners n (x ∷ xs) = is_settled x (slice_get partners n) && all_settled partners (n + 1) xs
 
 abbrev pub is_stuck : Progress → Bool
 is_stuck GoesOn = false
 is_stuck Done = false
 is_stuck Stuck = true
 
-abbrev pub has_no_ring : List ℕ → Bool
-has_no_ring [] = true
-has_no_ring (i ∷ ring) = false
+-- no side's place is deadlocked
+abbrev pub none_deadlocked : List Bool → Bool
+none_deadlocked [] = true
+none_deadlocked (b ∷ bs) = not b && none_deadlocked bs
 
--- nothing can go on, no ring is there, one side waits for more input, and so does each other, or it is supplied by others
+-- nothing can go on, nothing is deadlocked, so that each that waits waits for the environment in the end, by whichever of its arms,
+-- and one side does so itself
 abbrev pub lacks_input : AtMachine → Waiting → Bool
 lacks_input m w =
     is_stuck w.progress
-    && has_no_ring w.ring.items
+    && none_deadlocked w.deadlocked.items
     && any_starved m w.partners.items 0 w.sides
-    && all_supplied m w.partners.items 0 w.sides
+    && all_settled w.partners.items 0 w.sides

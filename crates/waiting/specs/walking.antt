@@ -1,3 +1,4 @@
 pub mod Among
+pub mod Helps
 pub mod Repeats
 pub mod Replayed

@@ -1,7 +1,8 @@
 // Whether more in the stimulus is all that a run lacks.
-ghost use Rattle.std.specs.Prelude.{◌≡◌, slice_get};
+ghost use Rattle.std.specs.Prelude.{◌≡◌, IfOk, slice_get};
 ghost use Rattle.std.specs.Option.{option_copied};
 ghost use Rattle.waiting.specs.Input as model;
+ghost use Rattle.waiting.specs.walking.Helps.{helps};
 
 use crate::progress::{Progress, is_outlet};
 use crate::text::partner_at;
@@ -9,22 +10,40 @@ use crate::waiting::Waiting;
 use machine::Machine;
 use offered_sides::{OfferedSide, Side};
 use rings::Partner;
+use std::alloc::{AllocError, Global};
 use system::{Branch, System};
 
 impl Waiting {
-    /// Whether nothing can go on for want of input alone: there is no ring, a side of the body waits for what the environment has no more
-    /// of, and so does each other side, or it is an output port's, or no arm of a choice and what it waits for stands behind others. So a
-    /// deadlock is never told so. The machine is the one that was asked.
+    /// Whether nothing can go on for want of input alone: nothing is deadlocked, so that whatever waits waits for the environment in the
+    /// end, by whichever of its arms, and a side of the body waits for what the environment has no more of. Where it is not known from
+    /// where a partner comes, it is not. The machine is the one that was asked.
     pub fn lacks_input(&self, machine: &Machine) -> bool
         ensures { result ≡ model.lacks_input machine.now self.now }
     {
         let sides = self.sides.as_slice();
         let partners = self.partners.as_slice();
         is_stuck(self.progress)
-            && self.ring.is_empty()
+            && none_deadlocked(self.deadlocked.as_slice())
             && any_starved(machine, sides, partners)
-            && all_supplied(machine, sides, partners)
+            && all_settled(sides, partners)
     }
+}
+
+/// For each of the sides whether it is helped from elsewhere, so that none of the others has to go on for it. It is an error if there is
+/// no memory.
+pub(crate) fn helped_among(
+    alloc: Global,
+    machine: &Machine,
+    sides: &[OfferedSide],
+    partners: &[Partner],
+) -> Result<Vec<bool>, AllocError>
+    ensures { IfOk result (λ helped. helped.items ≡ helps machine.now partners.now 0 sides.now) }
+{
+    let mut helped = Vec::with_capacity(alloc, sides.len())?;
+    for (index, side) in sides.iter().enumerate() {
+        helped.push(is_helped(machine, side, partner_at(partners, index)))?;
+    }
+    Ok(helped)
 }
 
 /// Whether it is stuck.
@@ -49,45 +68,51 @@ fn any_starved(machine: &Machine, sides: &[OfferedSide], partners: &[Partner]) -
     false
 }
 
-/// Whether each of the sides would go on with more input, as far as it is known.
-fn all_supplied(machine: &Machine, sides: &[OfferedSide], partners: &[Partner]) -> bool
-    ensures { result ≡ model.all_supplied machine.now partners.now 0 sides.now }
+/// Whether of each of the sides it is known where its partner stands.
+fn all_settled(sides: &[OfferedSide], partners: &[Partner]) -> bool
+    ensures { result ≡ model.all_settled partners.now 0 sides.now }
 {
     for (index, side) in sides.iter().enumerate() {
-        if !is_supplied(machine, side, partner_at(partners, index)) {
+        if !is_settled(side, partner_at(partners, index)) {
             return false;
         }
     }
     true
 }
 
-/// Whether the side is an output port's, or no arm of a choice and what it waits for stands behind others, or it waits for more
-/// input.
-fn is_supplied(machine: &Machine, offered: &OfferedSide, partner: Option<&Partner>) -> bool
-    ensures { result ≡ model.is_supplied machine.now offered.now (option_copied partner.entry) }
+/// Whether none of these marks is set.
+fn none_deadlocked(marks: &[bool]) -> bool
+    ensures { result ≡ model.none_deadlocked marks.now }
 {
-    is_outlet(&offered.side)
-        || (!is_arm(&offered.side) && is_later(partner))
-        || is_starved(machine, offered, partner)
-}
-
-/// Whether the side is an arm of a choice.
-fn is_arm(side: &Side) -> bool
-    ensures { result ≡ model.is_arm side.now }
-{
-    match side {
-        Side::Opens(_, _) => true,
-        _ => false,
+    for mark in marks {
+        if *mark {
+            return false;
+        }
     }
+    true
 }
 
-/// Whether it stands behind others.
-fn is_later(partner: Option<&Partner>) -> bool
-    ensures { result ≡ model.is_later (option_copied partner.entry) }
+/// Whether the side is an output port's, or waits for more input.
+fn is_helped(machine: &Machine, offered: &OfferedSide, partner: Option<&Partner>) -> bool
+    ensures { result ≡ model.is_helped machine.now offered.now (option_copied partner.entry) }
+{
+    is_outlet(&offered.side) || is_starved(machine, offered, partner)
+}
+
+/// Whether the side is an output port's, or it is known where its partner stands.
+fn is_settled(offered: &OfferedSide, partner: Option<&Partner>) -> bool
+    ensures { result ≡ model.is_settled offered.now (option_copied partner.entry) }
+{
+    is_outlet(&offered.side) || !is_open(partner)
+}
+
+/// Whether it may be there already, or come from more than one branch.
+fn is_open(partner: Option<&Partner>) -> bool
+    ensures { result ≡ model.is_open (option_copied partner.entry) }
 {
     match partner {
-        Some(Partner::Behind(_)) => true,
-        Some(Partner::Gone) | Some(Partner::Open) | None => false,
+        Some(Partner::Open) => true,
+        Some(Partner::Behind(_)) | Some(Partner::Gone) | None => false,
     }
 }
 

@@ -1,18 +1,23 @@
 // The answer.
-ghost use Rattle.std.specs.Prelude.{IfOk};
+ghost use Rattle.std.specs.Prelude.{◌≡◌, IfOk, Some, length, map};
 ghost use Rattle.runs.specs.Object.{Reaches};
 ghost use Rattle.runs.specs.Ready.{ReadyList};
 ghost use Rattle.runs.specs.Steps.{State};
 ghost use Rattle.machine.specs.AtMachine.{object};
+ghost use Rattle.system.specs.Residual.{Residual};
+ghost use Rattle.rings.specs.Partners.{partner_in};
+ghost use Rattle.rings.specs.Rings.{TellsDeadlocked};
+ghost use Rattle.waiting.specs.Input.{is_helped};
 ghost use Rattle.waiting.specs.Told.{TellsWaits};
 
+use crate::input::helped_among;
 use crate::once::each_once;
 use crate::progress::{Progress, progress_of};
 use crate::replaying::made_again;
 use crate::sides::left_over;
 use machine::Machine;
 use offered_sides::{OfferedSide, sides_of};
-use rings::{Partner, partners_of, ring_among};
+use rings::{Partner, deadlocked_among, partners_of, ring_among};
 use runs::Event;
 use std::alloc::{AllocError, Global};
 use syntax::Items;
@@ -27,14 +32,17 @@ pub struct Waiting {
     pub sides: Items<OfferedSide>,
     /// for each of them what has to go on before its partner can come
     pub partners: Vec<Partner>,
-    /// the indexes of sides of which the place of each waits for that of the next, and the last for the first; empty where there
-    /// is no such ring
+    /// for each of them whether its place is deadlocked: one of some of which none goes on before another one does, whatever the
+    /// environment gives
+    pub deadlocked: Vec<bool>,
+    /// the indexes of deadlocked sides of which each waits for the place of the next, and the last for the first; empty where there is no
+    /// such ring
     pub ring: Vec<usize>,
 }
 
 /// Exactly the sides that the state of the machine offers and whose place no allowed event has, each once, in order of place,
-/// the allowed events, how the run stands, what each of the sides waits for, and a ring exactly where there is one. It makes the live events
-/// again, and then takes a walk of the tree for each of the sides. It is an error if there is no memory.
+/// the allowed events, how the run stands, what each of the sides waits for, which are deadlocked, and a ring exactly where there is one. It
+/// makes the live events again, and then takes a walk of the tree for each of the sides. It is an error if there is no memory.
 pub fn who_waits(alloc: Global, machine: &Machine) -> Result<Waiting, AllocError>
     ensures { IfOk result (λ told. TellsWaits machine.now told) }
 {
@@ -45,14 +53,36 @@ pub fn who_waits(alloc: Global, machine: &Machine) -> Result<Waiting, AllocError
     let progress = progress_of(sides.as_slice(), ready.as_slice());
     let sides = each_once(alloc, left_over(sides, ready.as_slice()))?;
     let partners = partners_of(alloc, &state.tree, sides.as_slice())?;
-    let ring = ring_among(alloc, sides.as_slice(), partners.as_slice())?;
+    let deadlocked = deadlocked_of(alloc, machine, sides.as_slice(), partners.as_slice())?;
+    let ring = ring_among(
+        alloc,
+        sides.as_slice(),
+        partners.as_slice(),
+        deadlocked.as_slice(),
+    )?;
     Ok(Waiting {
         progress,
         ready,
         sides,
         partners,
+        deadlocked,
         ring,
     })
+}
+
+/// For each of the sides, which have these partners, whether its place is deadlocked. It is an error if there is no memory.
+fn deadlocked_of(
+    alloc: Global,
+    machine: &Machine,
+    sides: &[OfferedSide],
+    partners: &[Partner],
+) -> Result<Vec<bool>, AllocError>
+    requires { length partners.now ≡ length sides.now }
+    ensures { (r : Residual) → partners.now ≡ map (partner_in r) sides.now → IfOk result (λ marks.
+        TellsDeadlocked (λ x. is_helped machine.now x (Some (partner_in r x))) r sides.now marks.items) }
+{
+    let helped = helped_among(alloc, machine, sides, partners)?;
+    deadlocked_among(alloc, sides, partners, helped.as_slice())
 }
 
 /// The events that may be taken now, in order. It is an error if there is no memory.

@@ -1,6 +1,6 @@
 -- The search for a ring by indexes of sides.
 -- No reader has to believe it: the contract of `ring_among` ties it to `TellsRing`.
-use Rattle.std.specs.Prelude.{◌≡◌, ℕ, ◌+◌, ◌<◌, List, [], ◌∷◌, length, Bool, true, false, ◌&&◌, cond, Option, Some, None, option_map, slice_get}
+use Rattle.std.specs.Prelude.{◌≡◌, ℕ, ◌+◌, ◌<◌, List, [], ◌∷◌, length, Bool, true, false, ◌&&◌, Option, Some, None, option_map, slice_get}
 use Rattle.syntax.specs.Lists.{In}
 use Rattle.runs.specs.Moves.{Place}
 use Rattle.runs.specs.Tests.{same_place}
@@ -10,6 +10,7 @@ use Rattle.rings.specs.declared.partner.Partner.{Partner}
 use Rattle.rings.specs.declared.partner.Partner.TheVariants as partner
 use Rattle.rings.specs.declared.ring.Seen.{Seen}
 use Rattle.rings.specs.declared.ring.Seen.TheVariants.{New, OnWay, Done}
+use Rattle.rings.specs.walking.Loosened.{is_marked}
 
 -- ---- who waits for whom
 
@@ -18,32 +19,15 @@ is_behind (partner.Behind p) a = is_under p a
 is_behind partner.Gone a = false
 is_behind partner.Open a = false
 
--- the same of a partner that may be there
-abbrev pub own_behind : Option Partner → Place → Bool
-own_behind None a = false
-own_behind (Some p) a = is_behind p a
+-- the same of a partner and of a side that may be there
+abbrev pub behind_at : Option Partner → Option OfferedSide → Bool
+behind_at (Some p) (Some y) = is_behind p y.place
+behind_at (Some p) None = false
+behind_at None y = false
 
--- whether the side stands elsewhere than at place a, or has its partner behind place b
-abbrev pub passes : OfferedSide → Partner → Place → Place → Bool
-passes x p a b = cond (same_place x.place a) (is_behind p b) true
-
--- whether each side at place a has its partner behind place b
-abbrev pub all_behind : List OfferedSide → List Partner → Place → Place → Bool
-all_behind [] ps a b = true
-all_behind (x ∷ xs) [] a b = true
-all_behind (x ∷ xs) (p ∷ ps) a b = passes x p a b && all_behind xs ps a b
-
-abbrev pub waits_for : List OfferedSide → List Partner → Place → Option OfferedSide → Bool
-waits_for sides partners a (Some y) = all_behind sides partners a y.place
-waits_for sides partners a None = false
-
-abbrev pub waits_at : List OfferedSide → List Partner → Option OfferedSide → Option OfferedSide → Bool
-waits_at sides partners (Some x) y = waits_for sides partners x.place y
-waits_at sides partners None y = false
-
--- whether the place of side i waits for that of side j
-abbrev pub waits : List OfferedSide → List Partner → ℕ → ℕ → Bool
-waits sides partners i j = waits_at sides partners (slice_get sides i) (slice_get sides j)
+-- whether side i is marked and waits for the place of side j
+abbrev pub waits : List OfferedSide → List Partner → List Bool → ℕ → ℕ → Bool
+waits sides partners marks i j = is_marked (slice_get marks i) && behind_at (slice_get partners i) (slice_get sides j)
 
 -- the place of side i
 abbrev pub place_at : List OfferedSide → ℕ → Option Place

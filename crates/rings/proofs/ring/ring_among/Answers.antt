@@ -3,5 +3,5 @@ use Rattle.rings.proofs.Places.{tells}
 use Rattle.rings.proofs.ring.ring_among.Goals as goal
 
 pub returns : goal.returns
-returns c = λ r given.
-    IfOk-weaker c.ring_of_indexes.result _ _ (λ ring h. tells r c.args.sides.now c.args.partners.now given ring.items h) c.ring_of_indexes.ensures
+returns c = λ r help given told.
+    IfOk-weaker c.ring_of_indexes.result _ _ (λ ring h. tells r help c.args.sides.now c.args.partners.now c.args.marks.now given told ring.items h) c.ring_of_indexes.ensures

@@ -12,7 +12,7 @@ use Rattle.rings.proofs.ring.ring_from.Goals as goal
 
 pub note-requires-in_default-next_open : goal.note-requires-in_default-next_open
 note-requires-in_default-next_open c =
-    let w : Test = waits c.args.sides.now c.args.partners.now in
+    let w : Test = waits c.args.sides.now c.args.partners.now c.args.marks.now in
     let old : c.search.way.items ≡ c.pop.new.self.items ++ c.in-Some.top ∷ [] = c.pop.ensures.items ∙ ap (λ (o : Option ℕ). c.pop.new.self.items ++ option_to_list o) c.in-Some.is in
     top-within (length c.args.sides.now) w (same_at c.args.sides.now) c.args.seen.now c.search.seen c.args.start c.in-Some.top c.search.way.items c.pop.new.self.items c.search.invariant old
 
@@ -26,7 +26,7 @@ search-smaller-in_default-next_open c =
 pub search-preserved-in_default-next_open : goal.search-preserved-in_default-next_open
 search-preserved-in_default-next_open c =
     let n : ℕ = length c.args.sides.now in
-    let w : Test = waits c.args.sides.now c.args.partners.now in
+    let w : Test = waits c.args.sides.now c.args.partners.now c.args.marks.now in
     let old : c.search.way.items ≡ c.pop.new.self.items ++ c.in-Some.top ∷ [] = c.pop.ensures.items ∙ ap (λ (o : Option ℕ). c.pop.new.self.items ++ option_to_list o) c.in-Some.is in
     let no : c.next_open.result ≡ None = first_of (cc, search rules) in
     goes-back-as n w (same_at c.args.sides.now) c.args.seen.now c.search.seen c.note-in_default-next_open.new.seen c.args.start c.in-Some.top c.search.way.items c.pop.new.self.items c.search.invariant old
@@ -42,21 +42,21 @@ part_from-requires c =
 pub returns-in-Some-index_on : goal.returns-in-Some-index_on
 returns-in-Some-index_on c =
     let n : ℕ = length c.args.sides.now in
-    let w : Test = waits c.args.sides.now c.args.partners.now in
+    let w : Test = waits c.args.sides.now c.args.partners.now c.args.marks.now in
     let u : Test = same_at c.args.sides.now in
     let on = c.in-Some-index_on.ensures in
     let old : c.search.way.items ≡ c.pop.new.self.items ++ c.in-Some.top ∷ [] = c.pop.ensures.items ∙ ap (λ (o : Option ℕ). c.pop.new.self.items ++ option_to_list o) c.in-Some.is in
     let at : slice_get c.as_slice-in-Some-index_on.result.now c.in-Some-index_on.index ≡ Some on.0 =
     ap (λ (z : List ℕ). slice_get z c.in-Some-index_on.index) (c.as_slice-in-Some-index_on.ensures.value ∙ sym c.as_slice.ensures.value) ∙ on.1 in
     IfOk-weaker c.part_from.result _ _ (λ part h. told-from n w u c.args.seen.now c.search.seen _ c.args.start c.in-Some.top c.in-Some-next_open.next on.0 c.in-Some-index_on.index c.search.way.items
-    c.pop.new.self.items c.as_slice-in-Some-index_on.result.now part.items (alike c.args.sides.now c.args.partners.now) c.search.invariant old
+    c.pop.new.self.items c.as_slice-in-Some-index_on.result.now part.items (alike c.args.sides.now c.args.partners.now c.args.marks.now) c.search.invariant old
     (subst (λ (o : Option ℕ). NextOpen n w c.search.seen c.in-Some.top o) c.in-Some-next_open.is c.next_open.ensures)
     (c.as_slice-in-Some-index_on.ensures.value ∙ c.in_ok-push-2.ensures.items) at on.2 h) c.part_from.ensures
 
 pub search-smaller : goal.search-smaller
 search-smaller c =
     let n : ℕ = length c.args.sides.now in
-    let w : Test = waits c.args.sides.now c.args.partners.now in
+    let w : Test = waits c.args.sides.now c.args.partners.now c.args.marks.now in
     let old : c.search.way.items ≡ c.pop.new.self.items ++ c.in-Some.top ∷ [] = c.pop.ensures.items ∙ ap (λ (o : Option ℕ). c.pop.new.self.items ++ option_to_list o) c.in-Some.is in
     let same : c.as_slice.result.now ≡ c.pop.new.self.items ++ c.in-Some.top ∷ [] = c.as_slice.ensures.value ∙ c.in_ok-push-2.ensures.items in
     let next : NextOpen n w c.search.seen c.in-Some.top (Some c.in-Some-next_open.next) =
@@ -76,7 +76,7 @@ search-smaller c =
 pub search-preserved : goal.search-preserved
 search-preserved c =
     let n : ℕ = length c.args.sides.now in
-    let w : Test = waits c.args.sides.now c.args.partners.now in
+    let w : Test = waits c.args.sides.now c.args.partners.now c.args.marks.now in
     let old : c.search.way.items ≡ c.pop.new.self.items ++ c.in-Some.top ∷ [] = c.pop.ensures.items ∙ ap (λ (o : Option ℕ). c.pop.new.self.items ++ option_to_list o) c.in-Some.is in
     let next : NextOpen n w c.search.seen c.in-Some.top (Some c.in-Some-next_open.next) =
     subst (λ (o : Option ℕ). NextOpen n w c.search.seen c.in-Some.top o) c.in-Some-next_open.is c.next_open.ensures in

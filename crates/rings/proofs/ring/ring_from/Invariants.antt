@@ -4,7 +4,7 @@ use Rattle.rings.proofs.Marked.{From}
 use Rattle.rings.proofs.ring.ring_from.Given as goal
 
 abbrev pub invariant-search : goal.invariant-search
-invariant-search l = From (length l.sides) (waits l.sides l.partners) (same_at l.sides) l.fn.seen l.seen l.start l.way.items
+invariant-search l = From (length l.sides) (waits l.sides l.partners l.marks) (same_at l.sides) l.fn.seen l.seen l.start l.way.items
 
 abbrev pub decreases-search : goal.decreases-search
 decreases-search l = 2 * count_new l.seen + vec_len l.way

@@ -4,4 +4,4 @@ use Rattle.rings.proofs.Marked.{Before}
 use Rattle.rings.proofs.ring.ring_of_indexes.Given as goal
 
 abbrev pub invariant-loop-start : goal.invariant-loop-start
-invariant-loop-start l = Before (length l.sides) (waits l.sides l.partners) (same_at l.sides) l.seen.items l.start
+invariant-loop-start l = Before (length l.sides) (waits l.sides l.partners l.marks) (same_at l.sides) l.seen.items l.start

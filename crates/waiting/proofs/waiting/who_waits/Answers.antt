@@ -1,4 +1,4 @@
-use Rattle.std.proofs.Common.{◌≡◌, ◌∙◌, List, map, sym, ap, ap₂, subst}
+use Rattle.std.proofs.Common.{◌≡◌, ◌∙◌, List, Bool, map, sym, ap, ap₂, subst}
 use Rattle.runs.specs.Steps.{State}
 use Rattle.runs.specs.Ready.{ReadyList}
 use Rattle.runs.specs.declared.event.Event.{Event}
@@ -6,14 +6,15 @@ use Rattle.offered_sides.specs.Sides.{OffersExactly}
 use Rattle.offered_sides.specs.View.{state_of}
 use Rattle.offered_sides.specs.declared.side.OfferedSide.{OfferedSide}
 use Rattle.rings.specs.Partners.{partner_in}
-use Rattle.rings.specs.Rings.{TellsRing}
+use Rattle.rings.specs.Rings.{TellsDeadlocked, TellsRing}
+use Rattle.waiting.specs.Input.{helped_in}
 use Rattle.waiting.specs.Waits.{ListsWaiting}
 use Rattle.waiting.specs.Progress.{StandsLike}
 use Rattle.waiting.specs.declared.progress.Progress.{Progress}
 use Rattle.waiting.specs.walking.Among.{left_over, progress_of}
 use Rattle.waiting.specs.walking.Repeats.{each_once}
 use Rattle.waiting.proofs.Leftover.{lists-waiting, stands-like}
-use Rattle.waiting.proofs.RingOfState.{names-ring}
+use Rattle.waiting.proofs.RingOfState.{names-deadlocked, names-ring}
 use Rattle.waiting.proofs.waiting.who_waits.Goals as goal
 
 pub returns : goal.returns
@@ -37,7 +38,15 @@ returns c =
     let partners : c.in_ok-partners.partners.items ≡ map (partner_in S.residual) kept =
     c.in_ok-partners.ensures ∙ ap (λ (xs : List OfferedSide). map (partner_in S.residual) xs) c.as_slice-4.ensures in
     let given : c.as_slice-6.result.now ≡ map (partner_in S.residual) c.as_slice-5.result.now =
-    c.as_slice-6.ensures.value ∙ partners ∙ ap (λ (xs : List OfferedSide). map (partner_in S.residual) xs) (sym c.as_slice-5.ensures) in (
+    c.as_slice-6.ensures.value ∙ partners ∙ ap (λ (xs : List OfferedSide). map (partner_in S.residual) xs) (sym c.as_slice-5.ensures) in
+    let marks : List Bool = c.in_ok-deadlocked.deadlocked.items in
+    let dead : TellsDeadlocked (helped_in c.args.machine.now S) S.residual kept marks =
+    subst (λ (xs : List OfferedSide). TellsDeadlocked (helped_in c.args.machine.now S) S.residual xs marks) c.as_slice-5.ensures (c.in_ok-deadlocked.ensures S.residual given) in
+    let given-again : c.as_slice-8.result.now ≡ map (partner_in S.residual) c.as_slice-7.result.now =
+    c.as_slice-8.ensures.value ∙ partners ∙ ap (λ (xs : List OfferedSide). map (partner_in S.residual) xs) (sym c.as_slice-7.ensures) in
+    let dead-again : TellsDeadlocked (helped_in c.args.machine.now S) S.residual c.as_slice-7.result.now c.as_slice-9.result.now =
+    subst (λ (xs : List OfferedSide). TellsDeadlocked (helped_in c.args.machine.now S) S.residual xs c.as_slice-9.result.now) (sym c.as_slice-7.ensures)
+    (subst (λ (bs : List Bool). TellsDeadlocked (helped_in c.args.machine.now S) S.residual kept bs) (sym c.as_slice-9.ensures.value) dead) in (
       S,
       stands.reaches,
       record {
@@ -45,7 +54,9 @@ returns c =
         ready = list;
         sides = waits;
         partners = partners;
-        ring = names-ring S kept c.in_ok-ring.ring.items waits
-            (subst (λ (xs : List OfferedSide). TellsRing S.residual xs c.in_ok-ring.ring.items) c.as_slice-5.ensures (c.in_ok-ring.ensures S.residual given));
+        deadlocked = names-deadlocked c.args.machine.now S kept marks waits dead;
+        ring = names-ring c.args.machine.now S kept c.in_ok-ring.ring.items waits
+            (subst (λ (xs : List OfferedSide). TellsRing (helped_in c.args.machine.now S) S.residual xs c.in_ok-ring.ring.items) c.as_slice-7.ensures
+            (c.in_ok-ring.ensures S.residual (helped_in c.args.machine.now S) given-again dead-again));
       },
     )

@@ -1,0 +1,13 @@
+-- Which other use of a variable is marked where two clash.
+use Rattle.std.specs.Prelude.{ℕ, List, [], Option, None, Some}
+use Rattle.clash_places.specs.Others.{TellsOther}
+use Rattle.clash_places.specs.declared.pairs.OtherUse.{OtherUse}
+use Rattle.elaborate.specs.Elaboration.{system_of}
+use Rattle.typed.specs.declared.tree.Procedure.{Procedure}
+use Rattle.typed_source.specs.Source.{IsTyped}
+
+-- a use at the offset clashes with this one, by the rule on sharing, in the system that the source makes
+abbrev pub TellsClash : List ℕ → ℕ → Option OtherUse → Type 0
+TellsClash source offset None = Unit {0}
+TellsClash source offset (Some other) =
+    (procedures : List Procedure) × IsTyped source procedures × TellsOther (system_of procedures []) offset (Some other)
