@@ -1,1 +1,2 @@
 mod Greater
+pub mod Clashed

@@ -12,8 +12,8 @@ use system::System;
 use typed::Typed;
 use typed_source::typed_source;
 
-/// The first use that clashes, by the rule on sharing, with one whose name stands at the offset, in the system that the source makes.
-/// None where it makes none, or no use there clashes. It is an error if there is no memory.
+/// The first use that clashes, by the rule on sharing, with one whose name stands at the offset, in the system that the
+/// source makes. None where it makes none, or no use there clashes. It is an error if there is no memory.
 pub(crate) fn clashing_use(
     alloc: Global,
     source: &[u8],
@@ -38,7 +38,8 @@ fn use_in(alloc: Global, typed: &Typed, offset: u64) -> Result<Option<OtherUse>,
     }
 }
 
-/// The system that the description makes with an empty stimulus, on which its commands do not depend. None where it is too large.
+/// The system that the description makes with an empty stimulus, on which its commands do not depend. None where it is
+/// too large.
 fn made_of(alloc: Global, typed: &Typed) -> Result<Option<System>, AllocError>
     ensures { IfOk result (λ made. IfSome made (λ system. system ≡ system_of typed.now [])) }
 {

@@ -1,6 +1,10 @@
 // Refusals 15 and 16: what branches share.
+ghost use Rattle.std.specs.Prelude.{◌≡◌, IfOk};
+ghost use Rattle.diagnosis.specs.Clashing.{MarksClash};
+
 use crate::clashing::clashing_use;
 use branch_uses::{ChannelUses, Side, channel_uses};
+use clash_places::OtherUse;
 use findings::{Finding, text_between};
 use lexer::Token;
 use std::alloc::AllocError;
@@ -23,7 +27,9 @@ pub fn find(
 }
 
 /// The span of the token that begins at the offset, or an empty one there.
-fn token_at(tokens: &[Token], offset: u64) -> Span {
+fn token_at(tokens: &[Token], offset: u64) -> Span
+    ensures { result.start ≡ offset }
+{
     for token in tokens {
         if token.span.start == offset {
             return token.span;
@@ -37,30 +43,38 @@ fn token_at(tokens: &[Token], offset: u64) -> Span {
 }
 
 /// A variable that is written in one branch and used in another.
-fn find_variable(
-    source: &[u8],
-    tokens: &[Token],
-    finding: &mut Finding,
-) -> Result<(), AllocError> {
+fn find_variable(source: &[u8], tokens: &[Token], finding: &mut Finding) -> Result<(), AllocError> {
     let name = text_between(source, finding.start, finding.stop);
     finding.say(&[
         "two branches that run side by side use `",
         name,
         "`, and one of them writes it",
     ])?;
-    if let Some(other) = clashing_use(finding.alloc, source, finding.start)? {
-        let note = if other.writes {
-            "and written here"
-        } else {
-            "and read here"
-        };
-        finding.add_beside(token_at(tokens, other.offset), note)?;
-    }
+    mark_clash(source, tokens, finding)?;
     finding.advise(&[
         "give each branch a variable of its own, send the value over a channel, or declare `shared variable ",
         name,
         "` if the branches may race",
     ])
+}
+
+/// Marks the use that clashes with the one at the finding's place.
+fn mark_clash(source: &[u8], tokens: &[Token], finding: &mut Finding) -> Result<(), AllocError>
+    ensures { IfOk result (λ _. MarksClash source.now finding.old finding.new) }
+{
+    match clashing_use(finding.alloc, source, finding.start)? {
+        Some(other) => finding.add_beside(token_at(tokens, other.offset), clash_text(other)),
+        None => Ok(()),
+    }
+}
+
+/// How a use of a variable is told that clashes with another one.
+fn clash_text(other: OtherUse) -> &'static str {
+    if other.writes {
+        "and written here"
+    } else {
+        "and read here"
+    }
 }
 
 /// How a use of a side is told.

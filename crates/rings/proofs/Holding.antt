@@ -1,6 +1,7 @@
 -- Marks of deadlocked places, from all down to those that hold each other back.
-use Rattle.std.proofs.Common.{◌≡◌, ◌⊎◌, inl, inr, ℕ, zero, suc, ◌+◌, ◌<◌, ◌≤◌, List, [], ◌∷◌, map, length, get_or, set, slice_index_or, Bool, true, false, not, ◌&&◌, Option, Some, None, option_map, slice_get, slice_set, MatchOption, refl, sym, ◌∙◌, ap, ap₂, subst, arith, get_or-set_other, get_or-set_same, true≢false}
+use Rattle.std.proofs.Common.{◌≡◌, ◌⊎◌, inl, inr, ℕ, zero, suc, ◌+◌, ◌<◌, ◌≤◌, List, [], ◌∷◌, map, take, drop, length, ◌++◌, get_or, set, slice_index_or, Bool, true, false, not, ◌&&◌, Option, Some, None, option_map, slice_get, slice_set, MatchOption, refl, sym, ◌∙◌, ap, ap₂, subst, arith, get_or-set_other, get_or-set_same, true≢false}
 use Rattle.std.proofs.lemmas.Bool.{and_from, and_parts, cases_Bool, cases_eq, cases_lt}
+use Rattle.std.proofs.lemmas.List.{take_at}
 use Rattle.std.proofs.lemmas.Option.{slice_get-get_or, slice_get-map, slice_get_within}
 use Rattle.runs.proofs.Options.{none-some, some-injective}
 use Rattle.runs.specs.Moves.{Place}
@@ -15,6 +16,7 @@ use Rattle.rings.specs.Rings.{Helped, HeldBack, HoldEachOther, IsDeadlocked, Tel
 use Rattle.rings.specs.declared.partner.Partner.{Partner}
 use Rattle.rings.specs.declared.partner.Partner.TheVariants as partner
 use Rattle.rings.specs.walking.Loosened.{is_marked, stands_under, supports, Held, Released, NoneBefore, Passed, Firm, Loose, AllFirm, IsLoose, count_marked}
+use Rattle.rings.specs.walking.Loosening.{Keeps, Loosening}
 use Rattle.rings.specs.walking.Search.{same_places, same_at}
 use Rattle.rings.proofs.Places.{Among, got-in, in-got, itself, marked-some}
 
@@ -78,7 +80,7 @@ support-past xs marks p j h =
 
 pub held-behind : (xs : List OfferedSide) (marks : List Bool) (p : Place) (from : ℕ) (o : Option ℕ) → ((j : ℕ) → j < from → supports xs marks p j ≡ false)
     → MatchOption o ((j : ℕ) → from ≤ j → supports xs marks p j ≡ false)
-      (λ next. (supports xs marks p next ≡ true) × ((j : ℕ) → from ≤ j → j < next → supports xs marks p j ≡ false))
+    (λ next. (supports xs marks p next ≡ true) × ((j : ℕ) → from ≤ j → j < next → supports xs marks p j ≡ false))
     → MatchOption o (Released xs marks (partner.Behind p)) (λ next. Held xs marks (partner.Behind p) × NoneBefore xs marks next (partner.Behind p))
 held-behind xs marks p from None before h = λ j. elim (cases_lt j from) [ inl less ↦ before j less | inr more ↦ h j more ]
 held-behind xs marks p from (Some next) before h =
@@ -89,12 +91,12 @@ pub passed-more : (xs : List OfferedSide) (ps : List Partner) (marks : List Bool
     → Passed xs ps marks passed → NoneBefore xs marks next p → new ≡ set passed i next → Passed xs ps marks new
 passed-more xs ps marks passed new i next p less at old here e = λ k q goes. elim (cases_eq k i) [
   | inl is ↦
-    let same : p ≡ q = some-injective p q (sym at ∙ sym (ap (slice_get ps) is) ∙ goes) in
-    let now : get_or new k 0 ≡ next = ap (λ (l : List ℕ). get_or l k 0) e ∙ ap (λ (n : ℕ). get_or (set passed i next) n 0) is ∙ get_or-set_same passed i next 0 less in
-    subst (λ (n : ℕ). NoneBefore xs marks n q) (sym now) (subst (λ (z : Partner). NoneBefore xs marks next z) same here)
+      let same : p ≡ q = some-injective p q (sym at ∙ sym (ap (slice_get ps) is) ∙ goes) in
+      let now : get_or new k 0 ≡ next = ap (λ (l : List ℕ). get_or l k 0) e ∙ ap (λ (n : ℕ). get_or (set passed i next) n 0) is ∙ get_or-set_same passed i next 0 less in
+      subst (λ (n : ℕ). NoneBefore xs marks n q) (sym now) (subst (λ (z : Partner). NoneBefore xs marks next z) same here)
   | inr apart ↦
-    let now : get_or new k 0 ≡ get_or passed k 0 = ap (λ (l : List ℕ). get_or l k 0) e ∙ get_or-set_other passed i k next 0 apart in
-    subst (λ (n : ℕ). NoneBefore xs marks n q) (sym now) (old k q goes)
+      let now : get_or new k 0 ≡ get_or passed k 0 = ap (λ (l : List ℕ). get_or l k 0) e ∙ get_or-set_other passed i k next 0 apart in
+      subst (λ (n : ℕ). NoneBefore xs marks n q) (sym now) (old k q goes)
 ]
 
 -- ---- marks that are taken away
@@ -118,12 +120,12 @@ clears xs old new next index n m step less same e size c = record {
   size = size ∙ c.size;
   done = λ i h. elim (cases_eq i n) [
     | inl is ↦
-      ap (λ (k : ℕ). is_marked (slice_get next k)) is ∙ ap (λ (l : List Bool). is_marked (slice_get l n)) e
-      ∙ ap is_marked (bool-same new n false (omega (arith, less, c.size))) ∙ gone-not (is_marked (slice_get old n)) (same_at xs n index) same
-      ∙ ap (λ (k : ℕ). is_marked (slice_get old k) && not (same_at xs k index)) (sym is)
+        ap (λ (k : ℕ). is_marked (slice_get next k)) is ∙ ap (λ (l : List Bool). is_marked (slice_get l n)) e
+        ∙ ap is_marked (bool-same new n false (omega (arith, less, c.size))) ∙ gone-not (is_marked (slice_get old n)) (same_at xs n index) same
+        ∙ ap (λ (k : ℕ). is_marked (slice_get old k) && not (same_at xs k index)) (sym is)
     | inr apart ↦
-      ap (λ (l : List Bool). is_marked (slice_get l i)) e ∙ ap is_marked (bool-other new n i false (λ f. apart (sym f)))
-      ∙ c.done i (omega (arith, h, step, apart))
+        ap (λ (l : List Bool). is_marked (slice_get l i)) e ∙ ap is_marked (bool-other new n i false (λ f. apart (sym f)))
+        ∙ c.done i (omega (arith, h, step, apart))
   ];
   rest = λ i h. ap (λ (l : List Bool). slice_get l i) e ∙ bool-other new n i false (λ f. omega (arith, f, h, step)) ∙ c.rest i (omega (arith, h, step));
 }
@@ -133,8 +135,8 @@ stays xs old new index n m step apart c = record {
   size = c.size;
   done = λ i h. elim (cases_eq i n) [
     | inl is ↦
-      ap (λ (k : ℕ). is_marked (slice_get new k)) is ∙ ap is_marked (c.rest n (omega arith)) ∙ kept-not (is_marked (slice_get old n)) (same_at xs n index) apart
-      ∙ ap (λ (k : ℕ). is_marked (slice_get old k) && not (same_at xs k index)) (sym is)
+        ap (λ (k : ℕ). is_marked (slice_get new k)) is ∙ ap is_marked (c.rest n (omega arith)) ∙ kept-not (is_marked (slice_get old n)) (same_at xs n index) apart
+        ∙ ap (λ (k : ℕ). is_marked (slice_get old k) && not (same_at xs k index)) (sym is)
     | inr other ↦ c.done i (omega (arith, h, step, other))
   ];
   rest = λ i h. c.rest i (omega (arith, h, step));
@@ -145,8 +147,8 @@ pub cleared : (xs : List OfferedSide) (old new : List Bool) (index n : ℕ) → 
 cleared xs old new index n end size c i = elim (cases_lt i n) [
   | inl less ↦ c.done i less
   | inr more ↦
-    ap is_marked (c.rest i more) ∙ ap is_marked (past-end old i (omega (arith, size, end, more)))
-    ∙ sym (ap (λ (o : Option Bool). is_marked o && not (same_at xs i index)) (past-end old i (omega (arith, size, end, more))))
+      ap is_marked (c.rest i more) ∙ ap is_marked (past-end old i (omega (arith, size, end, more)))
+      ∙ sym (ap (λ (o : Option Bool). is_marked o && not (same_at xs i index)) (past-end old i (omega (arith, size, end, more))))
 ]
 
 -- ---- how many are marked
@@ -183,19 +185,6 @@ helped-at : (help : Helped) (xs : List OfferedSide) (hs : List Bool) (i : ℕ) (
 helped-at help xs hs i x given at =
     ap is_marked (ap (λ (l : List Bool). slice_get l i) given ∙ slice_get-map help xs i ∙ ap (λ (o : Option OfferedSide). option_map help o) at)
 
--- places that hold each other back keep their marks
-abbrev pub Keeps : List OfferedSide → List Partner → List Bool → List Bool → Type 0
-Keeps xs ps hs marks =
-    (r : Residual) (help : Helped) → ps ≡ map (partner_in r) xs → hs ≡ map help xs → (places : List Place) → HoldEachOther (Among xs) help r places
-    → (i : ℕ) (x : OfferedSide) → slice_get xs i ≡ Some x → In x.place places → is_marked (slice_get marks i) ≡ true
-
-pub record Loosening (xs : List OfferedSide) (ps : List Partner) (hs marks : List Bool) (passed : List ℕ) : Type 0 where
-  pub size : length marks ≡ length xs
-  pub steps : length passed ≡ length xs
-  pub so_far : Passed xs ps marks passed
-  pub alike : (i j : ℕ) → same_at xs i j ≡ true → is_marked (slice_get marks i) ≡ is_marked (slice_get marks j)
-  pub keeps : Keeps xs ps hs marks
-
 none-before-none : (xs : List OfferedSide) (marks : List Bool) (n : ℕ) (p : Partner) → n ≡ 0 → NoneBefore xs marks n p
 none-before-none xs marks n (partner.Behind p) e = λ j less. absurd (omega (arith, e, less))
 none-before-none xs marks n partner.Gone e = tt
@@ -229,7 +218,7 @@ none-before-less xs old new n partner.Open index less h = tt
 
 -- a side that is loose is at none of the places that hold each other back
 module _ (xs : List OfferedSide) (ps : List Partner) (hs marks : List Bool) (keeps : Keeps xs ps hs marks) (r : Residual) (help : Helped) (given : ps ≡ map (partner_in r) xs)
-         (told : hs ≡ map help xs) (places : List Place) (hold : HoldEachOther (Among xs) help r places) where
+    (told : hs ≡ map help xs) (places : List Place) (hold : HoldEachOther (Among xs) help r places) where
   not-released : (p : Partner) → HeldBack places p → Released xs marks p → ⊥
   not-released (partner.Behind p) back free =
       let there = (hold back.0 back.1).0 in
@@ -258,10 +247,10 @@ loosened-keeps xs ps hs marks new index loose less keeps = λ r help given told 
     ∙ and_from (is_marked (slice_get marks i)) (not (same_at xs i index)) (keeps r help given told places hold i x at there)
     (elim (cases_Bool (same_at xs i index)) [
       | inl same ↦
-        let both = within-same xs i index same in
-        let z = in-some xs index both.1 in
-        let placed : x.place ≡ z.0.place = same-told xs i index x z.0 at z.1 same in
-        absurd (not-loose xs ps hs marks keeps r help given told places hold index z.0 z.1 (subst (λ (a : Place). In a places) placed there) loose.2)
+          let both = within-same xs i index same in
+          let z = in-some xs index both.1 in
+          let placed : x.place ≡ z.0.place = same-told xs i index x z.0 at z.1 same in
+          absurd (not-loose xs ps hs marks keeps r help given told places hold index z.0 z.1 (subst (λ (a : Place). In a places) placed there) loose.2)
       | inr apart ↦ ap not apart
     ])
   where
@@ -281,6 +270,11 @@ loosened xs ps hs marks new before passed index l steps p loose size less = reco
       less i ∙ ap₂ (λ (a b : Bool). a && not b) (l.alike i j h) (same-as xs i j index h) ∙ sym (less j);
   keeps = loosened-keeps xs ps hs marks new index loose less l.keeps;
 }
+
+-- the same where the search for a loose one has come farther
+pub farther : (xs : List OfferedSide) (ps : List Partner) (hs marks : List Bool) (before passed : List ℕ) → Loosening xs ps hs marks before → length passed ≡ length xs
+    → Passed xs ps marks passed → Loosening xs ps hs marks passed
+farther xs ps hs marks before passed l steps p = record { size = l.size; steps = steps; so_far = p; alike = l.alike; keeps = l.keeps }
 
 pub less-marked : (xs : List OfferedSide) (ps : List Partner) (hs marks new : List Bool) (index : ℕ) → IsLoose xs ps hs marks index → length new ≡ length marks
     → ((i : ℕ) → is_marked (slice_get new i) ≡ (is_marked (slice_get marks i) && not (same_at xs i index))) → count_marked new < count_marked marks
@@ -321,7 +315,7 @@ marked-in (x ∷ xs) (false ∷ ms) a h =
     let rest = marked-in xs ms a h in record { index = suc rest.index; side = rest.side; got = rest.got; mark = rest.mark; place = rest.place }
 
 module _ (xs : List OfferedSide) (ps : List Partner) (hs marks : List Bool) (passed : List ℕ) (l : Loosening xs ps hs marks passed) (firm : AllFirm xs ps hs marks) (r : Residual)
-         (help : Helped) (given : ps ≡ map (partner_in r) xs) (told : hs ≡ map help xs) where
+    (help : Helped) (given : ps ≡ map (partner_in r) xs) (told : hs ≡ map help xs) where
   back : (p : Partner) → Held xs marks p → HeldBack (marked-places xs marks) p
   back (partner.Behind p) h = pick (slice_get xs h.0) refl
     where
@@ -351,7 +345,11 @@ module _ (xs : List OfferedSide) (ps : List Partner) (hs marks : List Bool) (pas
   tells-deadlocked = (
     l.size,
     λ i x at. (
-        λ on. (marked-places xs marks, in-marked xs marks i x at on, hold),
-        λ dead. marked-some (slice_get marks i) (l.keeps r help given told dead.0 dead.2 i x at dead.1),
+      λ on. (marked-places xs marks, in-marked xs marks i x at on, hold),
+      λ dead. marked-some (slice_get marks i) (l.keeps r help given told dead.0 dead.2 i x at dead.1),
     ),
   )
+
+-- marks that are lent whole and come back
+pub lent : (new old : List Bool) (n : ℕ) → length new ≡ length old → n ≡ length old → take n (new ++ drop (length new) old) ≡ new
+lent new old n same is = take_at new (drop (length new) old) n (omega (arith, same, is))

@@ -1,6 +1,6 @@
--- Deadlocks: places of which none goes on before another of them does. In a ring of them each waits for the next one, and the last
--- for the first. (Own. A choice waits for whichever of its arms comes first, so it is deadlocked only where each of its arms is, and
--- it is in a ring by any one of them.)
+-- Deadlocks: places of which none goes on before another of them does. In a ring of them each waits for the next one,
+-- and the last for the first. (Own. A choice waits for whichever of its arms comes first, so it is deadlocked only
+-- where each of its arms is, and it is in a ring by any one of them.)
 use Rattle.std.specs.Prelude.{◌≡◌, ◌↔◌, ℕ, List, [], ◌∷◌, length, Bool, true, false, Option, Some, option_map, slice_get, map}
 use Rattle.syntax.specs.Lists.{In}
 use Rattle.system.specs.Residual.{Residual}
@@ -31,11 +31,12 @@ HeldBack places (partner.Behind p) = (a : Place) × In a places × Under p a
 HeldBack places partner.Gone = Unit {0}
 HeldBack places partner.Open = ⊥
 
--- None of these places goes on before another of them does: something waits at each, and whatever waits there, each arm of a
--- choice, is not helped, and they hold its partner back.
+-- None of these places goes on before another of them does: something waits at each, and whatever waits there, each arm
+-- of a choice, is not helped, and they hold its partner back.
 abbrev pub HoldEachOther : Waiters → Helped → Residual → List Place → Type 0
 HoldEachOther W helped r places =
-    (a : Place) → In a places → WaitsAt W a × ((x : OfferedSide) → W x → x.place ≡ a → (helped x ≡ false) × HeldBack places (partner_in r x))
+    (a : Place) → In a places
+    → WaitsAt W a × ((x : OfferedSide) → W x → x.place ≡ a → (helped x ≡ false) × HeldBack places (partner_in r x))
 
 -- the place is one of such places
 abbrev pub IsDeadlocked : Waiters → Helped → Residual → Place → Type 0
@@ -45,7 +46,8 @@ IsDeadlocked W helped r a = (places : List Place) × In a places × HoldEachOthe
 abbrev pub TellsDeadlocked : Helped → Residual → List OfferedSide → List Bool → Type 0
 TellsDeadlocked helped r sides marks =
     (length marks ≡ length sides)
-    × ((i : ℕ) (x : OfferedSide) → slice_get sides i ≡ Some x → (slice_get marks i ≡ Some true) ↔ IsDeadlocked (λ y. In y sides) helped r x.place)
+    × ((i : ℕ) (x : OfferedSide) → slice_get sides i ≡ Some x
+    → (slice_get marks i ≡ Some true) ↔ IsDeadlocked (λ y. In y sides) helped r x.place)
 
 -- ---- rings
 
@@ -78,9 +80,10 @@ EachOnce (a ∷ rest) = (In a rest → ⊥) × EachOnce rest
 abbrev pub places_at : List OfferedSide → List ℕ → List (Option Place)
 places_at sides indexes = map (λ (i : ℕ). option_map (λ (x : OfferedSide). x.place) (slice_get sides i)) indexes
 
--- where exactly these sides wait: the indexes are those of sides whose places are a ring, each once; or there is no ring, and none is
--- told
+-- where exactly these sides wait: the indexes are those of sides whose places are a ring, each once; or there is no
+-- ring, and none is told
 abbrev pub TellsRing : Helped → Residual → List OfferedSide → List ℕ → Type 0
 TellsRing helped r sides [] = (ring : List Place) → IsRing (λ x. In x sides) helped r ring → ⊥
 TellsRing helped r sides (i ∷ rest) =
-    (ring : List Place) × (places_at sides (i ∷ rest) ≡ map (λ (a : Place). Some a) ring) × IsRing (λ x. In x sides) helped r ring × EachOnce ring
+    (ring : List Place) × (places_at sides (i ∷ rest) ≡ map (λ (a : Place). Some a) ring)
+    × IsRing (λ x. In x sides) helped r ring × EachOnce ring

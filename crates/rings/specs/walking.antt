@@ -1,3 +1,4 @@
 pub mod Loosened
+pub mod Loosening
 pub mod Search
 pub mod Seen

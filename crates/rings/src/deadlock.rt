@@ -5,6 +5,7 @@ ghost use Rattle.system.specs.Residual.{Residual};
 ghost use Rattle.rings.specs.Partners.{partner_in};
 ghost use Rattle.rings.specs.Rings.{Helped, TellsDeadlocked};
 ghost use Rattle.rings.specs.walking.Loosened as model;
+ghost use Rattle.rings.specs.walking.Loosening.{Loosening};
 ghost use Rattle.rings.specs.walking.Search.{same_at};
 
 use crate::partner::Partner;
@@ -13,8 +14,8 @@ use address::Address;
 use offered_sides::OfferedSide;
 use std::alloc::{AllocError, Global};
 
-/// For each of the sides whether its place is deadlocked, where these are the partners of the sides, and `helped` says which of them are
-/// helped from elsewhere, in their order. It is an error if there is no memory.
+/// For each of the sides whether its place is deadlocked, where these are the partners of the sides, and `helped` says
+/// which of them are helped from elsewhere, in their order. It is an error if there is no memory.
 pub fn deadlocked_among(
     alloc: Global,
     sides: &[OfferedSide],
@@ -23,21 +24,37 @@ pub fn deadlocked_among(
 ) -> Result<Vec<bool>, AllocError>
     requires partners { length partners.now ≡ length sides.now }
     requires helped { length helped.now ≡ length sides.now }
-    ensures { (r : Residual) (help : Helped) → partners.now ≡ map (partner_in r) sides.now → helped.now ≡ map help sides.now
-        → IfOk result (λ marks. TellsDeadlocked help r sides.now marks.items) }
+    ensures { (r : Residual) (help : Helped) → partners.now ≡ map (partner_in r) sides.now
+        → helped.now ≡ map help sides.now → IfOk result (λ marks. TellsDeadlocked help r sides.now marks.items) }
 {
     let mut marks = all_marked(alloc, sides.len())?;
     let mut passed = none_passed(alloc, sides.len())?;
-    'loosening: while let Some(index) = first_loose(
+    loosen_all(
         sides,
         partners,
         helped,
-        marks.as_slice(),
+        marks.as_mut_slice(),
         passed.as_mut_slice(),
-    ) {
-        loosen(sides, marks.as_mut_slice(), index);
-    }
+    );
     Ok(marks)
+}
+
+/// Takes marks away until each side that is marked is firm.
+fn loosen_all(
+    sides: &[OfferedSide],
+    partners: &[Partner],
+    helped: &[bool],
+    marks: &mut [bool],
+    passed: &mut [usize],
+)
+    requires partners { length partners.now ≡ length sides.now }
+    requires so_far { Loosening sides.now partners.now helped.now marks.old passed.old }
+    ensures so_far { Loosening sides.now partners.now helped.now marks.new passed.new }
+    ensures firm { model.AllFirm sides.now partners.now helped.now marks.new }
+{
+    'loosening: while let Some(index) = first_loose(sides, partners, helped, marks, passed) {
+        loosen(sides, marks, index);
+    }
 }
 
 /// So many marks, all of them set.
@@ -56,8 +73,8 @@ fn none_passed(alloc: Global, count: usize) -> Result<Vec<usize>, AllocError>
     Ok(vec![in alloc; 0; count]?)
 }
 
-/// The index of the first side that is marked and loose. Up to where `passed` says nothing holds the side of that index back; it is
-/// brought up to date, so that no side is looked at twice for another one.
+/// The index of the first side that is marked and loose. Up to where `passed` says nothing holds the side of that index
+/// back; it is brought up to date, so that no side is looked at twice for another one.
 fn first_loose(
     sides: &[OfferedSide],
     partners: &[Partner],
@@ -89,13 +106,9 @@ fn first_loose(
     None
 }
 
-/// Up to where nothing holds the partner back, from an index on up to which nothing does; none where nothing at all does.
-fn held_from(
-    sides: &[OfferedSide],
-    marks: &[bool],
-    partner: &Partner,
-    from: usize,
-) -> Option<usize>
+/// Up to where nothing holds the partner back, from an index on up to which nothing does; none where nothing at all
+/// does.
+fn held_from(sides: &[OfferedSide], marks: &[bool], partner: &Partner, from: usize) -> Option<usize>
     requires { model.NoneBefore sides.now marks.now from partner.now }
     ensures { MatchOption result (model.Released sides.now marks.now partner.now)
         (λ next. model.Held sides.now marks.now partner.now × model.NoneBefore sides.now marks.now next partner.now) }
@@ -116,7 +129,7 @@ fn next_support(
 ) -> Option<usize>
     ensures { MatchOption result ((j : ℕ) → from ≤ j → model.supports sides.now marks.now place.now j ≡ false)
         (λ next. (model.supports sides.now marks.now place.now next ≡ true)
-            × ((j : ℕ) → from ≤ j → j < next → model.supports sides.now marks.now place.now j ≡ false)) }
+        × ((j : ℕ) → from ≤ j → j < next → model.supports sides.now marks.now place.now j ≡ false)) }
 {
     for index in from..sides.len() {
         if supports(sides, marks, place, index) {

@@ -19,9 +19,9 @@ pub(crate) enum Seen {
     Done,
 }
 
-/// The indexes of sides whose places are a ring of deadlocked ones, each once, where these are the partners of the sides, and `marks`
-/// says which are deadlocked, in their order: each side waits for the place of the next, and the last for that of the first. None where
-/// there is no ring. It is an error if there is no memory.
+/// The indexes of sides whose places are a ring of deadlocked ones, each once, where these are the partners of the
+/// sides, and `marks` says which are deadlocked, in their order: each side waits for the place of the next, and the
+/// last for that of the first. None where there is no ring. It is an error if there is no memory.
 pub fn ring_among(
     alloc: Global,
     sides: &[OfferedSide],
@@ -29,8 +29,8 @@ pub fn ring_among(
     marks: &[bool],
 ) -> Result<Vec<usize>, AllocError>
     requires { length partners.now ≡ length sides.now }
-    ensures { (r : Residual) (help : Helped) → partners.now ≡ map (partner_in r) sides.now → TellsDeadlocked help r sides.now marks.now
-        → IfOk result (λ ring. TellsRing help r sides.now ring.items) }
+    ensures { (r : Residual) (help : Helped) → partners.now ≡ map (partner_in r) sides.now
+        → TellsDeadlocked help r sides.now marks.now → IfOk result (λ ring. TellsRing help r sides.now ring.items) }
 {
     ring_of_indexes(alloc, sides, partners, marks)
 }

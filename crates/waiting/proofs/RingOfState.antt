@@ -44,8 +44,8 @@ pub names-deadlocked : (m : AtMachine) (S : State) (sides : List OfferedSide) (m
 names-deadlocked m S sides marks l h = (
   h.0,
   λ i x got. (
-      λ on. dead (λ y. In y sides) (Waits S) l.exactly (helped_in m S) S.residual x.place ((h.1 i x got).0 on),
-      λ d. (h.1 i x got).1 (dead (Waits S) (λ y. In y sides) (back S sides l) (helped_in m S) S.residual x.place d),
+    λ on. dead (λ y. In y sides) (Waits S) l.exactly (helped_in m S) S.residual x.place ((h.1 i x got).0 on),
+    λ d. (h.1 i x got).1 (dead (Waits S) (λ y. In y sides) (back S sides l) (helped_in m S) S.residual x.place d),
   ),
 )
 

@@ -1,5 +1,5 @@
--- Whether more in the stimulus is all that a run lacks. (Own. A loop that reads its input for ever waits for more of it in the end: no
--- fault of the circuit, as a deadlock is.)
+-- Whether more in the stimulus is all that a run lacks. (Own. A loop that reads its input for ever waits for more of it
+-- in the end: no fault of the circuit, as a deadlock is.)
 use Rattle.std.specs.Prelude.{◌==◌, ◌||◌, ◌&&◌, ℕ, ◌+◌, List, [], ◌∷◌, Bool, true, false, not, Option, None, Some, cond, is_some, slice_get}
 use Rattle.system.specs.declared.system.Branch as outside
 use Rattle.system.specs.declared.system.Branch.TheVariants.{Feed, Drain, Syncs}
@@ -55,7 +55,8 @@ is_starved m x (Some (partner.Behind a)) = false
 is_starved m x (Some partner.Open) = false
 is_starved m x None = false
 
--- a side that none of the others has to go on for, with this partner: an output port's, or one that waits for more input
+-- a side that none of the others has to go on for, with this partner: an output port's, or one that waits for more
+-- input
 abbrev pub is_helped : AtMachine → OfferedSide → Option Partner → Bool
 is_helped m x p = is_outlet x.side || is_starved m x p
 
@@ -94,8 +95,8 @@ abbrev pub none_deadlocked : List Bool → Bool
 none_deadlocked [] = true
 none_deadlocked (b ∷ bs) = not b && none_deadlocked bs
 
--- nothing can go on, nothing is deadlocked, so that each that waits waits for the environment in the end, by whichever of its arms,
--- and one side does so itself
+-- nothing can go on, nothing is deadlocked, so that each that waits waits for the environment in the end, by whichever
+-- of its arms, and one side does so itself
 abbrev pub lacks_input : AtMachine → Waiting → Bool
 lacks_input m w =
     is_stuck w.progress

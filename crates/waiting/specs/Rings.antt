@@ -14,7 +14,8 @@ use Rattle.waiting.specs.Waits.{Waits}
 abbrev pub TellsPartners : State → List OfferedSide → List Partner → Type 0
 TellsPartners S sides partners = partners ≡ map (partner_in S.residual) sides
 
--- the place is one of some that wait in S, of which none goes on before another one does, whatever the environment gives
+-- the place is one of some that wait in S, of which none goes on before another one does, whatever the environment
+-- gives
 abbrev pub IsDeadlockedIn : AtMachine → State → Place → Type 0
 IsDeadlockedIn m S a = IsDeadlocked (Waits S) (helped_in m S) S.residual a
 
@@ -22,7 +23,8 @@ IsDeadlockedIn m S a = IsDeadlocked (Waits S) (helped_in m S) S.residual a
 abbrev pub NamesDeadlocked : AtMachine → State → List OfferedSide → List Bool → Type 0
 NamesDeadlocked m S sides marks =
     (length marks ≡ length sides)
-    × ((i : ℕ) (x : OfferedSide) → slice_get sides i ≡ Some x → (slice_get marks i ≡ Some true) ↔ IsDeadlockedIn m S x.place)
+    × ((i : ℕ) (x : OfferedSide) → slice_get sides i ≡ Some x
+    → (slice_get marks i ≡ Some true) ↔ IsDeadlockedIn m S x.place)
 
 -- these places are a ring of those that wait in S
 abbrev pub IsRingIn : AtMachine → State → List Place → Type 0
@@ -32,4 +34,5 @@ IsRingIn m S ring = IsRing (Waits S) (helped_in m S) S.residual ring
 abbrev pub NamesRing : AtMachine → State → List OfferedSide → List ℕ → Type 0
 NamesRing m S sides [] = (ring : List Place) → IsRingIn m S ring → ⊥
 NamesRing m S sides (i ∷ rest) =
-    (ring : List Place) × (places_at sides (i ∷ rest) ≡ map (λ (a : Place). Some a) ring) × IsRingIn m S ring × EachOnce ring
+    (ring : List Place) × (places_at sides (i ∷ rest) ≡ map (λ (a : Place). Some a) ring)
+    × IsRingIn m S ring × EachOnce ring

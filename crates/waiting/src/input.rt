@@ -14,9 +14,9 @@ use std::alloc::{AllocError, Global};
 use system::{Branch, System};
 
 impl Waiting {
-    /// Whether nothing can go on for want of input alone: nothing is deadlocked, so that whatever waits waits for the environment in the
-    /// end, by whichever of its arms, and a side of the body waits for what the environment has no more of. Where it is not known from
-    /// where a partner comes, it is not. The machine is the one that was asked.
+    /// Whether nothing can go on for want of input alone: nothing is deadlocked, so that whatever waits waits for the
+    /// environment in the end, by whichever of its arms, and a side of the body waits for what the environment has no
+    /// more of. Where it is not known from where a partner comes, it is not. The machine is the one that was asked.
     pub fn lacks_input(&self, machine: &Machine) -> bool
         ensures { result ≡ model.lacks_input machine.now self.now }
     {
@@ -29,8 +29,8 @@ impl Waiting {
     }
 }
 
-/// For each of the sides whether it is helped from elsewhere, so that none of the others has to go on for it. It is an error if there is
-/// no memory.
+/// For each of the sides whether it is helped from elsewhere, so that none of the others has to go on for it. It is an
+/// error if there is no memory.
 pub(crate) fn helped_among(
     alloc: Global,
     machine: &Machine,

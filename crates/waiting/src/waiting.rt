@@ -32,17 +32,18 @@ pub struct Waiting {
     pub sides: Items<OfferedSide>,
     /// for each of them what has to go on before its partner can come
     pub partners: Vec<Partner>,
-    /// for each of them whether its place is deadlocked: one of some of which none goes on before another one does, whatever the
-    /// environment gives
+    /// for each of them whether its place is deadlocked: one of some of which none goes on before another one does,
+    /// whatever the environment gives
     pub deadlocked: Vec<bool>,
-    /// the indexes of deadlocked sides of which each waits for the place of the next, and the last for the first; empty where there is no
-    /// such ring
+    /// the indexes of deadlocked sides of which each waits for the place of the next, and the last for the first; empty
+    /// where there is no such ring
     pub ring: Vec<usize>,
 }
 
-/// Exactly the sides that the state of the machine offers and whose place no allowed event has, each once, in order of place,
-/// the allowed events, how the run stands, what each of the sides waits for, which are deadlocked, and a ring exactly where there is one. It
-/// makes the live events again, and then takes a walk of the tree for each of the sides. It is an error if there is no memory.
+/// Exactly the sides that the state of the machine offers and whose place no allowed event has, each once, in order of
+/// place, the allowed events, how the run stands, what each of the sides waits for, which are deadlocked, and a ring
+/// exactly where there is one. It makes the live events again, and then takes a walk of the tree for each of the sides.
+/// It is an error if there is no memory.
 pub fn who_waits(alloc: Global, machine: &Machine) -> Result<Waiting, AllocError>
     ensures { IfOk result (λ told. TellsWaits machine.now told) }
 {
@@ -70,7 +71,8 @@ pub fn who_waits(alloc: Global, machine: &Machine) -> Result<Waiting, AllocError
     })
 }
 
-/// For each of the sides, which have these partners, whether its place is deadlocked. It is an error if there is no memory.
+/// For each of the sides, which have these partners, whether its place is deadlocked. It is an error if there is no
+/// memory.
 fn deadlocked_of(
     alloc: Global,
     machine: &Machine,

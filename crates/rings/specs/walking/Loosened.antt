@@ -1,6 +1,6 @@
--- How deadlocked places are found by the indexes of sides: all are marked, and a mark is taken away where nothing that is marked
--- holds a side back.
--- No reader has to believe it: the contract of `deadlocked_among` ties it to `TellsDeadlocked`.
+-- How deadlocked places are found by the indexes of sides: all are marked, and a mark is taken away where nothing that
+-- is marked holds a side back. No reader has to believe it: the contract of `deadlocked_among` ties it to
+-- `TellsDeadlocked`.
 use Rattle.std.specs.Prelude.{◌≡◌, ◌⊎◌, ℕ, ◌+◌, ◌<◌, List, [], ◌∷◌, length, Bool, true, false, ◌&&◌, Option, Some, None, slice_get, slice_index}
 use Rattle.runs.specs.Moves.{Place}
 use Rattle.offered_sides.specs.walking.At.{is_under}
