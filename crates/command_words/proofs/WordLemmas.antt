@@ -25,7 +25,7 @@ use Rattle.std.specs.Box.{box_value}
 use Rattle.clap.specs.declared.error.Error.{Error}
 use Rattle.clap.specs.declared.error.kind.ErrorKind.TheVariants.{MissingSubcommand, OutOfMemory}
 use Rattle.clap.proofs.OnLiterals.{clap_on_literals}
-use Rattle.refusal_pages.specs.Numbers.{among, is_refusal, of_files, of_lines, of_sources}
+use Rattle.refusal_pages.specs.Numbers.{among, is_refusal, of_editors, of_files, of_lines, of_sources}
 use Rattle.refusal_pages.specs.declared.writing.Page.{Page}
 use Rattle.command_words.specs.declared.drawing.Drawing.{Drawing}
 use Rattle.command_words.specs.declared.request.Request.{Request}
@@ -249,13 +249,16 @@ among_below n most (m ∷ rest) all h = elim (either (n == m) (among n rest) h) 
   | inr later ↦ among_below n most rest (grind (arith, nat_tests, all)) later
 ]
 
--- the number of a refusal is below 62
-pub number_is_small : (n : ℕ) → IsTrue (is_refusal n) → n < 62
-number_is_small n h = elim (either (among n of_sources) (among n of_lines || among n of_files) h) [
-  | inl first ↦ among_below n 62 of_sources refl first
-  | inr later ↦ elim (either (among n of_lines) (among n of_files) later) [
-    | inl second ↦ among_below n 62 of_lines refl second
-    | inr third ↦ among_below n 62 of_files refl third
+-- the number of a refusal is below 114
+pub number_is_small : (n : ℕ) → IsTrue (is_refusal n) → n < 114
+number_is_small n h = elim (either (among n of_sources) (among n of_lines || (among n of_files || among n of_editors)) h) [
+  | inl first ↦ among_below n 114 of_sources refl first
+  | inr later ↦ elim (either (among n of_lines) (among n of_files || among n of_editors) later) [
+    | inl second ↦ among_below n 114 of_lines refl second
+    | inr last ↦ elim (either (among n of_files) (among n of_editors) last) [
+      | inl third ↦ among_below n 114 of_files refl third
+      | inr fourth ↦ among_below n 114 of_editors refl fourth
+    ]
   ]
 ]
 
