@@ -1,5 +1,5 @@
 -- Marks of deadlocked places, from all down to those that hold each other back.
-use Rattle.std.proofs.Common.{◌≡◌, ◌⊎◌, inl, inr, ℕ, zero, suc, ◌+◌, ◌<◌, ◌≤◌, List, [], ◌∷◌, map, take, drop, length, ◌++◌, get_or, set, slice_index_or, Bool, true, false, not, ◌&&◌, Option, Some, None, option_map, slice_get, slice_set, MatchOption, refl, sym, ◌∙◌, ap, ap₂, subst, arith, get_or-set_other, get_or-set_same, true≢false}
+use Rattle.std.proofs.Common.{◌≡◌, inl, inr, ℕ, zero, suc, ◌+◌, ◌<◌, ◌≤◌, List, [], ◌∷◌, map, take, drop, length, ◌++◌, get_or, set, slice_index_or, Bool, true, false, not, ◌&&◌, Option, Some, None, option_map, slice_get, slice_set, MatchOption, refl, sym, ◌∙◌, ap, ap₂, subst, arith, get_or-set_other, get_or-set_same, true≢false}
 use Rattle.std.proofs.lemmas.Bool.{and_from, and_parts, cases_Bool, cases_eq, cases_lt}
 use Rattle.std.proofs.lemmas.List.{take_at}
 use Rattle.std.proofs.lemmas.Option.{slice_get-get_or, slice_get-map, slice_get_within}
@@ -12,10 +12,10 @@ use Rattle.offered_sides.proofs.PlacedSides.{place-true, place-itself, under-tru
 use Rattle.offered_sides.specs.walking.At.{is_under}
 use Rattle.offered_sides.specs.declared.side.OfferedSide.{OfferedSide}
 use Rattle.rings.specs.Partners.{partner_in}
-use Rattle.rings.specs.Rings.{Helped, HeldBack, HoldEachOther, IsDeadlocked, TellsDeadlocked}
+use Rattle.rings.specs.Rings.{Helped, HeldBack, HoldEachOther, TellsDeadlocked}
 use Rattle.rings.specs.declared.partner.Partner.{Partner}
 use Rattle.rings.specs.declared.partner.Partner.TheVariants as partner
-use Rattle.rings.specs.walking.Loosened.{is_marked, stands_under, supports, Held, Released, NoneBefore, Passed, Firm, Loose, AllFirm, IsLoose, count_marked}
+use Rattle.rings.specs.walking.Loosened.{is_marked, stands_under, supports, Held, Released, NoneBefore, Passed, Loose, AllFirm, IsLoose, count_marked}
 use Rattle.rings.specs.walking.Loosening.{Keeps, Loosening}
 use Rattle.rings.specs.walking.Search.{same_places, same_at}
 use Rattle.rings.proofs.Places.{Among, got-in, in-got, itself, marked-some}

@@ -1,5 +1,5 @@
 -- Which sides are helped is told of each of them.
-use Rattle.std.proofs.Common.{◌≡◌, ℕ, zero, suc, ◌+◌, List, [], ◌∷◌, map, length, Bool, Option, Some, option_map, slice_get, refl, sym, ap, ap₂, ◌∙◌, arith}
+use Rattle.std.proofs.Common.{◌≡◌, ℕ, suc, ◌+◌, List, [], ◌∷◌, map, length, Bool, Option, Some, option_map, slice_get, refl, ap, ap₂, ◌∙◌, arith}
 use Rattle.std.proofs.lemmas.Option.{slice_get-map}
 use Rattle.system.specs.Residual.{Residual}
 use Rattle.machine.specs.AtMachine.{AtMachine}

@@ -1,5 +1,5 @@
-use Rattle.std.proofs.Common.{◌≡◌, ◌∙◌, ◌<◌, ℕ, List, Bool, Option, Some, None, MatchOption, length, sym, subst, rules}
-use Rattle.rings.specs.walking.Loosened.{AllFirm, IsLoose, count_marked}
+use Rattle.std.proofs.Common.{◌≡◌, ◌∙◌, ℕ, Option, None, MatchOption, sym, subst, rules}
+use Rattle.rings.specs.walking.Loosened.{AllFirm, IsLoose}
 use Rattle.rings.proofs.Holding.{farther, less-marked, loosened}
 use Rattle.rings.proofs.deadlock.loosen_all.Goals as goal
 
