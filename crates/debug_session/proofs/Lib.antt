@@ -3,7 +3,7 @@ pub mod AskLemmas
 pub mod CountLemmas
 pub mod EndLemmas
 pub mod HeldLemmas
-pub mod LineLemmas
+pub mod HoldingLemmas
 pub mod OneThingLemmas
 pub mod PieceLemmas
 pub mod ReplayLemmas

@@ -1,35 +1,38 @@
-ghost use Rattle.std.specs.Prelude.{◌≡◌, ◌≢◌, [], MatchBool, MatchResult, IfOk, OnErr};
-ghost use Rattle.std.specs.Io.Buffered.{reader_remaining};
-ghost use Rattle.devices.specs.Counting.{device, failures};
+ghost use Rattle.std.specs.Prelude.{◌≡◌, ◌≢◌, [], Err, MatchBool, MatchResult, IfOk, OnErr};
 ghost use Rattle.debug_session.specs.Counting.{after_reading, after_writing};
 ghost use Rattle.debug_session.specs.Lines.{SaysSession};
 ghost use Rattle.debug_session.specs.declared.line.Line.{Line};
 ghost use Rattle.debug_session.specs.walking.OneLine.{LineStops, EndsByDevice, EndsByNoDevice, EndsHolding};
+ghost use Rattle.debug_session.specs.Holding.{EndsWriting};
+ghost use Rattle.debug_session.specs.walking.Owing.{EndsOwing};
+ghost use Rattle.debug_session.specs.declared.fault.Fault.TheVariants.{WriteFailed};
 ghost use Rattle.debug_session.specs.Transcript.{SaidAnswered, LineAnswered, Ends};
 
 use crate::held::{hold, put_out};
 use crate::input::next_line;
 use crate::sitting::Sitting;
-use crate::{Counted, Fault, Line, read_command, write_answer, write_session};
+use crate::{Fault, Line, read_command, write_answer, write_session};
+use devices::{CountedLines, CountedWrite};
 use locked_execution::Command;
 use std::alloc::{AllocError, Global};
-use std::io::{BufReader, Read, Write};
 
 /// Answers each line of the reader. It ends where the reader is at its end, or at the first fault: then the answers of
 /// the lines before are out, and where writing failed a beginning of the answers. Before the reader asks its device for
 /// more, all answers are out: they are held back only while its buffer has another line. Each line is taken into `line`.
-pub(crate) fn answer_lines<R: Read, W: Write>(
+pub(crate) fn answer_lines<R: CountedLines, W: CountedWrite>(
     alloc: Global,
     sitting: &mut Sitting<'_>,
-    reader: &mut Counted<BufReader<R>>,
-    writer: &mut Counted<W>,
+    reader: &mut R,
+    writer: &mut W,
     line: &mut Vec<u8>,
 ) -> Result<(), Fault>
     ensures ends { Ends sitting.old.desk.machine.checked sitting.old
-        (reader_remaining R.remaining (device reader.old)) (reader_remaining R.remaining (device reader.new))
-        (W.contents (device writer.old)) (W.contents (device writer.new)) result }
-    ensures read_failures { failures reader.new ≡ after_reading result (failures reader.old) }
-    ensures write_failures { failures writer.new ≡ after_writing result (failures writer.old) }
+        (R.remaining reader.old) (R.remaining reader.new) (W.contents writer.old) (W.contents writer.new) result }
+    ensures held_back { result ≡ Err WriteFailed
+        → EndsWriting R.buffered R.asked sitting.old.desk.machine.checked sitting.old reader.new
+        (R.remaining reader.old) (R.remaining reader.new) (W.contents writer.old) (W.contents writer.new) }
+    ensures read_failures { R.failed reader.new ≡ after_reading result (R.failed reader.old) }
+    ensures write_failures { W.failed writer.new ≡ after_writing result (W.failed writer.old) }
 {
     let mut held = Vec::new(alloc);
     let ended = hold_answers(alloc, sitting, reader, writer, &mut held, line);
@@ -48,20 +51,21 @@ fn has_failed(ended: &Result<(), Fault>) -> bool
 }
 
 /// Answers the lines; some of the answers may still be held at the end.
-fn hold_answers<R: Read, W: Write>(
+fn hold_answers<R: CountedLines, W: CountedWrite>(
     alloc: Global,
     sitting: &mut Sitting<'_>,
-    reader: &mut Counted<BufReader<R>>,
-    writer: &mut Counted<W>,
+    reader: &mut R,
+    writer: &mut W,
     held: &mut Vec<u8>,
     line: &mut Vec<u8>,
 ) -> Result<(), Fault>
     requires { held.old.items ≡ [] }
     ensures ends { EndsHolding sitting.old.desk.machine.checked sitting.old
-        (reader_remaining R.remaining (device reader.old)) (reader_remaining R.remaining (device reader.new))
-        (W.contents (device writer.old)) (W.contents (device writer.new)) held.new.items result }
-    ensures read_failures { failures reader.new ≡ after_reading result (failures reader.old) }
-    ensures write_failures { failures writer.new ≡ after_writing result (failures writer.old) }
+        (R.remaining reader.old) (R.remaining reader.new) (W.contents writer.old) (W.contents writer.new) held.new.items result }
+    ensures owes { EndsOwing R.buffered R.asked sitting.old.desk.machine.checked sitting.old reader.new
+        (R.remaining reader.old) (R.remaining reader.new) (W.contents writer.old) (W.contents writer.new) held.new.items result }
+    ensures read_failures { R.failed reader.new ≡ after_reading result (R.failed reader.old) }
+    ensures write_failures { W.failed writer.new ≡ after_writing result (W.failed writer.old) }
 {
     for number in 1..u64::MAX {
         let is_complete = next_line(reader, writer, held, line)?;

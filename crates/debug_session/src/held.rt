@@ -1,24 +1,24 @@
 //! Answers that are held back while further lines are at hand, so that many of them take one write.
-ghost use Rattle.std.specs.Prelude.{◌≡◌, ◌≢◌, ◌≤◌, ◌⊎◌, ◌++◌, [], List, ℕ, length, MatchBool, MatchResult, IfOk, IfErr};
+ghost use Rattle.std.specs.Prelude.{◌≡◌, ◌≢◌, ◌≤◌, ◌⊎◌, ◌++◌, [], List, ℕ, length, MatchBool, MatchResult, IfErr};
 ghost use Rattle.std.specs.Io.KnownBytes.{Appends};
-ghost use Rattle.devices.specs.Counting.{device, failures};
 ghost use Rattle.debug_session.specs.Counting.{after_writing, WritingStops};
+ghost use Rattle.debug_session.specs.Holding.{most_held};
 
+use crate::Fault;
 use crate::output::write_out;
-use crate::{Counted, Fault};
-use std::io::Write;
+use devices::CountedWrite;
 
-/// How many bytes of an answer are held back at most, and behind how many.
-const ROOM: usize = 8_192;
+/// How many bytes of answers are held back at most.
+const MOST_HELD: usize = 8_192;
 
 /// Writes out what is held, and flushes.
-pub(crate) fn put_out<W: Write>(writer: &mut Counted<W>, held: &mut Vec<u8>) -> Result<(), Fault>
-    ensures bytes { (given : List ℕ) × Appends (W.contents (device writer.old)) (W.contents (device writer.new)) given
+pub(crate) fn put_out<W: CountedWrite>(writer: &mut W, held: &mut Vec<u8>) -> Result<(), Fault>
+    ensures bytes { (given : List ℕ) × Appends (W.contents writer.old) (W.contents writer.new) given
         × MatchResult result
         (λ _. (given ≡ held.old.items) × (held.new.items ≡ []))
         (λ fault. WritingStops held.old.items given fault) }
     ensures some { IfErr result (λ _. held.old.items ≢ []) }
-    ensures failures { failures writer.new ≡ after_writing result (failures writer.old) }
+    ensures failures { W.failed writer.new ≡ after_writing result (W.failed writer.old) }
 {
     if held.is_empty() {
         return Ok(());
@@ -28,19 +28,18 @@ pub(crate) fn put_out<W: Write>(writer: &mut Counted<W>, held: &mut Vec<u8>) -> 
     written
 }
 
-/// Holds the answer behind what is held, or writes both out where one of them is long or no memory is there for it.
-pub(crate) fn hold<W: Write>(
-    writer: &mut Counted<W>,
+/// Holds the answer behind what is held, or writes both out where they are long together, or no memory is there for it.
+pub(crate) fn hold<W: CountedWrite>(
+    writer: &mut W,
     held: &mut Vec<u8>,
     answer: &[u8],
 ) -> Result<(), Fault>
-    ensures bytes { (given : List ℕ) × Appends (W.contents (device writer.old)) (W.contents (device writer.new)) given
+    ensures bytes { (given : List ℕ) × Appends (W.contents writer.old) (W.contents writer.new) given
         × MatchResult result
-        (λ _. given ++ held.new.items ≡ held.old.items ++ answer.now)
+        (λ _. ((given ≡ []) × (held.new.items ≡ held.old.items ++ answer.now) × (length held.new.items ≤ most_held))
+        ⊎ ((given ≡ held.old.items ++ answer.now) × (held.new.items ≡ [])))
         (λ fault. WritingStops (held.old.items ++ answer.now) given fault) }
-    ensures bound { IfOk result (λ _.
-        (held.new.items ≡ []) ⊎ ((length held.old.items ≤ 8192) × (length answer.now ≤ 8192))) }
-    ensures failures { failures writer.new ≡ after_writing result (failures writer.old) }
+    ensures failures { W.failed writer.new ≡ after_writing result (W.failed writer.old) }
 {
     if is_held(held, answer) {
         return Ok(());
@@ -49,11 +48,13 @@ pub(crate) fn hold<W: Write>(
     write_out(writer, answer)
 }
 
-/// Whether the answer is held now: neither it nor what was held before it is long, and there was memory for it.
+/// Whether the answer is held now: it is not long with what was held before, and there was memory for it.
 fn is_held(held: &mut Vec<u8>, answer: &[u8]) -> bool
     ensures { MatchBool result
-        ((held.new.items ≡ held.old.items ++ answer.now) × (length held.old.items ≤ 8192) × (length answer.now ≤ 8192))
+        ((held.new.items ≡ held.old.items ++ answer.now) × (length held.new.items ≤ most_held))
         (held.new.items ≡ held.old.items) }
 {
-    held.len() <= ROOM && answer.len() <= ROOM && held.extend_from_slice(answer).is_ok()
+    held.len() <= MOST_HELD
+        && answer.len() <= MOST_HELD - held.len()
+        && held.extend_from_slice(answer).is_ok()
 }

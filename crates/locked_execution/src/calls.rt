@@ -115,9 +115,14 @@ impl Shared {
         }
     }
 
-    /// The execution, once no pass calls it any more. It waits for nobody, so that no clause says which machine it is.
-    pub fn finish(self) -> Machine {
-        self.object.finish().into_machine()
+    /// The execution, once no pass calls it any more. It waits for nobody, so that no clause says which calls are behind it, but
+    /// that its state is what its live events give; `finish_seen` says more.
+    pub fn finish(self) -> Machine
+        ensures sound { Headline (execution (new_desk result)) }
+    {
+        let machine = self.object.finish().into_machine();
+        machine.is_sound();
+        machine
     }
 
     /// The execution, once no pass calls it any more, with its recorded calls behind it, which the pass has then seen: calls of its

@@ -1,5 +1,5 @@
 // The object under its lock.
-ghost use Rattle.std.specs.Prelude.{◌≡◌, ◌≤◌, [], length, IfOk, OnOk, IfErr, OnErr, IfSome};
+ghost use Rattle.std.specs.Prelude.{◌≡◌, ◌≤◌, ◌<◌, [], length, IfOk, OnOk, IfErr, OnErr, IfSome, MatchBool};
 ghost use mathlib.Core.List.{IsPrefix};
 ghost use Rattle.recorded_calls.specs.History.{IsLegal};
 ghost use Rattle.recorded_calls.specs.Seats.{IsScribeOf, noted, made};
@@ -28,6 +28,12 @@ type Vault<C, R, D> = Table<Keeper<D, C, R>, Place, Register<C, R, D>, Guarded<D
 
 /// The vault's only seat.
 type Key<C, R, D> = Seat<Keeper<D, C, R>, Place>;
+
+/// The lock while a caller has it. No value of this type is dropped: whoever has the lock unlocks it, or closes the vault.
+struct Taken<C, R, D> {
+    mark: Mark<Hold>,
+    seat: Key<C, R, D>,
+}
 
 /// So often a caller looks whether the lock is free, before it sleeps.
 const LOOKS: u32 = 200;
@@ -80,7 +86,7 @@ impl<C, R, D: Object<C, R>> Shared<C, R, D> {
             lock,
             turn: Mutex::new(()),
         };
-        shared.unlock(mark, seat);
+        shared.unlock(Taken { mark, seat });
         Ok((shared, passes))
     }
 
@@ -100,9 +106,9 @@ impl<C, R, D: Object<C, R>> Shared<C, R, D> {
         ensures same { OnErr result (SawNothing pass.old pass.new) }
         ensures before { OnErr result (IsPrefix (seen pass.old) (told pass.new)) }
     {
-        let (mark, mut seat) = self.lock(rt);
-        let told = self.call_at(&mut seat, pass, command);
-        self.unlock(mark, seat);
+        let mut taken = self.lock(rt);
+        let told = self.call_at(&mut taken.seat, pass, command);
+        self.unlock(taken);
         told
     }
 
@@ -156,7 +162,8 @@ impl<C, R, D: Object<C, R>> Shared<C, R, D> {
         ensures keeper { IsKeeperOf D.performs result.0.table.shared.table_id result.0.table.shared.key result.1 }
         ensures passes { passes_made result.1 ≡ self.passes }
     {
-        let (_mark, seat) = self.lock(rt);
+        let taken = self.lock(rt);
+        let Taken { mark: _mark, seat } = taken;
         let Shared {
             board,
             passes: _,
@@ -172,17 +179,17 @@ impl<C, R, D: Object<C, R>> Shared<C, R, D> {
 
     /// Waits until the vault's seat rests on the lock, and takes it: looks for a while, and then sleeps until no other who waits so
     /// is awake.
-    fn lock<W: Wait>(&self, rt: &W) -> (Mark<Hold>, Key<C, R, D>)
-        ensures mark { (result.0.perch ≡ self.now.lock.name) × (result.0.view ≡ Held) }
-        ensures seat { (result.1.table_id ≡ self.now.vault.shared.table_id) × (result.1.me ≡ (Home, [])) }
+    fn lock<W: Wait>(&self, rt: &W) -> Taken<C, R, D>
+        ensures mark { (result.mark.perch ≡ self.now.lock.name) × (result.mark.view ≡ Held) }
+        ensures seat { (result.seat.table_id ≡ self.now.vault.shared.table_id) × (result.seat.me ≡ (Home, [])) }
     {
         let (_found, mut mark, seat) = self.lock.swap_new_mark::<Locks>(0);
         if let Some(seat) = seat {
-            return (mark, seat);
+            return Taken { mark, seat };
         }
         for _ in 0..LOOKS {
             if let Some(seat) = self.try_lock(&mut mark) {
-                return (mark, seat);
+                return Taken { mark, seat };
             }
             spin_loop();
         }
@@ -191,14 +198,14 @@ impl<C, R, D: Object<C, R>> Shared<C, R, D> {
     }
 
     /// The same for the one whose turn it is: it lets others have the processor.
-    fn lock_in_turn<W: Wait>(&self, rt: &W, mut mark: Mark<Hold>) -> (Mark<Hold>, Key<C, R, D>)
+    fn lock_in_turn<W: Wait>(&self, rt: &W, mut mark: Mark<Hold>) -> Taken<C, R, D>
         requires { mark.perch ≡ self.now.lock.name }
-        ensures mark { (result.0.perch ≡ self.now.lock.name) × (result.0.view ≡ Held) }
-        ensures seat { (result.1.table_id ≡ self.now.vault.shared.table_id) × (result.1.me ≡ (Home, [])) }
+        ensures mark { (result.mark.perch ≡ self.now.lock.name) × (result.mark.view ≡ Held) }
+        ensures seat { (result.seat.table_id ≡ self.now.vault.shared.table_id) × (result.seat.me ≡ (Home, [])) }
     {
         for _ in rt.forever() {
             if let Some(seat) = self.try_lock(&mut mark) {
-                return (mark, seat);
+                return Taken { mark, seat };
             }
             yield_now();
         }
@@ -212,17 +219,18 @@ impl<C, R, D: Object<C, R>> Shared<C, R, D> {
         ensures held { IfSome result (λ _. mark.new.view ≡ Held) }
         ensures seat { IfSome result (λ s. (s.table_id ≡ self.now.vault.shared.table_id) × (s.me ≡ (Home, []))) }
     {
-        if self.lock.load::<Looks>(mark) < 2 {
+        if !is_free(self.lock.load::<Looks>(mark)) {
             return None;
         }
         self.lock.swap::<Locks>(mark, 0).1
     }
 
     /// Lets the vault's seat rest on the lock again.
-    fn unlock(&self, mut mark: Mark<Hold>, seat: Key<C, R, D>)
-        requires mark { (mark.perch ≡ self.now.lock.name) × (mark.view ≡ Held) }
-        requires seat { (seat.table_id ≡ self.now.vault.shared.table_id) × (seat.me ≡ (Home, [])) }
+    fn unlock(&self, taken: Taken<C, R, D>)
+        requires mark { (taken.mark.perch ≡ self.now.lock.name) × (taken.mark.view ≡ Held) }
+        requires seat { (taken.seat.table_id ≡ self.now.vault.shared.table_id) × (taken.seat.me ≡ (Home, [])) }
     {
+        let Taken { mut mark, seat } = taken;
         match self.lock.give::<Unlocks>(&mut mark, seat, 0, 2) {
             Ok(()) => {}
             Err(_) => unreachable!(),
@@ -262,6 +270,13 @@ impl<C, R, D: Object<C, R>> Shared<C, R, D> {
     {
         self.vault.shared.load::<Takes<J>>(seat, 0);
     }
+}
+
+/// Whether the lock is free where its word is this: the vault's seat rests on it.
+fn is_free(word: u64) -> bool
+    ensures { MatchBool result (2 ≤ word) (word < 2) }
+{
+    word >= 2
 }
 
 /// The keeper in a vault, whose seat knows it at home.

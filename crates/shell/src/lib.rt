@@ -5,7 +5,6 @@
 mod answer;
 mod beginning;
 mod host;
-mod input;
 mod keeping;
 mod laws;
 mod loading;

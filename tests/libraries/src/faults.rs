@@ -1,9 +1,10 @@
 //! The texts of faults.
 
+use calculus::Refusal;
 use debug_session::Fault;
 use std::test::Fail;
 
-const TEXTS: [(Fault, &str); 9] = [
+const TEXTS: [(Fault, &str); 17] = [
     (
         Fault::NoSystem(front_end::Fault::Source(typed_source::Fault::Lexer(lexer::Fault::Memory))),
         "out of memory",
@@ -32,6 +33,35 @@ const TEXTS: [(Fault, &str); 9] = [
     (Fault::ReadFailed, "the script could not be read"),
     (Fault::WriteFailed, "the answers could not be written"),
     (Fault::BadCommand(3), "line 3 of the script is no command"),
+    (
+        Fault::Refused(Refusal::NoSuchEvent),
+        "no live event has this ticket",
+    ),
+    (Fault::Trace(trace_file::Fault::Memory), "out of memory"),
+    (
+        Fault::Trace(trace_file::Fault::BadHeader),
+        "the trace does not begin with a header",
+    ),
+    (
+        Fault::Trace(trace_file::Fault::BadLine(7)),
+        "line 7 of the trace is no step",
+    ),
+    (
+        Fault::Trace(trace_file::Fault::NotAStep(7)),
+        "the step of line 7 of the trace cannot be taken",
+    ),
+    (
+        Fault::Trace(trace_file::Fault::NotCanonical(7)),
+        "line 7 of the trace is not the step that comes next in canonical order",
+    ),
+    (
+        Fault::Trace(trace_file::Fault::ReadFailed),
+        "the trace could not be read",
+    ),
+    (
+        Fault::Trace(trace_file::Fault::WriteFailed),
+        "the trace could not be written",
+    ),
 ];
 
 #[test]

@@ -5,6 +5,7 @@ ghost use Rattle.std.specs.Prelude.{◌<◌};
 use crate::examples::*;
 use crate::told::place;
 use calculus::{Choice, Event, Kind, Refusal};
+use debug_session::write_answer;
 use locked_execution::{Command, Desk, Reply, run_commands};
 use machine::{Breaks, Machine};
 use std::alloc::Global;
@@ -126,6 +127,60 @@ fn a_list_of_commands_is_answered_in_order(rt: HostRuntime) -> Result<(), Fail> 
     for (reply, told) in replies.iter().zip(told) {
         assert!(rt; is_told(reply, told)?);
     }
+    Ok(())
+}
+
+/// What is answered to the commands in one list, each of session 0, as a script is answered.
+fn answered(
+    alloc: Global,
+    example: Example,
+    commands: &[(u32, Command)],
+) -> Result<Vec<u8>, Fail> {
+    let mut desk = desk(alloc, example)?;
+    let replies = run_commands(alloc, &mut desk, commands)?;
+    let mut text = Vec::new(alloc);
+    for ((_, command), reply) in commands.iter().zip(replies.iter()) {
+        if let Reply::Refused(Refusal::Memory) = reply {
+            return Err(Fail::from(Refusal::Memory));
+        }
+        let answer = write_answer(alloc, desk.machine().checked(), command, reply)?;
+        text.extend_from_slice(answer.as_slice())?;
+    }
+    Ok(text)
+}
+
+#[test]
+fn a_list_of_commands_goes_back_to_a_cause(rt: HostRuntime) -> Result<(), Fail> {
+    let alloc = rt.alloc();
+    let checked = TWO_BUFFERS.checked(alloc)?;
+    let Some(second) = checked.system().variable(b"1:x") else {
+        return Err(Fail::from("a variable"));
+    };
+    let commands = [
+        (0, command(alloc, Asked::Step(b"/0/0.0"))?),
+        (0, command(alloc, Asked::Step(b"/0/1.0"))?),
+        (0, command(alloc, Asked::Step(b"/0/0.1.0"))?),
+        (0, command(alloc, Asked::Step(b"/0/1.1.0"))?),
+        (0, Command::Consequences(3)),
+        (0, Command::Value(second)),
+        (0, Command::Roll(3)),
+        (0, Command::Live),
+        (0, Command::Value(second)),
+    ];
+    let text = answered(alloc, TWO_BUFFERS, &commands)?;
+    let expected = b"step 1 turn /0/0.0
+step 2 turn /0/1.0
+step 3 meet a 5 /1.0.0 /0/0.1.0
+step 4 meet c 5 /0/0.1.1.0 /0/1.1.0
+consequences 3 4
+value 1:x 5
+rolled 2
+live 2
+  1 turn /0/0.0
+  2 turn /0/1.0
+value 1:x 0
+";
+    assert!(rt; text.as_slice() == expected.as_slice());
     Ok(())
 }
 

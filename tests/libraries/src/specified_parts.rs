@@ -21,7 +21,7 @@ use store::Store;
 use syntax::{Boxed, Description, Items};
 use typed::Typed;
 use types::check_types;
-use value::{Value, add, bit_and, bit_or, bit_xor, not, resize, sub};
+use value::{Comparison, Value, add, bit_and, bit_or, bit_xor, compare, not, resize, sub};
 
 #[test]
 fn values_are_reckoned(rt: HostRuntime) -> Result<(), Fail> {
@@ -34,6 +34,7 @@ fn values_are_reckoned(rt: HostRuntime) -> Result<(), Fail> {
     assert!(rt; bit_xor(three, five) == Value::make(6, 8));
     assert!(rt; not(three) == Value::make(12, 4));
     assert!(rt; resize(five, 2) == Value::make(1, 2));
+    assert!(rt; compare(Comparison::Less, three, five) == Value::make(1, 1));
     assert!(rt; Value::new(16, 4).is_none());
     Ok(())
 }
@@ -111,6 +112,8 @@ fn a_list_is_replayed(rt: HostRuntime) -> Result<(), Fail> {
     assert!(rt; same?.is_some());
     let choice: Result<Choice, AllocError> = one[0].choice(rt.alloc());
     assert_eq!(rt; choice?.arm, 0);
+    let copy: Result<Event, AllocError> = one[0].copy(rt.alloc());
+    assert!(rt; copy?.kind == Kind::Turn);
     Ok(())
 }
 
