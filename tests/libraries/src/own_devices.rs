@@ -1,6 +1,6 @@
 //! Sessions over a reader and a writer of one's own, which count their failures themselves.
 
-ghost use Rattle.std.specs.Prelude.{None, [], tt};
+ghost use Rattle.std.specs.Prelude.{None, []};
 
 use crate::one::{FIVE, ONE};
 use debug_session::{CountedLines, CountedWrite, Fault, debug};

@@ -131,11 +131,7 @@ fn a_list_of_commands_is_answered_in_order(rt: HostRuntime) -> Result<(), Fail> 
 }
 
 /// What is answered to the commands in one list, each of session 0, as a script is answered.
-fn answered(
-    alloc: Global,
-    example: Example,
-    commands: &[(u32, Command)],
-) -> Result<Vec<u8>, Fail> {
+fn answered(alloc: Global, example: Example, commands: &[(u32, Command)]) -> Result<Vec<u8>, Fail> {
     let mut desk = desk(alloc, example)?;
     let replies = run_commands(alloc, &mut desk, commands)?;
     let mut text = Vec::new(alloc);

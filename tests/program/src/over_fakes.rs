@@ -7,13 +7,12 @@ use crate::running::run;
 use debug_session::{Counted, Fault};
 use diagnosis::Unread;
 use std::alloc::Global;
-use std::fs;
-use std::io;
 use std::io::{BufReader, Eprint, ErrorKind, Read, Write};
 use std::sync::Wait;
 use std::test::Fail;
 use std::thread::Threads;
 use std::time::Clock;
+use std::{fs, io};
 
 /// The files that there are, by their names.
 const FILES: [(&str, &[u8]); 4] = [
@@ -64,7 +63,16 @@ const RUNS: [(&[&str], &[u8]); 4] = [
         b"live 2\n  1 turn /0.0\n  2 meet i 5 /1.0.0 /0.1.0\n",
     ),
     (
-        &["balsadbg", "work", "buffer", "values", "--workers", "1", "--turns", "30"],
+        &[
+            "balsadbg",
+            "work",
+            "buffer",
+            "values",
+            "--workers",
+            "1",
+            "--turns",
+            "30",
+        ],
         b"stepped 7\nlive 7\n",
     ),
 ];
@@ -278,12 +286,24 @@ fn a_refusal_that_cannot_be_told_is_one(rt: HostRuntime) -> Result<(), Fail> {
 fn a_mistake_in_the_words_ends_with_2(rt: HostRuntime) -> Result<(), Fail> {
     let mut out = Takes::all(rt.alloc());
     let mut err = Takes::some(rt.alloc(), 3);
-    assert_eq!(rt; status(&rt, &["balsadbg", "chek", "buffer"], None, &mut out, &mut err)?, 2);
+    assert_eq!(rt;
+        status(
+            &rt,
+            &["balsadbg", "chek", "buffer"],
+            None,
+            &mut out,
+            &mut err
+        )?,
+        2
+    );
     assert!(rt; out.taken.is_empty());
     assert_eq!(rt; err.taken.len(), 3);
     let mut out = Takes::some(rt.alloc(), 3);
     let mut err = Takes::all(rt.alloc());
-    assert_eq!(rt; status(&rt, &["balsadbg", "--help"], None, &mut out, &mut err)?, 1);
+    assert_eq!(rt;
+        status(&rt, &["balsadbg", "--help"], None, &mut out, &mut err)?,
+        1
+    );
     assert_eq!(rt; out.taken.len(), 3);
     assert!(rt; err.taken.as_slice() == b"balsadbg: refused 42\n".as_slice());
     Ok(())
