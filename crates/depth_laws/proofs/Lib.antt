@@ -3,3 +3,4 @@ pub mod Alike
 pub mod EqualRuns
 pub mod InLanes
 pub mod OneState
+pub mod EqualRaces

@@ -1,5 +1,5 @@
 -- The laws of what is drawn of a run: a depth is the length of the longest chain of causes, a lane is a chain, and equal runs have the
--- same depths, followers, lines and ready events.
+-- same depths, followers, races, lines and ready events.
 use Rattle.std.specs.Prelude.{◌≡◌, ℕ, zero, suc, ◌<◌, ◌≤◌, List, Some, slice_get, slice_index}
 use Rattle.syntax.specs.Lists.{In}
 use Rattle.system.specs.declared.system.System.{System}
@@ -14,6 +14,8 @@ use Rattle.runs.specs.declared.event.Event.{Event}
 use Rattle.dependence.specs.Followers.{DirectDependent, Follower}
 use Rattle.event_places.specs.EventPlaces.{line_after}
 use Rattle.run_depths.specs.Depths.{AreDepths, StandsAt}
+use Rattle.run_depths.specs.Races.{AreRaces}
+use Rattle.run_depths.specs.declared.races.Race.{Race}
 
 -- a chain of so many events leads to that of ticket u, each of which is followed by the next
 abbrev pub Chain : Live → ℕ → ℕ → Type 0
@@ -55,6 +57,13 @@ DepthsAgree =
     (system : System) (l m : Live) (depths others : List ℕ) (i j t u : ℕ) (e : Event) → AreEqualRuns system l m →
     AreDepths l depths → AreDepths m others → slice_get l i ≡ Some (t, e) → slice_get m j ≡ Some (u, e) →
     slice_index depths i ≡ slice_index others j
+
+-- in equal runs the same orders are made by a variable alone, and by the same one
+abbrev pub RacesAgree : Type 0
+RacesAgree =
+    (system : System) (l m : Live) (races others : List Race) (r : Race) (i j t u v w : ℕ) (e f : Event) → AreEqualRuns system l m →
+    AreRaces l races → AreRaces m others → In r races → slice_get l r.cause ≡ Some (t, e) → slice_get l r.event ≡ Some (u, f) →
+    slice_get m i ≡ Some (v, e) → slice_get m j ≡ Some (w, f) → In (record { cause = i; event = j; variable = r.variable }) others
 
 -- in equal runs the same events can be taken next, in the same order
 abbrev pub ReadyAgree : Type 0

@@ -1,9 +1,9 @@
 //! The laws of what is drawn of a run, by rows and columns: each depth is the length of the longest chain of causes, each lane is a chain,
-//! and runs that differ only in the order of independent steps have the same depths, followers, lines and ready events. The functions do
-//! nothing, their contracts say it.
+//! and runs that differ only in the order of independent steps have the same depths, followers, races, lines and ready events. The
+//! functions do nothing, their contracts say it.
 #![tactic(auto)]
 
-ghost use Rattle.depth_laws.specs.Laws.{DepthIsLongest, DepthsAgree, FollowersAgree, LanesAreChains, LinesAgree, ReadyAgree};
+ghost use Rattle.depth_laws.specs.Laws.{DepthIsLongest, DepthsAgree, FollowersAgree, LanesAreChains, LinesAgree, RacesAgree, ReadyAgree};
 
 /// The depth of an event is the length of the longest chain of causes that leads to it.
 pub fn depth_is_longest()
@@ -18,6 +18,11 @@ pub fn followers_agree()
 /// In two such runs an event has one depth.
 pub fn depths_agree()
     ensures { DepthsAgree }
+{}
+
+/// In two such runs a variable alone makes the same orders.
+pub fn races_agree()
+    ensures { RacesAgree }
 {}
 
 /// Of two events of a run that stand in one lane the later depends on the earlier, so each lane is a chain.

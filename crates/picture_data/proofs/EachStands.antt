@@ -23,7 +23,7 @@ events-more [] x = refl
 events-more (y ∷ l) x = ap (λ (es : List Event). y.1 ∷ es) (events-more l x)
 
 -- the first of a list, and one more of them
-one-more : {X : Type 0} (xs : List X) (i : ℕ) (x : X) → i < length xs → x ≡ get_or xs i x → take (i + 1) xs ≡ take i xs ++ x ∷ []
+pub one-more : {X : Type 0} (xs : List X) (i : ℕ) (x : X) → i < length xs → x ≡ get_or xs i x → take (i + 1) xs ≡ take i xs ++ x ∷ []
 one-more {X} xs i x less here =
     ap (λ (k : ℕ). take k xs) (add-one i)
     ∙ take-next xs i x (slice_get-get_or xs i x less ∙ ap (λ (y : X). Some y) (sym here))

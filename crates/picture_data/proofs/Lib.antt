@@ -1,1 +1,2 @@
 pub mod EachStands
+pub mod SpotLaws

@@ -1,5 +1,7 @@
 // What stands at the end of a run.
-ghost use Rattle.std.specs.Prelude.{IfOk};
+ghost use Rattle.std.specs.Prelude.{◌≡◌, ◌++◌, ℕ, IfOk, OnOk, slice_get};
+ghost use Rattle.std.specs.List.{flat_map};
+ghost use Rattle.std.specs.Option.{option_to_list};
 ghost use Rattle.runs.specs.Object.{Reaches};
 ghost use Rattle.runs.specs.Ready.{ReadyList};
 ghost use Rattle.runs.specs.Steps.{State};
@@ -53,9 +55,9 @@ pub(crate) fn end_of(
         ready: ready.as_slice(),
     };
     let shown = waiting_places(alloc, machine, &now, &waiting, standing)?;
-    let ring = ring_of(alloc, &waiting, shown.place_of_side.as_slice())?;
+    let ring = ring_of(alloc, waiting.ring.as_slice(), shown.place_of_side.as_slice())?;
     let mut places = shown.places;
-    add_ready_places(alloc, machine, &now, standing, &mut places)?;
+    add_ready_places(alloc, machine, &now, ready.as_slice(), standing, &mut places)?;
     Ok(End {
         progress: waiting.progress,
         ready,
@@ -79,14 +81,34 @@ fn ready_events(machine: &Machine) -> Result<Items<Event>, AllocError>
 /// The ring of sides that wait as one of their places.
 fn ring_of(
     alloc: Global,
-    waiting: &Waiting,
+    sides: &[usize],
     place_of_side: &[usize],
-) -> Result<Vec<usize>, AllocError> {
+) -> Result<Vec<usize>, AllocError>
+    ensures { IfOk result (λ ring. ring.items ≡ flat_map (λ (i : ℕ). option_to_list (slice_get place_of_side.now i)) sides.now) }
+{
     let mut ring = Vec::new(alloc);
-    for side in waiting.ring.as_slice() {
-        if let Some(place) = place_of_side.get(*side) {
-            ring.push(*place)?;
-        }
+    for side in sides {
+        add_place(place_at(place_of_side, *side), &mut ring)?;
     }
     Ok(ring)
+}
+
+/// The place of the side of this index.
+fn place_at(place_of_side: &[usize], side: usize) -> Option<usize>
+    ensures { result ≡ slice_get place_of_side.now side }
+{
+    match place_of_side.get(side) {
+        Some(place) => Some(*place),
+        None => None,
+    }
+}
+
+/// Adds the place to a ring, if there is one.
+fn add_place(place: Option<usize>, ring: &mut Vec<usize>) -> Result<(), AllocError>
+    ensures { OnOk result (ring.new.items ≡ ring.old.items ++ option_to_list place) }
+{
+    if let Some(place) = place {
+        ring.push(place)?;
+    }
+    Ok(())
 }

@@ -1,4 +1,13 @@
 // The places that wait, and those of the events that can be taken.
+ghost use Rattle.std.specs.Prelude.{◌≡◌, ◌-◌, ◌∷◌, [], ℕ, length, map, IfOk, OnOk, Some, slice_get};
+ghost use Rattle.std.specs.Option.{option_copied};
+ghost use Rattle.syntax.specs.Lists.{Every};
+ghost use Rattle.runs.specs.Moves as moves;
+ghost use Rattle.picture_data.specs.Lines as lines;
+ghost use Rattle.picture_data.specs.Spots as spots;
+ghost use Rattle.picture_data.specs.Spots.{LiesInLane, channel_of, event_spots, on_channel, place_at, ready_spot, ready_spots, role_of, spot_of, want_of, with_side, waiting_with};
+ghost use Rattle.picture_data.specs.walking.SpotsSoFar.{AddsSpots, SpotsOf, TakenFor};
+
 use crate::partners::{Now, wanted_lanes};
 use crate::sides::line_of;
 use crate::standing::Standing;
@@ -7,6 +16,7 @@ use machine::Machine;
 use offered_sides::{OfferedSide, Side};
 use runs::{Event, Kind};
 use std::alloc::{AllocError, Global};
+use value::Value;
 use waiting::{Partner, Waiting};
 
 /// What stands at a place does this, or waits to do it.
@@ -64,27 +74,16 @@ pub(crate) fn waiting_places(
     now: &Now<'_>,
     waiting: &Waiting,
     standing: &Standing,
-) -> Result<Standings, AllocError> {
+) -> Result<Standings, AllocError>
+    ensures { IfOk result (λ made. SpotsOf machine.now now.now.table.now.lanes.items waiting.now.partners.items waiting.now.sides
+        made.places.items made.place_of_side.items) }
+{
+    let partners = waiting.partners.as_slice();
     let mut places = Vec::new(alloc);
     let mut place_of_side = Vec::new(alloc);
     for (index, side) in waiting.sides.as_slice().iter().enumerate() {
-        if !ends_with(places.as_slice(), &side.place) {
-            places.push(place_of(
-                alloc,
-                machine,
-                now,
-                &side.place,
-                side_role(&side.side),
-                standing,
-            )?)?;
-        }
-        add_wanted(
-            alloc,
-            now,
-            side,
-            waiting.partners.as_slice().get(index),
-            places.as_mut_slice(),
-        )?;
+        let partner = partner_at(partners, index);
+        add_side(alloc, machine, now, side, partner, standing, &mut places)?;
         place_of_side.push(places.len().saturating_sub(1))?;
     }
     Ok(Standings {
@@ -93,23 +92,76 @@ pub(crate) fn waiting_places(
     })
 }
 
-/// Whether the last of the places is this one.
-fn ends_with(places: &[Place], place: &Address) -> bool {
-    match places.last() {
-        Some(last) => last.place.equals(place),
-        None => false,
+/// The partner of this index, if there is one.
+fn partner_at<'a>(partners: &'a [Partner], index: usize) -> Option<&'a Partner>
+    ensures { option_copied result ≡ slice_get partners.now index }
+{
+    match partners.get(index) {
+        Some(partner) => Some(partner),
+        None => None,
     }
 }
 
-/// A place that waits on no channel yet.
+/// Adds a side that waits, which has this partner: to the last of the places, if it stands there, or as a place of its own.
+fn add_side(
+    alloc: Global,
+    machine: &Machine,
+    now: &Now<'_>,
+    side: &OfferedSide,
+    partner: Option<&Partner>,
+    standing: &Standing,
+    places: &mut Vec<Place>,
+) -> Result<(), AllocError>
+    ensures spots { OnOk result (map spot_of places.new.items
+        ≡ with_side machine.now (map spot_of places.old.items) side.now (option_copied partner.entry)) }
+    ensures lanes { OnOk result (Every (LiesInLane now.now.table.now.lanes.items) places.old.items →
+        Every (LiesInLane now.now.table.now.lanes.items) places.new.items) }
+    ensures kept { OnOk result ((k : ℕ) (a : moves.Place) → place_at places.old.items k ≡ Some a → place_at places.new.items k ≡ Some a) }
+    ensures last { OnOk result (place_at places.new.items (length places.new.items - 1) ≡ Some side.now.place) }
+{
+    let mut place = place_for(alloc, machine, now, side, standing, places)?;
+    add_wanted(alloc, now, side, partner, &mut place)?;
+    places.push(place)?;
+    Ok(())
+}
+
+/// The place of the side: the last of the places, which is taken out, or else a new one.
+fn place_for(
+    alloc: Global,
+    machine: &Machine,
+    now: &Now<'_>,
+    side: &OfferedSide,
+    standing: &Standing,
+    places: &mut Vec<Place>,
+) -> Result<Place, AllocError>
+    ensures { IfOk result (λ place. TakenFor machine.now now.now.table.now.lanes.items side.now places.old.items places.new.items place) }
+{
+    if let Some(last) = places.pop() {
+        if last.place.equals(&side.place) {
+            return Ok(last);
+        }
+        places.push(last)?;
+    }
+    let role = side_role(&side.side);
+    let wanted = Vec::new(alloc);
+    place_of(alloc, machine, now, &side.place, role, wanted, false, standing)
+}
+
+/// A place where something does this, and waits on these channels.
 fn place_of(
     alloc: Global,
     machine: &Machine,
     now: &Now<'_>,
     place: &Address,
     role: Role,
+    wanted: Vec<Wanted>,
+    is_ready: bool,
     standing: &Standing,
-) -> Result<Place, AllocError> {
+) -> Result<Place, AllocError>
+    ensures spot { IfOk result (λ made. spot_of made
+        ≡ record { place = place.now; line = lines.line_of machine.now place.now; role = role; wanted = map want_of wanted.items; is_ready = is_ready }) }
+    ensures lane { IfOk result (LiesInLane now.now.table.now.lanes.items) }
+{
     let lane = now.table.lane(alloc, place)?;
     let line = line_of(machine, place);
     let since = standing.since(place);
@@ -119,34 +171,29 @@ fn place_of(
         place,
         line,
         role,
-        wanted: Vec::new(alloc),
-        is_ready: false,
+        wanted,
+        is_ready,
         since,
     })
 }
 
-/// Adds what the side waits on to the last of the places.
+/// Adds what the side waits on to its place.
 fn add_wanted(
     alloc: Global,
     now: &Now<'_>,
     offered: &OfferedSide,
     partner: Option<&Partner>,
-    places: &mut [Place],
-) -> Result<(), AllocError> {
+    place: &mut Place,
+) -> Result<(), AllocError>
+    ensures spot { OnOk result (spot_of place.new ≡ waiting_with (spot_of place.old) offered.now (option_copied partner.entry)) }
+    ensures lane { OnOk result (place.new.lane ≡ place.old.lane) }
+    ensures place { OnOk result (place.new.place ≡ place.old.place) }
+{
     let Some(channel) = side_channel(&offered.side) else {
         return Ok(());
     };
-    let Some(place) = places.last_mut() else {
-        return Ok(());
-    };
-    let lanes = wanted_lanes(
-        alloc,
-        now,
-        partner,
-        place.lane,
-        channel,
-        side_role(&offered.side),
-    )?;
+    let role = side_role(&offered.side);
+    let lanes = wanted_lanes(alloc, now, partner, place.lane, channel, role)?;
     let can_come = can_come(partner);
     place.wanted.push(Wanted {
         channel,
@@ -157,7 +204,9 @@ fn add_wanted(
 }
 
 /// Whether a partner can still come.
-fn can_come(partner: Option<&Partner>) -> bool {
+fn can_come(partner: Option<&Partner>) -> bool
+    ensures { result ≡ spots.can_come (option_copied partner.entry) }
+{
     match partner {
         Some(Partner::Gone) => false,
         Some(Partner::Behind(_)) | Some(Partner::Open) | None => true,
@@ -165,7 +214,9 @@ fn can_come(partner: Option<&Partner>) -> bool {
 }
 
 /// What the side does.
-fn side_role(side: &Side) -> Role {
+fn side_role(side: &Side) -> Role
+    ensures { result ≡ role_of side.now }
+{
     match side {
         Side::Sends(_, _, _) => Role::Sends,
         Side::Receives(_, _) => Role::Receives,
@@ -178,7 +229,9 @@ fn side_role(side: &Side) -> Role {
 }
 
 /// The channel of the side, if it has one.
-fn side_channel(side: &Side) -> Option<u32> {
+fn side_channel(side: &Side) -> Option<u32>
+    ensures { result ≡ channel_of side.now }
+{
     match side {
         Side::Sends(channel, _, _)
         | Side::Receives(channel, _)
@@ -195,59 +248,107 @@ pub(crate) fn add_ready_places(
     alloc: Global,
     machine: &Machine,
     now: &Now<'_>,
+    ready: &[Event],
     standing: &Standing,
     places: &mut Vec<Place>,
-) -> Result<(), AllocError> {
-    for event in now.ready {
-        let (first, second) = event_roles(event);
-        let place = ready_place(
-            alloc,
-            machine,
-            now,
-            &event.first,
-            first,
-            event.channel,
-            standing,
-        )?;
-        places.push(place)?;
-        if let Some(place) = &event.second {
-            let place = ready_place(alloc, machine, now, place, second, event.channel, standing)?;
-            places.push(place)?;
-        }
+) -> Result<(), AllocError>
+    ensures { OnOk result (AddsSpots now.now.table.now.lanes.items places.old.items places.new.items (ready_spots machine.now ready.now)) }
+{
+    for event in ready {
+        add_event_places(alloc, machine, now, event, standing, places)?;
     }
     Ok(())
 }
 
-/// The place of an event that can be taken, on the channel, if it has one.
-fn ready_place(
+/// Adds the places of an event that can be taken.
+fn add_event_places(
     alloc: Global,
     machine: &Machine,
     now: &Now<'_>,
+    event: &Event,
+    standing: &Standing,
+    places: &mut Vec<Place>,
+) -> Result<(), AllocError>
+    ensures { OnOk result (AddsSpots now.now.table.now.lanes.items places.old.items places.new.items (event_spots machine.now event.now)) }
+{
+    let role = first_role(event);
+    add_ready_place(alloc, machine, now, event, &event.first, role, standing, places)?;
+    match &event.second {
+        Some(second) => {
+            let role = second_role(event.kind);
+            add_ready_place(alloc, machine, now, event, second, role, standing, places)
+        }
+        None => Ok(()),
+    }
+}
+
+/// Adds a place of an event that can be taken.
+fn add_ready_place(
+    alloc: Global,
+    machine: &Machine,
+    now: &Now<'_>,
+    event: &Event,
     place: &Address,
     role: Role,
-    channel: Option<u32>,
     standing: &Standing,
-) -> Result<Place, AllocError> {
-    let mut made = place_of(alloc, machine, now, place, role, standing)?;
-    made.is_ready = true;
+    places: &mut Vec<Place>,
+) -> Result<(), AllocError>
+    ensures { OnOk result (AddsSpots now.now.table.now.lanes.items places.old.items places.new.items
+        (ready_spot machine.now event.now place.now role ∷ [])) }
+{
+    let wanted = ready_wanted(alloc, event.channel)?;
+    let made = place_of(alloc, machine, now, place, role, wanted, true, standing)?;
+    places.push(made)?;
+    Ok(())
+}
+
+/// On what a place of an event that can be taken is, which has this channel, if it has one.
+fn ready_wanted(alloc: Global, channel: Option<u32>) -> Result<Vec<Wanted>, AllocError>
+    ensures { IfOk result (λ wanted. map want_of wanted.items ≡ on_channel channel) }
+{
+    let mut wanted = Vec::new(alloc);
     if let Some(channel) = channel {
-        made.wanted.push(Wanted {
+        wanted.push(Wanted {
             channel,
             lanes: Vec::new(alloc),
             can_come: true,
         })?;
     }
-    Ok(made)
+    Ok(wanted)
 }
 
-/// What the two places of the event do.
-fn event_roles(event: &Event) -> (Role, Role) {
+/// What the first place of the event does.
+fn first_role(event: &Event) -> Role
+    ensures { result ≡ spots.first_role event.now.kind event.now.value }
+{
     match event.kind {
-        Kind::Meet => (Role::Sends, Role::Receives),
-        Kind::Open if event.value.is_some() => (Role::Sends, Role::Opens),
-        Kind::Open => (Role::Syncs, Role::Opens),
-        Kind::Sync => (Role::Syncs, Role::Syncs),
-        Kind::Close => (Role::Held, Role::Closes),
-        Kind::Assign | Kind::Test | Kind::Turn => (Role::Goes, Role::Goes),
+        Kind::Meet => Role::Sends,
+        Kind::Open => opener_role(event.value),
+        Kind::Sync => Role::Syncs,
+        Kind::Close => Role::Held,
+        Kind::Assign | Kind::Test | Kind::Turn => Role::Goes,
+    }
+}
+
+/// What it does where an arm is opened, with this value, if there is one.
+fn opener_role(value: Option<Value>) -> Role
+    ensures { result ≡ spots.first_role Kind.Open value }
+{
+    match value {
+        Some(_) => Role::Sends,
+        None => Role::Syncs,
+    }
+}
+
+/// What the second place of an event of this kind does.
+fn second_role(kind: Kind) -> Role
+    ensures { result ≡ spots.second_role kind }
+{
+    match kind {
+        Kind::Meet => Role::Receives,
+        Kind::Open => Role::Opens,
+        Kind::Sync => Role::Syncs,
+        Kind::Close => Role::Closes,
+        Kind::Assign | Kind::Test | Kind::Turn => Role::Goes,
     }
 }

@@ -1,7 +1,8 @@
 // The lanes and lines of the two sides of an event.
 ghost use Rattle.std.specs.Prelude.{◌≡◌, IfOk};
 ghost use Rattle.runs.specs.Live.{events};
-ghost use Rattle.picture_data.specs.Shown.{EachStandsIn, StandsIn, line_of};
+ghost use Rattle.picture_data.specs.Lines.{line_of};
+ghost use Rattle.picture_data.specs.Shown.{EachStandsIn, StandsIn};
 
 use crate::table::LaneTable;
 use address::Address;

@@ -2,13 +2,12 @@
 ghost use Rattle.std.specs.Prelude.{IfOk};
 ghost use Rattle.picture_data.specs.Shown.{ShowsSteps};
 
-use crate::races::{Race, races_of};
 use crate::sides::{Sides, live_sides};
 use crate::standing::Standing;
 use crate::table::LaneTable;
 use dependence::Live;
 use machine::Machine;
-use run_depths::{all_ahead, depths_of};
+use run_depths::{Race, all_ahead, depths_of, races_of};
 use runs::Event;
 use std::alloc::{AllocError, Global};
 use syntax::Items;

@@ -1,7 +1,7 @@
 // The lanes by their paths: the ports of the environment that give at the left, then the branches of the body in order, and the ports that
 // take at the right.
 ghost use Rattle.std.specs.Prelude.{◌≡◌, ◌≤◌, ◌↔◌, length, IfSome, IfOk, IsTrue};
-ghost use Rattle.picture_data.specs.Shown.{HasPath, IsLaneOf};
+ghost use Rattle.picture_data.specs.Lines.{HasPath, IsLaneOf};
 
 use crate::lane::{Lane, LaneKind};
 use address::Address;

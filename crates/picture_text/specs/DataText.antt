@@ -23,7 +23,7 @@ use Rattle.picture_data.specs.declared.picture.Picture.{Picture}
 use Rattle.picture_data.specs.declared.places.Place.{Place}
 use Rattle.picture_data.specs.declared.places.Role.{Role}
 use Rattle.picture_data.specs.declared.places.Wanted.{Wanted}
-use Rattle.picture_data.specs.declared.races.Race.{Race}
+use Rattle.run_depths.specs.declared.races.Race.{Race}
 use Rattle.picture_data.specs.declared.sides.Sides.{Sides}
 use Rattle.picture_data.specs.declared.steps.Steps.{Steps}
 

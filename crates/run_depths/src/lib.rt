@@ -4,6 +4,8 @@
 
 mod ahead;
 mod depth;
+mod races;
 
 pub use ahead::all_ahead;
 pub use depth::depths_of;
+pub use races::{Race, races_of};

@@ -1,5 +1,5 @@
 use Rattle.std.proofs.Common.{List, refl, subst}
-use Rattle.picture_data.specs.Shown.{HasPath}
+use Rattle.picture_data.specs.Lines.{HasPath}
 use Rattle.picture_data.specs.declared.lane.Lane.{Lane}
 use Rattle.picture_data.proofs.table.LaneTable.find.Goals as goal
 

@@ -1,7 +1,7 @@
 use Rattle.std.proofs.Common.{◌≡◌, ◌∙◌, ℕ, List, Option, subst}
 use Rattle.std.specs.Prelude.{IfSome}
 use Rattle.branch_lanes.specs.Lanes.{lane_of}
-use Rattle.picture_data.specs.Shown.{HasPath}
+use Rattle.picture_data.specs.Lines.{HasPath}
 use Rattle.picture_data.proofs.table.LaneTable.lane.Goals as goal
 
 pub returns : goal.returns

@@ -1,0 +1,317 @@
+-- Places, one behind another, and rings of them.
+use Rattle.std.proofs.Common.{◌≡◌, ◌⊎◌, inl, inr, ℕ, zero, suc, ◌+◌, ◌-◌, ◌<◌, ◌≤◌, List, [], ◌∷◌, ◌++◌, length, get_or, take, map, append_assoc, Bool, true, false, cond, Option, Some, None, refl, sym, ◌∙◌, ap, subst, arith, length-append}
+use Rattle.std.specs.Prelude.{IfSome, option_map, slice_get}
+use Rattle.std.specs.List.{flat_map}
+use Rattle.std.specs.Option.{option_to_list}
+use Rattle.std.proofs.lemmas.List.{append-nil, length-take-le, map-append}
+use Rattle.std.proofs.lemmas.Option.{slice_get-map}
+use Rattle.syntax.specs.Lists.{Every}
+use Rattle.runs.specs.Moves.{Place}
+use Rattle.runs.specs.Steps.{State}
+use Rattle.runs.specs.Tests.{same_place}
+use Rattle.runs.specs.declared.event.Event.{Event}
+use Rattle.runs.proofs.Lists.{every-left, every-right}
+use Rattle.machine.specs.AtMachine.{AtMachine}
+use Rattle.offered_sides.proofs.PlacedSides.{told-same}
+use Rattle.offered_sides.specs.declared.side.OfferedSide.{OfferedSide}
+use Rattle.rings.specs.Rings.{places_at}
+use Rattle.rings.specs.declared.partner.Partner.{Partner}
+use Rattle.waiting.specs.Rings.{NamesRing}
+use Rattle.picture_data.specs.Lines.{IsLaneOf}
+use Rattle.picture_data.specs.Spots.{LiesInLane, ShowsRing, Spot, place_at, role_of, spot_at, spot_of, waiting_with, with_side, with_sides}
+use Rattle.picture_data.specs.declared.lane.Lane.{Lane}
+use Rattle.picture_data.specs.declared.places.Place.{Place as Shown}
+use Rattle.picture_data.specs.walking.SpotsSoFar.{AddsSpots, SpotsOf, TakenFor, side_place}
+use Rattle.picture_data.proofs.EachStands.{one-more}
+
+-- ---- one more side
+
+every-join : {X : Type 0} (P : X → Type 0) (xs ys : List X) → Every P xs → Every P ys → Every P (xs ++ ys)
+every-join P [] ys h k = k
+every-join P (x ∷ xs) ys h k = (h.0, every-join P xs ys h.1 k)
+
+last-of : (ps : List Shown) → (ps ≡ []) ⊎ ((front : List Shown) × (q : Shown) × (ps ≡ front ++ q ∷ []))
+last-of [] = inl refl
+last-of (p ∷ ps) =
+    elim (last-of ps) [
+      | inl none ↦ inr ([], p, ap (λ (k : List Shown). p ∷ k) none)
+      | inr more ↦ inr (p ∷ more.0, more.1, ap (λ (k : List Shown). p ∷ k) more.2)
+    ]
+
+beside-last : (m : AtMachine) (spots : List Spot) (s : Spot) (x : OfferedSide) (p : Option Partner) →
+    with_side m (spots ++ s ∷ []) x p ≡ spots ++ with_side m (s ∷ []) x p
+beside-last m [] s x p = refl
+beside-last m (t ∷ []) s x p = refl
+beside-last m (t ∷ u ∷ spots) s x p = ap (λ (k : List Spot). t ∷ k) (beside-last m (u ∷ spots) s x p)
+
+is-same : (a b : Place) → a ≡ b → same_place a b ≡ true
+is-same a b is = sym (told-same a b true ((λ on. is), (λ e. refl)))
+
+not-same : (a b : Place) → (a ≡ b → ⊥) → same_place a b ≡ false
+not-same a b not = sym (told-same a b false ((λ on. absurd (off on)), (λ e. absurd (not e))))
+  where
+    off : false ≡ true → ⊥
+    off e = cc
+
+
+stays-at : (m : AtMachine) (spots : List Spot) (s : Spot) (x : OfferedSide) (p : Option Partner) → s.place ≡ x.place →
+    with_side m (spots ++ s ∷ []) x p ≡ spots ++ waiting_with s x p ∷ []
+stays-at m spots s x p is =
+    beside-last m spots s x p
+    ∙ ap (λ (b : Bool). spots ++ cond b (waiting_with s x p ∷ []) (s ∷ waiting_with (spot_at m x.place (role_of x.side)) x p ∷ [])) (is-same s.place x.place is)
+
+comes-behind : (m : AtMachine) (spots : List Spot) (s : Spot) (x : OfferedSide) (p : Option Partner) → (s.place ≡ x.place → ⊥) →
+    with_side m (spots ++ s ∷ []) x p ≡ (spots ++ s ∷ []) ++ waiting_with (spot_at m x.place (role_of x.side)) x p ∷ []
+comes-behind m spots s x p not =
+    beside-last m spots s x p
+    ∙ ap (λ (b : Bool). spots ++ cond b (waiting_with s x p ∷ []) (s ∷ waiting_with (spot_at m x.place (role_of x.side)) x p ∷ [])) (not-same s.place x.place not)
+    ∙ sym (append_assoc spots (s ∷ []) (waiting_with (spot_at m x.place (role_of x.side)) x p ∷ []))
+
+map-end : (ps : List Shown) (p : Shown) → map spot_of (ps ++ p ∷ []) ≡ map spot_of ps ++ spot_of p ∷ []
+map-end ps p = map-append spot_of ps (p ∷ [])
+
+new-place : (m : AtMachine) (x : OfferedSide) (partner : Option Partner) (old : List Shown) →
+    ((front : List Shown) (q : Shown) → old ≡ front ++ q ∷ [] → q.place ≡ x.place → ⊥) →
+    with_side m (map spot_of old) x partner ≡ map spot_of old ++ waiting_with (spot_at m x.place (role_of x.side)) x partner ∷ []
+new-place m x partner old elsewhere =
+    elim (last-of old) [
+      | inl none ↦
+          subst (λ (ps : List Shown). with_side m (map spot_of ps) x partner ≡ map spot_of ps ++ waiting_with (spot_at m x.place (role_of x.side)) x partner ∷ [])
+          (sym none) refl
+      | inr more ↦
+          let spots = map spot_of more.0 in
+          let is : map spot_of old ≡ map spot_of more.0 ++ spot_of more.1 ∷ [] = ap (map spot_of) more.2 ∙ map-end more.0 more.1 in
+          subst (λ (ss : List Spot). with_side m ss x partner ≡ ss ++ waiting_with (spot_at m x.place (role_of x.side)) x partner ∷ []) (sym is)
+          (comes-behind m (map spot_of more.0) (spot_of more.1) x partner (elsewhere more.0 more.1 more.2))
+    ]
+
+pub added-spots : (m : AtMachine) (lanes : List Lane) (x : OfferedSide) (partner : Option Partner) (old rest new : List Shown) (p q : Shown) →
+    TakenFor m lanes x old rest p → spot_of q ≡ waiting_with (spot_of p) x partner → new ≡ rest ++ q ∷ [] →
+    map spot_of new ≡ with_side m (map spot_of old) x partner
+added-spots m lanes x partner old rest new p q taken waits is =
+    let whole : map spot_of new ≡ map spot_of rest ++ waiting_with (spot_of p) x partner ∷ [] =
+    ap (map spot_of) is ∙ map-end rest q ∙ ap (λ (s : Spot). map spot_of rest ++ s ∷ []) waits in
+    elim taken [
+      | inl last ↦
+          whole
+          ∙ sym (stays-at m (map spot_of rest) (spot_of p) x partner last.1)
+          ∙ ap (λ (ss : List Spot). with_side m ss x partner) (sym (ap (map spot_of) last.0 ∙ map-end rest p))
+      | inr made ↦
+          whole
+          ∙ ap (λ (s : Spot). map spot_of rest ++ waiting_with s x partner ∷ []) made.2
+          ∙ ap (λ (ps : List Shown). map spot_of ps ++ waiting_with (spot_at m x.place (role_of x.side)) x partner ∷ []) made.0
+          ∙ sym (new-place m x partner old made.1)
+    ]
+
+moved-lane : (lanes : List Lane) (p q : Shown) → q.lane ≡ p.lane → q.place ≡ p.place → LiesInLane lanes p → LiesInLane lanes q
+moved-lane lanes p q lane place h =
+    subst (λ (l : Option ℕ). IfSome l (λ k. IsLaneOf lanes k q.place)) (sym lane)
+    (subst (λ (a : Place). IfSome p.lane (λ k. IsLaneOf lanes k a)) (sym place) h)
+
+pub added-lanes : (m : AtMachine) (lanes : List Lane) (x : OfferedSide) (old rest new : List Shown) (p q : Shown) →
+    TakenFor m lanes x old rest p → q.lane ≡ p.lane → q.place ≡ p.place → new ≡ rest ++ q ∷ [] → Every (LiesInLane lanes) old →
+    Every (LiesInLane lanes) new
+added-lanes m lanes x old rest new p q taken lane place is each =
+    subst (Every (LiesInLane lanes)) (sym is)
+    (elim taken [
+      | inl last ↦
+          let parts : Every (LiesInLane lanes) (rest ++ p ∷ []) = subst (Every (LiesInLane lanes)) last.0 each in
+          every-join (LiesInLane lanes) rest (q ∷ []) (every-left (LiesInLane lanes) rest (p ∷ []) parts)
+          (moved-lane lanes p q lane place (every-right (LiesInLane lanes) rest (p ∷ []) parts).0, tt)
+      | inr made ↦
+          every-join (LiesInLane lanes) rest (q ∷ []) (subst (Every (LiesInLane lanes)) (sym made.0) each) (moved-lane lanes p q lane place made.3, tt)
+    ])
+
+abbrev place_of : Shown → Place
+place_of p = p.place
+
+at-left : (as bs : List Place) (k : ℕ) (a : Place) → slice_get as k ≡ Some a → slice_get (as ++ bs) k ≡ Some a
+at-left [] bs k a h = cc
+at-left (b ∷ as) bs zero a h = h
+at-left (b ∷ as) bs (suc k) a h = at-left as bs k a h
+
+at-end : (as : List Place) (a : Place) → slice_get (as ++ a ∷ []) (length as) ≡ Some a
+at-end [] a = refl
+at-end (b ∷ as) a = at-end as a
+
+by-map : (ps : List Shown) (k : ℕ) → slice_get (map place_of ps) k ≡ place_at ps k
+by-map ps k = slice_get-map place_of ps k
+
+-- what stands at an index stays there where others come behind
+pub kept-left : (ps qs : List Shown) (k : ℕ) (a : Place) → place_at ps k ≡ Some a → place_at (ps ++ qs) k ≡ Some a
+kept-left ps qs k a h =
+    sym (by-map (ps ++ qs) k)
+    ∙ ap (λ (as : List Place). slice_get as k) (map-append place_of ps qs)
+    ∙ at-left (map place_of ps) (map place_of qs) k a (by-map ps k ∙ h)
+
+pub added-kept : (m : AtMachine) (lanes : List Lane) (x : OfferedSide) (old rest new : List Shown) (p q : Shown) →
+    TakenFor m lanes x old rest p → q.place ≡ p.place → new ≡ rest ++ q ∷ [] → (k : ℕ) (a : Place) → place_at old k ≡ Some a →
+    place_at new k ≡ Some a
+added-kept m lanes x old rest new p q taken place is k a h =
+    elim taken [
+      | inl last ↦
+          let same : map place_of new ≡ map place_of old =
+          ap (map place_of) is
+          ∙ map-append place_of rest (q ∷ [])
+          ∙ ap (λ (b : Place). map place_of rest ++ b ∷ []) place
+          ∙ sym (ap (map place_of) last.0 ∙ map-append place_of rest (p ∷ [])) in
+          sym (by-map new k) ∙ ap (λ (as : List Place). slice_get as k) same ∙ by-map old k ∙ h
+      | inr made ↦
+          subst (λ (ps : List Shown). place_at ps k ≡ Some a) (sym is)
+          (kept-left rest (q ∷ []) k a (subst (λ (ps : List Shown). place_at ps k ≡ Some a) (sym made.0) h))
+    ]
+
+length-map : (ps : List Shown) → length (map place_of ps) ≡ length ps
+length-map [] = refl
+length-map (p ∷ ps) = ap suc (length-map ps)
+
+pub added-last : (m : AtMachine) (lanes : List Lane) (x : OfferedSide) (old rest new : List Shown) (p q : Shown) →
+    TakenFor m lanes x old rest p → q.place ≡ p.place → new ≡ rest ++ q ∷ [] → place_at new (length new - 1) ≡ Some x.place
+added-last m lanes x old rest new p q taken place is =
+    let size : length new ≡ length (rest ++ q ∷ []) = ap (λ (ps : List Shown). length ps) is in
+    let parts = length-append rest (q ∷ []) in
+    let index : length new - 1 ≡ length (map place_of rest) = let same = length-map rest in omega arith in
+    let own : p.place ≡ x.place = elim taken [ inl last ↦ last.1 | inr made ↦ ap (λ (s : Spot). s.place) made.2 ] in
+    sym (by-map new (length new - 1))
+    ∙ ap (λ (k : ℕ). slice_get (map place_of new) k) index
+    ∙ ap (λ (as : List Place). slice_get as (length (map place_of rest))) (ap (map place_of) is ∙ map-append place_of rest (q ∷ []))
+    ∙ at-end (map place_of rest) q.place
+    ∙ ap (λ (b : Place). Some b) (place ∙ own)
+
+-- ---- the sides so far
+
+with-sides-more : (m : AtMachine) (spots : List Spot) (ps : List Partner) (n : ℕ) (xs : List OfferedSide) (x : OfferedSide) →
+    with_sides m spots ps n (xs ++ x ∷ []) ≡ with_side m (with_sides m spots ps n xs) x (slice_get ps (n + length xs))
+with-sides-more m spots ps n [] x =
+    let at : n ≡ n + 0 = omega arith in ap (λ (k : ℕ). with_side m spots x (slice_get ps k)) at
+with-sides-more m spots ps n (y ∷ xs) x =
+    let next : List Spot = with_side m spots y (slice_get ps n) in
+    let at : n + 1 + length xs ≡ n + suc (length xs) = omega arith in
+    with-sides-more m next ps (n + 1) xs x
+    ∙ ap (λ (k : ℕ). with_side m (with_sides m next ps (n + 1) xs) x (slice_get ps k)) at
+
+found-kept : (old new : List Shown) → ((k : ℕ) (a : Place) → place_at old k ≡ Some a → place_at new k ≡ Some a) → (found : List ℕ) (xs : List OfferedSide) →
+    map (place_at old) found ≡ map side_place xs → map (place_at new) found ≡ map side_place xs
+found-kept old new keeps [] xs is = is
+found-kept old new keeps (k ∷ found) [] is = cc
+found-kept old new keeps (k ∷ found) (x ∷ xs) is =
+    let here : place_at old k ≡ Some x.place = cc in
+    let rest : map (place_at old) found ≡ map side_place xs = cc in
+    let one = keeps k x.place here in
+    let more = found-kept old new keeps found xs rest in
+    ap (λ (a : Option Place). a ∷ map (place_at new) found) one ∙ ap (λ (as : List (Option Place)). Some x.place ∷ as) more
+
+pub spots-none : (m : AtMachine) (lanes : List Lane) (ps : List Partner) → SpotsOf m lanes ps [] [] []
+spots-none m lanes ps = record { spots = refl; lanes_told = tt; found_places = refl }
+
+pub spots-next : (m : AtMachine) (lanes : List Lane) (ps : List Partner) (sides : List OfferedSide) (i : ℕ) (x : OfferedSide) (partner : Option Partner)
+    (old new : List Shown) (found upto : List ℕ) → i < length sides → x ≡ get_or sides i x → partner ≡ slice_get ps i →
+    SpotsOf m lanes ps (take i sides) old found → map spot_of new ≡ with_side m (map spot_of old) x partner →
+    (Every (LiesInLane lanes) old → Every (LiesInLane lanes) new) →
+    ((k : ℕ) (a : Place) → place_at old k ≡ Some a → place_at new k ≡ Some a) → place_at new (length new - 1) ≡ Some x.place →
+    upto ≡ found ++ (length new - 1) ∷ [] → SpotsOf m lanes ps (take (i + 1) sides) new upto
+spots-next m lanes ps sides i x partner old new found upto less here with_partner h spots told keeps last is =
+    let next : take (i + 1) sides ≡ take i sides ++ x ∷ [] = one-more sides i x less here in
+    let size : 0 + length (take i sides) ≡ i = let long = length-take-le i sides (let within : i ≤ length sides = omega arith in within) in omega arith in
+    subst (λ (xs : List OfferedSide). SpotsOf m lanes ps xs new upto) (sym next)
+    (record {
+      spots =
+          spots
+          ∙ ap (λ (ss : List Spot). with_side m ss x partner) h.spots
+          ∙ ap (λ (o : Option Partner). with_side m (with_sides m [] ps 0 (take i sides)) x o) (with_partner ∙ ap (λ (k : ℕ). slice_get ps k) (sym size))
+          ∙ sym (with-sides-more m [] ps 0 (take i sides) x);
+      lanes_told = told h.lanes_told;
+      found_places =
+          ap (map (place_at new)) is
+          ∙ map-append (place_at new) found ((length new - 1) ∷ [])
+          ∙ ap (λ (as : List (Option Place)). as ++ place_at new (length new - 1) ∷ []) (found-kept old new keeps found (take i sides) h.found_places)
+          ∙ ap (λ (a : Option Place). map side_place (take i sides) ++ a ∷ []) last
+          ∙ sym (map-append side_place (take i sides) (x ∷ []));
+    })
+
+-- ---- those of events that can be taken
+
+pub adds-none : (lanes : List Lane) (ps : List Shown) → AddsSpots lanes ps ps []
+adds-none lanes ps = record { more = []; joined = sym (append-nil ps); shown = refl; lanes_told = tt }
+
+pub adds-one : (lanes : List Lane) (old new : List Shown) (p : Shown) (s : Spot) → new ≡ old ++ p ∷ [] → spot_of p ≡ s → LiesInLane lanes p →
+    AddsSpots lanes old new (s ∷ [])
+adds-one lanes old new p s is spot lies =
+    record { more = p ∷ []; joined = is; shown = ap (λ (t : Spot). t ∷ []) spot; lanes_told = (lies, tt) }
+
+pub adds-then : (lanes : List Lane) (old between new : List Shown) (ss ts : List Spot) → AddsSpots lanes old between ss → AddsSpots lanes between new ts →
+    AddsSpots lanes old new (ss ++ ts)
+adds-then lanes old between new ss ts one two = record {
+  more = one.more ++ two.more;
+  joined = two.joined ∙ ap (λ (ps : List Shown). ps ++ two.more) one.joined ∙ append_assoc old one.more two.more;
+  shown = map-append spot_of one.more two.more ∙ ap (λ (k : List Spot). k ++ map spot_of two.more) one.shown ∙ ap (λ (k : List Spot). ss ++ k) two.shown;
+  lanes_told = every-join (LiesInLane lanes) one.more two.more one.lanes_told two.lanes_told;
+}
+
+-- ---- all of them
+
+pub all-spots : (m : AtMachine) (lanes : List Lane) (ps : List Partner) (sides : List OfferedSide) (old new : List Shown) (found : List ℕ) (ss : List Spot) →
+    SpotsOf m lanes ps sides old found → AddsSpots lanes old new ss → map spot_of new ≡ with_sides m [] ps 0 sides ++ ss
+all-spots m lanes ps sides old new found ss h more =
+    ap (map spot_of) more.joined
+    ∙ map-append spot_of old more.more
+    ∙ ap (λ (k : List Spot). k ++ map spot_of more.more) h.spots
+    ∙ ap (λ (k : List Spot). with_sides m [] ps 0 sides ++ k) more.shown
+
+pub all-lanes : (m : AtMachine) (lanes : List Lane) (ps : List Partner) (sides : List OfferedSide) (old new : List Shown) (found : List ℕ) (ss : List Spot) →
+    SpotsOf m lanes ps sides old found → AddsSpots lanes old new ss → Every (LiesInLane lanes) new
+all-lanes m lanes ps sides old new found ss h more =
+    subst (Every (LiesInLane lanes)) (sym more.joined) (every-join (LiesInLane lanes) old more.more h.lanes_told more.lanes_told)
+
+-- ---- a ring
+
+abbrev look : List ℕ → ℕ → List ℕ
+look found i = option_to_list (slice_get found i)
+
+-- the index of the place of a side
+place-found : (places : List Shown) (found : List ℕ) (sides : List OfferedSide) (i : ℕ) (a : Place) → map (place_at places) found ≡ map side_place sides →
+    option_map (λ (x : OfferedSide). x.place) (slice_get sides i) ≡ Some a → (k : ℕ) × (slice_get found i ≡ Some k) × (place_at places k ≡ Some a)
+place-found places [] [] i a is h = cc
+place-found places [] (x ∷ sides) i a is h = cc
+place-found places (k ∷ found) [] i a is h = cc
+place-found places (k ∷ found) (x ∷ sides) zero a is h = let here : place_at places k ≡ Some x.place = cc in (k, refl, here ∙ h)
+place-found places (k ∷ found) (x ∷ sides) (suc i) a is h =
+    let rest : map (place_at places) found ≡ map side_place sides = cc in place-found places found sides i a rest h
+
+ring-rest : (places : List Shown) (found : List ℕ) (sides : List OfferedSide) (is : List ℕ) (ring : List Place) →
+    map (place_at places) found ≡ map side_place sides → places_at sides is ≡ map (λ (a : Place). Some a) ring →
+    map (place_at places) (flat_map (look found) is) ≡ map (λ (a : Place). Some a) ring
+ring-rest places found sides [] ring told h = h
+ring-rest places found sides (i ∷ is) [] told h = cc
+ring-rest places found sides (i ∷ is) (a ∷ ring) told h =
+    let here : option_map (λ (x : OfferedSide). x.place) (slice_get sides i) ≡ Some a = cc in
+    let rest : places_at sides is ≡ map (λ (b : Place). Some b) ring = cc in
+    let one = place-found places found sides i a told here in
+    ap (λ (o : Option ℕ). map (place_at places) (option_to_list o ++ flat_map (look found) is)) one.1
+    ∙ ap (λ (o : Option Place). o ∷ map (place_at places) (flat_map (look found) is)) one.2
+    ∙ ap (λ (os : List (Option Place)). Some a ∷ os) (ring-rest places found sides is ring told rest)
+
+ring-first : (S : State) (places : List Shown) (found : List ℕ) (sides : List OfferedSide) (i : ℕ) (is : List ℕ) →
+    map (place_at places) found ≡ map side_place sides → NamesRing S sides (i ∷ is) → (ring : List Place) →
+    places_at sides (i ∷ is) ≡ map (λ (a : Place). Some a) ring → (k : ℕ) × (flat_map (look found) (i ∷ is) ≡ k ∷ flat_map (look found) is)
+ring-first S places found sides i is told h [] at = cc
+ring-first S places found sides i is told h (a ∷ ring) at =
+    let here : option_map (λ (x : OfferedSide). x.place) (slice_get sides i) ≡ Some a = cc in
+    let one = place-found places found sides i a told here in
+    (one.0, ap (λ (o : Option ℕ). option_to_list o ++ flat_map (look found) is) one.1)
+
+pub ring-shown : (S : State) (places : List Shown) (found : List ℕ) (sides : List OfferedSide) (is ring : List ℕ) →
+    map (place_at places) found ≡ map side_place sides → NamesRing S sides is → ring ≡ flat_map (look found) is → ShowsRing S places ring
+ring-shown S places found sides [] ring told h made = subst (ShowsRing S places) (sym made) h
+ring-shown S places found sides (i ∷ is) ring told h made =
+    let first = ring-first S places found sides i is told h h.0 h.1 in
+    let all : map (place_at places) (flat_map (look found) (i ∷ is)) ≡ map (λ (a : Place). Some a) h.0 = ring-rest places found sides (i ∷ is) h.0 told h.1 in
+    let all_first : map (place_at places) (first.0 ∷ flat_map (look found) is) ≡ map (λ (a : Place). Some a) h.0 =
+    ap (map (place_at places)) (sym first.1) ∙ all in
+    subst (ShowsRing S places) (sym (made ∙ first.1)) (h.0, all_first, h.2, h.3)
+
+pub all-found : (m : AtMachine) (lanes : List Lane) (ps : List Partner) (sides : List OfferedSide) (old new : List Shown) (found : List ℕ) (ss : List Spot) →
+    SpotsOf m lanes ps sides old found → AddsSpots lanes old new ss → map (place_at new) found ≡ map side_place sides
+all-found m lanes ps sides old new found ss h more =
+    found-kept old new
+    (λ k a at. subst (λ (qs : List Shown). place_at qs k ≡ Some a) (sym more.joined) (kept-left old more.more k a at)) found sides h.found_places

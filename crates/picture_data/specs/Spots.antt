@@ -1,0 +1,165 @@
+-- What is shown of the places that wait, and of those of the events that can be taken.
+use Rattle.std.specs.Prelude.{◌≡◌, ℕ, ◌+◌, List, [], ◌∷◌, ◌++◌, Bool, true, false, cond, Option, None, Some, IfSome, map, option_map, slice_get}
+use Rattle.std.specs.List.{flat_map}
+use Rattle.value.specs.Word.{Word}
+use Rattle.syntax.specs.Lists.{Every}
+use Rattle.runs.specs.Moves.{Place}
+use Rattle.runs.specs.Steps.{State}
+use Rattle.runs.specs.Tests.{same_place}
+use Rattle.runs.specs.declared.event.Event.{Event}
+use Rattle.runs.specs.declared.event.Kind.{Kind}
+use Rattle.runs.specs.declared.event.Kind.TheVariants as kind
+use Rattle.machine.specs.AtMachine.{AtMachine}
+use Rattle.offered_sides.specs.declared.side.OfferedSide.{OfferedSide}
+use Rattle.offered_sides.specs.declared.side.Side.{Side}
+use Rattle.offered_sides.specs.declared.side.Side.TheVariants as side
+use Rattle.rings.specs.declared.partner.Partner.{Partner}
+use Rattle.rings.specs.declared.partner.Partner.TheVariants as partner
+use Rattle.rings.specs.Rings.{EachOnce}
+use Rattle.waiting.specs.Rings.{IsRingIn}
+use Rattle.waiting.specs.declared.waiting.Waiting.{Waiting}
+use Rattle.picture_data.specs.Lines.{IsLaneOf, line_of}
+use Rattle.picture_data.specs.declared.lane.Lane.{Lane}
+use Rattle.picture_data.specs.declared.places.Place.{Place as Shown}
+use Rattle.picture_data.specs.declared.places.Role.{Role}
+use Rattle.picture_data.specs.declared.places.Role.TheVariants as role
+use Rattle.picture_data.specs.declared.places.Wanted.{Wanted}
+
+-- a place, but for lanes and depths
+pub record Spot : Type 0 where
+  pub place : Place
+  pub line : ℕ
+  pub role : Role
+  -- the channels on which it waits, and whether a partner can still come on each
+  pub wanted : List (ℕ × Bool)
+  pub is_ready : Bool
+
+abbrev pub want_of : Wanted → ℕ × Bool
+want_of w = (w.channel, w.can_come)
+
+abbrev pub spot_of : Shown → Spot
+spot_of p = record { place = p.place; line = p.line; role = p.role; wanted = map want_of p.wanted.items; is_ready = p.is_ready }
+
+-- what stands there, and waits on nothing yet
+abbrev pub spot_at : AtMachine → Place → Role → Spot
+spot_at m a what = record { place = a; line = line_of m a; role = what; wanted = []; is_ready = false }
+
+-- ---- the places that wait
+
+-- what a side does
+abbrev pub role_of : Side → Role
+role_of (side.Sends c v xs) = role.Sends
+role_of (side.Receives c x) = role.Receives
+role_of (side.Syncs c) = role.Syncs
+role_of (side.Opens c k) = role.Opens
+role_of (side.Releases c) = role.Held
+role_of (side.Closes c) = role.Closes
+role_of (side.Assigns x v xs) = role.Goes
+role_of (side.Tests k xs) = role.Goes
+role_of side.Turns = role.Goes
+
+-- the channel that it is on
+abbrev pub channel_of : Side → Option ℕ
+channel_of (side.Sends c v xs) = Some c
+channel_of (side.Receives c x) = Some c
+channel_of (side.Syncs c) = Some c
+channel_of (side.Opens c k) = Some c
+channel_of (side.Releases c) = Some c
+channel_of (side.Closes c) = Some c
+channel_of (side.Assigns x v xs) = None
+channel_of (side.Tests k xs) = None
+channel_of side.Turns = None
+
+-- whether the partner can still come
+abbrev pub can_come : Option Partner → Bool
+can_come (Some partner.Gone) = false
+can_come (Some (partner.Behind a)) = true
+can_come (Some partner.Open) = true
+can_come None = true
+
+-- the place waits on this channel, too, if there is one
+abbrev pub waiting_on : Spot → Option ℕ → Bool → Spot
+waiting_on s None comes = s
+waiting_on s (Some c) comes = record s { wanted = s.wanted ++ (c, comes) ∷ [] }
+
+-- and for what the side waits for, which has this partner
+abbrev pub waiting_with : Spot → OfferedSide → Option Partner → Spot
+waiting_with s x p = waiting_on s (channel_of x.side) (can_come p)
+
+-- the places with one more side, which has this partner: it stands at the last of them, or is a place of its own behind them
+abbrev pub with_side : AtMachine → List Spot → OfferedSide → Option Partner → List Spot
+with_side m [] x p = waiting_with (spot_at m x.place (role_of x.side)) x p ∷ []
+with_side m (s ∷ []) x p =
+    cond (same_place s.place x.place) (waiting_with s x p ∷ []) (s ∷ waiting_with (spot_at m x.place (role_of x.side)) x p ∷ [])
+with_side m (s ∷ t ∷ spots) x p = s ∷ with_side m (t ∷ spots) x p
+
+-- with these sides, of which the first has the partner of number n
+abbrev pub with_sides : AtMachine → List Spot → List Partner → ℕ → List OfferedSide → List Spot
+with_sides m spots partners n [] = spots
+with_sides m spots partners n (x ∷ xs) = with_sides m (with_side m spots x (slice_get partners n)) partners (n + 1) xs
+
+abbrev pub waiting_spots : AtMachine → Waiting → List Spot
+waiting_spots m w = with_sides m [] w.partners.items 0 w.sides
+
+-- ---- the places of the events that can be taken
+
+-- what the first place of an event does
+abbrev pub first_role : Kind → Option Word → Role
+first_role kind.Meet v = role.Sends
+first_role kind.Open (Some v) = role.Sends
+first_role kind.Open None = role.Syncs
+first_role kind.Sync v = role.Syncs
+first_role kind.Close v = role.Held
+first_role kind.Assign v = role.Goes
+first_role kind.Test v = role.Goes
+first_role kind.Turn v = role.Goes
+
+-- what the second does
+abbrev pub second_role : Kind → Role
+second_role kind.Meet = role.Receives
+second_role kind.Open = role.Opens
+second_role kind.Sync = role.Syncs
+second_role kind.Close = role.Closes
+second_role kind.Assign = role.Goes
+second_role kind.Test = role.Goes
+second_role kind.Turn = role.Goes
+
+-- on its channel, if it has one
+abbrev pub on_channel : Option ℕ → List (ℕ × Bool)
+on_channel None = []
+on_channel (Some c) = (c, true) ∷ []
+
+abbrev pub ready_spot : AtMachine → Event → Place → Role → Spot
+ready_spot m e a what = record { place = a; line = line_of m a; role = what; wanted = on_channel e.channel; is_ready = true }
+
+abbrev pub second_spots : AtMachine → Event → Option Place → List Spot
+second_spots m e None = []
+second_spots m e (Some b) = ready_spot m e b (second_role e.kind) ∷ []
+
+abbrev pub event_spots : AtMachine → Event → List Spot
+event_spots m e = ready_spot m e e.first (first_role e.kind e.value) ∷ second_spots m e e.second
+
+abbrev pub ready_spots : AtMachine → List Event → List Spot
+ready_spots m es = flat_map (event_spots m) es
+
+-- ---- all of them
+
+-- the places that wait, and behind them those of these events
+abbrev pub AreSpots : AtMachine → Waiting → List Event → List Shown → Type 0
+AreSpots m w ready places = map spot_of places ≡ waiting_spots m w ++ ready_spots m ready
+
+-- each lies in the lane that is told, if one is
+abbrev pub LiesInLane : List Lane → Shown → Type 0
+LiesInLane lanes p = IfSome p.lane (λ k. IsLaneOf lanes k p.place)
+
+-- ---- a ring
+
+-- the place of this index
+abbrev pub place_at : List Shown → ℕ → Option Place
+place_at places k = option_map (λ (p : Shown). p.place) (slice_get places k)
+
+-- the places of these indexes are a ring of places that wait, each once; or there is no ring, and none is told
+abbrev pub ShowsRing : State → List Shown → List ℕ → Type 0
+ShowsRing S places [] = (ring : List Place) → IsRingIn S ring → ⊥
+ShowsRing S places (k ∷ rest) =
+    (ring : List Place) × (map (place_at places) (k ∷ rest) ≡ map (λ (a : Place). Some a) ring) × IsRingIn S ring × EachOnce ring

@@ -1,0 +1,4 @@
+pub mod OneOrder
+pub mod OneRun
+pub mod SameLines
+pub mod SameShown

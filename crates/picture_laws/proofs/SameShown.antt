@@ -1,0 +1,175 @@
+-- Pictures of equal runs show the same.
+use Rattle.std.proofs.Common.{◌≡◌, inl, inr, ℕ, zero, suc, ◌+◌, List, [], ◌∷◌, Option, None, Some, refl, sym, ◌∙◌, ap, subst, arith}
+use Rattle.std.specs.Prelude.{IfSome, slice_get, slice_index}
+use Rattle.syntax.specs.Lists.{In}
+use Rattle.sharing_check.specs.declared.checked.Checked.{Checked}
+use Rattle.branch_lanes.specs.Lanes.{lane_of}
+use Rattle.runs.specs.Live.{Live, LiveAt, events}
+use Rattle.runs.specs.Moves.{Place}
+use Rattle.runs.specs.Object.{Reaches}
+use Rattle.runs.specs.Steps.{Run, State, opening}
+use Rattle.runs.specs.declared.event.Event.{Event}
+use Rattle.runs.proofs.FromOpening.{one_state, respecting_orders}
+use Rattle.runs.proofs.Options.{none-some}
+use Rattle.dependence.specs.Followers.{Follower}
+use Rattle.dependence.proofs.ListPlaces.{in-at}
+use Rattle.event_places.specs.EventPlaces.{line_after}
+use Rattle.run_depths.specs.Depths.{StandsAt}
+use Rattle.run_depths.proofs.Deepening.{one-place}
+use Rattle.depth_laws.specs.Laws.{AreEqualRuns}
+use Rattle.depth_laws.proofs.EqualRaces.{races-agree, same-event}
+use Rattle.depth_laws.proofs.EqualRuns.{depths-agree, followers-agree}
+use Rattle.depth_laws.proofs.OneState.{lines-agree, ready-agree}
+use Rattle.machine.specs.AtMachine.{AtMachine, object}
+use Rattle.waiting.specs.Progress.{StandsLike}
+use Rattle.waiting.specs.Told.{IsTold}
+use Rattle.waiting.specs.declared.progress.Progress.{Progress}
+use Rattle.waiting.specs.declared.waiting.Waiting.{Waiting}
+use Rattle.picture_data.specs.Lines.{IsLaneOf, line_of, line_or_zero}
+use Rattle.picture_data.specs.Shown.{EachStandsIn, SecondStandsIn, Shows, StandsIn}
+use Rattle.picture_data.specs.Spots.{AreSpots, ShowsRing}
+use Rattle.picture_data.specs.declared.lane.Lane.{Lane}
+use Rattle.picture_data.specs.declared.picture.Picture.{Picture}
+use Rattle.picture_data.specs.declared.places.Place.{Place as Shown}
+use Rattle.picture_data.specs.declared.sides.Sides.{Sides}
+use Rattle.picture_laws.specs.EqualPictures.{IsAtOnePlace, IsOneEnd, IsOneLane, ShowTheSame, StandsInBoth}
+use Rattle.picture_laws.proofs.OneRun.{one-progress}
+use Rattle.picture_laws.proofs.SameLines.{SameLines, same-places}
+
+same-lines : (m n : AtMachine) → m.checked ≡ n.checked → AreEqualRuns m.checked m.live n.live → SameLines m n
+same-lines m n one equal a =
+    ap line_or_zero (lines-agree m.checked m.live n.live a equal)
+    ∙ ap (λ (c : Checked). line_or_zero (line_after (events n.live) c a)) one
+
+-- ---- where events stand
+
+event-at : (l : Live) (i t : ℕ) (e : Event) → slice_get l i ≡ Some (t, e) → slice_get (events l) i ≡ Some e
+event-at [] i t e at = none-some (t, e) at
+event-at (x ∷ l) zero t e at = ap (λ (o : Option (ℕ × Event)). told o) at
+  where
+    told : Option (ℕ × Event) → Option Event
+    told None = None
+    told (Some y) = Some y.1
+event-at (x ∷ l) (suc i) t e at = event-at l i t e at
+
+stands-at : (m : AtMachine) (lanes : List Lane) (es : List Event) (ss : List Sides) (i : ℕ) (e : Event) (s : Sides) → EachStandsIn m lanes es ss →
+    slice_get es i ≡ Some e → slice_get ss i ≡ Some s → StandsIn m lanes e s
+stands-at m lanes [] ss i e s each at told = none-some e at
+stands-at m lanes (f ∷ es) [] i e s each at told = none-some s told
+stands-at m lanes (f ∷ es) (r ∷ ss) zero e s each at told =
+    let one : f ≡ e = cc in
+    let two : r ≡ s = cc in
+    subst (λ (g : Event). StandsIn m lanes g s) one (subst (λ (q : Sides). StandsIn m lanes f q) two each.0)
+stands-at m lanes (f ∷ es) (r ∷ ss) (suc i) e s each at told = stands-at m lanes es ss i e s each.1 at told
+
+one-lane : (lanes others : List Lane) (a : Place) (k l : Option ℕ) → IfSome k (λ i. IsLaneOf lanes i a) → IfSome l (λ i. IsLaneOf others i a) →
+    IsOneLane lanes others k l
+one-lane lanes others a None l here there = tt
+one-lane lanes others a (Some k) None here there = tt
+one-lane lanes others a (Some k) (Some l) here there = (lane_of a, here, there)
+
+second-lane : (m n : AtMachine) (lanes others : List Lane) (o : Option Place) (s r : Sides) → SecondStandsIn m lanes o s → SecondStandsIn n others o r →
+    IsOneLane lanes others s.second_lane r.second_lane
+second-lane m n lanes others None s r here there = subst (λ (k : Option ℕ). IsOneLane lanes others k r.second_lane) (sym here.0) tt
+second-lane m n lanes others (Some b) s r here there = one-lane lanes others b s.second_lane r.second_lane here.0 there.0
+
+second-line : (m n : AtMachine) (lanes others : List Lane) (o : Option Place) (s r : Sides) → SameLines m n → SecondStandsIn m lanes o s →
+    SecondStandsIn n others o r → s.second_line ≡ r.second_line
+second-line m n lanes others None s r same here there = here.1 ∙ sym there.1
+second-line m n lanes others (Some b) s r same here there = here.1 ∙ same b ∙ sym there.1
+
+at-one-place : (m n : AtMachine) (lanes others : List Lane) (e : Event) (s r : Sides) → SameLines m n → StandsIn m lanes e s → StandsIn n others e r →
+    IsAtOnePlace lanes others s r
+at-one-place m n lanes others e s r same here there = record {
+  first_lane = one-lane lanes others e.first s.first_lane r.first_lane here.lane there.lane;
+  second_lane = second-lane m n lanes others e.second s r here.second there.second;
+  first_line = here.line ∙ same e.first ∙ sym there.line;
+  second_line = second-line m n lanes others e.second s r same here.second there.second;
+}
+
+-- ---- the end
+
+both-reach : (m n : AtMachine) (S T : State) → m.checked ≡ n.checked → AreEqualRuns m.checked m.live n.live → Reaches (object m) S → Reaches (object n) T →
+    T ≡ S
+both-reach m n S T one equal here there =
+    let same : Run (opening m.checked) (events n.live) T = subst (λ (c : Checked). Run (opening c) (events n.live) T) (sym one) there in
+    one_state m.checked (events n.live) T S same (respecting_orders m.checked (events m.live) (events n.live) S here equal.forth)
+
+no-ring : (S : State) (places others : List Shown) (ring other : List ℕ) → ShowsRing S places ring → ShowsRing S others other → ring ≡ [] → other ≡ []
+no-ring S places others ring [] here there none = refl
+no-ring S places others ring (k ∷ other) here there none = absurd (subst (ShowsRing S places) none here there.0 there.2)
+
+one-end : (m n : AtMachine) (p q : Picture) → m.checked ≡ n.checked → AreEqualRuns m.checked m.live n.live → Shows m p → Shows n q → IsOneEnd m n p q
+one-end m n p q one equal here there =
+    let list = here.end.ready in
+    let list2 = there.end.ready in
+    let run2 : Run (opening m.checked) (events n.live) list2.0 = subst (λ (c : Checked). Run (opening c) (events n.live) list2.0) (sym one) list2.1 in
+    let ready : p.end.ready ≡ q.end.ready =
+    ready-agree m.checked m.live n.live list.0 list2.0 p.end.ready q.end.ready equal list.1 run2 list.2 list2.2 in
+    let goes = here.end.progress in
+    let goes2 = there.end.progress in
+    let told = here.end.waits.told in
+    let told2 = there.end.waits.told in
+    let ring = here.end.waits.ring in
+    let ring2 = there.end.waits.ring in
+    let told_here : IsTold told.0 there.end.waits.waiting =
+    subst (λ (S : State). IsTold S there.end.waits.waiting) (both-reach m n told.0 told2.0 one equal told.1 told2.1) told2.2 in
+    let progress_here : StandsLike goes.0 q.end.progress =
+    subst (λ (S : State). StandsLike S q.end.progress) (both-reach m n goes.0 goes2.0 one equal goes.1 goes2.1) goes2.2 in
+    let ring_here : ShowsRing ring.0 q.end.places.items q.end.ring.items =
+    subst (λ (S : State). ShowsRing S q.end.places.items q.end.ring.items) (both-reach m n ring.0 ring2.0 one equal ring.1 ring2.1) ring2.2 in
+    record {
+      ready = ready;
+      progress = one-progress goes.0 p.end.progress q.end.progress goes.2 progress_here;
+      state = told.0;
+      reached = told.1;
+      waiting = here.end.waits.waiting;
+      told = told.2;
+      places = here.end.waits.places;
+      other = there.end.waits.waiting;
+      other_told = told_here;
+      other_places =
+          same-places m n there.end.waits.waiting p.end.ready q.end.places.items (same-lines m n one equal)
+          (subst (λ (es : List Event). AreSpots n there.end.waits.waiting es q.end.places.items) (sym ready) there.end.waits.places);
+      ring = no-ring ring.0 p.end.places.items q.end.places.items p.end.ring.items q.end.ring.items ring.2 ring_here;
+      other_ring = no-ring ring.0 q.end.places.items p.end.places.items q.end.ring.items p.end.ring.items ring_here ring.2;
+    }
+
+-- ---- the steps
+
+follower-too : (m n : AtMachine) (p q : Picture) (i j d b : ℕ) (e f : Event) (row other : List ℕ) → AreEqualRuns m.checked m.live n.live → Shows m p →
+    Shows n q → StandsInBoth m n i j e → StandsInBoth m n (i + d) (j + b) f → slice_get p.steps.ahead i ≡ Some row →
+    slice_get q.steps.ahead j ≡ Some other → In d row → In b other
+follower-too m n p q i j d b e f row other equal here there first second at-i at-j within =
+    let ahead = here.steps.ahead.each i first.ticket row (e, first.here) at-i in
+    let ahead2 = there.steps.ahead.each j first.other other (e, first.there) at-j in
+    let one = ahead.each d within in
+    let is = same-event m.live (i + d) one.0 second.ticket one.2.0 f one.2.1 second.here in
+    let follows : Follower m.live first.ticket second.ticket = subst (λ (u : ℕ). Follower m.live first.ticket u) is.0 one.1 in
+    let follows2 : Follower n.live first.other second.other =
+    followers-agree m.checked m.live n.live first.ticket second.ticket first.other second.other e f equal
+    (in-at m.live i (first.ticket, e) first.here) (in-at m.live (i + d) (second.ticket, f) second.here) (in-at n.live j (first.other, e) first.there)
+    (in-at n.live (j + b) (second.other, f) second.there) follows in
+    let found = ahead2.all second.other follows2 in
+    let place : j + found.0 ≡ j + b =
+    one-place equal.other_low equal.other_next n.live second.other (j + found.0) (j + b) equal.other_rising found.2 (f, second.there) in
+    let same : found.0 ≡ b = omega arith in
+    subst (λ (k : ℕ). In k other) same found.1
+
+pub show-the-same : (m n : AtMachine) (p q : Picture) → m.checked ≡ n.checked → AreEqualRuns m.checked m.live n.live → Shows m p → Shows n q →
+    ShowTheSame m n p q
+show-the-same m n p q one equal here there = record {
+  depths = λ i j e both.
+      depths-agree m.checked m.live n.live p.steps.depths.items q.steps.depths.items i j both.ticket both.other e equal here.steps.depths
+      there.steps.depths both.here both.there;
+  followers = λ i j d b e f row other first second at-i at-j within.
+      follower-too m n p q i j d b e f row other equal here there first second at-i at-j within;
+  sides = λ i j e s r both at-i at-j.
+      at-one-place m n p.lanes.items q.lanes.items e s r (same-lines m n one equal)
+      (stands-at m p.lanes.items (events m.live) p.steps.sides.items i e s here.steps.sides (event-at m.live i both.ticket e both.here) at-i)
+      (stands-at n q.lanes.items (events n.live) q.steps.sides.items j e r there.steps.sides (event-at n.live j both.other e both.there) at-j);
+  races = λ race i j e f within first second.
+      races-agree m.checked m.live n.live p.steps.races.items q.steps.races.items race i j first.ticket second.ticket first.other second.other e f equal
+      here.steps.races there.steps.races within first.here second.here first.there second.there;
+  end = one-end m n p q one equal here there;
+}

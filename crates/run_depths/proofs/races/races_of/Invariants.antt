@@ -1,0 +1,5 @@
+use Rattle.run_depths.specs.walking.RacesSoFar.{RacesTo}
+use Rattle.run_depths.proofs.races.races_of.Given as goal
+
+abbrev pub invariant-loop-index : goal.invariant-loop-index
+invariant-loop-index l = RacesTo l.live.live l.index l.races.items
