@@ -53,7 +53,7 @@ one-list (e ∷ es) (f ∷ fs) order other forth back =
     one-list es fs order.1 other.1 (behind e f es fs one order forth) (behind f e fs es (sym one) other back) in
     ap (λ (x : Event). x ∷ es) one ∙ ap (λ (xs : List Event). f ∷ xs) rest
 
-ready-lists : (S : State) (es fs : List Event) → ReadyList S es → ReadyList S fs → es ≡ fs
+pub ready-lists : (S : State) (es fs : List Event) → ReadyList S es → ReadyList S fs → es ≡ fs
 ready-lists S es fs one other =
     one-list es fs one.in_order other.in_order (λ x is. (other.exactly x).1 ((one.exactly x).0 is))
     (λ x is. (one.exactly x).1 ((other.exactly x).0 is))

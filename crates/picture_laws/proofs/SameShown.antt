@@ -4,9 +4,10 @@ use Rattle.std.specs.Prelude.{IfSome, slice_get, slice_index}
 use Rattle.syntax.specs.Lists.{In}
 use Rattle.sharing_check.specs.declared.checked.Checked.{Checked}
 use Rattle.branch_lanes.specs.Lanes.{lane_of}
-use Rattle.runs.specs.Live.{Live, LiveAt, events}
+use Rattle.runs.specs.Live.{Live, LiveAt, Rising, events}
 use Rattle.runs.specs.Moves.{Place}
 use Rattle.runs.specs.Object.{Reaches}
+use Rattle.runs.specs.Ready.{ReadyList}
 use Rattle.runs.specs.Steps.{Run, State, opening}
 use Rattle.runs.specs.declared.event.Event.{Event}
 use Rattle.runs.proofs.FromOpening.{one_state, respecting_orders}
@@ -19,7 +20,7 @@ use Rattle.run_depths.proofs.Deepening.{one-place}
 use Rattle.depth_laws.specs.Laws.{AreEqualRuns}
 use Rattle.depth_laws.proofs.EqualRaces.{races-agree, same-event}
 use Rattle.depth_laws.proofs.EqualRuns.{depths-agree, followers-agree}
-use Rattle.depth_laws.proofs.OneState.{lines-agree, ready-agree}
+use Rattle.depth_laws.proofs.OneState.{lines-agree, ready-agree, ready-lists}
 use Rattle.machine.specs.AtMachine.{AtMachine, object}
 use Rattle.waiting.specs.Progress.{StandsLike}
 use Rattle.waiting.specs.Told.{IsTold}
@@ -32,8 +33,8 @@ use Rattle.picture_data.specs.declared.lane.Lane.{Lane}
 use Rattle.picture_data.specs.declared.picture.Picture.{Picture}
 use Rattle.picture_data.specs.declared.places.Place.{Place as Shown}
 use Rattle.picture_data.specs.declared.sides.Sides.{Sides}
-use Rattle.picture_laws.specs.EqualPictures.{IsAtOnePlace, IsOneEnd, IsOneLane, ShowTheSame, StandsInBoth}
-use Rattle.picture_laws.proofs.OneRun.{one-progress}
+use Rattle.picture_laws.specs.EqualPictures.{IsAtOnePlace, IsOneEnd, IsOneLane, IsOneRun, ShowTheSame, StandsInBoth}
+use Rattle.picture_laws.proofs.OneRun.{one-ahead, one-depths, one-progress, one-races}
 use Rattle.picture_laws.proofs.SameLines.{SameLines, same-places}
 
 same-lines : (m n : AtMachine) → m.checked ≡ n.checked → AreEqualRuns m.checked m.live n.live → SameLines m n
@@ -173,3 +174,23 @@ show-the-same m n p q one equal here there = record {
       here.steps.races there.steps.races within first.here second.here first.there second.there;
   end = one-end m n p q one equal here there;
 }
+
+-- ---- one run
+
+pub shows-one-run : (m : AtMachine) (p q : Picture) (low next : ℕ) → Rising low m.live next → Shows m p → Shows m q → IsOneRun p q
+shows-one-run m p q low next rising here there =
+    let list = here.end.ready in
+    let list2 = there.end.ready in
+    let goes = here.end.progress in
+    let goes2 = there.end.progress in
+    let ready_here : ReadyList list.0 q.end.ready =
+    subst (λ (S : State). ReadyList S q.end.ready) (one_state m.checked (events m.live) list2.0 list.0 list2.1 list.1) list2.2 in
+    let progress_here : StandsLike goes.0 q.end.progress =
+    subst (λ (S : State). StandsLike S q.end.progress) (one_state m.checked (events m.live) goes2.0 goes.0 goes2.1 goes.1) goes2.2 in
+    record {
+      depths = one-depths m.live p.steps.depths.items q.steps.depths.items here.steps.depths there.steps.depths;
+      ahead = one-ahead low next m.live p.steps.ahead q.steps.ahead rising here.steps.ahead there.steps.ahead;
+      races = one-races m.live p.steps.races.items q.steps.races.items here.steps.races there.steps.races;
+      ready = ready-lists list.0 p.end.ready q.end.ready list.2 ready_here;
+      progress = one-progress goes.0 p.end.progress q.end.progress goes.2 progress_here;
+    }

@@ -1,6 +1,7 @@
 -- The pictures of equal runs: those that differ only in the order of independent steps.
 use Rattle.std.specs.Prelude.{◌≡◌, ℕ, ◌+◌, List, [], Option, None, Some, slice_get, slice_index}
 use Rattle.syntax.specs.Lists.{In}
+use Rattle.runs.specs.Live.{Rising}
 use Rattle.runs.specs.Object.{Reaches}
 use Rattle.runs.specs.Steps.{State}
 use Rattle.runs.specs.declared.event.Event.{Event}
@@ -79,4 +80,4 @@ pub record IsOneRun (p q : Picture) : Type 0 where
 
 -- of one run, event by event in one order, as a saved trace has it, pictures show the same, index by index
 abbrev pub OneRunShowsTheSame : Type 0
-OneRunShowsTheSame = (m : AtMachine) (p q : Picture) → Shows m p → Shows m q → IsOneRun p q
+OneRunShowsTheSame = (m : AtMachine) (p q : Picture) (low next : ℕ) → Rising low m.live next → Shows m p → Shows m q → IsOneRun p q

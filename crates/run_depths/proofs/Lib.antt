@@ -1,2 +1,3 @@
 pub mod Deepening
 pub mod RaceLaws
+pub mod SinceLaws
