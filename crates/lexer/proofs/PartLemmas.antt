@@ -7,9 +7,9 @@ use Rattle.lexer.specs.Cut.{Piece}
 use Rattle.lexer.specs.Table.{reserved_word}
 use Rattle.lexer.specs.Tokens.{IsReadable, token_at, token_of}
 use Rattle.lexer.specs.walking.Fronts.{IsPieceFault}
-use Rattle.lexer.specs.walking.Parts.{BeginsProcedure, Ends, Goes, HasNoEnd, HasRead, IsAtProcedure, IsCutOff, IsPart, Refuses}
+use Rattle.lexer.specs.walking.Parts.{BeginsProcedure, Ends, Goes, HasNoEnd, HasRead, IsAtProcedure, IsCutOff, IsPart, Refuses, Skips}
 use Rattle.lexer.specs.walking.Reached.{Reaches}
-use Rattle.lexer.specs.declared.class.Class.TheVariants.{Word}
+use Rattle.lexer.specs.declared.class.Class.TheVariants.{Blank, Word}
 use Rattle.lexer.specs.declared.lexing.Found.{Found}
 use Rattle.lexer.specs.declared.lexing.Lexing.{Lexing}
 use Rattle.lexer.specs.declared.lexing.Stop.{Stop}
@@ -89,6 +89,36 @@ procedure_token here new found word off =
     let reserved : reserved_word (take off.size rest) ≡ Some ProcedureWord = rw text word.word in
     rw (off.text, class, reserved) refl
 
+-- no token is among the blanks
+goes_blank : (old new : Lexing) → Skips old new → Goes old [] new
+goes_blank old new skips source before read = elim skips [
+  | inl same ↦ rw same (goes_nowhere old source before read)
+  | inr past ↦
+      let onward = reaches_next source before old.position old.rest.now Blank past.size read past.front tt in
+      rw (past.behind, past.rest) onward
+]
+
+-- what is left grows no longer behind the blanks
+pub skips_no_more : (old new : Lexing) → Skips old new → length new.rest.now ≤ length old.rest.now
+skips_no_more old new skips = elim skips [
+  | inl same ↦ rw same (omega arith)
+  | inr past ↦ rw past.rest (omega (arith, length-drop past.size old.rest.now))
+]
+
+-- at the word `procedure` there are none
+word_stays : (here new : Lexing) → IsAtProcedure here → Skips here new → new ≡ here
+word_stays here new word skips = elim skips [
+  | inl same ↦ same
+  | inr past ↦
+      let rest = here.rest.now in
+      let one : Piece = record { class = Blank; text = take past.size rest } in
+      let other : Piece = record { class = Word; text = take word.size rest } in
+      let whole = take-append-drop past.size rest ∙ sym (take-append-drop word.size rest) in
+      let same = (longest_unique one other (drop past.size rest) (drop word.size rest) past.front.1 word.front.1 whole).0 in
+      let class : Blank ≡ Word = ap (λ (piece : Piece). piece.class) same in
+      absurd (cc)
+]
+
 -- What a part begins with that is begun at the word `procedure` and held nothing before: it holds nothing yet where
 -- nothing is read.
 abbrev pub Begun : Lexing → List Token → Lexing → List Token → Type 0
@@ -108,6 +138,16 @@ begun_on old before here new part onward tokens found begun off token more word 
       more ∙ ap (λ (front : List Token). front ++ tokens) fresh.0 ∙ sym token ∙ procedure_token here new found still off in
       inr (subst BeginsProcedure (sym first) refl)
   | inr begins ↦ inr (subst BeginsProcedure (sym more) (begins_still part tokens begins))
+]
+
+begun_behind : (old : Lexing) (before : List Token) (here new : Lexing) (part : List Token) → Begun old before here part → Skips here new → Begun old before new part
+begun_behind old before here new part begun skips word none = elim (begun word none) [
+  | inl fresh ↦
+      let front = rw (← fresh.1) at word.front in
+      let reserved = rw (← fresh.1) at word.word in
+      let still : IsAtProcedure here = record { size = word.size; front = front; word = reserved } in
+      inl (fresh.0, rw (word_stays here new still skips) fresh.1)
+  | inr begins ↦ inr begins
 ]
 
 -- a part as far as it is read, of which so many tokens are left to add
@@ -130,6 +170,18 @@ part_begun old before most = record {
   count = omega arith;
   bytes = omega arith;
   begun = λ word none. inl (none, refl);
+}
+
+-- the same behind the blanks
+pub part_skips : (old : Lexing) (before : List Token) (most : ℕ) (here new : Lexing) (part : List Token) (left : ℕ) → IsPartSoFar old before most here part left → Skips here new → IsPartSoFar old before most new part left
+part_skips old before most here new part left so skips = record {
+  added = so.added;
+  same = so.same;
+  goes = subst (λ (added : List Token). Goes old added new) (append-nil so.added) (goes_on old here new so.added [] so.goes (goes_blank here new skips));
+  no_end = so.no_end;
+  count = so.count;
+  bytes = let bytes = so.bytes in omega (arith, bytes, skips_no_more here new skips);
+  begun = begun_behind old before here new part so.begun skips;
 }
 
 -- one piece on, which makes these tokens

@@ -3,7 +3,7 @@
 ghost use Rattle.std.specs.Prelude.{◌<◌, ◌+◌, ◌^◌, length};
 
 use crate::class::Class;
-use crate::piece::longest_piece;
+use crate::piece::{blanks_length, longest_piece};
 use crate::position::Position;
 use crate::token::{add_token, refuse_piece, token_of};
 use crate::{Fault, Kind, Token};
@@ -40,7 +40,7 @@ pub(crate) struct Found<'a> {
 impl<'a> Lexing<'a> {
     ghost use Rattle.std.specs.Prelude.{◌≡◌, ◌≤◌, ◌++◌, ◌⊎◌, [], List, IfOk, IfErr, OnOk, MatchOption};
     ghost use Rattle.lexer.specs.Tokens.{token_at};
-    ghost use Rattle.lexer.specs.walking.Parts.{BeginsProcedure, HasRead, IsAtProcedure, IsCutOff, IsKept, IsPart, IsRest, Refuses};
+    ghost use Rattle.lexer.specs.walking.Parts.{BeginsProcedure, HasRead, IsAtProcedure, IsCutOff, IsKept, IsPart, IsRest, Refuses, Skips};
     ghost use Rattle.lexer.specs.declared.token.Kind.TheVariants.{End};
     ghost use Rattle.lexer.specs.declared.token.Token.{Token};
     ghost use Rattle.refusals.specs.declared.lexer.Fault.TheVariants.{Memory};
@@ -82,6 +82,21 @@ impl<'a> Lexing<'a> {
         Ok(Some(found))
     }
 
+    /// Goes behind the blanks at the front, if there are any: they are passed more often than all else, and make no token.
+    #[inline(always)]
+    fn skip_blanks(&mut self)
+        ensures { Skips self.old self.new }
+    {
+        let Some(length) = blanks_length(self.rest) else {
+            return;
+        };
+        let (blanks, rest) = self.rest.split_at(length);
+        *self = Lexing {
+            position: self.position.behind(blanks),
+            rest,
+        };
+    }
+
     /// The token that stands where nothing is left.
     pub(crate) fn end(&self) -> Token<'a>
         ensures { result ≡ token_at self.now.position End [] 0 }
@@ -110,6 +125,7 @@ impl<'a> Lexing<'a> {
             .any(|token| matches!(token.kind, Kind::ProcedureWord));
         let mut left = most;
         while left > 0 {
+            self.skip_blanks();
             let mut next = *self;
             let Some(found) = next.cut()? else {
                 part.push(self.end())?;

@@ -1,9 +1,10 @@
 ghost use Rattle.std.specs.Prelude.{◌≡◌, ◌+◌, ◌≤◌, length, take, drop, MatchOption, IsSome, IsTrue, is_some, nat_le, ◌&&◌};
 ghost use Rattle.std.specs.List.{prefix_len};
+ghost use Rattle.std.specs.Option.{IfSome};
 ghost use Rattle.lexer.specs.Comment.{IsOpenComment, is_nested_comment, is_opening};
 ghost use Rattle.lexer.specs.Spelling.{NothingSpelled, begins, may_hold};
 ghost use Rattle.lexer.specs.Table.{symbol};
-ghost use Rattle.lexer.specs.declared.class.Class.TheVariants.{LineComment};
+ghost use Rattle.lexer.specs.declared.class.Class.TheVariants.{Blank, LineComment};
 ghost use Rattle.lexer.specs.walking.Fronts.{IsFront, NoSymbolBeyond, class_at};
 
 use crate::class::{Class, is_blank};
@@ -73,6 +74,7 @@ fn nested_length(rest: &[u8]) -> Option<usize>
 }
 
 /// The nested comment at the front, or the open one, which has no end but the text's.
+#[inline(never)]
 fn comment(rest: &[u8]) -> Piece
     requires { IsTrue (is_opening rest.now) }
     ensures { IsFront result.class result.length rest.now }
@@ -137,7 +139,8 @@ fn class_at(rest: &[u8]) -> Class
 #[inline(always)]
 fn run(class: Class, rest: &[u8]) -> Piece
     requires { IsTrue (begins class rest.now) }
-    ensures { IsFront result.class result.length rest.now }
+    ensures class { result.class ≡ class }
+    ensures front { IsFront result.class result.length rest.now }
 {
     Piece {
         class,
@@ -145,7 +148,21 @@ fn run(class: Class, rest: &[u8]) -> Piece
     }
 }
 
+/// How many blanks are at the front. None: it has no blank.
+#[inline(always)]
+pub fn blanks_length(rest: &[u8]) -> Option<usize>
+    ensures { IfSome result (λ n. IsFront Blank n rest.now) }
+{
+    let first = rest.first().copied().unwrap_or(0);
+    if is_blank(first) {
+        Some(run(Class::Blank, rest).length)
+    } else {
+        None
+    }
+}
+
 /// The comment of a line, which begins at the front.
+#[inline(never)]
 fn line_comment(rest: &[u8]) -> Piece
     requires { IsTrue (begins LineComment rest.now) }
     ensures { IsFront result.class result.length rest.now }

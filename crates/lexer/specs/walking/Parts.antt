@@ -2,7 +2,7 @@
 -- No reader has to believe it: `HasRead` holds of nothing read, and where the source ends the parts together are its
 -- tokens by `AreTokens` of
 -- `Tokens.antt`.
-use Rattle.std.specs.Prelude.{◌≡◌, ◌≢◌, ℕ, ◌+◌, ◌≤◌, List, [], ◌∷◌, ◌++◌, length, take, drop, Some}
+use Rattle.std.specs.Prelude.{◌≡◌, ◌≢◌, ℕ, ◌+◌, ◌≤◌, List, [], ◌∷◌, ◌++◌, length, take, drop, Some, ◌⊎◌}
 use Rattle.std.specs.List.{All}
 use Rattle.syntax.specs.Texts.{Text}
 use Rattle.lexer.specs.Refusal.{IsRefused}
@@ -10,7 +10,7 @@ use Rattle.lexer.specs.Table.{reserved_word}
 use Rattle.lexer.specs.Tokens.{AreTokens, behind}
 use Rattle.lexer.specs.walking.Fronts.{IsFront}
 use Rattle.lexer.specs.walking.Reached.{Reaches}
-use Rattle.lexer.specs.declared.class.Class.TheVariants.{Word}
+use Rattle.lexer.specs.declared.class.Class.TheVariants.{Blank, Word}
 use Rattle.lexer.specs.declared.lexing.Found.{Found}
 use Rattle.lexer.specs.declared.lexing.Lexing.{Lexing}
 use Rattle.lexer.specs.declared.lexing.Stop.{Stop}
@@ -55,6 +55,17 @@ pub record IsCutOff (old : Lexing) (found : Found) (new : Lexing) : Type 0 where
   pub position : found.position ≡ old.position
   pub behind : new.position ≡ behind old.position (take size old.rest.now)
   pub rest : new.rest.now ≡ drop size old.rest.now
+
+-- the blanks at the front are behind
+pub record IsBehindBlanks (old new : Lexing) : Type 0 where
+  pub size : ℕ
+  pub front : IsFront Blank size old.rest.now
+  pub behind : new.position ≡ behind old.position (take size old.rest.now)
+  pub rest : new.rest.now ≡ drop size old.rest.now
+
+-- the blanks at the front are behind, if there were any
+abbrev pub Skips : Lexing → Lexing → Type 0
+Skips old new = (new ≡ old) ⊎ IsBehindBlanks old new
 
 -- what is left begins with the word `procedure`
 pub record IsAtProcedure (lexing : Lexing) : Type 0 where

@@ -1,5 +1,5 @@
 use Rattle.lexer.proofs.FrontLemmas.{run_front}
 use Rattle.lexer.proofs.piece.run.Goals as goal
 
-pub returns : goal.returns
-returns c = rw c.run_length.ensures.value (run_front c.args.class c.args.rest.now c.requires)
+pub returns-clause-front : goal.returns-clause-front
+returns-clause-front c = rw c.run_length.ensures.value (run_front c.args.class c.args.rest.now c.requires)
