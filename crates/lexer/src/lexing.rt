@@ -82,7 +82,7 @@ impl<'a> Lexing<'a> {
         Ok(Some(found))
     }
 
-    /// Goes behind the blanks at the front, if there are any: they are passed more often than all else, and make no token.
+    /// Goes behind the blanks at the front, if there are any. They are so many that no piece is made of them.
     #[inline(always)]
     fn skip_blanks(&mut self)
         ensures { Skips self.old self.new }

@@ -98,7 +98,7 @@ impl Names {
         self.index.get(name.text())
     }
 
-    /// Makes room for so many names more, or for as many as are worth it: they may all be one.
+    /// Makes room for so many names more, but not for a great many: they may all be one.
     pub(crate) fn reserve(&mut self, count: usize) -> Result<(), AllocError>
         ensures { entries self.new ≡ entries self.old }
     {
