@@ -148,6 +148,10 @@ impl Widths {
             ≡ model.join how (model.noted self.old) (model.noted other.old)) }
         ensures emptied { OnOk result (model.noted other.new ≡ model.nothing) }
     {
+        // Most branches use no channel.
+        if other.by_channel.is_empty() {
+            return Ok(());
+        }
         put_larger_first(self, other);
         self.add_each(how, other)?;
         other.clear();
