@@ -135,7 +135,7 @@ const KNOT: Example = Example {
 };
 
 #[test]
-fn arms_that_wait_for_different_branches_are_in_no_ring(rt: HostRuntime) -> Result<(), Fail> {
+fn a_ring_goes_through_one_arm_of_a_choice(rt: HostRuntime) -> Result<(), Fail> {
     let text = told(rt.alloc(), KNOT, b"balsadbg trace 2\n")?;
     let wanted = b"stuck
 waiting 4
@@ -143,6 +143,9 @@ waiting 4
   branch 0 /0/0.0.0 line 2: opens arm 1 on b, behind branch 2 /0/2.0
   branch 1 /0/1.0 line 2: receives from x, behind branch 0 /0/0.0
   branch 2 /0/2.0 line 2: receives from y, behind branch 0 /0/0.0
+ring 2
+  branch 0 /0/0.0.0
+  branch 1 /0/1.0
 ";
     is(&rt, &text, wanted);
     Ok(())

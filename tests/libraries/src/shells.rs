@@ -121,7 +121,11 @@ const LINES: [(&[u8], &[u8], &[u8]); 29] = [
     ),
     (b"break 1\n", b"ok\n", b""),
     (b"load one\n", b"", b"  loaded 1 step\n"),
-    (b"live\n", b"live 1\n  1 meet i 5 /1.0.0 /0.0\n", b""),
+    (
+        b"live\n",
+        b"live 1\n  1 meet i 5 /1.0.0 /0.0\n",
+        b"  step 1 (received 5 from i into x, line 1)\n",
+    ),
     (
         b"roll 1\n",
         b"rolled 1\n",
@@ -286,7 +290,7 @@ fn a_session_begins_behind_a_trace(rt: HostRuntime) -> Result<(), Fail> {
     let told = answers(rt.alloc(), b"live", Some(TRACE), true)?;
     let expected = b"one: input i; output o; branches 0 (line 1), 1 i, 2 o.\n\
 1 step of the trace is taken. `help` lists what you can type.\n\
-> live 1\n  1 meet i 5 /1.0.0 /0.0\n";
+> live 1\n  1 meet i 5 /1.0.0 /0.0\n  step 1 (received 5 from i into x, line 1)\n";
     assert!(rt; told.as_slice() == expected.as_slice());
     Ok(())
 }
