@@ -17,9 +17,9 @@ ghost use Rattle.machine.specs.walking.Histories.{tree_of, Holds, KnowsUses, IsS
 use crate::among::is_among;
 use crate::history::History;
 use address::Entry;
+use allowed_events::ready_below;
 use channel_uses::ChannelUses;
 use event_places::line_after;
-use allowed_events::ready_below;
 use runs::{Event, Refusal};
 use sharing_check::Checked;
 use std::alloc::{AllocError, Global};

@@ -17,10 +17,10 @@ ghost use Rattle.machine.specs.walking.Histories.{execution, tree_of, Holds, Kno
 ghost use Rattle.machine.specs.walking.Entering.{Entered, NotEntered};
 
 use crate::history::History;
+use allowed_events::{event_with, ready_events};
 use channel_uses::ChannelUses;
 use event_inverse::{Inverse, Record, apply, invert};
 use offered_sides::{OfferedSide, sides_of};
-use allowed_events::{event_with, ready_events};
 use rows::Rows;
 use runs::{Choice, Command, Event, LAST_TICKET, MOST_LIVE_EVENTS, Refusal};
 use sharing_check::Checked;
