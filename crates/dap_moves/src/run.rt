@@ -72,7 +72,7 @@ pub fn go_on(alloc: Global, desk: &mut Desk, plan: &Plan<'_>, kept: &mut Vec<Cho
     let count = branch_count(desk.machine().checked().system());
     match take_turn(alloc, desk, plan, plan.seen, kept, plan.first, count) {
         Turn::Went(branch) => {
-            go_on_from(alloc, desk, plan, kept, branch.saturating_add(1), count)
+            go_on_from(alloc, desk, plan, kept, turn_behind(branch, count), count)
         }
         Turn::Ended(ended) => ended,
     }
@@ -95,7 +95,7 @@ fn go_on_from(
     let mut turn = first;
     for _ in 1..plan.most {
         match take_turn(alloc, desk, plan, &[], kept, turn, count) {
-            Turn::Went(branch) => turn = branch.saturating_add(1),
+            Turn::Went(branch) => turn = turn_behind(branch, count),
             Turn::Ended(ended) => return ended,
         }
     }
@@ -110,7 +110,17 @@ fn after_most(desk: &mut Desk, plan: &Plan<'_>, turn: u32, count: u32) -> Ended
     if is_stuck(desk, plan, turn, count) {
         return Ended::Nothing;
     }
-    Ended::Most(if turn < count { turn } else { 0 })
+    Ended::Most(turn)
+}
+
+/// The branch whose turn it is behind this one, of so many.
+fn turn_behind(branch: u32, count: u32) -> u32
+    ensures { 0 < count → result < count }
+{
+    match branch.checked_add(1) {
+        Some(next) if next < count => next,
+        _ => 0,
+    }
 }
 
 /// Whether no step is ready. Without memory to look it is not known, so it is not.

@@ -312,7 +312,7 @@ fn ask(
     if let Command::Break(_) | Command::Clear(_) = command {
         answer.did();
     }
-    if let Command::Break(_) = command {
+    if is_set(command, &reply) {
         let words =
             "`branch` in the console stops there. `continue` stops where the editor has a breakpoint.";
         tell(alloc, words, "console", answer);
@@ -322,6 +322,11 @@ fn ask(
         program.seen.clear();
         stop(alloc, answer, "step", branch, "");
     }
+}
+
+/// Whether the command set a breakpoint.
+fn is_set(command: &Command, reply: &Reply) -> bool {
+    matches!(command, Command::Break(_)) && matches!(reply, Reply::Done)
 }
 
 /// Asks the desk.
